@@ -1,0 +1,24 @@
+# make demo      proves and builds axe, and multiplies two matrices of examples/
+# make test      everything that CI runs: each proof from nothing, the wrong bodies, the tests and the runs of the program
+# make build     proves and builds crates/axe/out/axe
+# make cases     the runs of the built program alone
+# make install   puts the program into PREFIX/bin (PREFIX=/usr/local)
+PREFIX ?= /usr/local
+AXE = crates/axe/out/axe
+
+.PHONY: build demo test cases install
+
+build:
+	cd crates/axe && rt run -- --version
+
+demo: build
+	AXE=$(AXE) examples/demo
+
+test:
+	.ci/run
+
+cases: build
+	tests/run
+
+install: build
+	install -D -m 755 $(AXE) $(DESTDIR)$(PREFIX)/bin/axe
