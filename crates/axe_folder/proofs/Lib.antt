@@ -1,0 +1,4 @@
+pub mod FileLaws
+pub mod NameLaws
+pub mod SourceLaws
+pub mod ShelfLaws

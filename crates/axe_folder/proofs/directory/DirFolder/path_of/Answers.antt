@@ -1,0 +1,9 @@
+use Rattle.std.proofs.Common.{◌∙◌}
+use Rattle.std.specs.Path.{path_buf_bytes}
+use Rattle.axe_folder.proofs.NameLaws.{path_join-plain}
+use Rattle.axe_folder.proofs.directory.DirFolder.path_of.Goals as goal
+
+-- a plain name is joined as it stands
+pub returns-clause-inside : goal.returns-clause-inside
+returns-clause-inside g c =
+    c.in_ok-join.ensures ∙ path_join-plain (path_buf_bytes c.args.self.now.directory) c.args.name.now c.requires

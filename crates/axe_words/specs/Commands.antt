@@ -1,0 +1,14 @@
+-- The files that a command speaks of.
+use Rattle.std.specs.Prelude.{◌≡◌, ℕ, true, List, [], ◌∷◌}
+use Rattle.std.specs.List.{list_all}
+use Rattle.axe_words.specs.Names.{is_name}
+use Rattle.axe_words.specs.declared.command.Command.{Command}
+use Rattle.axe_words.specs.declared.command.Command.TheVariants.{Zmu}
+
+-- the words of a command that stand for files, in their order
+abbrev pub names_of : Command → List (List ℕ)
+names_of (Zmu left right out) = left ∷ right ∷ out ∷ []
+
+-- each word of the command that stands for a file keeps the rule of names
+abbrev pub HasNames : Command → Type 0
+HasNames command = list_all is_name (names_of command) ≡ true
