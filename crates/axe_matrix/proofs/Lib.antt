@@ -1,0 +1,4 @@
+pub mod MatrixLaws
+pub mod ProductLaws
+mod RowListLaws
+mod PartialProducts

@@ -1,0 +1,245 @@
+//! Matrices over a small finite field: lists of rows of one length.
+#![tactic(auto)]
+
+ghost use Rattle.std.specs.Prelude.{◌≡◌, ◌<◌, ◌≤◌, ◌↔◌, ◌++◌, ◌∷◌, [], length, slice_index, IsTrue, None, IfOk, OnOk, OnErr, IfErr};
+ghost use Rattle.axe_algebra.specs.Lists.{entry};
+ghost use Rattle.axe_field.specs.Order.{order_number, IsElement};
+ghost use Rattle.axe_row.specs.Rows.{IsRow};
+ghost use Rattle.axe_row.specs.Refusals.{Answers};
+ghost use Rattle.axe_matrix.specs.Matrices.{IsMatrix, row_of, product_refusal, matrix_product, vector_product};
+
+use axe_field::Field;
+pub use axe_row::{Refusal, Row};
+use std::alloc::Global;
+use std::marker::Model;
+
+/// The most rows that a matrix has.
+pub const MAX_ROWS: usize = 2_048;
+
+/// The most columns that a matrix has. It has at least one.
+pub const MAX_COLUMNS: usize = 2_048;
+
+/// A matrix over one of the seven fields: up to [`MAX_ROWS`] rows, perhaps none, and 1 to [`MAX_COLUMNS`] columns.
+/// Rows and columns are counted from 0.
+#[derive(Drop)]
+pub struct Matrix {
+    field: Field,
+    cols: usize,
+    rows: Vec<Row>,
+}
+
+impl Model for Matrix {
+    ghost use Rattle.axe_matrix.specs.Matrices.{MatrixValue};
+
+    ghost Value = { MatrixValue };
+
+    ghost use Rattle.axe_matrix.specs.RowLists.{matrix_from_rows, MakeMatrix};
+
+    ghost view = { λ a. matrix_from_rows a.field a.cols a.rows.items };
+
+    ghost invariant = { λ a. MakeMatrix a.field a.cols a.rows.items };
+}
+
+impl Matrix {
+    /// The matrix without rows. It takes no memory until a row is pushed.
+    pub fn empty(alloc: Global, field: Field, cols: usize) -> Matrix
+        requires some_column { 1 ≤ cols }
+        requires columns_fit { cols ≤ MAX_COLUMNS }
+        ensures no_rows { result ≡ record { order = field; cols = cols; rows = [] } }
+        ensures well_formed { IsMatrix result }
+    {
+        Matrix {
+            field,
+            cols,
+            rows: Vec::new(alloc),
+        }
+    }
+
+    /// Appends a row of as many entries as the matrix has columns, over its field. For want of memory the row is handed
+    /// back, and the matrix is unchanged.
+    pub fn push_row(&mut self, row: Row) -> Result<(), Row>
+        requires field { row.order ≡ self.old.order }
+        requires fits { length row.entries ≡ self.old.cols }
+        requires room { length self.old.rows < MAX_ROWS }
+        ensures appended { OnOk result (self.new ≡ record self.old { rows = self.old.rows ++ row.entries ∷ [] }) }
+        ensures handed_back { IfErr result (λ refused. refused ≡ row) }
+        ensures unchanged { OnErr result (self.new ≡ self.old) }
+        ensures same_field { self.new.order ≡ self.old.order }
+        ensures same_columns { self.new.cols ≡ self.old.cols }
+        ensures well_formed { IsMatrix self.new }
+    {
+        prove!(row.len() == self.cols);
+        self.rows.push(row).map_err(|failed| failed.value)
+    }
+
+    /// The product of this matrix and another: its entry i, j is the sum over t of entry i, t of this matrix times entry
+    /// t, j of the other. Two matrices over different fields are refused as FieldsDiffer, and else two of which the
+    /// first has not as many columns as the second has rows as ShapesDiffer.
+    pub fn mul(&self, alloc: Global, other: &Matrix) -> Result<Matrix, Refusal>
+        ensures product { Answers (product_refusal self.now other.now)
+            (λ product. product ≡ matrix_product self.now other.now) result }
+        ensures well_formed { IfOk result IsMatrix }
+    {
+        if self.field().order() != other.field().order() {
+            return Err(Refusal::FieldsDiffer);
+        }
+        if self.cols() != other.rows() {
+            return Err(Refusal::ShapesDiffer);
+        }
+        let mut product = Matrix::empty(alloc, *self.field(), other.cols());
+        for index in 0..self.rows() {
+            let row = other.vec_mul(alloc, self.row(index))?;
+            product.push_row(row).map_err(|_| Refusal::Memory)?;
+        }
+        Ok(product)
+    }
+
+    /// A row vector times the matrix: its entry j is the sum over t of entry t of the vector times entry t, j of the
+    /// matrix.
+    fn vec_mul(&self, alloc: Global, vector: &Row) -> Result<Row, Refusal>
+        requires field { vector.now.order ≡ self.now.order }
+        requires fits { length vector.now.entries ≡ length self.now.rows }
+        ensures { Answers None (λ product. product ≡ vector_product vector.now self.now) result }
+    {
+        let mut product = Row::zero(alloc, *self.field(), self.cols())?;
+        for column in 0..self.cols() {
+            product.set(column, self.vec_mul_entry(vector, column));
+        }
+        Ok(product)
+    }
+
+    /// An entry of a row vector times the matrix.
+    fn vec_mul_entry(&self, vector: &Row, column: usize) -> u8
+        requires field { vector.now.order ≡ self.now.order }
+        requires fits { length vector.now.entries ≡ length self.now.rows }
+        requires column { column < self.now.cols }
+        ensures entry { result ≡ slice_index (vector_product vector.now self.now).entries column }
+        ensures element { IsElement self.now.order result }
+    {
+        let field = self.field();
+        let mut sum = 0;
+        for index in 0..self.rows() {
+            let product = field.mul(vector.get(index), self.get(index, column));
+            sum = field.add(sum, product);
+        }
+        sum
+    }
+
+    /// The field of the entries.
+    pub fn field(&self) -> &Field
+        ensures order { result.now ≡ self.now.order }
+        ensures well_formed { IsMatrix self.now }
+    {
+        &self.field
+    }
+
+    /// How many rows the matrix has.
+    pub fn rows(&self) -> usize
+        ensures count { result ≡ length self.now.rows }
+        ensures well_formed { IsMatrix self.now }
+    {
+        self.rows.len()
+    }
+
+    /// How many columns the matrix has.
+    pub fn cols(&self) -> usize
+        ensures count { result ≡ self.now.cols }
+        ensures well_formed { IsMatrix self.now }
+    {
+        self.cols
+    }
+
+    /// The row at an index.
+    pub fn row(&self, index: usize) -> &Row
+        requires { index < length self.now.rows }
+        ensures value { result.now ≡ row_of self.now index }
+        ensures as_long { length result.now.entries ≡ self.now.cols }
+        ensures row_well_formed { IsRow result.now }
+        ensures well_formed { IsMatrix self.now }
+    {
+        &self.rows[index]
+    }
+
+    /// The entry at a row and a column.
+    pub fn get(&self, row: usize, column: usize) -> u8
+        requires row { row < length self.now.rows }
+        requires column { column < self.now.cols }
+        ensures value { result ≡ entry self.now.rows row column }
+        ensures element { IsElement self.now.order result }
+        ensures well_formed { IsMatrix self.now }
+    {
+        self.row(row).get(column)
+    }
+
+    /// Whether two matrices are equal: one field, one shape, and the same entries.
+    pub fn same(&self, other: &Matrix) -> bool
+        ensures { IsTrue result ↔ (self.now ≡ other.now) }
+    {
+        if self.cols() != other.cols()
+            || self.rows() != other.rows()
+            || self.field().order() != other.field().order()
+        {
+            return false;
+        }
+        for index in 0..self.rows() {
+            if !have_same_entries(self.row(index), other.row(index)) {
+                return false;
+            }
+        }
+        true
+    }
+}
+
+/// Whether two rows have the same entries.
+fn have_same_entries(left: &Row, right: &Row) -> bool
+    ensures { IsTrue result ↔ (left.now.entries ≡ right.now.entries) }
+{
+    if left.len() != right.len() {
+        return false;
+    }
+    for index in 0..left.len() {
+        if left.get(index) != right.get(index) {
+            return false;
+        }
+    }
+    true
+}
+
+#[cfg(test)]
+mod tests {
+    use super::*;
+    use std::process::Abort;
+
+    /// The matrix over this field with two rows of two entries.
+    fn two_by_two(
+        rt: &impl Abort,
+        alloc: Global,
+        field: Field,
+        entries: [[u8; 2]; 2],
+    ) -> Result<Matrix, Refusal> {
+        let [[a, b], [c, d]] = entries;
+        assert!(rt; field.is_element(a) && field.is_element(b));
+        assert!(rt; field.is_element(c) && field.is_element(d));
+        let mut first = Row::zero(alloc, field, 2)?;
+        first.set(0, a);
+        first.set(1, b);
+        let second = Row::from_elements(alloc, field, &[c, d])?;
+        let mut matrix = Matrix::empty(alloc, field, 2);
+        matrix.push_row(first).map_err(|_| Refusal::Memory)?;
+        assert_eq!(rt; matrix.rows(), 1);
+        matrix.push_row(second).map_err(|_| Refusal::Memory)?;
+        Ok(matrix)
+    }
+
+    #[test]
+    fn multiplies_over_two_elements(rt: HostRuntime) -> Result<(), Refusal> {
+        let field = Field::new(2).expect(&rt, "the field of two elements");
+        let left = two_by_two(&rt, rt.alloc(), field, [[1, 1], [0, 1]])?;
+        let right = two_by_two(&rt, rt.alloc(), field, [[1, 0], [1, 1]])?;
+        let product = left.mul(rt.alloc(), &right)?;
+        let expected = two_by_two(&rt, rt.alloc(), field, [[0, 1], [1, 1]])?;
+        assert!(rt; product.same(&expected));
+        assert!(rt; !product.same(&right));
+        Ok(())
+    }
+}
