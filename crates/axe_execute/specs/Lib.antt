@@ -1,0 +1,5 @@
+pub mod Meaning
+pub mod Outcome
+pub mod Drafts
+pub mod Faults
+pub mod Printed

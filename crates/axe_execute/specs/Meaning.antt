@@ -1,0 +1,100 @@
+-- What a command means: given the files of a folder, its plan or the first thing that stands against it.
+use Rattle.std.specs.Prelude.{◌≡◌, ◌⊎◌, ℕ, List, [], ◌∷◌, Option, Some, None, Result, Ok, Err}
+use Rattle.axe_row.specs.declared.Refusal.{Refusal}
+use Rattle.axe_matrix.specs.Matrices.{MatrixValue, product_refusal, matrix_product}
+use Rattle.axe_file.specs.declared.fault.FileFault.{FileFault}
+use Rattle.axe_file.specs.declared.TheConstants.{PACKED_LIMIT}
+use Rattle.axe_file.specs.Packed.{packed, packed_fault, unpacked}
+use Rattle.axe_folder.specs.declared.fault.FolderFault.{FolderFault}
+use Rattle.axe_folder.specs.Files.{Files, file_at, with_file, without_file}
+use Rattle.axe_folder.specs.Outcomes.{fetched}
+use Rattle.axe_words.specs.declared.command.Command.{Command}
+use Rattle.axe_words.specs.declared.command.Command.TheVariants.{Zmu}
+
+-- one change to the files of a folder: a name is given these bytes, or its file is taken away
+pub data Step : Type 0 where
+  Put : List ℕ → List ℕ → Step
+  Remove : List ℕ → Step
+
+-- the name whose file a step changes
+abbrev pub step_name : Step → List ℕ
+step_name (Put name bytes) = name
+step_name (Remove name) = name
+
+-- the files after a step
+abbrev pub step_applied : Step → Files → Files
+step_applied (Put name bytes) files = with_file files name bytes
+step_applied (Remove name) files = without_file files name
+
+-- the files after steps, made one after the other
+abbrev pub applied : List Step → Files → Files
+applied [] files = files
+applied (step ∷ steps) files = applied steps (step_applied step files)
+
+-- what a command does when nothing stands against it: its steps in order, and the text that it shows
+pub record Plan : Type 0 where
+  pub steps : List Step
+  pub shown : List ℕ
+
+-- what can stand against a command: a file that is absent or too long, a file that is no spelling of what is asked
+-- for, each with its name, and a refusal of the operation
+pub data Problem : Type 0 where
+  Unfetched : List ℕ → FolderFault → Problem
+  Unreadable : List ℕ → FileFault → Problem
+  Refuses : Refusal → Problem
+
+infixl 1 ◌>>=◌
+-- one thing after another: the first problem ends it
+abbrev pub ◌>>=◌ : {A B : Type 0} → Result A Problem → (A → Result B Problem) → Result B Problem
+◌>>=◌ (Ok value) next = next value
+◌>>=◌ (Err problem) next = Err problem
+
+-- what a fetch gives, with the file's name beside its fault
+abbrev pub fetch_named : {A : Type 0} → List ℕ → Result A FolderFault → Result A Problem
+fetch_named name (Ok value) = Ok value
+fetch_named name (Err fault) = Err (Unfetched name fault)
+
+-- the value that a file's bytes spell, unless they have a fault
+abbrev pub unless_faulty : {A : Type 0} → List ℕ → Option FileFault → A → Result A Problem
+unless_faulty name None value = Ok value
+unless_faulty name (Some fault) value = Err (Unreadable name fault)
+
+-- the value of an operation, unless it refuses its operands
+abbrev pub unless_refused : {A : Type 0} → Option Refusal → A → Result A Problem
+unless_refused None value = Ok value
+unless_refused (Some refusal) value = Err (Refuses refusal)
+
+-- the bytes of the file of this name, which are to be at most `limit`
+unfoldable pub bytes_in : Files → List ℕ → ℕ → Result (List ℕ) Problem
+bytes_in files name limit = fetch_named name (fetched (file_at files name) limit)
+
+-- the matrix whose packed spelling is the file of this name
+unfoldable pub matrix_in : Files → List ℕ → Result MatrixValue Problem
+matrix_in files name = do
+  bytes ← bytes_in files name PACKED_LIMIT
+  unless_faulty name (packed_fault bytes) (unpacked bytes)
+
+-- the product of two matrices, unless it refuses them
+unfoldable pub checked_product : MatrixValue → MatrixValue → Result MatrixValue Problem
+checked_product a b = unless_refused (product_refusal a b) (matrix_product a b)
+
+-- `zmu`: the product of two packed matrices is put, packed
+unfoldable pub product_plan : List ℕ → List ℕ → List ℕ → Files → Result Plan Problem
+product_plan left right out files = do
+  a ← matrix_in files left
+  b ← matrix_in files right
+  product ← checked_product a b
+  Ok (record { steps = Put out (packed product) ∷ []; shown = [] })
+
+-- one of these names
+abbrev pub IsOneOf : List (List ℕ) → List ℕ → Type 0
+IsOneOf [] name = ⊥
+IsOneOf (first ∷ names) name = (name ≡ first) ⊎ IsOneOf names name
+
+-- the files that a command reads, in order
+abbrev pub names_read : Command → List (List ℕ)
+names_read (Zmu left right out) = left ∷ right ∷ []
+
+-- the meaning of a command
+abbrev pub plan_of : Command → Files → Result Plan Problem
+plan_of (Zmu left right out) files = product_plan left right out files

@@ -1,0 +1,127 @@
+-- How a command may end: what its answer says of its meaning, of the files, and of the folder's device.
+use Rattle.std.specs.Prelude.{◌≡◌, ◌⊎◌, ⊤, ℕ, ◌+◌, ◌<◌, min, List, ◌∷◌, ◌++◌, Result, Ok, Err, IsOkAnd, string_bytes}
+use Rattle.axe_folder.specs.declared.fault.FolderFault.TheVariants as folder
+use Rattle.axe_folder.specs.Files.{Files}
+use Rattle.axe_folder.specs.Outcomes.{Puts, Removes, most_failures}
+use Rattle.axe_execute.specs.declared.fault.Fault.{Fault}
+use Rattle.axe_execute.specs.declared.fault.Fault.TheVariants.{File, Folder, Refused, Usage, Memory}
+use Rattle.axe_execute.specs.declared.execution.Shown.{Shown}
+use Rattle.axe_execute.specs.Meaning.{Step, Put, Remove, step_name, step_applied, applied, Plan, Problem, Unfetched, Unreadable, Refuses, IsOneOf}
+
+-- ---- reading
+
+-- the answer of a call that reads the files of these names: what is meant, its value as `view` sees it or the problem
+-- that stands. A device that fails at one of the files, and want of memory, stop it before it knows
+abbrev pub Agrees : {T V : Type 0} → List (List ℕ) → (T → V) → Result T Fault → Result V Problem → Type 0
+Agrees names view (Ok value) meaning = meaning ≡ Ok (view value)
+Agrees names view (Err (File name fault)) meaning = meaning ≡ Err (Unreadable (string_bytes name) fault)
+Agrees names view (Err (Folder name folder.Missing)) meaning = meaning ≡ Err (Unfetched (string_bytes name) folder.Missing)
+Agrees names view (Err (Folder name folder.TooLong)) meaning = meaning ≡ Err (Unfetched (string_bytes name) folder.TooLong)
+Agrees names view (Err (Folder name folder.Device)) meaning = IsOneOf names (string_bytes name)
+Agrees names view (Err (Folder name folder.Memory)) meaning = ⊥
+Agrees names view (Err (Refused refusal)) meaning = meaning ≡ Err (Refuses refusal)
+Agrees names view (Err (Usage text)) meaning = ⊥
+Agrees names view (Err Memory) meaning = ⊤
+
+-- ---- writing
+
+-- what a step at which a device failed leaves
+abbrev pub Breaks : Step → Files → Files → Type 0
+Breaks (Put name bytes) old new = Puts (Err folder.Device) old name bytes new
+Breaks (Remove name) old new = Removes (Err folder.Device) old name new
+
+-- how one step may end: it is made, or a device or want of memory stops it
+abbrev pub Makes : Result (Unit {0}) Fault → Step → Files → Files → Type 0
+Makes (Ok done) step old new = new ≡ step_applied step old
+Makes (Err (File name fault)) step old new = ⊥
+Makes (Err (Folder name folder.Missing)) step old new = ⊥
+Makes (Err (Folder name folder.TooLong)) step old new = ⊥
+Makes (Err (Folder name folder.Device)) step old new = (step_name step ≡ string_bytes name) × Breaks step old new
+Makes (Err (Folder name folder.Memory)) step old new = ⊥
+Makes (Err (Refused refusal)) step old new = ⊥
+Makes (Err (Usage text)) step old new = ⊥
+Makes (Err Memory) step old new = new ≡ old
+
+-- a device failed at one of the steps, which changes the file of this name: the steps before it stand, and it left what
+-- a failed step leaves
+pub record BrokeOff (steps : List Step) (name : List ℕ) (old new : Files) : Type 0 where
+  pub before : List Step
+  pub step : Step
+  pub after : List Step
+  pub parts : steps ≡ before ++ step ∷ after
+  pub of_step : step_name step ≡ name
+  pub left : Breaks step (applied before old) new
+
+-- there was no memory for one of the steps: the steps before it stand, and nothing else has changed
+pub record Halted (steps : List Step) (old new : Files) : Type 0 where
+  pub before : List Step
+  pub step : Step
+  pub after : List Step
+  pub parts : steps ≡ before ++ step ∷ after
+  pub left : new ≡ applied before old
+
+-- how steps may end: all are made in order, or a device or want of memory stops them
+abbrev pub Carries : Result (Unit {0}) Fault → List Step → Files → Files → Type 0
+Carries (Ok done) steps old new = new ≡ applied steps old
+Carries (Err (File name fault)) steps old new = ⊥
+Carries (Err (Folder name folder.Missing)) steps old new = ⊥
+Carries (Err (Folder name folder.TooLong)) steps old new = ⊥
+Carries (Err (Folder name folder.Device)) steps old new = BrokeOff steps (string_bytes name) old new
+Carries (Err (Folder name folder.Memory)) steps old new = ⊥
+Carries (Err (Refused refusal)) steps old new = ⊥
+Carries (Err (Usage text)) steps old new = ⊥
+Carries (Err Memory) steps old new = Halted steps old new
+
+-- ---- commands
+
+-- this stands against the command, and no file has changed
+abbrev pub StoppedBy : Problem → Result Plan Problem → Files → Files → Type 0
+StoppedBy problem meaning old new = (meaning ≡ Err problem) × (new ≡ old)
+
+-- how a command that reads the files of these names may end, given its meaning:
+-- it shows a text, where it has a plan, all of whose steps are made, with this text;
+-- a fault of a file, a file that is absent or too long, or a refusal, where just that stands against it: no file changes;
+-- a fault of the device: no file changes and it is one of the files that it reads, or its plan broke off at a step;
+-- want of memory: no file changes, or its plan halted at a step
+abbrev pub Executes : Result Shown Fault → List (List ℕ) → Result Plan Problem → Files → Files → Type 0
+Executes (Ok shown) names meaning old new = IsOkAnd meaning (λ plan. (shown.text.items ≡ plan.shown) × (new ≡ applied plan.steps old))
+Executes (Err (File name fault)) names meaning old new = StoppedBy (Unreadable (string_bytes name) fault) meaning old new
+Executes (Err (Folder name folder.Missing)) names meaning old new = StoppedBy (Unfetched (string_bytes name) folder.Missing) meaning old new
+Executes (Err (Folder name folder.TooLong)) names meaning old new = StoppedBy (Unfetched (string_bytes name) folder.TooLong) meaning old new
+Executes (Err (Folder name folder.Device)) names meaning old new =
+    (IsOneOf names (string_bytes name) × (new ≡ old)) ⊎ IsOkAnd meaning (λ plan. BrokeOff plan.steps (string_bytes name) old new)
+Executes (Err (Folder name folder.Memory)) names meaning old new = ⊥
+Executes (Err (Refused refusal)) names meaning old new = StoppedBy (Refuses refusal) meaning old new
+Executes (Err (Usage text)) names meaning old new = ⊥
+Executes (Err Memory) names meaning old new = (new ≡ old) ⊎ IsOkAnd meaning (λ plan. Halted plan.steps old new)
+
+-- ---- the device
+
+-- the folder's count of device failures rises by one with a fault of the device, stays at its end, and is unchanged by
+-- every other fault
+abbrev pub CountsFault : Fault → ℕ → ℕ → Type 0
+CountsFault (File name fault) old new = new ≡ old
+CountsFault (Folder name folder.Missing) old new = new ≡ old
+CountsFault (Folder name folder.TooLong) old new = new ≡ old
+CountsFault (Folder name folder.Device) old new = new ≡ min (old + 1) most_failures
+CountsFault (Folder name folder.Memory) old new = new ≡ old
+CountsFault (Refused refusal) old new = new ≡ old
+CountsFault (Usage text) old new = new ≡ old
+CountsFault Memory old new = new ≡ old
+
+-- the same of an answer, which is no fault of the device where it is a value
+abbrev pub Counted : {T : Type 0} → Result T Fault → ℕ → ℕ → Type 0
+Counted (Ok value) old new = new ≡ old
+Counted (Err fault) old new = CountsFault fault old new
+
+-- a fault of the device is answered only where the folder's count of failures rose, or is at its end
+abbrev pub BlamesDevice : {T : Type 0} → Result T Fault → ℕ → ℕ → Type 0
+BlamesDevice (Ok value) old new = ⊤
+BlamesDevice (Err (File name fault)) old new = ⊤
+BlamesDevice (Err (Folder name folder.Missing)) old new = ⊤
+BlamesDevice (Err (Folder name folder.TooLong)) old new = ⊤
+BlamesDevice (Err (Folder name folder.Device)) old new = (old < new) ⊎ (new ≡ most_failures)
+BlamesDevice (Err (Folder name folder.Memory)) old new = ⊤
+BlamesDevice (Err (Refused refusal)) old new = ⊤
+BlamesDevice (Err (Usage text)) old new = ⊤
+BlamesDevice (Err Memory) old new = ⊤

@@ -1,0 +1,96 @@
+//! What a command is about to do, with everything made that it takes.
+ghost use Rattle.std.specs.Prelude.{IsTrue, map};
+ghost use Rattle.axe_execute.specs.Drafts.{step_in};
+ghost use Rattle.axe_execute.specs.Outcome.{Carries, Counted};
+
+use crate::fault::Fault;
+use axe_file::write_packed;
+use axe_folder::Folder;
+use axe_matrix::Matrix;
+use axe_words::Name;
+use std::alloc::Global;
+
+/// One change to the files of a folder.
+#[derive(Drop)]
+pub(crate) enum Change {
+    /// The name is given these bytes.
+    Put { name: String, bytes: Vec<u8> },
+    /// The name's file is taken away.
+    Remove { name: String },
+}
+
+/// The changes that a command makes, in order, and the text that it shows.
+#[derive(Drop)]
+pub(crate) struct Draft {
+    /// The changes.
+    pub(crate) changes: Vec<Change>,
+    /// The text.
+    pub(crate) text: Vec<u8>,
+}
+
+impl Change {
+    ghost use Rattle.axe_execute.specs.Outcome.{Makes};
+
+    /// Makes the change.
+    pub(crate) fn make<F: Folder>(self, folder: &mut F) -> Result<(), Fault>
+        ensures made { IsTrue F.tells → Makes result (step_in self) (F.files folder.old) (F.files folder.new) }
+        ensures counted { IsTrue F.tells → Counted result (F.failures folder.old) (F.failures folder.new) }
+    {
+        match self {
+            Change::Put { name, bytes } => match folder.put(&name, &bytes) {
+                Ok(()) => Ok(()),
+                Err(fault) => Err(Fault::of_folder(name, fault)),
+            },
+            Change::Remove { name } => match folder.remove(&name) {
+                Ok(()) => Ok(()),
+                Err(fault) => Err(Fault::of_folder(name, fault)),
+            },
+        }
+    }
+}
+
+impl Draft {
+    ghost use Rattle.std.specs.Prelude.{◌≡◌, [], OnOk, IfErr};
+    ghost use Rattle.axe_file.specs.Packed.{packed};
+    ghost use Rattle.axe_execute.specs.declared.fault.Fault.TheVariants.{Memory};
+    ghost use Rattle.axe_execute.specs.Meaning.{Put};
+    ghost use Rattle.axe_execute.specs.Drafts.{plan_in, with_step};
+
+    /// The draft that changes nothing and shows nothing.
+    pub(crate) fn new(alloc: Global) -> Draft
+        ensures { plan_in result ≡ record { steps = []; shown = [] } }
+    {
+        Draft {
+            changes: Vec::new(alloc),
+            text: Vec::new(alloc),
+        }
+    }
+
+    /// Adds that the name is given the packed spelling of a matrix.
+    pub(crate) fn put_packed(
+        &mut self,
+        alloc: Global,
+        name: &Name,
+        matrix: &Matrix,
+    ) -> Result<(), Fault>
+        ensures put { OnOk result (plan_in self.new ≡ with_step (plan_in self.old) (Put name.now (packed matrix.now))) }
+        ensures memory { IfErr result (λ fault. fault ≡ Memory) }
+    {
+        let name = String::from_str(alloc, name.as_str())?;
+        let bytes = write_packed(alloc, matrix).map_err(|_| Fault::Memory)?;
+        self.changes.push(Change::Put { name, bytes })?;
+        Ok(())
+    }
+}
+
+/// Makes the changes in order.
+pub(crate) fn make_all<F: Folder>(changes: Vec<Change>, folder: &mut F) -> Result<(), Fault>
+    ensures carried { IsTrue F.tells →
+        Carries result (map step_in changes.items) (F.files folder.old) (F.files folder.new) }
+    ensures counted { IsTrue F.tells → Counted result (F.failures folder.old) (F.failures folder.new) }
+{
+    for change in changes {
+        change.make(folder)?;
+    }
+    Ok(())
+}

@@ -1,0 +1,16 @@
+//! What the commands do: from a `Command` and a folder to the files that it puts, the text that it shows, or a fault.
+//!
+//! Each file that a command reads is fetched and read in turn; then come the refusals of its operation; then all bytes,
+//! names and text are made; and only then the folder is changed.
+#![tactic(auto)]
+
+mod draft;
+pub mod execution;
+pub mod fault;
+mod planning;
+pub mod printed;
+mod reading;
+
+pub use execution::{Shown, execute};
+pub use fault::Fault;
+pub use printed::{line, number, status};

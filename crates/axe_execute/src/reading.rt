@@ -1,0 +1,54 @@
+//! Files, fetched from a folder and read.
+ghost use Rattle.std.specs.Prelude.{◌≡◌, IsTrue, [], ◌∷◌};
+ghost use Rattle.axe_execute.specs.Meaning.{bytes_in, matrix_in};
+ghost use Rattle.axe_execute.specs.Outcome.{Agrees, Counted};
+
+use crate::fault::Fault;
+use axe_file::{PACKED_LIMIT, read_packed};
+use axe_folder::Folder;
+use axe_matrix::Matrix;
+use axe_words::Name;
+use std::alloc::Global;
+
+/// The matrix of a packed file.
+#[tactic(auto, unfolding(crate::specs::Meaning::matrix_in))]
+pub(crate) fn read_matrix<F: Folder>(
+    alloc: Global,
+    folder: &mut F,
+    name: &Name,
+) -> Result<Matrix, Fault>
+    ensures means { IsTrue F.tells →
+        Agrees (name.now ∷ []) (λ matrix. matrix) result
+        (matrix_in (F.files folder.old) name.now) }
+    ensures kept { IsTrue F.tells → F.files folder.new ≡ F.files folder.old }
+    ensures counted { IsTrue F.tells → Counted result (F.failures folder.old) (F.failures folder.new) }
+{
+    let bytes = fetch(alloc, folder, name, PACKED_LIMIT)?;
+    match read_packed(alloc, &bytes) {
+        Ok(matrix) => Ok(matrix),
+        Err(fault) => Err(Fault::of_file(String::from_str(alloc, name.as_str())?, fault)),
+    }
+}
+
+// The bytes of a file that has at most `limit` of them.
+#[tactic(auto, unfolding(crate::specs::Meaning::bytes_in))]
+fn fetch<F: Folder>(
+    alloc: Global,
+    folder: &mut F,
+    name: &Name,
+    limit: usize,
+) -> Result<Vec<u8>, Fault>
+    ensures means { IsTrue F.tells →
+        Agrees (name.now ∷ []) (λ bytes. bytes.items) result
+        (bytes_in (F.files folder.old) name.now limit) }
+    ensures kept { IsTrue F.tells → F.files folder.new ≡ F.files folder.old }
+    ensures counted { IsTrue F.tells → Counted result (F.failures folder.old) (F.failures folder.new) }
+{
+    // The name is copied before the call, so that want of memory can't hide a fault of the device.
+    let text = name.as_str();
+    let file = String::from_str(alloc, text)?;
+    match folder.get(text, limit) {
+        Ok(bytes) => Ok(bytes),
+        Err(fault) => Err(Fault::of_folder(file, fault)),
+    }
+}

@@ -1,0 +1,210 @@
+-- Which fault is the first, when some rules hold and the next one is broken.
+use Rattle.std.proofs.Common.{◌≡◌, ℕ, zero, suc, ◌+◌, ◌<◌, ◌≤◌, true, false, not, ◌||◌, eqb, ltb, leb, List, [], ◌∷◌, ◌++◌, length, get_or, Option, Some, None, Result, Ok, Err, refl, sym, ap, ◌∙◌, inl, inr, arith}
+use Rattle.std.specs.Prelude.{slice_get, IfOk, IfErr}
+use Rattle.std.specs.List.{flat_map, find, range_with_len}
+use Rattle.std.proofs.lemmas.Bool.{cases_eq, lt-ltb, le-ltb, le-leb, lt-leb, ne_eqb, eq-eqb, or_left, or_right, not_from_false}
+use Rattle.axe_field.specs.Order.{Order, Two, Three, Four, Five, Seven, Eight, Nine, order_number}
+use Rattle.axe_matrix.specs.declared.TheConstants.{MAX_ROWS, MAX_COLUMNS}
+use Rattle.axe_matrix.specs.Matrices.{MatrixValue, IsMatrix}
+use Rattle.axe_file.specs.Marks.{byte_limit}
+use Rattle.axe_file.specs.Packed.{order_with_number, header_order, header_rows, header_columns, data_length, has_other_magic, has_reserved, has_padding, byte_faults, header_faults, data_faults, packed_fault, packed, unpacked}
+use Rattle.axe_file.specs.declared.fault.FileFault.{FileFault}
+use Rattle.axe_file.specs.declared.fault.FileFault.TheVariants.{ShortHeader, BadMagic, BadField, BadReserved, BadRows, BadCols, Truncated, BadByte, BadPadding, TrailingBytes, Memory}
+use Rattle.axe_file.specs.Answers.{Answers}
+use Rattle.axe_file.proofs.Headers.{order_of_number}
+use Rattle.axe_file.proofs.Unpacking.{unpacked_packed}
+use Rattle.axe_file.proofs.Spellings.{packed_faultless}
+use Rattle.axe_file.proofs.Ranges.{both_nil, no_faults, no_faults_at}
+
+-- ---- the header
+
+abbrev First : List FileFault → FileFault → Type 0
+First faults fault = slice_get faults 0 ≡ Some fault
+
+pub short_header : (bytes : List ℕ) → length bytes < 16 → First (header_faults bytes) ShortHeader
+unfolding header_faults
+short_header bytes h =
+    let short : ltb (length bytes) 16 ≡ true = lt-ltb _ _ h in
+    rw short refl
+
+pub bad_magic : (bytes : List ℕ) → 16 ≤ length bytes → has_other_magic bytes ≡ true → First (header_faults bytes) BadMagic
+unfolding header_faults
+bad_magic bytes h magic =
+    let long : ltb (length bytes) 16 ≡ false = le-ltb _ _ h in
+    rw (long, magic) refl
+
+pub bad_field : (bytes : List ℕ) → 16 ≤ length bytes → has_other_magic bytes ≡ false → order_with_number (get_or bytes 4 0) ≡ None → First (header_faults bytes) BadField
+unfolding header_faults
+bad_field bytes h magic field =
+    let long : ltb (length bytes) 16 ≡ false = le-ltb _ _ h in
+    rw (long, magic, field) refl
+
+-- the order that a header names
+pub named_order : (bytes : List ℕ) (o : Order) → order_number o ≡ get_or bytes 4 0 → order_with_number (get_or bytes 4 0) ≡ Some o
+named_order bytes o e = ap (λ (n : ℕ). order_with_number n) (sym e) ∙ order_of_number o
+
+pub order_named : (bytes : List ℕ) (o : Order) → order_number o ≡ get_or bytes 4 0 → header_order bytes ≡ o
+unfolding header_order
+order_named bytes o e = rw (named_order bytes o e) refl
+
+pub bad_reserved : (bytes : List ℕ) (o : Order) → 16 ≤ length bytes → has_other_magic bytes ≡ false → order_number o ≡ get_or bytes 4 0 → has_reserved bytes ≡ true
+    → First (header_faults bytes) BadReserved
+unfolding header_faults
+bad_reserved bytes o h magic number reserved =
+    let long : ltb (length bytes) 16 ≡ false = le-ltb _ _ h in
+    rw (long, magic, named_order bytes o number, reserved) refl
+
+pub bad_rows : (bytes : List ℕ) (o : Order) → 16 ≤ length bytes → has_other_magic bytes ≡ false → order_number o ≡ get_or bytes 4 0 → has_reserved bytes ≡ false
+    → MAX_ROWS < header_rows bytes → First (header_faults bytes) BadRows
+unfolding header_faults
+bad_rows bytes o h magic number reserved rows =
+    let long : ltb (length bytes) 16 ≡ false = le-ltb _ _ h in
+    let many : ltb MAX_ROWS (header_rows bytes) ≡ true = lt-ltb _ _ rows in
+    rw (long, magic, named_order bytes o number, reserved, many) refl
+
+pub bad_columns : (bytes : List ℕ) (o : Order) → 16 ≤ length bytes → has_other_magic bytes ≡ false → order_number o ≡ get_or bytes 4 0 → has_reserved bytes ≡ false
+    → header_rows bytes ≤ MAX_ROWS → (eqb (header_columns bytes) 0 || ltb MAX_COLUMNS (header_columns bytes)) ≡ true → First (header_faults bytes) BadCols
+unfolding header_faults
+bad_columns bytes o h magic number reserved rows columns =
+    let long : ltb (length bytes) 16 ≡ false = le-ltb _ _ h in
+    let few : ltb MAX_ROWS (header_rows bytes) ≡ false = le-ltb _ _ rows in
+    rw (long, magic, named_order bytes o number, reserved, few, columns) refl
+
+pub no_columns : (bytes : List ℕ) → header_columns bytes ≡ 0 → (eqb (header_columns bytes) 0 || ltb MAX_COLUMNS (header_columns bytes)) ≡ true
+no_columns bytes e = or_left _ _ (eq-eqb _ _ e)
+
+pub many_columns : (bytes : List ℕ) → MAX_COLUMNS < header_columns bytes → (eqb (header_columns bytes) 0 || ltb MAX_COLUMNS (header_columns bytes)) ≡ true
+many_columns bytes e = or_right _ _ (lt-ltb _ _ e)
+
+nonzero : (n : ℕ) → (n ≡ 0 → ⊥) → not (eqb n 0) ≡ true
+nonzero n h = not_from_false _ (ne_eqb n 0 h)
+
+pub reserved_5 : (bytes : List ℕ) → (get_or bytes 5 0 ≡ 0 → ⊥) → has_reserved bytes ≡ true
+unfolding has_reserved
+reserved_5 bytes h = or_left _ _ (nonzero (get_or bytes 5 0) h)
+
+pub reserved_6 : (bytes : List ℕ) → (get_or bytes 6 0 ≡ 0 → ⊥) → has_reserved bytes ≡ true
+unfolding has_reserved
+reserved_6 bytes h = or_right _ _ (or_left _ _ (nonzero (get_or bytes 6 0) h))
+
+pub reserved_7 : (bytes : List ℕ) → (get_or bytes 7 0 ≡ 0 → ⊥) → has_reserved bytes ≡ true
+unfolding has_reserved
+reserved_7 bytes h = or_right _ _ (or_right _ _ (or_left _ _ (nonzero (get_or bytes 7 0) h)))
+
+pub none_reserved : (bytes : List ℕ) → get_or bytes 5 0 ≡ 0 → get_or bytes 6 0 ≡ 0 → get_or bytes 7 0 ≡ 0 → has_reserved bytes ≡ false
+unfolding has_reserved
+none_reserved bytes a b c = rw (a, b, c) refl
+
+not_found_among : (n : ℕ) (orders : List Order) → ((o : Order) → order_number o ≡ n → ⊥) → find (λ o. eqb (order_number o) n) orders ≡ None
+not_found_among n [] h = refl
+not_found_among n (o ∷ orders) h =
+    let other : eqb (order_number o) n ≡ false = ne_eqb _ _ (h o) in
+    rw other (not_found_among n orders h)
+
+pub no_order : (n : ℕ) → ((o : Order) → order_number o ≡ n → ⊥) → order_with_number n ≡ None
+unfolding order_with_number
+no_order n h = not_found_among n (Two ∷ Three ∷ Four ∷ Five ∷ Seven ∷ Eight ∷ Nine ∷ []) h
+
+-- ---- the data
+
+pub bad_byte : (bytes : List ℕ) (p : ℕ) → byte_limit (header_order bytes) ≤ get_or bytes (16 + p) 0 → First (byte_faults bytes p) (BadByte (16 + p))
+unfolding byte_faults
+bad_byte bytes p h =
+    let high : leb (byte_limit (header_order bytes)) (get_or bytes (16 + p) 0) ≡ true = le-leb _ _ h in
+    rw high refl
+
+pub bad_padding : (bytes : List ℕ) (p : ℕ) → get_or bytes (16 + p) 0 < byte_limit (header_order bytes) → has_padding bytes p ≡ true → First (byte_faults bytes p) (BadPadding (16 + p))
+unfolding byte_faults
+bad_padding bytes p h padding =
+    let low : leb (byte_limit (header_order bytes)) (get_or bytes (16 + p) 0) ≡ false = lt-leb _ _ h in
+    rw (low, padding) refl
+
+pub truncated : (bytes : List ℕ) → length bytes < 16 + data_length bytes → First (data_faults bytes) Truncated
+unfolding data_faults
+truncated bytes h =
+    let short : ltb (length bytes) (16 + data_length bytes) ≡ true = lt-ltb _ _ h in
+    rw short refl
+
+pub first_stays : (xs ys : List FileFault) (fault : FileFault) → First xs fault → First (xs ++ ys) fault
+first_stays [] ys fault e = absurd cc
+first_stays (x ∷ xs) ys fault e = e
+
+pub fault_inside : (bytes : List ℕ) (fault : FileFault) → 16 + data_length bytes ≤ length bytes
+    → First (flat_map (byte_faults bytes) (range_with_len 0 (data_length bytes))) fault → First (data_faults bytes) fault
+unfolding data_faults
+fault_inside bytes fault h e =
+    let long : ltb (length bytes) (16 + data_length bytes) ≡ false = le-ltb _ _ h in
+    rw long (first_stays (flat_map (byte_faults bytes) (range_with_len 0 (data_length bytes))) _ fault e)
+
+pub trailing : (bytes : List ℕ) → flat_map (byte_faults bytes) (range_with_len 0 (data_length bytes)) ≡ [] → 16 + data_length bytes < length bytes
+    → First (data_faults bytes) TrailingBytes
+unfolding data_faults
+trailing bytes inside h =
+    let long : ltb (length bytes) (16 + data_length bytes) ≡ false = le-ltb _ _ (omega arith) in
+    let more : ltb (16 + data_length bytes) (length bytes) ≡ true = lt-ltb _ _ h in
+    rw (long, inside, more) refl
+
+pub no_data_fault : (bytes : List ℕ) → flat_map (byte_faults bytes) (range_with_len 0 (data_length bytes)) ≡ [] → length bytes ≡ 16 + data_length bytes → data_faults bytes ≡ []
+unfolding data_faults
+no_data_fault bytes inside h =
+    let long : ltb (length bytes) (16 + data_length bytes) ≡ false = le-ltb _ _ (omega arith) in
+    let less : ltb (16 + data_length bytes) (length bytes) ≡ false = le-ltb _ _ (omega arith) in
+    rw (long, inside, less) refl
+
+-- ---- all of it
+
+pub fault_in_header : (bytes : List ℕ) (fault : FileFault) → First (header_faults bytes) fault → packed_fault bytes ≡ Some fault
+unfolding packed_fault
+fault_in_header bytes fault e = first_stays (header_faults bytes) (data_faults bytes) fault e
+
+pub fault_in_data : (bytes : List ℕ) (fault : FileFault) → header_faults bytes ≡ [] → First (data_faults bytes) fault → packed_fault bytes ≡ Some fault
+unfolding packed_fault
+fault_in_data bytes fault header e = rw header e
+
+pub no_fault_at_all : (bytes : List ℕ) → header_faults bytes ≡ [] → data_faults bytes ≡ [] → packed_fault bytes ≡ None
+unfolding packed_fault
+no_fault_at_all bytes header inside = rw (header, inside) refl
+
+-- ---- the first fault of a range
+
+pub first_fault_at : (faults : ℕ → List FileFault) (fault : FileFault) (a n k j : ℕ) → a + k ≡ j → k < n → flat_map faults (range_with_len a k) ≡ [] → First (faults j) fault
+    → First (flat_map faults (range_with_len a n)) fault
+first_fault_at faults fault a zero k j e lt before here = absurd (omega arith)
+first_fault_at faults fault a (suc n) zero j e lt before here =
+    let same : j ≡ a = omega arith in
+    first_stays (faults a) (flat_map faults (range_with_len (a + 1) n)) fault (ap (λ (i : ℕ). slice_get (faults i) 0) (sym same) ∙ here)
+first_fault_at faults fault a (suc n) (suc k) j e lt before here =
+    let parts = both_nil (faults a) (flat_map faults (range_with_len (a + 1) k)) before in
+    rw parts.0 (first_fault_at faults fault (a + 1) n k j (omega arith) (omega arith) parts.1 here)
+
+pub no_fault_more : (faults : ℕ → List FileFault) (n : ℕ) → flat_map faults (range_with_len 0 n) ≡ [] → faults n ≡ [] → flat_map faults (range_with_len 0 (n + 1)) ≡ []
+no_fault_more faults n before here =
+    no_faults faults 0 (n + 1) (λ j low high.
+    elim (cases_eq j n) [
+      | inl same ↦ ap faults same ∙ here
+      | inr other ↦ no_faults_at faults 0 n before j low (omega arith)
+    ])
+
+-- ---- what a reader answers
+
+pub answers_fault : {T : Type 0} (o : Option FileFault) (P : T → Type 0) (r : Result T FileFault) (fault : FileFault) → o ≡ Some fault → r ≡ Err fault → Answers o P r
+answers_fault o P r fault eo er = rw eo er
+
+answers_memory : {T : Type 0} (P : T → Type 0) (r : Result T FileFault) → IfOk r P → IfErr r (λ fault. fault ≡ Memory) → Answers None P r
+answers_memory P (Ok x) ok err = ok
+answers_memory P (Err fault) ok err = err
+
+pub answers_value : {T : Type 0} (o : Option FileFault) (P : T → Type 0) (r : Result T FileFault) → o ≡ None → IfOk r P → IfErr r (λ fault. fault ≡ Memory) → Answers o P r
+answers_value o P r eo ok err = rw eo (answers_memory P r ok err)
+
+answers_same : {T : Type 0} (a b : T) (r : Result T FileFault) → a ≡ b → Answers None (λ m. m ≡ a) r → Answers None (λ m. m ≡ b) r
+answers_same a b (Ok x) e h = h ∙ e
+answers_same a b (Err fault) e h = h
+
+-- the answer to the spelling of a matrix
+pub answers_spelling : (bytes : List ℕ) (a : MatrixValue) (r : Result MatrixValue FileFault) → IsMatrix a → bytes ≡ packed a
+    → Answers (packed_fault bytes) (λ m. m ≡ unpacked bytes) r → Answers None (λ m. m ≡ a) r
+answers_spelling bytes a r matrix e answer =
+    let faultless : packed_fault bytes ≡ None = ap (λ (xs : List ℕ). packed_fault xs) e ∙ packed_faultless a matrix in
+    let same : unpacked bytes ≡ a = ap (λ (xs : List ℕ). unpacked xs) e ∙ unpacked_packed a matrix in
+    answers_same (unpacked bytes) a r same (rw faultless at answer)

@@ -1,0 +1,13 @@
+pub mod Digits
+pub mod Lists
+pub mod Bytes
+pub mod Headers
+pub mod Unpacking
+pub mod Ranges
+pub mod Soundness
+pub mod Spellings
+pub mod Respelling
+pub mod Layouts
+pub mod Checks
+pub mod Scans
+pub mod Magic

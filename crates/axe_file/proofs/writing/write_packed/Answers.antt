@@ -1,0 +1,28 @@
+use Rattle.std.proofs.Common.{◌*◌, ◌≤◌, length, ◌++◌, List, ℕ, ap, ◌∙◌, arith}
+use Rattle.std.specs.List.{flat_map}
+use Rattle.std.proofs.lemmas.List.{take_all}
+use Rattle.axe_file.specs.Packed.{packed, packed_header, packed_row}
+use Rattle.axe_file.proofs.Scans.{data_fits}
+use Rattle.axe_file.proofs.writing.write_packed.Goals as goal
+
+pub overflow_mul-rows : goal.overflow_mul-rows
+overflow_mul-rows c =
+    let layout = c.new-layout.result in
+    let rows : c.rows.result ≤ 2048 = omega (arith, c.rows.ensures.count, c.rows.ensures.well_formed.rows_fit) in
+    let fits : c.rows.result * layout.width ≤ 2097152 = rw layout.width_is (data_fits layout.field c.rows.result layout.columns rows layout.columns_fit) in
+    omega arith
+
+pub overflow_add-rows : goal.overflow_add-rows
+overflow_add-rows c =
+    let layout = c.new-layout.result in
+    let rows : c.rows.result ≤ 2048 = omega (arith, c.rows.ensures.count, c.rows.ensures.well_formed.rows_fit) in
+    let fits : c.rows.result * layout.width ≤ 2097152 = rw layout.width_is (data_fits layout.field c.rows.result layout.columns rows layout.columns_fit) in
+    omega arith
+
+pub returns-clause-spelling : goal.returns-clause-spelling
+unfolding packed
+returns-clause-spelling c =
+    let m = c.args.matrix.now in
+    c.loop-index.invariant
+    ∙ ap (λ (rows : List (List ℕ)). packed_header m.order (length m.rows) m.cols ++ flat_map (packed_row m.order m.cols) rows)
+    (take_all c.loop-index.index m.rows (omega (arith, c.rows-index-end.ensures.count)))

@@ -1,0 +1,4 @@
+pub mod Marks
+pub mod Packed
+pub mod Headers
+pub mod Answers

@@ -1,0 +1,64 @@
+//! What is wrong with a file.
+
+use std::alloc::{AllocError, AllocFailed};
+use thiserror::Error;
+
+/// Why the bytes of a file are no matrix. Offsets count bytes from the beginning of the file.
+#[derive(Debug, Clone, Copy, PartialEq, Eq, Error)]
+pub enum FileFault {
+    /// There are fewer bytes than a header has.
+    #[error("ShortHeader")]
+    ShortHeader,
+    /// The file does not begin with the magic bytes.
+    #[error("BadMagic")]
+    BadMagic,
+    /// There is no field of the order that the header names.
+    #[error("BadField")]
+    BadField,
+    /// A reserved byte of the header is not 0.
+    #[error("BadReserved")]
+    BadReserved,
+    /// The header names too many rows.
+    #[error("BadRows")]
+    BadRows,
+    /// The header names no columns, or too many.
+    #[error("BadCols")]
+    BadCols,
+    /// There are fewer bytes than the rows take.
+    #[error("Truncated")]
+    Truncated,
+    /// The byte at this offset is more than its marks can make.
+    #[error("BadByte at {0}")]
+    BadByte(usize),
+    /// A mark past the last column, in the byte at this offset, is not 0.
+    #[error("BadPadding at {0}")]
+    BadPadding(usize),
+    /// Bytes stand after the last row.
+    #[error("TrailingBytes")]
+    TrailingBytes,
+    /// There was no memory for the matrix or for its bytes.
+    #[error("Memory")]
+    Memory,
+}
+
+impl From<AllocError> for FileFault {
+    ghost use Rattle.std.specs.Prelude.{◌≡◌};
+    ghost use Rattle.axe_file.specs.declared.fault.FileFault.TheVariants.{Memory};
+
+    ghost from_gives = { λ _ fault. fault ≡ Memory };
+
+    fn from(_error: AllocError) -> FileFault {
+        FileFault::Memory
+    }
+}
+
+impl<T: Drop> From<AllocFailed<T>> for FileFault {
+    ghost use Rattle.std.specs.Prelude.{◌≡◌};
+    ghost use Rattle.axe_file.specs.declared.fault.FileFault.TheVariants.{Memory};
+
+    ghost from_gives = { λ _ fault. fault ≡ Memory };
+
+    fn from(_error: AllocFailed<T>) -> FileFault {
+        FileFault::Memory
+    }
+}

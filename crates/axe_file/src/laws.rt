@@ -1,0 +1,37 @@
+//! What holds of the packed form.
+
+ghost use Rattle.std.specs.Prelude.{◌≡◌, ℕ, ◌^◌, ◌<◌, ◌≤◌, None, List, length};
+ghost use Rattle.std.specs.List.{All};
+ghost use Rattle.axe_field.specs.Order.{Order, order_number};
+ghost use Rattle.axe_matrix.specs.Matrices.{MatrixValue, IsMatrix};
+ghost use Rattle.axe_file.specs.Marks.{marks_per_byte};
+ghost use Rattle.axe_file.specs.Packed.{packed, packed_fault, unpacked};
+ghost use Rattle.axe_file.specs.declared.TheConstants.{PACKED_LIMIT};
+
+/// A byte has room for so many marks, and for no more.
+pub fn marks_per_byte_is_greatest()
+    ensures fit { (o : Order) → order_number o ^ marks_per_byte o ≤ 256 }
+    ensures greatest { (o : Order) (m : ℕ) → order_number o ^ m ≤ 256 → m ≤ marks_per_byte o }
+{}
+
+/// The spelling of a matrix keeps the limit of packed files.
+pub fn spellings_keep_the_limit()
+    ensures { (m : MatrixValue) → IsMatrix m → length (packed m) ≤ PACKED_LIMIT }
+{}
+
+/// Matrices with one spelling are one matrix.
+pub fn spellings_are_apart()
+    ensures { (a b : MatrixValue) → IsMatrix a → IsMatrix b → packed a ≡ packed b → a ≡ b }
+{}
+
+/// The spelling of a matrix has no fault, and gives the matrix back.
+pub fn spellings_are_read()
+    ensures faultless { (m : MatrixValue) → IsMatrix m → packed_fault (packed m) ≡ None }
+    ensures matrix { (m : MatrixValue) → IsMatrix m → unpacked (packed m) ≡ m }
+{}
+
+/// Bytes without fault are the spelling of a matrix.
+pub fn faultless_bytes_are_spellings()
+    ensures matrix { (bytes : List ℕ) → packed_fault bytes ≡ None → IsMatrix (unpacked bytes) }
+    ensures spelling { (bytes : List ℕ) → All (λ byte. byte < 256) bytes → packed_fault bytes ≡ None → bytes ≡ packed (unpacked bytes) }
+{}

@@ -1,0 +1,117 @@
+//! How elements lie in bytes.
+
+ghost use Rattle.std.specs.Prelude.{◌≡◌, ◌+◌, ◌*◌, ◌<◌, ◌≤◌, length, slice_index, All};
+ghost use Rattle.axe_field.specs.Order.{order_number, IsElement};
+ghost use Rattle.axe_matrix.specs.declared.TheConstants.{MAX_COLUMNS};
+ghost use Rattle.axe_file.specs.Marks.{marks_per_byte, byte_limit, byte_with_marks, mark_of, has_unused_mark, bytes_per_row};
+
+use axe_field::Field;
+use axe_row::Row;
+
+/// The bytes that each packed file begins with.
+pub(crate) const MAGIC: [u8; 4] = *b"AXP1";
+
+/// How many bytes stand before the first row.
+pub(crate) const HEADER_LENGTH: usize = 16;
+
+/// How the elements of a matrix's rows, here called marks, lie in the bytes of its packed form.
+#[derive(Clone, Copy)]
+pub(crate) struct Layout {
+    /// The field of the elements.
+    pub(crate) field: Field,
+    /// How many elements a row has.
+    pub(crate) columns: usize,
+    /// How many marks a byte holds.
+    pub(crate) marks: usize,
+    /// What a byte of marks is below.
+    pub(crate) limit: u16,
+    /// How many bytes a row takes.
+    pub(crate) width: usize,
+    ghost columns_fit: { columns ≤ MAX_COLUMNS },
+    ghost marks_is: { marks ≡ marks_per_byte field },
+    ghost limit_is: { limit ≡ byte_limit field },
+    ghost width_is: { width ≡ bytes_per_row field columns },
+}
+
+impl Layout {
+    /// The layout of rows of so many columns.
+    pub(crate) fn new(field: Field, columns: usize) -> Layout
+        requires { columns ≤ MAX_COLUMNS }
+        ensures field { result.field ≡ field }
+        ensures columns { result.columns ≡ columns }
+    {
+        let marks = marks_per_byte(&field);
+        let limit = u16::from(field.order()).pow(marks as u32);
+        Layout {
+            field,
+            columns,
+            marks,
+            limit,
+            width: columns.div_ceil(marks),
+        }
+    }
+
+    /// One mark of a byte, counted from the most significant.
+    pub(crate) fn mark_of(&self, byte: u8, index: usize) -> u8
+        requires { index < marks_per_byte self.now.field }
+        ensures value { result ≡ mark_of self.now.field byte index }
+        ensures element { IsElement self.now.field result }
+    {
+        let order = self.field.order();
+        byte / order.pow((self.marks - 1 - index) as u32) % order
+    }
+
+    /// Whether a mark past the last column is not 0, in one byte of a row, counted from 0.
+    pub(crate) fn has_unused_mark(&self, byte: u8, place: usize) -> bool
+        requires { place < bytes_per_row self.now.field self.now.columns }
+        ensures { result ≡ has_unused_mark self.now.field self.now.columns place byte }
+    {
+        for index in 0..self.marks {
+            let column = place * self.marks + index;
+            if self.columns <= column && self.mark_of(byte, index) != 0 {
+                return true;
+            }
+        }
+        false
+    }
+
+    /// One byte of a row, counted from 0.
+    pub(crate) fn byte_of(&self, row: &Row, place: usize) -> u8
+        requires field { row.now.order ≡ self.now.field }
+        requires elements { All (IsElement self.now.field) row.now.entries }
+        requires columns { length row.now.entries ≡ self.now.columns }
+        requires place { place < bytes_per_row self.now.field self.now.columns }
+        ensures { result ≡ byte_with_marks self.now.field (λ j. slice_index row.now.entries (place * marks_per_byte self.now.field + j)) }
+    {
+        let order = self.field.order();
+        let mut byte = 0;
+        for index in 0..self.marks {
+            byte = byte * order + mark_in(row, place * self.marks + index);
+        }
+        byte
+    }
+}
+
+/// The mark of a column, which is 0 past the last column.
+fn mark_in(row: &Row, column: usize) -> u8
+    ensures { result ≡ slice_index row.now.entries column }
+{
+    if column < row.len() {
+        row.get(column)
+    } else {
+        0
+    }
+}
+
+/// How many elements of a field fit a byte: the greatest `m` with `q^m <= 256`, where `q` is the order.
+fn marks_per_byte(field: &Field) -> usize
+    ensures { result ≡ marks_per_byte field.now }
+{
+    match field.order() {
+        2 => 8,
+        3 => 5,
+        4 => 4,
+        5 => 3,
+        _ => 2,
+    }
+}

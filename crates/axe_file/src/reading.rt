@@ -1,0 +1,178 @@
+//! Reading the packed form: first all checks, which take no memory, then the matrix.
+
+ghost use Rattle.std.specs.Prelude.{◌≡◌, ◌+◌, ◌<◌, ◌≤◌, [], None, Some, length, slice_get, slice_range, IfOk, OnOk, IfErr};
+ghost use Rattle.std.specs.List.{flat_map, range_with_len};
+ghost use Rattle.std.specs.Int.{w32, from_le_bytes};
+ghost use Rattle.axe_matrix.specs.Matrices.{MatrixValue, IsMatrix};
+ghost use Rattle.axe_matrix.specs.declared.TheConstants.{MAX_ROWS};
+ghost use Rattle.axe_file.specs.Marks.{bytes_per_row, row_marks};
+ghost use Rattle.axe_file.specs.Packed.{packed, packed_fault, unpacked, header_faults, data_faults, byte_faults, header_rows, data_length};
+ghost use Rattle.axe_file.specs.Headers.{Says};
+ghost use Rattle.axe_file.specs.Answers.{Answers};
+ghost use Rattle.axe_file.specs.declared.fault.FileFault.TheVariants.{Memory};
+
+use crate::fault::FileFault;
+use crate::layout::{HEADER_LENGTH, Layout, MAGIC};
+use axe_field::Field;
+use axe_matrix::{MAX_COLUMNS, MAX_ROWS, Matrix};
+use axe_row::Row;
+use std::alloc::Global;
+
+/// What a header without fault says.
+#[derive(Clone, Copy)]
+struct Header {
+    rows: usize,
+    layout: Layout,
+    ghost rows_fit: { rows ≤ MAX_ROWS },
+}
+
+/// The matrix that the bytes spell in the packed form. The answer is the first fault of the bytes, whatever the memory;
+/// where they have none it is the matrix, or [`FileFault::Memory`].
+pub fn read_packed(alloc: Global, bytes: &[u8]) -> Result<Matrix, FileFault>
+    ensures fault { Answers (packed_fault bytes.now) (λ m. m ≡ unpacked bytes.now) result }
+    ensures value { IfOk result (λ m. m ≡ unpacked bytes.now) }
+    ensures spelling { IfOk result (λ m. bytes.now ≡ packed m) }
+    ensures only { (a : MatrixValue) → IsMatrix a → bytes.now ≡ packed a → Answers None (λ m. m ≡ a) result }
+    ensures matrix { IfOk result (λ m. IsMatrix m) }
+{
+    let header = header_of(bytes)?;
+    check_data(&header, bytes)?;
+    matrix_of(alloc, &header, bytes)
+}
+
+/// What the header says, or the first fault of the header.
+fn header_of(bytes: &[u8]) -> Result<Header, FileFault>
+    ensures faultless { OnOk result (header_faults bytes.now ≡ []) }
+    ensures fault { IfErr result (λ fault. slice_get (header_faults bytes.now) 0 ≡ Some fault) }
+    ensures says { IfOk result (λ header. Says bytes.now header.layout.field header.rows header.layout.columns) }
+{
+    if bytes.len() < HEADER_LENGTH {
+        return Err(FileFault::ShortHeader);
+    }
+    if !bytes.starts_with(&MAGIC) {
+        return Err(FileFault::BadMagic);
+    }
+    let Ok(field) = Field::new(bytes[4]) else {
+        return Err(FileFault::BadField);
+    };
+    if bytes[5] != 0 || bytes[6] != 0 || bytes[7] != 0 {
+        return Err(FileFault::BadReserved);
+    }
+    let rows = number_at(bytes, 8);
+    if rows > MAX_ROWS {
+        return Err(FileFault::BadRows);
+    }
+    let columns = number_at(bytes, 12);
+    if columns == 0 || columns > MAX_COLUMNS {
+        return Err(FileFault::BadCols);
+    }
+    Ok(Header {
+        rows,
+        layout: Layout::new(field, columns),
+    })
+}
+
+/// The number in the 4 bytes from an offset on, low byte first.
+fn number_at(bytes: &[u8], offset: usize) -> usize
+    requires { offset + 4 ≤ length bytes.now }
+    ensures { result ≡ from_le_bytes w32 (slice_range bytes.now offset (offset + 4)) }
+{
+    u32::from_le_bytes([
+        bytes[offset],
+        bytes[offset + 1],
+        bytes[offset + 2],
+        bytes[offset + 3],
+    ]) as usize
+}
+
+/// Looks for the first fault after the header.
+fn check_data(header: &Header, bytes: &[u8]) -> Result<(), FileFault>
+    requires { Says bytes.now header.now.layout.field header.now.rows header.now.layout.columns }
+    ensures faultless { OnOk result (data_faults bytes.now ≡ []) }
+    ensures fault { IfErr result (λ fault. slice_get (data_faults bytes.now) 0 ≡ Some fault) }
+{
+    let count = header.rows * header.layout.width;
+    if bytes.len() < HEADER_LENGTH + count {
+        return Err(FileFault::Truncated);
+    }
+    check_bytes(&header.layout, bytes, count)?;
+    if bytes.len() > HEADER_LENGTH + count {
+        return Err(FileFault::TrailingBytes);
+    }
+    Ok(())
+}
+
+/// Looks for the first fault in the bytes of the rows.
+fn check_bytes(layout: &Layout, bytes: &[u8], count: usize) -> Result<(), FileFault>
+    requires says { Says bytes.now layout.now.field (header_rows bytes.now) layout.now.columns }
+    requires count { count ≡ data_length bytes.now }
+    requires long { 16 + count ≤ length bytes.now }
+    ensures faultless { OnOk result (flat_map (byte_faults bytes.now) (range_with_len 0 count) ≡ []) }
+    ensures fault { IfErr result (λ fault. slice_get (flat_map (byte_faults bytes.now) (range_with_len 0 count)) 0 ≡ Some fault) }
+{
+    for place in 0..count {
+        check_byte(layout, bytes, place)?;
+    }
+    Ok(())
+}
+
+/// Looks for a fault in one byte of the rows, counted from the first row on.
+fn check_byte(layout: &Layout, bytes: &[u8], place: usize) -> Result<(), FileFault>
+    requires says { Says bytes.now layout.now.field (header_rows bytes.now) layout.now.columns }
+    requires place { place < data_length bytes.now }
+    requires long { 16 + place < length bytes.now }
+    ensures faultless { OnOk result (byte_faults bytes.now place ≡ []) }
+    ensures fault { IfErr result (λ fault. slice_get (byte_faults bytes.now place) 0 ≡ Some fault) }
+{
+    let offset = HEADER_LENGTH + place;
+    let byte = bytes[offset];
+    if u16::from(byte) >= layout.limit {
+        return Err(FileFault::BadByte(offset));
+    }
+    if layout.has_unused_mark(byte, place % layout.width) {
+        return Err(FileFault::BadPadding(offset));
+    }
+    Ok(())
+}
+
+/// The matrix of bytes without fault.
+fn matrix_of(alloc: Global, header: &Header, bytes: &[u8]) -> Result<Matrix, FileFault>
+    requires says { Says bytes.now header.now.layout.field header.now.rows header.now.layout.columns }
+    requires some_column { 1 ≤ header.now.layout.columns }
+    requires whole { length bytes.now ≡ 16 + data_length bytes.now }
+    ensures value { IfOk result (λ m. m ≡ unpacked bytes.now) }
+    ensures memory { IfErr result (λ fault. fault ≡ Memory) }
+{
+    let layout = &header.layout;
+    let mut matrix = Matrix::empty(alloc, layout.field, layout.columns);
+    for index in 0..header.rows {
+        let start = HEADER_LENGTH + index * layout.width;
+        let row = row_of(alloc, layout, &bytes[start..start + layout.width])?;
+        matrix.push_row(row).map_err(|_row| FileFault::Memory)?;
+    }
+    Ok(matrix)
+}
+
+/// The row that some bytes hold.
+fn row_of(alloc: Global, layout: &Layout, bytes: &[u8]) -> Result<Row, FileFault>
+    requires { length bytes.now ≡ bytes_per_row layout.now.field layout.now.columns }
+    ensures value { IfOk result (λ row. row ≡ record { order = layout.now.field; entries = row_marks layout.now.field layout.now.columns bytes.now }) }
+    ensures memory { IfErr result (λ fault. fault ≡ Memory) }
+{
+    let marks = marks_of(alloc, layout, bytes)?;
+    Row::from_elements(alloc, layout.field, &marks).map_err(|_refusal| FileFault::Memory)
+}
+
+/// The marks of the row that some bytes hold.
+fn marks_of(alloc: Global, layout: &Layout, bytes: &[u8]) -> Result<Vec<u8>, FileFault>
+    requires { length bytes.now ≡ bytes_per_row layout.now.field layout.now.columns }
+    ensures value { IfOk result (λ marks. marks.items ≡ row_marks layout.now.field layout.now.columns bytes.now) }
+    ensures memory { IfErr result (λ fault. fault ≡ Memory) }
+{
+    let mut marks = Vec::with_capacity(alloc, layout.columns)?;
+    for column in 0..layout.columns {
+        let byte = bytes[column / layout.marks];
+        marks.push(layout.mark_of(byte, column % layout.marks))?;
+    }
+    Ok(marks)
+}

@@ -1,0 +1,12 @@
+//! Worked command lines: the words of each are taken apart, carried out on files, and its status, its line and its files
+//! compared with values that were worked out by hand. What the other crates prove is not tested again; this crate shows
+//! that the whole answers, that the definitions mean what they should, and that memory is not refused where there is
+//! enough.
+#![tactic(auto)]
+
+#[cfg(test)]
+mod directory;
+#[cfg(test)]
+mod lines;
+#[cfg(test)]
+mod products;
