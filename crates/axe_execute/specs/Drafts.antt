@@ -1,5 +1,5 @@
 -- The plan that a draft holds.
-use Rattle.std.specs.Prelude.{[], ◌∷◌, ◌++◌, map, string_bytes}
+use Rattle.std.specs.Prelude.{ℕ, List, [], ◌∷◌, ◌++◌, map, string_bytes}
 use Rattle.axe_execute.specs.declared.draft.Change.{Change}
 use Rattle.axe_execute.specs.declared.draft.Change.TheVariants as change
 use Rattle.axe_execute.specs.declared.draft.Draft.{Draft}
@@ -17,3 +17,7 @@ plan_in draft = record { steps = map step_in draft.changes.items; shown = draft.
 -- the plan with one more step
 abbrev pub with_step : Plan → Step → Plan
 with_step plan step = record { steps = plan.steps ++ step ∷ []; shown = plan.shown }
+
+-- the plan that shows this text
+abbrev pub with_text : Plan → List ℕ → Plan
+with_text plan text = record { steps = plan.steps; shown = text }

@@ -1,15 +1,17 @@
 -- What a command means: given the files of a folder, its plan or the first thing that stands against it.
 use Rattle.std.specs.Prelude.{◌≡◌, ◌⊎◌, ℕ, List, [], ◌∷◌, Option, Some, None, Result, Ok, Err}
 use Rattle.axe_row.specs.declared.Refusal.{Refusal}
-use Rattle.axe_matrix.specs.Matrices.{MatrixValue, product_refusal, matrix_product}
+use Rattle.axe_matrix.specs.Matrices.{MatrixValue, product_refusal, matrix_product, sum_refusal, sum_of_matrices, transpose_refusal, transposed_matrix}
 use Rattle.axe_file.specs.declared.fault.FileFault.{FileFault}
-use Rattle.axe_file.specs.declared.TheConstants.{PACKED_LIMIT}
+use Rattle.axe_file.specs.declared.TheConstants.{PACKED_LIMIT, TEXT_LIMIT}
 use Rattle.axe_file.specs.Packed.{packed, packed_fault, unpacked}
+use Rattle.axe_file.specs.TextReading.{text_fault, text_matrix}
+use Rattle.axe_file.specs.TextWriting.{text_of}
 use Rattle.axe_folder.specs.declared.fault.FolderFault.{FolderFault}
 use Rattle.axe_folder.specs.Files.{Files, file_at, with_file, without_file}
 use Rattle.axe_folder.specs.Outcomes.{fetched}
 use Rattle.axe_words.specs.declared.command.Command.{Command}
-use Rattle.axe_words.specs.declared.command.Command.TheVariants.{Zmu}
+use Rattle.axe_words.specs.declared.command.Command.TheVariants.{Zcv, Zpr, Zmu, Zad, Ztr}
 
 -- one change to the files of a folder: a name is given these bytes, or its file is taken away
 pub data Step : Type 0 where
@@ -74,9 +76,44 @@ matrix_in files name = do
   bytes ← bytes_in files name PACKED_LIMIT
   unless_faulty name (packed_fault bytes) (unpacked bytes)
 
+-- the matrix of which the file of this name is a text
+unfoldable pub text_matrix_in : Files → List ℕ → Result MatrixValue Problem
+text_matrix_in files name = do
+  bytes ← bytes_in files name TEXT_LIMIT
+  unless_faulty name (text_fault bytes) (text_matrix bytes)
+
 -- the product of two matrices, unless it refuses them
 unfoldable pub checked_product : MatrixValue → MatrixValue → Result MatrixValue Problem
 checked_product a b = unless_refused (product_refusal a b) (matrix_product a b)
+
+-- the sum of two matrices, unless it refuses them
+unfoldable pub checked_sum : MatrixValue → MatrixValue → Result MatrixValue Problem
+checked_sum a b = unless_refused (sum_refusal a b) (sum_of_matrices a b)
+
+-- the transpose of a matrix, unless it refuses it
+unfoldable pub checked_transpose : MatrixValue → Result MatrixValue Problem
+checked_transpose a = unless_refused (transpose_refusal a) (transposed_matrix a)
+
+-- the plan that puts a matrix under a name, packed, and shows nothing
+abbrev pub put_packed : List ℕ → MatrixValue → Plan
+put_packed name a = record { steps = Put name (packed a) ∷ []; shown = [] }
+
+-- the plan that puts the text of a matrix under a name, or shows it where there is no name
+abbrev pub put_or_show_text : Option (List ℕ) → MatrixValue → Plan
+put_or_show_text (Some name) a = record { steps = Put name (text_of a) ∷ []; shown = [] }
+put_or_show_text None a = record { steps = []; shown = text_of a }
+
+-- `zcv`: the matrix of which a file is a text is put, packed
+unfoldable pub conversion_plan : List ℕ → List ℕ → Files → Result Plan Problem
+conversion_plan input out files = do
+  a ← text_matrix_in files input
+  Ok (put_packed out a)
+
+-- `zpr`: the text of a packed matrix is put, or shown
+unfoldable pub printing_plan : List ℕ → Option (List ℕ) → Files → Result Plan Problem
+printing_plan input out files = do
+  a ← matrix_in files input
+  Ok (put_or_show_text out a)
 
 -- `zmu`: the product of two packed matrices is put, packed
 unfoldable pub product_plan : List ℕ → List ℕ → List ℕ → Files → Result Plan Problem
@@ -84,7 +121,22 @@ product_plan left right out files = do
   a ← matrix_in files left
   b ← matrix_in files right
   product ← checked_product a b
-  Ok (record { steps = Put out (packed product) ∷ []; shown = [] })
+  Ok (put_packed out product)
+
+-- `zad`: the sum of two packed matrices is put, packed
+unfoldable pub sum_plan : List ℕ → List ℕ → List ℕ → Files → Result Plan Problem
+sum_plan left right out files = do
+  a ← matrix_in files left
+  b ← matrix_in files right
+  sum ← checked_sum a b
+  Ok (put_packed out sum)
+
+-- `ztr`: the transpose of a packed matrix is put, packed
+unfoldable pub transpose_plan : List ℕ → List ℕ → Files → Result Plan Problem
+transpose_plan input out files = do
+  a ← matrix_in files input
+  transpose ← checked_transpose a
+  Ok (put_packed out transpose)
 
 -- one of these names
 abbrev pub IsOneOf : List (List ℕ) → List ℕ → Type 0
@@ -93,8 +145,16 @@ IsOneOf (first ∷ names) name = (name ≡ first) ⊎ IsOneOf names name
 
 -- the files that a command reads, in order
 abbrev pub names_read : Command → List (List ℕ)
+names_read (Zcv input out) = input ∷ []
+names_read (Zpr input out) = input ∷ []
 names_read (Zmu left right out) = left ∷ right ∷ []
+names_read (Zad left right out) = left ∷ right ∷ []
+names_read (Ztr input out) = input ∷ []
 
 -- the meaning of a command
 abbrev pub plan_of : Command → Files → Result Plan Problem
+plan_of (Zcv input out) files = conversion_plan input out files
+plan_of (Zpr input out) files = printing_plan input out files
 plan_of (Zmu left right out) files = product_plan left right out files
+plan_of (Zad left right out) files = sum_plan left right out files
+plan_of (Ztr input out) files = transpose_plan input out files

@@ -21,6 +21,11 @@ file_number file.Truncated = 7
 file_number (file.BadByte offset) = 8
 file_number (file.BadPadding offset) = 9
 file_number file.TrailingBytes = 10
+file_number (file.BadHeader offset) = 11
+file_number file.BadMode = 12
+file_number (file.BadDigit offset) = 13
+file_number file.TooFewDigits = 14
+file_number (file.TrailingText offset) = 15
 file_number file.Memory = 50
 
 -- the number of a refusal
@@ -86,6 +91,11 @@ file_text file.Truncated = codes "Truncated"
 file_text (file.BadByte offset) = codes "BadByte"
 file_text (file.BadPadding offset) = codes "BadPadding"
 file_text file.TrailingBytes = codes "TrailingBytes"
+file_text (file.BadHeader offset) = codes "BadHeader"
+file_text file.BadMode = codes "BadMode"
+file_text (file.BadDigit offset) = codes "BadDigit"
+file_text file.TooFewDigits = codes "TooFewDigits"
+file_text (file.TrailingText offset) = codes "TrailingText"
 file_text file.Memory = codes "Memory"
 
 -- the printed name of a folder's fault
@@ -112,6 +122,9 @@ refusal_text refusal.Memory = codes "Memory"
 abbrev pub file_offset : FileFault → Option ℕ
 file_offset (file.BadByte offset) = Some offset
 file_offset (file.BadPadding offset) = Some offset
+file_offset (file.BadHeader offset) = Some offset
+file_offset (file.BadDigit offset) = Some offset
+file_offset (file.TrailingText offset) = Some offset
 file_offset fault = None
 
 -- how an offset is printed: in decimal

@@ -4,7 +4,7 @@ ghost use Rattle.axe_execute.specs.Drafts.{step_in};
 ghost use Rattle.axe_execute.specs.Outcome.{Carries, Counted};
 
 use crate::fault::Fault;
-use axe_file::write_packed;
+use axe_file::{write_packed, write_text};
 use axe_folder::Folder;
 use axe_matrix::Matrix;
 use axe_words::Name;
@@ -52,9 +52,10 @@ impl Change {
 impl Draft {
     ghost use Rattle.std.specs.Prelude.{◌≡◌, [], OnOk, IfErr};
     ghost use Rattle.axe_file.specs.Packed.{packed};
+    ghost use Rattle.axe_file.specs.TextWriting.{text_of};
     ghost use Rattle.axe_execute.specs.declared.fault.Fault.TheVariants.{Memory};
     ghost use Rattle.axe_execute.specs.Meaning.{Put};
-    ghost use Rattle.axe_execute.specs.Drafts.{plan_in, with_step};
+    ghost use Rattle.axe_execute.specs.Drafts.{plan_in, with_step, with_text};
 
     /// The draft that changes nothing and shows nothing.
     pub(crate) fn new(alloc: Global) -> Draft
@@ -79,6 +80,31 @@ impl Draft {
         let name = String::from_str(alloc, name.as_str())?;
         let bytes = write_packed(alloc, matrix).map_err(|_| Fault::Memory)?;
         self.changes.push(Change::Put { name, bytes })?;
+        Ok(())
+    }
+
+    /// Adds that the name is given the text of a matrix.
+    pub(crate) fn put_text(
+        &mut self,
+        alloc: Global,
+        name: &Name,
+        matrix: &Matrix,
+    ) -> Result<(), Fault>
+        ensures put { OnOk result (plan_in self.new ≡ with_step (plan_in self.old) (Put name.now (text_of matrix.now))) }
+        ensures memory { IfErr result (λ fault. fault ≡ Memory) }
+    {
+        let name = String::from_str(alloc, name.as_str())?;
+        let bytes = write_text(alloc, matrix).map_err(|_| Fault::Memory)?;
+        self.changes.push(Change::Put { name, bytes })?;
+        Ok(())
+    }
+
+    /// Adds that the text of a matrix is shown, and nothing else.
+    pub(crate) fn show_text(&mut self, alloc: Global, matrix: &Matrix) -> Result<(), Fault>
+        ensures shown { OnOk result (plan_in self.new ≡ with_text (plan_in self.old) (text_of matrix.now)) }
+        ensures memory { IfErr result (λ fault. fault ≡ Memory) }
+    {
+        self.text = write_text(alloc, matrix).map_err(|_| Fault::Memory)?;
         Ok(())
     }
 }

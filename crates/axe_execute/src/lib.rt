@@ -5,10 +5,10 @@
 #![tactic(auto)]
 
 mod draft;
-pub mod execution;
-pub mod fault;
+mod execution;
+mod fault;
 mod planning;
-pub mod printed;
+mod printed;
 mod reading;
 
 pub use execution::{Shown, execute};

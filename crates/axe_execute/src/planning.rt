@@ -1,13 +1,14 @@
 //! What each command is about to do: its files are read, its result is computed, and everything that it will write is made.
 //! Nothing is written here.
-ghost use Rattle.std.specs.Prelude.{◌≡◌, IsTrue, [], ◌∷◌};
-ghost use Rattle.axe_execute.specs.Meaning.{names_read, plan_of, product_plan, checked_product};
+ghost use Rattle.std.specs.Prelude.{◌≡◌, IsTrue, [], ◌∷◌, option_copied};
+ghost use Rattle.axe_execute.specs.Meaning.{names_read, plan_of, checked_product, checked_sum, checked_transpose};
+ghost use Rattle.axe_execute.specs.Meaning.{conversion_plan, printing_plan, product_plan, sum_plan, transpose_plan};
 ghost use Rattle.axe_execute.specs.Outcome.{Agrees, Counted};
 ghost use Rattle.axe_execute.specs.Drafts.{plan_in};
 
 use crate::draft::Draft;
 use crate::fault::Fault;
-use crate::reading::read_matrix;
+use crate::reading::{read_matrix, read_text_matrix};
 use axe_folder::Folder;
 use axe_matrix::Matrix;
 use axe_words::{Command, Name};
@@ -26,8 +27,55 @@ pub(crate) fn draft_of<F: Folder>(
     ensures counted { IsTrue F.tells → Counted result (F.failures folder.old) (F.failures folder.new) }
 {
     match command {
+        Command::Zcv { input, out } => conversion_draft(alloc, input, out, folder),
+        Command::Zpr { input, out } => printing_draft(alloc, input, out.as_ref(), folder),
         Command::Zmu { left, right, out } => product_draft(alloc, left, right, out, folder),
+        Command::Zad { left, right, out } => sum_draft(alloc, left, right, out, folder),
+        Command::Ztr { input, out } => transpose_draft(alloc, input, out, folder),
     }
+}
+
+// The draft of `zcv`: the matrix of which a file is a text.
+#[tactic(auto, unfolding(crate::specs::Meaning::conversion_plan))]
+fn conversion_draft<F: Folder>(
+    alloc: Global,
+    input: &Name,
+    out: &Name,
+    folder: &mut F,
+) -> Result<Draft, Fault>
+    ensures means { IsTrue F.tells →
+        Agrees (input.now ∷ []) plan_in result
+        (conversion_plan input.now out.now (F.files folder.old)) }
+    ensures kept { IsTrue F.tells → F.files folder.new ≡ F.files folder.old }
+    ensures counted { IsTrue F.tells → Counted result (F.failures folder.old) (F.failures folder.new) }
+{
+    let matrix = read_text_matrix(alloc, folder, input)?;
+    let mut draft = Draft::new(alloc);
+    draft.put_packed(alloc, out, &matrix)?;
+    Ok(draft)
+}
+
+// The draft of `zpr`: the text of a matrix, to be put or shown.
+#[tactic(auto, unfolding(crate::specs::Meaning::printing_plan))]
+fn printing_draft<F: Folder>(
+    alloc: Global,
+    input: &Name,
+    out: Option<&Name>,
+    folder: &mut F,
+) -> Result<Draft, Fault>
+    ensures means { IsTrue F.tells →
+        Agrees (input.now ∷ []) plan_in result
+        (printing_plan input.now (option_copied out.entry) (F.files folder.old)) }
+    ensures kept { IsTrue F.tells → F.files folder.new ≡ F.files folder.old }
+    ensures counted { IsTrue F.tells → Counted result (F.failures folder.old) (F.failures folder.new) }
+{
+    let matrix = read_matrix(alloc, folder, input)?;
+    let mut draft = Draft::new(alloc);
+    match out {
+        Some(out) => draft.put_text(alloc, out, &matrix)?,
+        None => draft.show_text(alloc, &matrix)?,
+    }
+    Ok(draft)
 }
 
 // The draft of `zmu`: the product of two matrices.
@@ -53,10 +101,70 @@ fn product_draft<F: Folder>(
     Ok(draft)
 }
 
+// The draft of `zad`: the sum of two matrices.
+#[tactic(auto, unfolding(crate::specs::Meaning::sum_plan))]
+fn sum_draft<F: Folder>(
+    alloc: Global,
+    left: &Name,
+    right: &Name,
+    out: &Name,
+    folder: &mut F,
+) -> Result<Draft, Fault>
+    ensures means { IsTrue F.tells →
+        Agrees (left.now ∷ right.now ∷ []) plan_in result
+        (sum_plan left.now right.now out.now (F.files folder.old)) }
+    ensures kept { IsTrue F.tells → F.files folder.new ≡ F.files folder.old }
+    ensures counted { IsTrue F.tells → Counted result (F.failures folder.old) (F.failures folder.new) }
+{
+    let first = read_matrix(alloc, folder, left)?;
+    let second = read_matrix(alloc, folder, right)?;
+    let sum = add(alloc, &first, &second)?;
+    let mut draft = Draft::new(alloc);
+    draft.put_packed(alloc, out, &sum)?;
+    Ok(draft)
+}
+
+// The draft of `ztr`: the transpose of a matrix.
+#[tactic(auto, unfolding(crate::specs::Meaning::transpose_plan))]
+fn transpose_draft<F: Folder>(
+    alloc: Global,
+    input: &Name,
+    out: &Name,
+    folder: &mut F,
+) -> Result<Draft, Fault>
+    ensures means { IsTrue F.tells →
+        Agrees (input.now ∷ []) plan_in result
+        (transpose_plan input.now out.now (F.files folder.old)) }
+    ensures kept { IsTrue F.tells → F.files folder.new ≡ F.files folder.old }
+    ensures counted { IsTrue F.tells → Counted result (F.failures folder.old) (F.failures folder.new) }
+{
+    let matrix = read_matrix(alloc, folder, input)?;
+    let transpose = transpose(alloc, &matrix)?;
+    let mut draft = Draft::new(alloc);
+    draft.put_packed(alloc, out, &transpose)?;
+    Ok(draft)
+}
+
 // The product of two matrices.
 #[tactic(auto, unfolding(crate::specs::Meaning::checked_product))]
 fn multiply(alloc: Global, left: &Matrix, right: &Matrix) -> Result<Matrix, Fault>
     ensures { Agrees [] (λ product. product) result (checked_product left.now right.now) }
 {
     Ok(left.mul(alloc, right)?)
+}
+
+// The sum of two matrices.
+#[tactic(auto, unfolding(crate::specs::Meaning::checked_sum))]
+fn add(alloc: Global, left: &Matrix, right: &Matrix) -> Result<Matrix, Fault>
+    ensures { Agrees [] (λ sum. sum) result (checked_sum left.now right.now) }
+{
+    Ok(left.add(alloc, right)?)
+}
+
+// The transpose of a matrix.
+#[tactic(auto, unfolding(crate::specs::Meaning::checked_transpose))]
+fn transpose(alloc: Global, matrix: &Matrix) -> Result<Matrix, Fault>
+    ensures { Agrees [] (λ transpose. transpose) result (checked_transpose matrix.now) }
+{
+    Ok(matrix.transpose(alloc)?)
 }

@@ -83,6 +83,11 @@ fn file_number(fault: FileFault) -> u8
         FileFault::BadByte(_) => 8,
         FileFault::BadPadding(_) => 9,
         FileFault::TrailingBytes => 10,
+        FileFault::BadHeader(_) => 11,
+        FileFault::BadMode => 12,
+        FileFault::BadDigit(_) => 13,
+        FileFault::TooFewDigits => 14,
+        FileFault::TrailingText(_) => 15,
         FileFault::Memory => 50,
     }
 }
@@ -183,6 +188,11 @@ fn file_text(fault: FileFault) -> &'static str
         FileFault::BadByte(_) => "BadByte",
         FileFault::BadPadding(_) => "BadPadding",
         FileFault::TrailingBytes => "TrailingBytes",
+        FileFault::BadHeader(_) => "BadHeader",
+        FileFault::BadMode => "BadMode",
+        FileFault::BadDigit(_) => "BadDigit",
+        FileFault::TooFewDigits => "TooFewDigits",
+        FileFault::TrailingText(_) => "TrailingText",
         FileFault::Memory => "Memory",
     }
 }
@@ -192,7 +202,11 @@ fn file_offset(fault: FileFault) -> Option<usize>
     ensures { result ≡ file_offset fault }
 {
     match fault {
-        FileFault::BadByte(offset) | FileFault::BadPadding(offset) => Some(offset),
+        FileFault::BadByte(offset)
+        | FileFault::BadPadding(offset)
+        | FileFault::BadHeader(offset)
+        | FileFault::BadDigit(offset)
+        | FileFault::TrailingText(offset) => Some(offset),
         _ => None,
     }
 }

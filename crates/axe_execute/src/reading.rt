@@ -1,10 +1,10 @@
 //! Files, fetched from a folder and read.
 ghost use Rattle.std.specs.Prelude.{◌≡◌, IsTrue, [], ◌∷◌};
-ghost use Rattle.axe_execute.specs.Meaning.{bytes_in, matrix_in};
+ghost use Rattle.axe_execute.specs.Meaning.{bytes_in, matrix_in, text_matrix_in};
 ghost use Rattle.axe_execute.specs.Outcome.{Agrees, Counted};
 
 use crate::fault::Fault;
-use axe_file::{PACKED_LIMIT, read_packed};
+use axe_file::{PACKED_LIMIT, TEXT_LIMIT, read_packed, read_text};
 use axe_folder::Folder;
 use axe_matrix::Matrix;
 use axe_words::Name;
@@ -25,6 +25,26 @@ pub(crate) fn read_matrix<F: Folder>(
 {
     let bytes = fetch(alloc, folder, name, PACKED_LIMIT)?;
     match read_packed(alloc, &bytes) {
+        Ok(matrix) => Ok(matrix),
+        Err(fault) => Err(Fault::of_file(String::from_str(alloc, name.as_str())?, fault)),
+    }
+}
+
+/// The matrix of which a file is a text.
+#[tactic(auto, unfolding(crate::specs::Meaning::text_matrix_in))]
+pub(crate) fn read_text_matrix<F: Folder>(
+    alloc: Global,
+    folder: &mut F,
+    name: &Name,
+) -> Result<Matrix, Fault>
+    ensures means { IsTrue F.tells →
+        Agrees (name.now ∷ []) (λ matrix. matrix) result
+        (text_matrix_in (F.files folder.old) name.now) }
+    ensures kept { IsTrue F.tells → F.files folder.new ≡ F.files folder.old }
+    ensures counted { IsTrue F.tells → Counted result (F.failures folder.old) (F.failures folder.new) }
+{
+    let bytes = fetch(alloc, folder, name, TEXT_LIMIT)?;
+    match read_text(alloc, &bytes) {
         Ok(matrix) => Ok(matrix),
         Err(fault) => Err(Fault::of_file(String::from_str(alloc, name.as_str())?, fault)),
     }

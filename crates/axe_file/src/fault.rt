@@ -36,6 +36,21 @@ pub enum FileFault {
     /// Bytes stand after the last row.
     #[error("TrailingBytes")]
     TrailingBytes,
+    /// The bytes up to and including the one at this offset begin no header, or the text ends here before its header does.
+    #[error("BadHeader at {0}")]
+    BadHeader(usize),
+    /// The header is of a mode other than 1.
+    #[error("BadMode")]
+    BadMode,
+    /// The byte at this offset is neither white space nor the digit of an element, and digits are still wanted.
+    #[error("BadDigit at {0}")]
+    BadDigit(usize),
+    /// The text ends before the last digit.
+    #[error("TooFewDigits")]
+    TooFewDigits,
+    /// The byte at this offset, after the last digit, is no white space.
+    #[error("TrailingText at {0}")]
+    TrailingText(usize),
     /// There was no memory for the matrix or for its bytes.
     #[error("Memory")]
     Memory,

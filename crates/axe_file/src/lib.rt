@@ -1,10 +1,15 @@
-//! Matrices as files: the packed form, in which a byte holds as many elements as fit.
+//! Matrices as files: the packed form, in which a byte holds as many elements as fit, and the text form, in which each
+//! element is a digit.
 #![tactic(auto)]
 
 mod fault;
 mod laws;
 mod layout;
 mod reading;
+mod text_header;
+mod text_laws;
+mod text_reading;
+mod text_writing;
 mod writing;
 
 pub use fault::FileFault;
@@ -13,10 +18,21 @@ pub use laws::{
     spellings_are_read, spellings_keep_the_limit,
 };
 pub use reading::read_packed;
+pub use text_laws::{
+    text_faults_are_first, texts_are_of_one_matrix, written_texts_are_texts,
+    written_texts_keep_the_limit,
+};
+pub use text_reading::read_text;
+pub use text_writing::write_text;
 pub use writing::write_packed;
 
 /// No packed file is longer than this, in bytes.
 pub const PACKED_LIMIT: usize = 4_194_304;
 
+/// No text file is longer than this, in bytes.
+pub const TEXT_LIMIT: usize = 16_777_216;
+
 #[cfg(test)]
 mod tests;
+#[cfg(test)]
+mod text_tests;

@@ -1,4 +1,7 @@
 pub mod MatrixLaws
 pub mod ProductLaws
+pub mod VectorLaws
+pub mod SumLaws
+pub mod TransposeLaws
 mod RowListLaws
-mod PartialProducts
+mod PartialMatrices

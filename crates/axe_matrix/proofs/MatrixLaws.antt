@@ -27,6 +27,10 @@ same_order a b e = sym (order_with-order_number a) ∙ ap order_with e ∙ order
     order_with-order_number Eight = refl
     order_with-order_number Nine = refl
 
+-- fields whose orders were found to be one number are the same
+pub same_fields : (o p f g : Order) (m n : ℕ) → f ≡ o → m ≡ order_number f → m ≡ n → n ≡ order_number g → g ≡ p → o ≡ p
+same_fields o p f g m n fo mf mn ng gp = sym fo ∙ same_order f g (sym mf ∙ mn ∙ ng) ∙ gp
+
 -- matrices with equal parts are equal
 pub same_matrix : (a b : MatrixValue) → a.order ≡ b.order → a.cols ≡ b.cols → a.rows ≡ b.rows → a ≡ b
 same_matrix a b e f g = λ i. record { order = e i; cols = f i; rows = g i }

@@ -1,18 +1,18 @@
 -- Products of matrices over the seven fields.
-use Rattle.std.proofs.Common.{◌≡◌, ◌≢◌, ℕ, ◌+◌, ◌<◌, ◌≤◌, List, [], length, get_or, Some, None, zero, suc, refl, ap, ◌∙◌, arith, add-one}
+use Rattle.std.proofs.Common.{◌≡◌, ◌≢◌, ℕ, ◌<◌, ◌≤◌, List, [], length, get_or, Some, None, zero, suc, refl, sym, ap, ◌∙◌, arith}
 use Rattle.std.specs.List.{All}
 use Rattle.std.proofs.lemmas.Bool.{eq-eqb, ne_eqb}
 use Rattle.std.proofs.lemmas.List.Elements.{All-from_get_or}
 use Rattle.std.proofs.lemmas.List.FromFn.{length-map-range_with_len, get_or-map-range_with_len}
-use Rattle.axe_algebra.specs.Lists.{entry, number_sum, product_entry, product, combination_entry, combination}
+use Rattle.axe_algebra.specs.Lists.{entry, listed, number_sum, product_entry, product, combination_entry, combination}
 use Rattle.axe_algebra.specs.NumberField.{NumberField}
-use Rattle.axe_field.specs.Order.{Order, order_number, IsElement}
-use Rattle.axe_field.specs.Arithmetic.{field_add, field_mul}
+use Rattle.axe_field.specs.Order.{order_number, IsElement}
+use Rattle.axe_field.specs.Arithmetic.{field_mul}
 use Rattle.axe_field.specs.NumberFields.{number_field}
 use Rattle.axe_row.specs.declared.Refusal.TheVariants.{FieldsDiffer, ShapesDiffer}
 use Rattle.axe_matrix.specs.declared.TheConstants.{MAX_ROWS}
-use Rattle.axe_matrix.proofs.MatrixLaws.{entry-IsElement}
-use Rattle.axe_matrix.specs.Matrices.{MatrixValue, IsMatrix, product_refusal, matrix_product}
+use Rattle.axe_matrix.proofs.MatrixLaws.{entry-IsElement, same_matrix}
+use Rattle.axe_matrix.specs.Matrices.{MatrixValue, IsMatrix, row_of, product_refusal, matrix_product, vector_product}
 
 -- matrices over one field whose shapes fit have a product
 pub product_refusal-none : (a b : MatrixValue) → order_number a.order ≡ order_number b.order → a.cols ≡ length b.rows → product_refusal a b ≡ None
@@ -25,16 +25,6 @@ product_refusal-fields a b fields = rw (ne_eqb _ _ fields) refl
 -- matrices over one field whose shapes don't fit have none
 pub product_refusal-shapes : (a b : MatrixValue) → order_number a.order ≡ order_number b.order → a.cols ≢ length b.rows → product_refusal a b ≡ Some ShapesDiffer
 product_refusal-shapes a b fields shapes = rw (eq-eqb _ _ fields, ne_eqb _ _ shapes) refl
-
--- a sum of no products is 0
-pub combination_entry-none : (K : NumberField) (v : List ℕ) (b : List (List ℕ)) (j : ℕ) → combination_entry K v b 0 j ≡ 0
-unfolding combination_entry number_sum
-combination_entry-none K v b j = refl
-
--- a sum of one more product
-pub combination_entry-more : (o : Order) (v : List ℕ) (b : List (List ℕ)) (n j : ℕ) → combination_entry (number_field o) v b (n + 1) j ≡ field_add o (combination_entry (number_field o) v b n j) (field_mul o (get_or v n 0) (entry b n j))
-unfolding combination_entry number_sum number_field
-combination_entry-more o v b n j = rw (add-one n) refl
 
 -- a row vector times a matrix has an entry for each column
 pub length-combination : (K : NumberField) (n : ℕ) (v : List ℕ) (b : List (List ℕ)) → length (combination K n v b) ≡ n
@@ -93,3 +83,10 @@ IsMatrix-product a b ha hb fields =
           let column : j < b.cols = omega (arith, long i below) in
           rw (entry-product K b.cols a.rows b.rows i j (omega arith) column) (product_entry-IsElement a b (length b.rows) i j ha hb fields)));
     }
+
+-- the product of matrices over one field by its rows: each row of the first matrix times the second
+pub matrix_product-rows : (a b : MatrixValue) → a.order ≡ b.order → record { order = a.order; cols = b.cols; rows = listed (length a.rows) (λ i. (vector_product (row_of a i) b).entries) } ≡ matrix_product a b
+unfolding product product_entry combination combination_entry
+matrix_product-rows a b fields =
+    same_matrix (record { order = a.order; cols = b.cols; rows = listed (length a.rows) (λ i. (vector_product (row_of a i) b).entries) }) (matrix_product a b) refl refl
+    (ap (λ o. product (number_field o) b.cols a.rows b.rows) (sym fields))

@@ -1,11 +1,11 @@
 -- Matrices over one of the seven fields.
-use Rattle.std.specs.Prelude.{◌≡◌, ℕ, ◌≤◌, ◌==◌, not, List, [], length, slice_index_or, All, Option, Some, None, if◌then◌else◌}
-use Rattle.axe_algebra.specs.Lists.{combination, product}
+use Rattle.std.specs.Prelude.{◌≡◌, ℕ, ◌+◌, ◌≤◌, ◌==◌, ◌&&◌, not, List, [], length, slice_index, slice_index_or, All, Option, Some, None, if◌then◌else◌}
+use Rattle.axe_algebra.specs.Lists.{entry, listed, table, combination, product, matrix_sum, transpose, identity}
 use Rattle.axe_field.specs.Order.{Order, order_number, IsElement}
 use Rattle.axe_field.specs.NumberFields.{number_field}
 use Rattle.axe_row.specs.Rows.{RowValue}
 use Rattle.axe_row.specs.declared.Refusal.{Refusal}
-use Rattle.axe_row.specs.declared.Refusal.TheVariants.{FieldsDiffer, ShapesDiffer}
+use Rattle.axe_row.specs.declared.Refusal.TheVariants.{FieldsDiffer, ShapesDiffer, NoRows}
 use Rattle.axe_matrix.specs.declared.TheConstants.{MAX_ROWS, MAX_COLUMNS}
 
 -- a matrix: the order of its field, how many columns it has, and the list of its rows, each the list of its entries'
@@ -28,6 +28,14 @@ pub record IsMatrix (m : MatrixValue) : Type 0 where
 abbrev pub row_of : MatrixValue → ℕ → RowValue
 row_of m i = record { order = m.order; entries = slice_index_or m.rows i [] }
 
+-- column j of a matrix, counted from 0, as a row vector
+abbrev pub column_of : MatrixValue → ℕ → RowValue
+column_of m j = record { order = m.order; entries = listed (length m.rows) (λ i. entry m.rows i j) }
+
+-- the part of a row vector that has so many entries from an index on
+abbrev pub part_of : RowValue → ℕ → ℕ → RowValue
+part_of row start len = record { order = row.order; entries = listed len (λ j. slice_index row.entries (start + j)) }
+
 -- why two matrices have no product: they are over different fields, or else the first has not as many columns as the
 -- second has rows
 abbrev pub product_refusal : MatrixValue → MatrixValue → Option Refusal
@@ -44,3 +52,35 @@ matrix_product a b = record { order = a.order; cols = b.cols; rows = product (nu
 -- linear algebra text)
 abbrev pub vector_product : RowValue → MatrixValue → RowValue
 vector_product v m = record { order = m.order; entries = combination (number_field m.order) m.cols v.entries m.rows }
+
+-- the matrix of so many rows and columns of zeros
+abbrev pub zero_matrix : Order → ℕ → ℕ → MatrixValue
+zero_matrix order rows cols = record { order = order; cols = cols; rows = table rows cols (λ i j. 0) }
+
+-- the identity matrix of n rows: 1 where row and column agree, 0 elsewhere (any linear algebra text)
+abbrev pub identity_matrix : Order → ℕ → MatrixValue
+identity_matrix order n = record { order = order; cols = n; rows = identity n }
+
+-- the block of a matrix that has so many rows from a row on, and so many columns from a column on: its entry i, j is the
+-- matrix's entry row + i, column + j
+abbrev pub matrix_block : MatrixValue → ℕ → ℕ → ℕ → ℕ → MatrixValue
+matrix_block m row rows column cols =
+    record { order = m.order; cols = cols; rows = table rows cols (λ i j. entry m.rows (row + i) (column + j)) }
+
+-- why two matrices have no sum: they are over different fields, or else of different shapes
+abbrev pub sum_refusal : MatrixValue → MatrixValue → Option Refusal
+sum_refusal a b =
+    if not (order_number a.order == order_number b.order) then Some FieldsDiffer
+    else (if not (length a.rows == length b.rows && a.cols == b.cols) then Some ShapesDiffer else None)
+
+-- the sum of two matrices, entry by entry (any linear algebra text)
+abbrev pub sum_of_matrices : MatrixValue → MatrixValue → MatrixValue
+sum_of_matrices a b = record { order = a.order; cols = a.cols; rows = matrix_sum (number_field a.order) a.cols a.rows b.rows }
+
+-- why a matrix has no transpose: without rows the transpose had no columns
+abbrev pub transpose_refusal : MatrixValue → Option Refusal
+transpose_refusal m = if length m.rows == 0 then Some NoRows else None
+
+-- the transpose of a matrix: its entry i, j is the matrix's entry j, i (any linear algebra text)
+abbrev pub transposed_matrix : MatrixValue → MatrixValue
+transposed_matrix m = record { order = m.order; cols = length m.rows; rows = transpose m.cols m.rows }

@@ -8,6 +8,9 @@ ghost use Rattle.axe_row.specs.Rows.{IsRow};
 ghost use Rattle.axe_row.specs.Refusals.{Answers};
 ghost use Rattle.axe_matrix.specs.Matrices.{IsMatrix, row_of, product_refusal, matrix_product, vector_product};
 
+mod arithmetic;
+mod parts;
+
 use axe_field::Field;
 pub use axe_row::{Refusal, Row};
 use std::alloc::Global;
@@ -72,6 +75,17 @@ impl Matrix {
         self.rows.push(row).map_err(|failed| failed.value)
     }
 
+    /// Appends a row as [`Matrix::push_row`] does; for want of memory the row is dropped, and the matrix is unchanged.
+    fn append(&mut self, row: Row) -> Result<(), Refusal>
+        requires field { row.order ≡ self.old.order }
+        requires fits { length row.entries ≡ self.old.cols }
+        requires room { length self.old.rows < MAX_ROWS }
+        ensures appended { Answers None (λ _. self.new ≡ record self.old { rows = self.old.rows ++ row.entries ∷ [] }) result }
+        ensures well_formed { IsMatrix self.new }
+    {
+        self.push_row(row).map_err(|_| Refusal::Memory)
+    }
+
     /// The product of this matrix and another: its entry i, j is the sum over t of entry i, t of this matrix times entry
     /// t, j of the other. Two matrices over different fields are refused as FieldsDiffer, and else two of which the
     /// first has not as many columns as the second has rows as ShapesDiffer.
@@ -89,40 +103,24 @@ impl Matrix {
         let mut product = Matrix::empty(alloc, *self.field(), other.cols());
         for index in 0..self.rows() {
             let row = other.vec_mul(alloc, self.row(index))?;
-            product.push_row(row).map_err(|_| Refusal::Memory)?;
+            product.append(row)?;
         }
         Ok(product)
     }
 
     /// A row vector times the matrix: its entry j is the sum over t of entry t of the vector times entry t, j of the
-    /// matrix.
-    fn vec_mul(&self, alloc: Global, vector: &Row) -> Result<Row, Refusal>
+    /// matrix. The vector is over the matrix's field, and has as many entries as the matrix has rows.
+    pub fn vec_mul(&self, alloc: Global, vector: &Row) -> Result<Row, Refusal>
         requires field { vector.now.order ≡ self.now.order }
         requires fits { length vector.now.entries ≡ length self.now.rows }
-        ensures { Answers None (λ product. product ≡ vector_product vector.now self.now) result }
+        ensures product { Answers None (λ product. product ≡ vector_product vector.now self.now) result }
+        ensures well_formed { Answers None IsRow result }
     {
         let mut product = Row::zero(alloc, *self.field(), self.cols())?;
-        for column in 0..self.cols() {
-            product.set(column, self.vec_mul_entry(vector, column));
+        for index in 0..self.rows() {
+            product.add_scaled(vector.get(index), self.row(index));
         }
         Ok(product)
-    }
-
-    /// An entry of a row vector times the matrix.
-    fn vec_mul_entry(&self, vector: &Row, column: usize) -> u8
-        requires field { vector.now.order ≡ self.now.order }
-        requires fits { length vector.now.entries ≡ length self.now.rows }
-        requires column { column < self.now.cols }
-        ensures entry { result ≡ slice_index (vector_product vector.now self.now).entries column }
-        ensures element { IsElement self.now.order result }
-    {
-        let field = self.field();
-        let mut sum = 0;
-        for index in 0..self.rows() {
-            let product = field.mul(vector.get(index), self.get(index, column));
-            sum = field.add(sum, product);
-        }
-        sum
     }
 
     /// The field of the entries.
@@ -182,27 +180,12 @@ impl Matrix {
             return false;
         }
         for index in 0..self.rows() {
-            if !have_same_entries(self.row(index), other.row(index)) {
+            if !self.row(index).same(other.row(index)) {
                 return false;
             }
         }
         true
     }
-}
-
-/// Whether two rows have the same entries.
-fn have_same_entries(left: &Row, right: &Row) -> bool
-    ensures { IsTrue result ↔ (left.now.entries ≡ right.now.entries) }
-{
-    if left.len() != right.len() {
-        return false;
-    }
-    for index in 0..left.len() {
-        if left.get(index) != right.get(index) {
-            return false;
-        }
-    }
-    true
 }
 
 #[cfg(test)]
@@ -240,6 +223,47 @@ mod tests {
         let expected = two_by_two(&rt, rt.alloc(), field, [[0, 1], [1, 1]])?;
         assert!(rt; product.same(&expected));
         assert!(rt; !product.same(&right));
+        Ok(())
+    }
+
+    #[test]
+    fn makes_the_identity_zero_copies_and_blocks(rt: HostRuntime) -> Result<(), Refusal> {
+        let field = Field::new(2).expect(&rt, "the field of two elements");
+        let identity = Matrix::identity(rt.alloc(), field, 2)?;
+        let pushed = two_by_two(&rt, rt.alloc(), field, [[1, 0], [0, 1]])?;
+        assert!(rt; identity.same(&pushed));
+        assert!(rt; identity.copy(rt.alloc())?.same(&pushed));
+        let zero = two_by_two(&rt, rt.alloc(), field, [[0, 0], [0, 0]])?;
+        assert!(rt; Matrix::zero(rt.alloc(), field, 2, 2)?.same(&zero));
+        let matrix = two_by_two(&rt, rt.alloc(), field, [[0, 1], [1, 1]])?;
+        assert!(rt; matrix.rows() == 2 && matrix.cols() == 2);
+        let block = matrix.block(rt.alloc(), 1, 1, 0, 2)?;
+        assert!(rt; block.rows() == 1);
+        let second = Row::from_elements(rt.alloc(), field, &[1, 1])?;
+        assert!(rt; block.row(0).same(&second));
+        Ok(())
+    }
+
+    #[test]
+    fn multiplies_a_vector_over_two_elements(rt: HostRuntime) -> Result<(), Refusal> {
+        let field = Field::new(2).expect(&rt, "the field of two elements");
+        let matrix = two_by_two(&rt, rt.alloc(), field, [[0, 1], [1, 1]])?;
+        let field = *matrix.field();
+        assert!(rt; matrix.rows() == 2 && field.is_element(1));
+        let vector = Row::from_elements(rt.alloc(), field, &[1, 1])?;
+        let expected = Row::from_elements(rt.alloc(), field, &[1, 0])?;
+        assert!(rt; matrix.vec_mul(rt.alloc(), &vector)?.same(&expected));
+        Ok(())
+    }
+
+    #[test]
+    fn adds_and_transposes_over_three_elements(rt: HostRuntime) -> Result<(), Refusal> {
+        let field = Field::new(3).expect(&rt, "the field of three elements");
+        let matrix = two_by_two(&rt, rt.alloc(), field, [[1, 2], [0, 1]])?;
+        let sum = two_by_two(&rt, rt.alloc(), field, [[2, 1], [0, 2]])?;
+        let transpose = two_by_two(&rt, rt.alloc(), field, [[1, 0], [2, 1]])?;
+        assert!(rt; matrix.add(rt.alloc(), &matrix)?.same(&sum));
+        assert!(rt; matrix.transpose(rt.alloc())?.same(&transpose));
         Ok(())
     }
 }

@@ -4,10 +4,11 @@
 //! returns whatever the words are, and that each name in the command that it answers keeps the rule of names.
 #![tactic(auto)]
 
-ghost use Rattle.std.specs.Prelude.{◌≡◌, true, IfOk};
+ghost use Rattle.std.specs.Prelude.{◌≡◌, true, IfOk, IfSome};
 ghost use Rattle.axe_words.specs.Names.{is_name};
 ghost use Rattle.axe_words.specs.Commands.{HasNames};
 
+mod help;
 mod lines;
 #[cfg(test)]
 mod tests;
@@ -56,13 +57,39 @@ pub fn parse(alloc: Global, words: &[String]) -> Result<Command, ParseFault>
         Err(error) => return Err(fault_of(alloc, &error)?),
     };
     match matches.subcommand() {
-        Some((lines::ZMU, found)) => Ok(Command::Zmu {
+        Some((command, found)) => command_of(alloc, command, found),
+        None => Err(no_command(alloc)?),
+    }
+}
+
+// The command with this name and these files.
+fn command_of(alloc: Global, command: &str, found: &ArgMatches<'_>) -> Result<Command, ParseFault>
+    ensures { IfOk result HasNames }
+{
+    match command {
+        lines::ZCV => Ok(Command::Zcv {
+            input: name_of(alloc, found, lines::IN)?,
+            out: name_of(alloc, found, lines::OUT)?,
+        }),
+        lines::ZPR => Ok(Command::Zpr {
+            input: name_of(alloc, found, lines::IN)?,
+            out: optional_name_of(alloc, found, lines::OUT)?,
+        }),
+        lines::ZMU => Ok(Command::Zmu {
             left: name_of(alloc, found, lines::LEFT)?,
             right: name_of(alloc, found, lines::RIGHT)?,
             out: name_of(alloc, found, lines::OUT)?,
         }),
-        // `clap` has refused every other word already.
-        _ => Err(usage(alloc, "axe: no such command\n")?),
+        lines::ZAD => Ok(Command::Zad {
+            left: name_of(alloc, found, lines::LEFT)?,
+            right: name_of(alloc, found, lines::RIGHT)?,
+            out: name_of(alloc, found, lines::OUT)?,
+        }),
+        lines::ZTR => Ok(Command::Ztr {
+            input: name_of(alloc, found, lines::LEFT)?,
+            out: name_of(alloc, found, lines::OUT)?,
+        }),
+        _ => Err(no_command(alloc)?),
     }
 }
 
@@ -76,17 +103,42 @@ fn fault_of(alloc: Global, error: &clap::Error) -> Result<ParseFault, AllocError
     })
 }
 
-// The name of a file from the word that stands for it. A word that is missing, which `clap` has refused already,
-// counts as the empty word, which is no name.
+// The name of a file that has to be given. A word that is missing, which `clap` has refused already, counts as the empty
+// word, which is no name.
 fn name_of(alloc: Global, found: &ArgMatches<'_>, file: &str) -> Result<Name, ParseFault>
     ensures { IfOk result (λ name. is_name name ≡ true) }
 {
-    let word = found.get_str(file).unwrap_or("");
+    name_from(alloc, found.get_str(file).unwrap_or(""))
+}
+
+// The name of a file that may be left out.
+fn optional_name_of(
+    alloc: Global,
+    found: &ArgMatches<'_>,
+    file: &str,
+) -> Result<Option<Name>, ParseFault>
+    ensures { IfOk result (λ given. IfSome given (λ name. is_name name ≡ true)) }
+{
+    match found.get_str(file) {
+        Some(word) => Ok(Some(name_from(alloc, word)?)),
+        None => Ok(None),
+    }
+}
+
+// The name of a file from the word that stands for it.
+fn name_from(alloc: Global, word: &str) -> Result<Name, ParseFault>
+    ensures { IfOk result (λ name. is_name name ≡ true) }
+{
     match Name::new(alloc, word) {
         Ok(name) => Ok(name),
         Err(NameFault::BadName) => Err(usage(alloc, "axe: bad file name\n")?),
         Err(NameFault::Memory) => Err(ParseFault::Memory),
     }
+}
+
+// The answer where no command has the name that was given, which `clap` has refused already.
+fn no_command(alloc: Global) -> Result<ParseFault, AllocError> {
+    usage(alloc, "axe: no such command\n")
 }
 
 fn usage(alloc: Global, text: &str) -> Result<ParseFault, AllocError> {

@@ -1,50 +1,34 @@
 //! The command lines that `axe` takes, and the help on them.
+use crate::help;
 use clap::{Arg, Command};
 use std::alloc::{AllocError, Global};
+
+/// The word for a matrix as text, converted to its packed form.
+pub(crate) const ZCV: &str = "zcv";
+
+/// The word for a matrix, printed as text.
+pub(crate) const ZPR: &str = "zpr";
 
 /// The word for the product of two matrices.
 pub(crate) const ZMU: &str = "zmu";
 
-/// The file of the left factor, as help calls it.
+/// The word for the sum of two matrices.
+pub(crate) const ZAD: &str = "zad";
+
+/// The word for the transpose of a matrix.
+pub(crate) const ZTR: &str = "ztr";
+
+/// The file that is converted or printed, as help calls it.
+pub(crate) const IN: &str = "IN";
+
+/// The file of the first operand, as help calls it.
 pub(crate) const LEFT: &str = "A";
 
-/// The file of the right factor, as help calls it.
+/// The file of the second operand, as help calls it.
 pub(crate) const RIGHT: &str = "B";
 
 /// The file that is written, as help calls it.
 pub(crate) const OUT: &str = "OUT";
-
-const ABOUT: &str = "A workbench for modules of matrices over small finite fields";
-
-const LONG_ABOUT: &str = "\
-A workbench for modules of matrices over the fields of order 2, 3, 4, 5, 7, 8 and 9.
-What it does today is to multiply two matrices.";
-
-const ZMU_ABOUT: &str = "Multiply two matrices";
-
-const ZMU_LONG_ABOUT: &str = "\
-Multiply two matrices: read A and B, and write the product A times B to OUT.
-
-Both matrices are over the same field, and A has as many columns as B has rows.
-OUT is written when the product is made, so it may be A or B itself. Where anything
-is wrong before that, no file changes. Where all goes well, nothing is printed.";
-
-const FILES_AND_STATUSES: &str = "\
-Files:
-  All files lie in the working directory. Each is a packed matrix: a header of
-  16 bytes, which begins with the letters AXP1, and then the rows. A file's name has
-  1 to 100 characters: letters and digits of ASCII and the signs . _ - +, of which
-  none comes first.
-
-Exit status:
-  0  the command is done, or help was printed
-  2  the words are no command line of axe, or one of them is no file name
-  3  a file is damaged: it is no packed matrix
-  4  the command is refused: the fields differ, or the shapes do not fit
-  6  a file is missing or too long, or its device failed
-  7  there was not enough memory
-
-What went wrong is told on standard error, for example as: axe: B: Missing";
 
 /// All command lines of `axe`, for words without the program's name.
 pub(crate) fn command_lines<'a>(alloc: Global) -> Result<Command<'a>, AllocError> {
@@ -52,20 +36,44 @@ pub(crate) fn command_lines<'a>(alloc: Global) -> Result<Command<'a>, AllocError
         .bin_name("axe")?
         .no_binary_name(true)
         .version("0.1.0")
-        .about(ABOUT)
-        .long_about(LONG_ABOUT)
-        .after_long_help(FILES_AND_STATUSES)
+        .about(help::ABOUT)
+        .long_about(help::LONG_ABOUT)
+        .after_long_help(help::FILES_AND_STATUSES)
         .subcommand_required(true)
         .arg_required_else_help(true)
-        .subcommand(zmu_lines(alloc)?)
+        .subcommand(zcv_lines(alloc)?)?
+        .subcommand(zpr_lines(alloc)?)?
+        .subcommand(zmu_lines(alloc)?)?
+        .subcommand(zad_lines(alloc)?)?
+        .subcommand(ztr_lines(alloc)?)
+}
+
+// The command line `zcv IN OUT`.
+fn zcv_lines<'a>(alloc: Global) -> Result<Command<'a>, AllocError> {
+    command(alloc, ZCV, help::ZCV_ABOUT, help::ZCV_LONG_ABOUT)
+        .arg(file(alloc, IN, "The file of the text"))?
+        .arg(file(
+            alloc,
+            OUT,
+            "The file to write the matrix to; what it held is replaced",
+        ))
+}
+
+// The command lines `zpr IN` and `zpr IN OUT`.
+fn zpr_lines<'a>(alloc: Global) -> Result<Command<'a>, AllocError> {
+    let out = file(
+        alloc,
+        OUT,
+        "The file to write the text to; what it held is replaced. Without it the text is shown",
+    );
+    command(alloc, ZPR, help::ZPR_ABOUT, help::ZPR_LONG_ABOUT)
+        .arg(file(alloc, IN, "The file of the matrix"))?
+        .arg(out.required(false))
 }
 
 // The command line `zmu A B OUT`.
 fn zmu_lines<'a>(alloc: Global) -> Result<Command<'a>, AllocError> {
-    Command::new(alloc, ZMU)
-        .about(ZMU_ABOUT)
-        .long_about(ZMU_LONG_ABOUT)
-        .after_long_help(FILES_AND_STATUSES)
+    command(alloc, ZMU, help::ZMU_ABOUT, help::ZMU_LONG_ABOUT)
         .arg(file(alloc, LEFT, "The file of the left factor"))?
         .arg(file(alloc, RIGHT, "The file of the right factor"))?
         .arg(file(
@@ -73,6 +81,37 @@ fn zmu_lines<'a>(alloc: Global) -> Result<Command<'a>, AllocError> {
             OUT,
             "The file to write the product to; what it held is replaced",
         ))
+}
+
+// The command line `zad A B OUT`.
+fn zad_lines<'a>(alloc: Global) -> Result<Command<'a>, AllocError> {
+    command(alloc, ZAD, help::ZAD_ABOUT, help::ZAD_LONG_ABOUT)
+        .arg(file(alloc, LEFT, "The file of the first term"))?
+        .arg(file(alloc, RIGHT, "The file of the second term"))?
+        .arg(file(
+            alloc,
+            OUT,
+            "The file to write the sum to; what it held is replaced",
+        ))
+}
+
+// The command line `ztr A OUT`.
+fn ztr_lines<'a>(alloc: Global) -> Result<Command<'a>, AllocError> {
+    command(alloc, ZTR, help::ZTR_ABOUT, help::ZTR_LONG_ABOUT)
+        .arg(file(alloc, LEFT, "The file of the matrix"))?
+        .arg(file(
+            alloc,
+            OUT,
+            "The file to write the transpose to; what it held is replaced",
+        ))
+}
+
+// A command without its files: what it is called, and what help says of it in a line and at length.
+fn command<'a>(alloc: Global, name: &'a str, about: &'a str, long_about: &'a str) -> Command<'a> {
+    Command::new(alloc, name)
+        .about(about)
+        .long_about(long_about)
+        .after_long_help(help::FILES_AND_STATUSES)
 }
 
 // A word that has to be there and stands for a file.

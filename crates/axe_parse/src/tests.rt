@@ -34,13 +34,56 @@ fn help_text(answer: &Result<Command, ParseFault>) -> &str {
     }
 }
 
+// What a command does with which files, in words.
+fn told(alloc: Global, command: &Command) -> Result<String, AllocError> {
+    match command {
+        Command::Zcv { input, out } => {
+            format!(in alloc; "convert {} to {}", input.as_str(), out.as_str())
+        }
+        Command::Zpr { input, out: None } => format!(in alloc; "print {}", input.as_str()),
+        Command::Zpr {
+            input,
+            out: Some(out),
+        } => { format!(in alloc; "print {} to {}", input.as_str(), out.as_str()) }
+        Command::Zmu { left, right, out } => {
+            format!(in alloc;
+                "multiply {} by {} to {}",
+                left.as_str(),
+                right.as_str(),
+                out.as_str()
+            )
+        }
+        Command::Zad { left, right, out } => {
+            format!(in alloc;
+                "add {} and {} to {}",
+                left.as_str(),
+                right.as_str(),
+                out.as_str()
+            )
+        }
+        Command::Ztr { input, out } => {
+            format!(in alloc; "transpose {} to {}", input.as_str(), out.as_str())
+        }
+    }
+}
+
 #[test]
-fn three_names_make_a_product(rt: HostRuntime) -> Result<(), ParseFault> {
-    for line in ["zmu,A,B-2.x,9+_", "zmu,--,A,B-2.x,9+_"] {
-        let Command::Zmu { left, right, out } = answer_of(rt.alloc(), line)??;
-        assert!(rt; left.as_str() == "A");
-        assert!(rt; right.as_str() == "B-2.x");
-        assert!(rt; out.as_str() == "9+_");
+fn words_make_commands(rt: HostRuntime) -> Result<(), ParseFault> {
+    let commands = [
+        ("zcv,in.txt,A", "convert in.txt to A"),
+        ("zcv,A,A", "convert A to A"),
+        ("zpr,A", "print A"),
+        ("zpr,--,A", "print A"),
+        ("zpr,A,in.txt", "print A to in.txt"),
+        ("zmu,A,B-2.x,9+_", "multiply A by B-2.x to 9+_"),
+        ("zmu,--,A,B-2.x,9+_", "multiply A by B-2.x to 9+_"),
+        ("zad,A,B-2.x,9+_", "add A and B-2.x to 9+_"),
+        ("ztr,A,OUT", "transpose A to OUT"),
+    ];
+    for (line, wanted) in commands {
+        let command = answer_of(rt.alloc(), line)??;
+        let told = told(rt.alloc(), &command)?;
+        assert!(rt; told.as_str() == wanted, "{line}: {told}");
     }
     Ok(())
 }
@@ -54,24 +97,37 @@ fn other_words_are_usage(rt: HostRuntime) -> Result<(), AllocError> {
             Err(ParseFault::Usage(_))
         )
     );
-    let counts = ["zmu", "zmu,A", "zmu,A,B", "zmu,A,B,C,D", "zmu,A,B,C,"];
-    for line in counts {
+    let counts = [
+        ("zcv", "Usage: axe zcv <IN> <OUT>\n"),
+        ("zcv,A", "Usage: axe zcv <IN> <OUT>\n"),
+        ("zcv,A,B,C", "Usage: axe zcv <IN> <OUT>\n"),
+        ("zpr", "Usage: axe zpr <IN> [OUT]\n"),
+        ("zpr,A,B,C", "Usage: axe zpr <IN> [OUT]\n"),
+        ("zmu", "Usage: axe zmu <A> <B> <OUT>\n"),
+        ("zmu,A", "Usage: axe zmu <A> <B> <OUT>\n"),
+        ("zmu,A,B", "Usage: axe zmu <A> <B> <OUT>\n"),
+        ("zmu,A,B,C,D", "Usage: axe zmu <A> <B> <OUT>\n"),
+        ("zmu,A,B,C,", "Usage: axe zmu <A> <B> <OUT>\n"),
+        ("zad,A,B", "Usage: axe zad <A> <B> <OUT>\n"),
+        ("zad,A,B,C,D", "Usage: axe zad <A> <B> <OUT>\n"),
+        ("ztr,A", "Usage: axe ztr <A> <OUT>\n"),
+        ("ztr,A,B,C", "Usage: axe ztr <A> <OUT>\n"),
+    ];
+    for (line, usage) in counts {
         let answer = answer_of(rt.alloc(), line)?;
         let text = usage_text(&answer);
-        assert!(rt;
-            text.contains("Usage: axe zmu <A> <B> <OUT>\n"),
-            "{line}: {text}"
-        );
+        assert!(rt; text.contains(usage), "{line}: {text}");
     }
     let commands = [
         "",
         "axe",
         "zm",
         "ZMU,A,B,C",
-        "zad,A,B,C",
+        "multiply,A,B,C",
         "-C",
         "--words",
         "zmu,-C,B,OUT",
+        "zpr,A,-o",
     ];
     for line in commands {
         let answer = answer_of(rt.alloc(), line)?;
@@ -94,6 +150,16 @@ fn bad_names_have_a_text_of_their_own(rt: HostRuntime) -> Result<(), AllocError>
         "zmu,A,B,--,-C",
         "zmu,--,-C,B,OUT",
         "zmu,A,-,OUT",
+        "zcv,a/b,OUT",
+        "zcv,A,+",
+        "zpr,.",
+        "zpr,A,",
+        "zpr,A,a b",
+        "zad,_A,B,OUT",
+        "zad,A,/B,OUT",
+        "zad,A,B,../OUT",
+        "ztr,-,OUT",
+        "ztr,A,é",
     ];
     for line in lines {
         let answer = answer_of(rt.alloc(), line)?;
@@ -108,13 +174,30 @@ fn help_and_version_are_shown(rt: HostRuntime) -> Result<(), AllocError> {
     let shown = [
         ("--version", "axe 0.1.0\n"),
         ("-V", "axe 0.1.0\n"),
+        (
+            "-h",
+            "  zcv   Convert the text of a matrix to a packed file\n",
+        ),
+        ("-h", "  zpr   Print a matrix as text\n"),
         ("-h", "  zmu   Multiply two matrices\n"),
+        ("-h", "  zad   Add two matrices\n"),
+        ("-h", "  ztr   Transpose a matrix\n"),
         ("--help", "fields of order 2, 3, 4, 5, 7, 8 and 9"),
+        ("--help", "  zmu   Multiply two matrices\n"),
         ("help", "  zmu   Multiply two matrices\n"),
+        ("zcv,-h", "Usage: axe zcv <IN> <OUT>\n"),
+        (
+            "zcv,--help",
+            "  1 3 2 4            matrix field=3 rows=2 cols=4\n",
+        ),
+        ("help,zpr", "Usage: axe zpr <IN> [OUT]\n"),
+        ("zpr,--help", "lines of 80 digits"),
         ("zmu,-h", "Usage: axe zmu <A> <B> <OUT>\n"),
         ("zmu,--help", "AXP1"),
         ("zmu,A,--help", "Exit status:\n"),
         ("help,zmu", "Usage: axe zmu <A> <B> <OUT>\n"),
+        ("zad,--help", "the sum A plus B"),
+        ("ztr,--help", "at least one row"),
     ];
     for (line, part) in shown {
         let answer = answer_of(rt.alloc(), line)?;

@@ -1,8 +1,10 @@
 //! Row vectors over a small finite field, and why an operation on rows or matrices is refused.
 #![tactic(auto)]
 
-ghost use Rattle.std.specs.Prelude.{◌≡◌, ◌<◌, ◌↔◌, None, IsTrue, length, replicate, slice_index, slice_set, All};
+ghost use Rattle.std.specs.Prelude.{◌≡◌, ◌<◌, ◌↔◌, None, IsTrue, length, replicate, slice_index, slice_set, All, MatchOption};
+ghost use Rattle.axe_field.specs.NumberFields.{number_field};
 ghost use Rattle.axe_field.specs.Order.{Order, order_number, IsElement};
+ghost use Rattle.axe_row.specs.Operations.{dot_product, row_with_multiple, multiple_row, IsZeroVector, IsFirstNonzero};
 ghost use Rattle.axe_row.specs.Rows.{RowValue, IsRow};
 ghost use Rattle.axe_row.specs.Refusals.{Answers};
 
@@ -135,5 +137,126 @@ impl Row {
         ensures well_formed { IsRow self.new }
     {
         self.elements[index] = element;
+    }
+
+    /// The same row a second time.
+    pub fn copy(&self, alloc: Global) -> Result<Row, Refusal>
+        ensures copied { Answers None (λ copy. copy ≡ self.now) result }
+        ensures well_formed { Answers None IsRow result }
+    {
+        let elements = Vec::from_slice(alloc, &self.elements)?;
+        Ok(Row {
+            field: self.field,
+            elements,
+        })
+    }
+
+    /// Adds a multiple of another row over the same field and of the same length: each entry d becomes d + c s, where c
+    /// is the scalar and s the other row's entry.
+    pub fn add_scaled(&mut self, scalar: u8, other: &Row)
+        requires field { other.now.order ≡ self.old.order }
+        requires fits { length other.now.entries ≡ length self.old.entries }
+        requires element { IsElement self.old.order scalar }
+        ensures sum { self.new ≡ row_with_multiple self.old scalar other.now }
+        ensures as_long { length self.new.entries ≡ length self.old.entries }
+        ensures well_formed { IsRow self.new }
+    {
+        let field = *self.field();
+        for index in 0..self.len() {
+            let added = field.mul(scalar, other.get(index));
+            self.set(index, field.add(self.get(index), added));
+        }
+    }
+
+    /// Multiplies the row by an element: each entry d becomes c d, where c is the scalar.
+    pub fn scale(&mut self, scalar: u8)
+        requires { IsElement self.old.order scalar }
+        ensures multiple { self.new ≡ multiple_row scalar self.old }
+        ensures as_long { length self.new.entries ≡ length self.old.entries }
+        ensures well_formed { IsRow self.new }
+    {
+        let field = *self.field();
+        for index in 0..self.len() {
+            self.set(index, field.mul(scalar, self.get(index)));
+        }
+    }
+
+    /// The dot product with another row over the same field and of the same length: the sum of the products of entries
+    /// at one index.
+    pub fn dot(&self, other: &Row) -> u8
+        requires field { other.now.order ≡ self.now.order }
+        requires fits { length other.now.entries ≡ length self.now.entries }
+        ensures value { result ≡ dot_product (number_field self.now.order) self.now.entries other.now.entries }
+        ensures element { IsElement self.now.order result }
+    {
+        let field = self.field();
+        let mut sum = 0;
+        for index in 0..self.len() {
+            let product = field.mul(self.get(index), other.get(index));
+            sum = field.add(sum, product);
+        }
+        sum
+    }
+
+    /// The index of the first entry other than 0, counted from 0, or `None` where every entry is 0.
+    pub fn first_nonzero(&self) -> Option<usize>
+        ensures { MatchOption result (IsZeroVector self.now.entries) (IsFirstNonzero self.now.entries) }
+    {
+        self.elements.iter().position(|&element| element != 0)
+    }
+
+    /// Whether every entry is 0.
+    pub fn is_zero(&self) -> bool
+        ensures { IsTrue result ↔ IsZeroVector self.now.entries }
+    {
+        self.elements.iter().all(|&element| element == 0)
+    }
+
+    /// Whether two rows are equal: one field, one length, and the same entries.
+    pub fn same(&self, other: &Row) -> bool
+        ensures { IsTrue result ↔ (self.now ≡ other.now) }
+    {
+        self.field == other.field && self.elements == other.elements
+    }
+}
+
+#[cfg(test)]
+mod tests {
+    use super::*;
+
+    #[test]
+    fn copies_and_adds_over_nine_elements(rt: HostRuntime) -> Result<(), Refusal> {
+        let field = Field::new(9).expect(&rt, "the field of nine elements");
+        let mut row = Row::from_elements(rt.alloc(), field, &[1, 3])?;
+        let copy = row.copy(rt.alloc())?;
+        row.add_scaled(3, &Row::from_elements(rt.alloc(), field, &[3, 4])?);
+        assert!(rt; row.same(&Row::from_elements(rt.alloc(), field, &[5, 1])?));
+        assert!(rt; copy.same(&Row::from_elements(rt.alloc(), field, &[1, 3])?));
+        Ok(())
+    }
+
+    #[test]
+    fn adds_to_zero_over_seven_elements(rt: HostRuntime) -> Result<(), Refusal> {
+        let field = Field::new(7).expect(&rt, "the field of seven elements");
+        let other = Row::from_elements(rt.alloc(), field, &[6, 6])?;
+        let mut row = other.copy(rt.alloc())?;
+        row.add_scaled(6, &other);
+        assert!(rt; row.same(&Row::zero(rt.alloc(), field, 2)?));
+        assert!(rt; row.is_zero());
+        assert_eq!(rt; row.first_nonzero(), None);
+        row.set(1, 3);
+        row.scale(4);
+        assert_eq!(rt; (row.get(0), row.get(1)), (0, 5));
+        assert_eq!(rt; row.first_nonzero(), Some(1));
+        Ok(())
+    }
+
+    #[test]
+    fn multiplies_over_eight_elements(rt: HostRuntime) -> Result<(), Refusal> {
+        let field = Field::new(8).expect(&rt, "the field of eight elements");
+        let left = Row::from_elements(rt.alloc(), field, &[4, 1])?;
+        let right = Row::from_elements(rt.alloc(), field, &[2, 5])?;
+        assert_eq!(rt; left.dot(&right), 6);
+        Ok(())
     }
 }

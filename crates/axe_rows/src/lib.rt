@@ -10,3 +10,7 @@ mod directory;
 mod lines;
 #[cfg(test)]
 mod products;
+#[cfg(test)]
+mod sums;
+#[cfg(test)]
+mod texts;

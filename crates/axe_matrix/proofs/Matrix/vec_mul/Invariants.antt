@@ -1,10 +1,12 @@
-use Rattle.std.proofs.Common.{◌≡◌, ◌<◌, ℕ, length, get_or}
-use Rattle.axe_matrix.specs.Matrices.{vector_product}
+use Rattle.std.proofs.Common.{◌≡◌}
+use Rattle.axe_field.specs.NumberFields.{number_field}
+use Rattle.axe_row.specs.Rows.{IsRow}
+use Rattle.axe_matrix.proofs.VectorLaws.{partial_combination}
 use Rattle.axe_matrix.proofs.Matrix.vec_mul.Given as goal
 
-abbrev pub invariant-loop-column : goal.invariant-loop-column
-invariant-loop-column l = record {
+abbrev pub invariant-loop-index : goal.invariant-loop-index
+invariant-loop-index l = record {
   field : l.product.order ≡ l.self.order;
-  fits : length l.product.entries ≡ l.self.cols;
-  so_far : (j : ℕ) → j < l.column → get_or l.product.entries j 0 ≡ get_or (vector_product l.vector l.self).entries j 0;
+  so_far : l.product.entries ≡ partial_combination (number_field l.self.order) l.self.cols l.vector.entries l.self.rows l.index;
+  well_formed : IsRow l.product;
 }

@@ -1,0 +1,55 @@
+use Rattle.std.proofs.Common.{ap, ◌∙◌, []}
+use Rattle.std.specs.Prelude.{codes}
+use Rattle.std.proofs.lemmas.Result.{err_from_is_err_and}
+use Rattle.axe_file.specs.TextReading.{Reading, with_value, read_parts}
+use Rattle.axe_file.proofs.TextNumerals.{valued}
+use Rattle.axe_file.proofs.TextHeads.{after_word, after_named_order, after_named_rows, named_parts, setting_parts}
+use Rattle.axe_file.proofs.text_header.named_header.Goals as goal
+
+pub returns-in_err-at-clause-read : goal.returns-in_err-at-clause-read
+returns-in_err-at-clause-read c =
+    let p = err_from_is_err_and c.from_residual.result c.from_residual.ensures.1 in
+    let e = c.in_err-at.ensures.read (read_parts after_word) in
+    rw p.1 (e.0, p.2 ∙ e.1, named_parts _ _ ∙ e.2)
+
+pub returns-in_err-order-clause-read : goal.returns-in_err-order-clause-read
+returns-in_err-order-clause-read c =
+    let p = err_from_is_err_and c.from_residual-in_err-order.result c.from_residual-in_err-order.ensures.1 in
+    let e0 = named_parts _ _ ∙ c.in_ok-at.ensures.read (read_parts after_word) in
+    let e = c.in_err-order.ensures.read (valued (read_parts after_named_order)) in
+    rw p.1 (e.0, p.2 ∙ e.1, e0 ∙ (setting_parts (codes "field=") after_named_order _ _ ∙ e.2))
+
+pub returns-in_err-rows-clause-read : goal.returns-in_err-rows-clause-read
+returns-in_err-rows-clause-read c =
+    let p = err_from_is_err_and c.from_residual-in_err-rows.result c.from_residual-in_err-rows.ensures.1 in
+    let e0 = named_parts _ _ ∙ c.in_ok-at.ensures.read (read_parts after_word) in
+    let e1 = setting_parts (codes "field=") after_named_order _ _ ∙ c.in_ok-order.ensures.read (valued (read_parts after_named_order)) in
+    let e = c.in_err-rows.ensures.read (valued (read_parts after_named_rows)) in
+    rw p.1 (e.0, p.2 ∙ e.1, e0 ∙ (e1 ∙ ap (λ (x : Reading). with_value c.in_ok-order.order x) (setting_parts (codes "rows=") after_named_rows _ _ ∙ e.2)))
+
+pub returns-in_err-columns-clause-read : goal.returns-in_err-columns-clause-read
+returns-in_err-columns-clause-read c =
+    let p = err_from_is_err_and c.from_residual-in_err-columns.result c.from_residual-in_err-columns.ensures.1 in
+    let e0 = named_parts _ _ ∙ c.in_ok-at.ensures.read (read_parts after_word) in
+    let e1 = setting_parts (codes "field=") after_named_order _ _ ∙ c.in_ok-order.ensures.read (valued (read_parts after_named_order)) in
+    let e2 = setting_parts (codes "rows=") after_named_rows _ _ ∙ c.in_ok-rows.ensures.read (valued (read_parts after_named_rows)) in
+    let e = c.in_err-columns.ensures.read (valued (read_parts [])) in
+    rw p.1 (e.0, p.2 ∙ e.1, e0 ∙ (e1 ∙ ap (λ (x : Reading). with_value c.in_ok-order.order x) (e2 ∙ ap (λ (x : Reading). with_value c.in_ok-rows.rows x) (setting_parts (codes "cols=") [] _ _ ∙ e.2))))
+
+pub returns-in_err-end_header-clause-read : goal.returns-in_err-end_header-clause-read
+returns-in_err-end_header-clause-read c =
+    let p = err_from_is_err_and c.from_residual-in_err-end_header.result c.from_residual-in_err-end_header.ensures.1 in
+    let e0 = named_parts _ _ ∙ c.in_ok-at.ensures.read (read_parts after_word) in
+    let e1 = setting_parts (codes "field=") after_named_order _ _ ∙ c.in_ok-order.ensures.read (valued (read_parts after_named_order)) in
+    let e2 = setting_parts (codes "rows=") after_named_rows _ _ ∙ c.in_ok-rows.ensures.read (valued (read_parts after_named_rows)) in
+    let e3 = setting_parts (codes "cols=") [] _ _ ∙ c.in_ok-columns.ensures.read (valued (read_parts [])) in
+    let e = c.in_err-end_header.ensures in
+    rw p.1 (_, p.2 ∙ e.0, e0 ∙ (e1 ∙ ap (λ (x : Reading). with_value c.in_ok-order.order x) (e2 ∙ ap (λ (x : Reading). with_value c.in_ok-rows.rows x) (e3 ∙ ap (λ (x : Reading). with_value c.in_ok-columns.columns x) (e.1)))))
+
+pub returns-clause-read : goal.returns-clause-read
+returns-clause-read c =
+    let e0 = named_parts _ _ ∙ c.in_ok-at.ensures.read (read_parts after_word) in
+    let e1 = setting_parts (codes "field=") after_named_order _ _ ∙ c.in_ok-order.ensures.read (valued (read_parts after_named_order)) in
+    let e2 = setting_parts (codes "rows=") after_named_rows _ _ ∙ c.in_ok-rows.ensures.read (valued (read_parts after_named_rows)) in
+    let e3 = setting_parts (codes "cols=") [] _ _ ∙ c.in_ok-columns.ensures.read (valued (read_parts [])) in
+    e0 ∙ (e1 ∙ ap (λ (x : Reading). with_value c.in_ok-order.order x) (e2 ∙ ap (λ (x : Reading). with_value c.in_ok-rows.rows x) (e3 ∙ ap (λ (x : Reading). with_value c.in_ok-columns.columns x) (c.in_ok-end_header.ensures))))

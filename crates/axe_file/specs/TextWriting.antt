@@ -1,0 +1,25 @@
+-- The one text of a matrix that is written.
+use Rattle.std.specs.Prelude.{ℕ, ◌*◌, List, [], ◌∷◌, ◌++◌, length, map, take, drop, codes}
+use Rattle.std.specs.Fmt.{decimal}
+use Rattle.std.specs.Int.{div_ceil}
+use Rattle.std.specs.List.{flat_map, range_with_len}
+use Rattle.axe_field.specs.Order.{order_number}
+use Rattle.axe_matrix.specs.Matrices.{MatrixValue}
+use Rattle.axe_file.specs.TextGrammar.{digit_code}
+
+-- the header with names, its numbers without leading zeros, ended by a line feed
+unfoldable pub text_header : MatrixValue → List ℕ
+text_header m =
+    codes "matrix field=" ++ decimal (order_number m.order) ++ codes " rows=" ++ decimal (length m.rows) ++ codes " cols=" ++ decimal m.cols ++ 10 ∷ []
+
+-- line i of a row: the digits of the entries from place 80 i on, at most 80 of them, ended by a line feed
+unfoldable pub text_line : List ℕ → ℕ → List ℕ
+text_line row i = map digit_code (take 80 (drop (80 * i) row)) ++ 10 ∷ []
+
+-- a row in lines of 80 digits, the last of which has what is left
+unfoldable pub text_row : List ℕ → List ℕ
+text_row row = flat_map (text_line row) (range_with_len 0 (div_ceil (length row) 80))
+
+-- the text that is written: the header, then row after row
+unfoldable pub text_of : MatrixValue → List ℕ
+text_of m = text_header m ++ flat_map text_row m.rows

@@ -1,0 +1,126 @@
+//! The text form, read.
+
+ghost use Rattle.std.specs.Prelude.{◌≡◌, ℕ, ◌+◌, ◌-◌, ◌*◌, ◌<◌, ◌≤◌, None, Some, length, drop, map, filter, ◌++◌, All, IsTrue, IfOk, IfErr, MatchResult, ◌⊎◌};
+ghost use Rattle.axe_field.specs.Order.{order_number};
+ghost use Rattle.axe_matrix.specs.declared.TheConstants.{MAX_ROWS, MAX_COLUMNS};
+ghost use Rattle.axe_matrix.specs.Matrices.{MatrixValue, IsMatrix};
+ghost use Rattle.axe_file.specs.Answers.{Answers};
+ghost use Rattle.axe_file.specs.TextGrammar.{is_dark, digit_value, is_element_digit, IsTextOf, IsTextFault};
+ghost use Rattle.axe_file.specs.TextReading.{digits_fault, in_rows, text_fault, text_matrix};
+ghost use Rattle.axe_file.specs.declared.fault.FileFault.TheVariants.{Memory};
+
+use crate::fault::FileFault;
+use crate::text_header::{field_of, header_of, is_white, skip_space};
+use axe_field::Field;
+use axe_matrix::{Matrix, Row};
+use std::alloc::Global;
+
+/// The matrix of which the bytes are a text. The answer is the first fault of the bytes, whatever the memory, and where
+/// they have none the matrix or `Memory`.
+pub fn read_text(alloc: Global, bytes: &[u8]) -> Result<Matrix, FileFault>
+    ensures fault { Answers (text_fault bytes.now) (λ m. m ≡ text_matrix bytes.now) result }
+    ensures text { IfOk result (λ m. IsTextOf bytes.now m) }
+    ensures first_fault { IfErr result (λ fault. IsTextFault bytes.now fault ⊎ ((fault ≡ Memory) × (m : MatrixValue) × IsTextOf bytes.now m)) }
+    ensures only { (a : MatrixValue) → IsTextOf bytes.now a → Answers None (λ m. m ≡ a) result }
+    ensures matrix { IfOk result (λ m. IsMatrix m) }
+{
+    let header = header_of(bytes)?;
+    let field = field_of(header)?;
+    let (rows, columns) = (header.rows as usize, header.columns as usize);
+    check_digits(bytes, header.end, field.order(), rows * columns)?;
+    matrix_of_digits(alloc, field, rows, columns, bytes, header.end)
+}
+
+/// Whether a byte is the digit of an element of a field of this order.
+#[tactic(auto, unfolding(crate::specs::TextGrammar::is_element_digit))]
+fn is_element_digit(order: u8, byte: u8) -> bool
+    requires { order ≤ 9 }
+    ensures { result ≡ is_element_digit order byte }
+{
+    b'0' <= byte && byte < b'0' + order
+}
+
+/// Checks the bytes from an offset on: digits of elements, so many, with white space between.
+fn check_digits(bytes: &[u8], start: usize, order: u8, wanted: usize) -> Result<(), FileFault>
+    requires within { start ≤ length bytes.now }
+    requires order { order ≤ 9 }
+    ensures { MatchResult result (λ _. digits_fault order wanted (drop start bytes.now) start ≡ None) (λ fault. digits_fault order wanted (drop start bytes.now) start ≡ Some fault) }
+{
+    let mut left = wanted;
+    for at in start..bytes.len() {
+        let byte = bytes[at];
+        if !is_white(byte) {
+            if left == 0 {
+                return Err(FileFault::TrailingText(at));
+            }
+            if !is_element_digit(order, byte) {
+                return Err(FileFault::BadDigit(at));
+            }
+            left -= 1;
+        }
+    }
+    if left == 0 {
+        Ok(())
+    } else {
+        Err(FileFault::TooFewDigits)
+    }
+}
+
+/// The row of the next digits from an offset on, and where the last of them ends.
+fn next_row(
+    alloc: Global,
+    field: Field,
+    columns: usize,
+    bytes: &[u8],
+    start: usize,
+) -> Result<(Row, usize), FileFault>
+    requires within { start ≤ length bytes.now }
+    requires elements { All (λ byte. IsTrue (is_element_digit (order_number field) byte)) (filter is_dark (drop start bytes.now)) }
+    requires enough { columns ≤ length (filter is_dark (drop start bytes.now)) }
+    ensures within { IfOk result (λ found. found.1 ≤ length bytes.now) }
+    ensures field { IfOk result (λ found. found.0.order ≡ field) }
+    ensures columns { IfOk result (λ found. length found.0.entries ≡ columns) }
+    ensures digits { IfOk result (λ found. found.0.entries ++ map digit_value (filter is_dark (drop found.1 bytes.now)) ≡ map digit_value (filter is_dark (drop start bytes.now))) }
+    ensures elements_left { IfOk result (λ found. All (λ byte. IsTrue (is_element_digit (order_number field) byte)) (filter is_dark (drop found.1 bytes.now))) }
+    ensures memory { IfErr result (λ fault. fault ≡ Memory) }
+{
+    let Ok(mut row) = Row::zero(alloc, field, columns) else {
+        return Err(FileFault::Memory);
+    };
+    let mut end = start;
+    for column in 0..columns {
+        let at = skip_space(bytes, end);
+        prove!(at < bytes.len());
+        row.set(column, bytes[at] - b'0');
+        end = at + 1;
+    }
+    Ok((row, end))
+}
+
+/// The matrix of the digits from an offset on.
+fn matrix_of_digits(
+    alloc: Global,
+    field: Field,
+    rows: usize,
+    columns: usize,
+    bytes: &[u8],
+    start: usize,
+) -> Result<Matrix, FileFault>
+    requires rows_fit { rows ≤ MAX_ROWS }
+    requires some_column { 1 ≤ columns }
+    requires columns_fit { columns ≤ MAX_COLUMNS }
+    requires within { start ≤ length bytes.now }
+    requires elements { All (λ byte. IsTrue (is_element_digit (order_number field) byte)) (filter is_dark (drop start bytes.now)) }
+    requires enough { rows * columns ≤ length (filter is_dark (drop start bytes.now)) }
+    ensures matrix { IfOk result (λ m. m ≡ record { order = field; cols = columns; rows = in_rows rows columns (map digit_value (filter is_dark (drop start bytes.now))) }) }
+    ensures memory { IfErr result (λ fault. fault ≡ Memory) }
+{
+    let mut matrix = Matrix::empty(alloc, field, columns);
+    let mut at = start;
+    for _ in 0..rows {
+        let (row, end) = next_row(alloc, field, columns, bytes, at)?;
+        matrix.push_row(row).map_err(|_row| FileFault::Memory)?;
+        at = end;
+    }
+    Ok(matrix)
+}

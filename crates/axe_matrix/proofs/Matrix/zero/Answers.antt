@@ -1,0 +1,16 @@
+use Rattle.std.proofs.Common.{refl, ap, ◌∙◌, arith}
+use Rattle.axe_row.specs.Rows.{RowValue}
+use Rattle.axe_matrix.proofs.VectorLaws.{replicate-listed}
+use Rattle.axe_matrix.proofs.PartialMatrices.{IsPartialMatrix-none, IsPartialMatrix-more, IsPartialMatrix-all}
+use Rattle.axe_matrix.proofs.Matrix.zero.Goals as goal
+
+pub loop-index-init : goal.loop-index-init
+loop-index-init c = IsPartialMatrix-none _ _ _ _ _ _ c.empty-matrix.ensures.no_rows c.empty-matrix.ensures.well_formed refl refl
+
+pub loop-index-preserved : goal.loop-index-preserved
+loop-index-preserved c =
+    let row = ap (λ (r : RowValue). r.entries) c.in_ok-row.ensures.zeros ∙ replicate-listed c.args.cols 0 in
+    IsPartialMatrix-more _ _ _ _ _ _ _ c.loop-index.invariant c.in_ok-append.ensures.appended c.append.ensures.well_formed row
+
+pub returns-clause-zeros : goal.returns-clause-zeros
+returns-clause-zeros c = IsPartialMatrix-all _ _ _ _ _ _ c.loop-index.invariant (omega (arith, c.loop-index-test.false, c.loop-index.auto.index-end))

@@ -1,0 +1,20 @@
+-- Transposes and identities of matrices by their rows.
+use Rattle.std.proofs.Common.{◌≡◌, ◌≢◌, ℕ, length, None, refl}
+use Rattle.std.proofs.lemmas.Bool.{ne_eqb}
+use Rattle.axe_algebra.specs.Lists.{entry, listed, transpose, identity, unit_row}
+use Rattle.axe_field.specs.Order.{Order}
+use Rattle.axe_matrix.specs.Matrices.{MatrixValue, transpose_refusal, transposed_matrix, identity_matrix}
+
+-- a matrix with a row has a transpose
+pub transpose_refusal-none : (m : MatrixValue) → length m.rows ≢ 0 → transpose_refusal m ≡ None
+transpose_refusal-none m some = rw (ne_eqb _ _ some) refl
+
+-- row i of the transpose is column i of the matrix
+pub transposed_matrix-rows : (m : MatrixValue) → record { order = m.order; cols = length m.rows; rows = listed m.cols (λ i. listed (length m.rows) (λ j. entry m.rows j i)) } ≡ transposed_matrix m
+unfolding transpose
+transposed_matrix-rows m = refl
+
+-- the rows of the identity matrix are the unit vectors
+pub identity_matrix-rows : (o : Order) (n : ℕ) → record { order = o; cols = n; rows = listed n (unit_row n) } ≡ identity_matrix o n
+unfolding identity
+identity_matrix-rows o n = refl

@@ -1,0 +1,86 @@
+-- Row vectors that the calls of matrices make: unit vectors, sums of rows, and the first terms of a vector times a matrix.
+use Rattle.std.proofs.Common.{◌≡◌, ◌≢◌, ℕ, ◌+◌, ◌<◌, List, [], length, get_or, set, replicate, cond, eqb, inl, inr, refl, sym, ap, ◌∙◌, arith, add-one, get_or-set_other, get_or-set_same}
+use Rattle.std.proofs.lemmas.Bool.{cases_eq, eq-eqb, ne_eqb}
+use Rattle.std.proofs.lemmas.List.{ext_get_or, get_or-replicate, length-replicate, length-set}
+use Rattle.std.proofs.lemmas.List.FromFn.{length-map-range_with_len, get_or-map-range_with_len}
+use Rattle.axe_algebra.specs.Lists.{entry, listed, number_sum, combination_entry, combination, unit_row}
+use Rattle.axe_algebra.specs.NumberField.{NumberField}
+use Rattle.axe_row.specs.Operations.{sum_with_multiple}
+use Rattle.axe_row.proofs.OperationLaws.{length-sum_with_multiple, get_or-sum_with_multiple}
+
+-- entry j of the list of f 0 to f (n - 1)
+pub get_or-listed : (n : ℕ) (f : ℕ → ℕ) (j : ℕ) → j < n → get_or (listed n f) j 0 ≡ f j
+get_or-listed n f j below = get_or-map-range_with_len f 0 n j j 0 below (omega arith)
+
+pub length-listed : (n : ℕ) (f : ℕ → ℕ) → length (listed n f) ≡ n
+length-listed n f = length-map-range_with_len f 0 n
+
+-- a list with the entries of f is the list of them
+pub is_listed : (n : ℕ) (f : ℕ → ℕ) (xs : List ℕ) → length xs ≡ n → ((j : ℕ) → j < n → get_or xs j 0 ≡ f j) → xs ≡ listed n f
+is_listed n f xs long same =
+    ext_get_or 0 xs (listed n f) (long ∙ sym (length-listed n f)) (λ j below.
+    let inside : j < n = omega arith in same j inside ∙ sym (get_or-listed n f j inside))
+
+-- a list of one number n times
+pub replicate-listed : (n a : ℕ) → replicate n a ≡ listed n (λ j. a)
+replicate-listed n a = is_listed n (λ j. a) (replicate n a) (length-replicate n a) (λ j below. get_or-replicate n j a 0 below)
+
+-- the same with another number at i
+pub set-listed : (n i a b : ℕ) → i < n → set (replicate n b) i a ≡ listed n (λ j. cond (eqb i j) a b)
+set-listed n i a b inside =
+    is_listed n (λ j. cond (eqb i j) a b) (set (replicate n b) i a) (length-set (replicate n b) i a ∙ length-replicate n b) at
+  where
+    at : (j : ℕ) → j < n → get_or (set (replicate n b) i a) j 0 ≡ cond (eqb i j) a b
+    at j below =
+        elim (cases_eq i j) [
+          | inl e ↦
+              let within : j < length (replicate n b) = omega (arith, length-replicate n b) in
+              rw (e, eq-eqb j j refl) (get_or-set_same (replicate n b) j a 0 within)
+          | inr other ↦
+              let elsewhere : j ≢ i = omega arith in
+              rw (ne_eqb i j other) (get_or-set_other (replicate n b) i j a 0 elsewhere ∙ get_or-replicate n j b 0 below)
+        ]
+
+-- a list of zeros with a 1 at i
+pub unit_row-set : (n i : ℕ) → i < n → set (replicate n 0) i 1 ≡ unit_row n i
+unit_row-set n i inside = set-listed n i 1 0 inside
+
+-- a vector plus 1 times another is their sum, entry by entry
+pub sum_with_one : (K : NumberField) (n : ℕ) (a b : List ℕ) → length a ≡ n → ((j : ℕ) → get_or b j 0 < K.order) → sum_with_multiple K a 1 b ≡ listed n (λ j. K.add (get_or a j 0) (get_or b j 0))
+sum_with_one K n a b long elements =
+    is_listed n (λ j. K.add (get_or a j 0) (get_or b j 0)) (sum_with_multiple K a 1 b) (length-sum_with_multiple K a 1 b ∙ long) (λ j below.
+    get_or-sum_with_multiple K a 1 b j (omega arith)
+    ∙ ap (K.add (get_or a j 0)) (K.mul_comm 1 (get_or b j 0) K.one-below (elements j) ∙ K.mul-one (get_or b j 0) (elements j)))
+
+-- the sum of the first n rows of a matrix, each times its entry of the vector
+unfoldable pub partial_combination : NumberField → ℕ → List ℕ → List (List ℕ) → ℕ → List ℕ
+partial_combination K columns v rows n = listed columns (combination_entry K v rows n)
+
+pub length-partial_combination : (K : NumberField) (columns : ℕ) (v : List ℕ) (rows : List (List ℕ)) (n : ℕ) → length (partial_combination K columns v rows n) ≡ columns
+unfolding partial_combination
+length-partial_combination K columns v rows n = length-map-range_with_len _ 0 columns
+
+-- of no rows
+pub partial_combination-none : (K : NumberField) (columns : ℕ) (v : List ℕ) (rows : List (List ℕ)) → replicate columns 0 ≡ partial_combination K columns v rows 0
+unfolding partial_combination combination_entry number_sum
+partial_combination-none K columns v rows = replicate-listed columns 0
+
+-- one more term of an entry
+combination_entry-next : (K : NumberField) (v : List ℕ) (rows : List (List ℕ)) (n j : ℕ) → combination_entry K v rows (n + 1) j ≡ K.add (combination_entry K v rows n j) (K.mul (get_or v n 0) (entry rows n j))
+unfolding combination_entry number_sum
+combination_entry-next K v rows n j = rw (add-one n) refl
+
+-- of one more row
+pub partial_combination-more : (K : NumberField) (columns : ℕ) (v : List ℕ) (rows : List (List ℕ)) (n : ℕ) → sum_with_multiple K (partial_combination K columns v rows n) (get_or v n 0) (get_or rows n []) ≡ partial_combination K columns v rows (n + 1)
+unfolding partial_combination
+partial_combination-more K columns v rows n =
+    is_listed columns (combination_entry K v rows (n + 1)) _ (length-sum_with_multiple K _ _ _ ∙ length-listed columns _) (λ j below.
+    let inside : j < length (listed columns (combination_entry K v rows n)) = omega (arith, length-listed columns (combination_entry K v rows n)) in
+    get_or-sum_with_multiple K _ _ _ j inside
+    ∙ ap (λ (e : ℕ). K.add e (K.mul (get_or v n 0) (entry rows n j))) (get_or-listed columns (combination_entry K v rows n) j below)
+    ∙ sym (combination_entry-next K v rows n j))
+
+-- of all rows
+pub partial_combination-all : (K : NumberField) (columns : ℕ) (v : List ℕ) (rows : List (List ℕ)) (n : ℕ) → n ≡ length rows → partial_combination K columns v rows n ≡ combination K columns v rows
+unfolding partial_combination combination
+partial_combination-all K columns v rows n all = ap (λ k. listed columns (combination_entry K v rows k)) all

@@ -1,0 +1,103 @@
+//! The zero matrix, the identity matrix, copies and blocks.
+
+ghost use Rattle.std.specs.Prelude.{◌≡◌, ◌+◌, ◌<◌, ◌≤◌, length, None, IfOk};
+ghost use Rattle.axe_algebra.specs.Lists.{unit_row};
+ghost use Rattle.axe_row.specs.Refusals.{Answers};
+ghost use Rattle.axe_matrix.specs.Matrices.{IsMatrix, part_of, zero_matrix, identity_matrix, matrix_block};
+
+use super::{MAX_COLUMNS, MAX_ROWS, Matrix, Refusal, Row};
+use axe_field::Field;
+use std::alloc::Global;
+
+impl Matrix {
+    /// The matrix of zeros of a shape.
+    pub fn zero(alloc: Global, field: Field, rows: usize, cols: usize) -> Result<Matrix, Refusal>
+        requires rows_fit { rows ≤ MAX_ROWS }
+        requires some_column { 1 ≤ cols }
+        requires columns_fit { cols ≤ MAX_COLUMNS }
+        ensures zeros { Answers None (λ matrix. matrix ≡ zero_matrix field rows cols) result }
+        ensures well_formed { IfOk result IsMatrix }
+    {
+        let mut matrix = Matrix::empty(alloc, field, cols);
+        for index in 0..rows {
+            let row = Row::zero(alloc, field, cols)?;
+            matrix.append(row)?;
+        }
+        Ok(matrix)
+    }
+
+    /// The identity matrix of so many rows.
+    pub fn identity(alloc: Global, field: Field, rows: usize) -> Result<Matrix, Refusal>
+        requires some_row { 1 ≤ rows }
+        requires rows_fit { rows ≤ MAX_ROWS }
+        requires columns_fit { rows ≤ MAX_COLUMNS }
+        ensures identity { Answers None (λ matrix. matrix ≡ identity_matrix field rows) result }
+        ensures well_formed { IfOk result IsMatrix }
+    {
+        let mut matrix = Matrix::empty(alloc, field, rows);
+        for index in 0..rows {
+            let row = unit_vector(alloc, field, rows, index)?;
+            matrix.append(row)?;
+        }
+        Ok(matrix)
+    }
+
+    /// The same matrix a second time.
+    pub fn copy(&self, alloc: Global) -> Result<Matrix, Refusal>
+        ensures copied { Answers None (λ copy. copy ≡ self.now) result }
+        ensures well_formed { IfOk result IsMatrix }
+    {
+        let mut copy = Matrix::empty(alloc, *self.field(), self.cols());
+        for index in 0..self.rows() {
+            let row = self.row(index).copy(alloc)?;
+            copy.append(row)?;
+        }
+        Ok(copy)
+    }
+
+    /// The block of `rows` rows from row `row` on, and of `cols` columns from column `column` on.
+    pub fn block(
+        &self,
+        alloc: Global,
+        row: usize,
+        rows: usize,
+        column: usize,
+        cols: usize,
+    ) -> Result<Matrix, Refusal>
+        requires rows_within { row + rows ≤ length self.now.rows }
+        requires some_column { 1 ≤ cols }
+        requires columns_within { column + cols ≤ self.now.cols }
+        ensures block { Answers None (λ block. block ≡ matrix_block self.now row rows column cols) result }
+        ensures well_formed { IfOk result IsMatrix }
+    {
+        let mut block = Matrix::empty(alloc, *self.field(), cols);
+        for index in 0..rows {
+            let part = part_of_row(alloc, self.row(row + index), column, cols)?;
+            block.append(part)?;
+        }
+        Ok(block)
+    }
+}
+
+/// The unit vector of a length: 1 at an index, 0 elsewhere.
+fn unit_vector(alloc: Global, field: Field, len: usize, index: usize) -> Result<Row, Refusal>
+    requires { index < len }
+    ensures { Answers None (λ row. row ≡ record { order = field; entries = unit_row len index }) result }
+{
+    let mut row = Row::zero(alloc, field, len)?;
+    row.set(index, 1);
+    Ok(row)
+}
+
+/// The part of a row that has `len` entries from an index on.
+fn part_of_row(alloc: Global, row: &Row, start: usize, len: usize) -> Result<Row, Refusal>
+    requires { start + len ≤ length row.now.entries }
+    ensures { Answers None (λ part. part ≡ part_of row.now start len) result }
+{
+    prove!(len <= row.len());
+    let mut part = Row::zero(alloc, *row.field(), len)?;
+    for index in 0..len {
+        part.set(index, row.get(start + index));
+    }
+    Ok(part)
+}

@@ -1,0 +1,36 @@
+-- Sums, multiples and dot products of row vectors, and their nonzero entries.
+use Rattle.std.specs.Prelude.{◌≡◌, ◌≢◌, ℕ, ◌<◌, List, length, slice_index, All}
+use Rattle.axe_algebra.specs.Lists.{listed, number_sum}
+use Rattle.axe_algebra.specs.NumberField.{NumberField}
+use Rattle.axe_field.specs.NumberFields.{number_field}
+use Rattle.axe_row.specs.Rows.{RowValue}
+
+-- a vector plus a multiple of another of its length: entry j is a[j] + c b[j] (any linear algebra text)
+unfoldable pub sum_with_multiple : NumberField → List ℕ → ℕ → List ℕ → List ℕ
+sum_with_multiple K a c b = listed (length a) (λ j. K.add (slice_index a j) (K.mul c (slice_index b j)))
+
+-- a multiple of a vector: entry j is c a[j] (any linear algebra text)
+unfoldable pub multiple : NumberField → ℕ → List ℕ → List ℕ
+multiple K c a = listed (length a) (λ j. K.mul c (slice_index a j))
+
+-- the dot product of two vectors of one length: the sum over j of a[j] b[j] (any linear algebra text)
+unfoldable pub dot_product : NumberField → List ℕ → List ℕ → ℕ
+dot_product K a b = number_sum K (λ j. K.mul (slice_index a j) (slice_index b j)) (length a)
+
+-- the row a plus c times the row b
+abbrev pub row_with_multiple : RowValue → ℕ → RowValue → RowValue
+row_with_multiple a c b = record { order = a.order; entries = sum_with_multiple (number_field a.order) a.entries c b.entries }
+
+-- c times the row a
+abbrev pub multiple_row : ℕ → RowValue → RowValue
+multiple_row c a = record { order = a.order; entries = multiple (number_field a.order) c a.entries }
+
+-- each entry is 0
+abbrev pub IsZeroVector : List ℕ → Type 0
+IsZeroVector entries = All (λ number. number ≡ 0) entries
+
+-- the first entry other than 0 is the one at this index
+pub record IsFirstNonzero (entries : List ℕ) (index : ℕ) : Type 0 where
+  pub within : index < length entries
+  pub nonzero : slice_index entries index ≢ 0
+  pub zeros_before : (j : ℕ) → j < index → slice_index entries j ≡ 0
