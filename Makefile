@@ -1,4 +1,4 @@
-# make demo      proves and builds axe, and multiplies two matrices of examples/
+# make demo      proves and builds axe, and runs its commands on the files of examples/
 # make test      everything that CI runs: each proof from nothing, the wrong bodies, the tests and the runs of the program
 # make build     proves and builds crates/axe/out/axe
 # make cases     the runs of the built program alone
@@ -12,7 +12,7 @@ build:
 	cd crates/axe && rt run -- --version
 
 demo: build
-	AXE=$(AXE) examples/demo
+	AXE=$(abspath $(AXE)) examples/demo
 
 test:
 	.ci/run

@@ -1,12 +1,11 @@
 -- The parts of the two forms of a header, as the code reads them.
 use Rattle.std.proofs.Common.{◌≡◌, ℕ, ◌+◌, ◌<◌, ◌≤◌, List, [], ◌∷◌, length, drop, get_or, Result, Ok, Err, IfOk, refl, sym, ap, ◌∙◌, eq-eqb, ne_eqb, zero-add}
-use Rattle.std.specs.Prelude.{codes, MatchResult}
+use Rattle.std.specs.Prelude.{codes}
 use Rattle.std.specs.List.{prefix_len}
 use Rattle.std.proofs.lemmas.List.{drop_more, drop_all}
 use Rattle.axe_file.specs.TextGrammar.{is_white, Part, Gap, Word, Numeral, plain_form, named_form}
-use Rattle.axe_file.specs.TextReading.{Reading, with_value, read_gap, read_word, read_numeral, read_parts, read_form, read_header}
+use Rattle.axe_file.specs.TextReading.{GoesOn, Reading, with_value, read_gap, read_word, read_numeral, read_parts, read_form, read_header}
 use Rattle.axe_file.specs.declared.fault.FileFault.{FileFault}
-use Rattle.axe_file.specs.declared.fault.FileFault.TheVariants.{BadHeader}
 use Rattle.axe_file.specs.declared.text_header.TextHeader.{TextHeader}
 use Rattle.axe_file.proofs.TextForms.{form_m, form_plain, form_none}
 use Rattle.axe_file.proofs.TextScans.{space_is_front}
@@ -89,8 +88,7 @@ plain_at_end bytes start e le =
 
 -- what a header of mode 1 says, from what the form with names says
 pub named_means : (r : Result TextHeader FileFault) (x y : Reading) → x ≡ with_value 1 y → IfOk r (λ h. h.mode ≡ 1)
-    → MatchResult r (λ h. y ≡ Ok (record { values = h.order ∷ h.rows ∷ h.columns ∷ []; end = h.end })) (λ fault. (k : ℕ) × (fault ≡ BadHeader k) × (y ≡ Err k))
-    → MatchResult r (λ h. x ≡ Ok (record { values = h.mode ∷ h.order ∷ h.rows ∷ h.columns ∷ []; end = h.end })) (λ fault. (k : ℕ) × (fault ≡ BadHeader k) × (x ≡ Err k))
+    → GoesOn r y (λ h. Ok (record { values = h.order ∷ h.rows ∷ h.columns ∷ []; end = h.end })) → GoesOn r x (λ h. Ok (record { values = h.mode ∷ h.order ∷ h.rows ∷ h.columns ∷ []; end = h.end }))
 named_means (Ok h) x y e one read =
     e ∙ ap (λ (z : Reading). with_value 1 z) read ∙ ap (λ (n : ℕ). Ok (record { values = n ∷ h.order ∷ h.rows ∷ h.columns ∷ []; end = h.end })) (sym one)
 named_means (Err fault) x y e one (k, f, read) = (k, f, e ∙ ap (λ (z : Reading). with_value 1 z) read)

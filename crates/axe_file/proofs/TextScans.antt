@@ -1,5 +1,5 @@
 -- The loops that read a text, a byte at a time.
-use Rattle.std.proofs.Common.{◌≡◌, ℕ, zero, suc, ◌+◌, ◌-◌, ◌*◌, ◌^◌, ◌<◌, ◌≤◌, true, false, eqb, List, [], ◌∷◌, ◌++◌, length, map, take, drop, get_or, Ok, Err, None, Some, min, leb, ltb, ◌⊎◌, refl, sym, ap, subst, ◌∙◌, inl, inr, leb-true, ltb-true, ap₂, set, append_assoc, append-nil, length-append, length-drop, length-set, length-take-le, get_or-drop, take_at, drop_at, take_all, arith}
+use Rattle.std.proofs.Common.{◌≡◌, ℕ, zero, suc, ◌+◌, ◌-◌, ◌*◌, ◌^◌, ◌<◌, ◌≤◌, true, false, eqb, List, [], ◌∷◌, ◌++◌, length, map, take, drop, get_or, Result, Ok, Err, None, Some, min, leb, ltb, ◌⊎◌, refl, sym, ap, subst, ◌∙◌, inl, inr, leb-true, ltb-true, ap₂, set, append_assoc, append-nil, length-append, length-drop, length-set, length-take-le, get_or-drop, take_at, drop_at, take_all, arith}
 use Rattle.std.specs.Prelude.{All}
 use Rattle.std.specs.List.{filter, prefix_len}
 use Rattle.std.proofs.lemmas.Bool.{cases_Bool, cases_lt, and_parts}
@@ -11,12 +11,19 @@ use Rattle.axe_field.specs.Order.{Order, order_number}
 use Rattle.axe_matrix.specs.Matrices.{MatrixValue}
 use Rattle.axe_row.specs.Rows.{RowValue}
 use Rattle.axe_file.specs.TextGrammar.{is_white, is_dark, is_digit, digit_value, is_element_digit}
-use Rattle.axe_file.specs.TextReading.{Reading, read_space, read_gap, read_word, read_digits, read_numeral, read_parts, digits_fault, in_rows}
+use Rattle.axe_file.specs.TextReading.{Reading, GoesOn, read_space, read_gap, read_word, read_digits, read_numeral, read_parts, digits_fault, in_rows}
+use Rattle.axe_file.specs.declared.fault.FileFault.{FileFault}
 use Rattle.axe_file.specs.declared.fault.FileFault.TheVariants.{BadDigit, TooFewDigits, TrailingText}
 use Rattle.axe_file.proofs.TextSteps.{space_on, space_ends, space_none, gap_on, gap_fails, gap_none, word_on, word_fails, word_none, word_done, digits_on, digits_end, digits_none, digits_full, numeral_on, numeral_fails, numeral_none}
 use Rattle.axe_file.proofs.TextDigits.{dark_after_white, dark_after_dark, fault_white, fault_trailing, fault_digit, fault_bad, fault_none, fault_few}
 use Rattle.axe_file.proofs.TextRows.{IsDigitOf, value_below}
 use Rattle.axe_file.proofs.TextForms.{end_found, end_missing}
+
+-- ---- one reader after another
+
+pub goes_on : {T : Type 0} (r : Result T FileFault) (x y : Reading) (rest : T → Reading) → y ≡ x → GoesOn r x rest → GoesOn r y rest
+goes_on (Ok found) x y rest e h = e ∙ h
+goes_on (Err fault) x y rest e (k, f, h) = (k, f, e ∙ h)
 
 -- ---- white space
 

@@ -1,5 +1,5 @@
 -- A text of a matrix, read from left to right: the first fault, and the matrix of a faultless text.
-use Rattle.std.specs.Prelude.{ℕ, zero, suc, ◌+◌, ◌-◌, ◌*◌, not, ◌||◌, ◌==◌, nat_lt, if◌then◌else◌, List, [], ◌∷◌, map, filter, take, drop, slice_index, Option, Some, None, is_none, Result, Ok, Err}
+use Rattle.std.specs.Prelude.{◌≡◌, ℕ, zero, suc, ◌+◌, ◌-◌, ◌*◌, not, ◌||◌, ◌==◌, nat_lt, if◌then◌else◌, List, [], ◌∷◌, map, filter, take, drop, slice_index, Option, Some, None, is_none, Result, Ok, Err}
 use Rattle.std.specs.Option.{unwrap_or}
 use Rattle.axe_field.specs.Order.{Two}
 use Rattle.axe_matrix.specs.Matrices.{MatrixValue}
@@ -19,6 +19,11 @@ pub record Found : Type 0 where
 -- what was found, or the offset of the first byte that does not fit, which is the end where bytes are missing
 abbrev pub Reading : Type 0
 Reading = Result Found ℕ
+
+-- the code read what a reading reads at the front: it goes on with the rest, or it stops with the fault of that offset
+abbrev pub GoesOn : {T : Type 0} → Result T FileFault → Reading → (T → Reading) → Type 0
+GoesOn (Ok found) reading rest = reading ≡ rest found
+GoesOn (Err fault) reading rest = (k : ℕ) × (fault ≡ BadHeader k) × (reading ≡ Err k)
 
 -- one value before the others
 abbrev pub with_value : ℕ → Reading → Reading

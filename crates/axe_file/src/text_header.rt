@@ -4,7 +4,7 @@ ghost use Rattle.std.specs.Prelude.{◌≡◌, ℕ, ◌+◌, ◌<◌, ◌≤◌,
 ghost use Rattle.std.specs.List.{prefix_len};
 ghost use Rattle.axe_file.specs.Packed.{order_with_number};
 ghost use Rattle.axe_file.specs.TextGrammar.{is_white, is_digit, plain_form, named_form};
-ghost use Rattle.axe_file.specs.TextReading.{Reading, read_gap, read_word, read_digits, read_numeral, read_parts, read_form, read_header, header_fault};
+ghost use Rattle.axe_file.specs.TextReading.{Reading, GoesOn, read_gap, read_word, read_digits, read_numeral, read_parts, read_form, read_header, header_fault};
 ghost use Rattle.axe_file.specs.declared.fault.FileFault.TheVariants.{BadHeader};
 
 use crate::fault::FileFault;
@@ -54,7 +54,7 @@ pub(crate) fn skip_space(bytes: &[u8], start: usize) -> usize
 fn skip_gap(bytes: &[u8], start: usize) -> Result<usize, FileFault>
     requires { start ≤ length bytes.now }
     ensures within { IfOk result (λ end. end ≤ length bytes.now) }
-    ensures read { (next : List ℕ → ℕ → Reading) → MatchResult result (λ end. read_gap next (drop start bytes.now) start ≡ next (drop end bytes.now) end) (λ fault. (k : ℕ) × (fault ≡ BadHeader k) × (read_gap next (drop start bytes.now) start ≡ Err k)) }
+    ensures read { (next : List ℕ → ℕ → Reading) → GoesOn result (read_gap next (drop start bytes.now) start) (λ end. next (drop end bytes.now) end) }
 {
     if start < bytes.len() && is_white(bytes[start]) {
         Ok(skip_space(bytes, start + 1))
@@ -67,7 +67,7 @@ fn skip_gap(bytes: &[u8], start: usize) -> Result<usize, FileFault>
 fn skip_word(bytes: &[u8], start: usize, word: &[u8]) -> Result<usize, FileFault>
     requires { start ≤ length bytes.now }
     ensures within { IfOk result (λ end. end ≤ length bytes.now) }
-    ensures read { (next : List ℕ → ℕ → Reading) → MatchResult result (λ end. read_word word.now next (drop start bytes.now) start ≡ next (drop end bytes.now) end) (λ fault. (k : ℕ) × (fault ≡ BadHeader k) × (read_word word.now next (drop start bytes.now) start ≡ Err k)) }
+    ensures read { (next : List ℕ → ℕ → Reading) → GoesOn result (read_word word.now next (drop start bytes.now) start) (λ end. next (drop end bytes.now) end) }
 {
     for (index, letter) in word.iter().enumerate() {
         let at = start + index;
@@ -100,7 +100,7 @@ fn more_digits(bytes: &[u8], start: usize, first: u32) -> (u32, usize)
 fn numeral(bytes: &[u8], start: usize) -> Result<(u32, usize), FileFault>
     requires { start ≤ length bytes.now }
     ensures within { IfOk result (λ found. found.1 ≤ length bytes.now) }
-    ensures read { (next : ℕ → List ℕ → ℕ → Reading) → MatchResult result (λ found. read_numeral next (drop start bytes.now) start ≡ next found.0 (drop found.1 bytes.now) found.1) (λ fault. (k : ℕ) × (fault ≡ BadHeader k) × (read_numeral next (drop start bytes.now) start ≡ Err k)) }
+    ensures read { (next : ℕ → List ℕ → ℕ → Reading) → GoesOn result (read_numeral next (drop start bytes.now) start) (λ found. next found.0 (drop found.1 bytes.now) found.1) }
 {
     if start < bytes.len() && is_digit(bytes[start]) {
         Ok(more_digits(bytes, start + 1, u32::from(bytes[start] - b'0')))
@@ -113,7 +113,7 @@ fn numeral(bytes: &[u8], start: usize) -> Result<(u32, usize), FileFault>
 fn setting(bytes: &[u8], start: usize, name: &[u8]) -> Result<(u32, usize), FileFault>
     requires { start ≤ length bytes.now }
     ensures within { IfOk result (λ found. found.1 ≤ length bytes.now) }
-    ensures read { (next : ℕ → List ℕ → ℕ → Reading) → MatchResult result (λ found. read_gap (read_word name.now (read_numeral next)) (drop start bytes.now) start ≡ next found.0 (drop found.1 bytes.now) found.1) (λ fault. (k : ℕ) × (fault ≡ BadHeader k) × (read_gap (read_word name.now (read_numeral next)) (drop start bytes.now) start ≡ Err k)) }
+    ensures read { (next : ℕ → List ℕ → ℕ → Reading) → GoesOn result (read_gap (read_word name.now (read_numeral next)) (drop start bytes.now) start) (λ found. next found.0 (drop found.1 bytes.now) found.1) }
 {
     let at = skip_gap(bytes, start)?;
     let at = skip_word(bytes, at, name)?;
@@ -136,7 +136,7 @@ fn end_header(bytes: &[u8], at: usize) -> Result<(), FileFault>
 fn plain_header(bytes: &[u8], start: usize) -> Result<TextHeader, FileFault>
     requires { start ≤ length bytes.now }
     ensures within { IfOk result (λ header. header.end ≤ length bytes.now) }
-    ensures read { MatchResult result (λ header. read_parts plain_form (drop start bytes.now) start ≡ Ok (record { values = header.mode ∷ header.order ∷ header.rows ∷ header.columns ∷ []; end = header.end })) (λ fault. (k : ℕ) × (fault ≡ BadHeader k) × (read_parts plain_form (drop start bytes.now) start ≡ Err k)) }
+    ensures read { GoesOn result (read_parts plain_form (drop start bytes.now) start) (λ header. Ok (record { values = header.mode ∷ header.order ∷ header.rows ∷ header.columns ∷ []; end = header.end })) }
 {
     let (mode, at) = numeral(bytes, start)?;
     let (order, at) = setting(bytes, at, b"")?;
@@ -157,7 +157,7 @@ fn named_header(bytes: &[u8], start: usize) -> Result<TextHeader, FileFault>
     requires { start ≤ length bytes.now }
     ensures within { IfOk result (λ header. header.end ≤ length bytes.now) }
     ensures mode { IfOk result (λ header. header.mode ≡ 1) }
-    ensures read { MatchResult result (λ header. read_parts named_form (drop start bytes.now) start ≡ Ok (record { values = header.order ∷ header.rows ∷ header.columns ∷ []; end = header.end })) (λ fault. (k : ℕ) × (fault ≡ BadHeader k) × (read_parts named_form (drop start bytes.now) start ≡ Err k)) }
+    ensures read { GoesOn result (read_parts named_form (drop start bytes.now) start) (λ header. Ok (record { values = header.order ∷ header.rows ∷ header.columns ∷ []; end = header.end })) }
 {
     let at = skip_word(bytes, start, b"matrix")?;
     let (order, at) = setting(bytes, at, b"field=")?;
@@ -176,7 +176,7 @@ fn named_header(bytes: &[u8], start: usize) -> Result<TextHeader, FileFault>
 /// The header of a text, in one form or the other.
 pub(crate) fn header_of(bytes: &[u8]) -> Result<TextHeader, FileFault>
     ensures within { IfOk result (λ header. header.end ≤ length bytes.now) }
-    ensures read { MatchResult result (λ header. read_header bytes.now ≡ Ok (record { values = header.mode ∷ header.order ∷ header.rows ∷ header.columns ∷ []; end = header.end })) (λ fault. (k : ℕ) × (fault ≡ BadHeader k) × (read_header bytes.now ≡ Err k)) }
+    ensures read { GoesOn result (read_header bytes.now) (λ header. Ok (record { values = header.mode ∷ header.order ∷ header.rows ∷ header.columns ∷ []; end = header.end })) }
 {
     let start = skip_space(bytes, 0);
     if start < bytes.len() && bytes[start] == b'm' {

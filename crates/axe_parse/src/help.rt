@@ -16,9 +16,10 @@ pub(crate) const ZCV_LONG_ABOUT: &str = "\
 Convert the text of a matrix to a packed file: read IN, which is a text, and write the
 matrix to OUT, packed, as the other commands read it.
 
-The text has a header and then the digits of the entries, row after row. The header
-names the mode, which is 1, the order of the field, the number of rows and the number
-of columns, in one of two forms. This is one matrix over the field of order 3, twice:
+The text has a header and then the digits of the entries, row after row. The header is the
+mode, which is 1, the order of the field, the number of rows and the number of columns; or
+it is the word matrix with the last three by name. This is one matrix over the field of
+order 3, twice:
 
   1 3 2 4            matrix field=3 rows=2 cols=4
   1200               12000121

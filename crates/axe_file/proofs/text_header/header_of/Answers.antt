@@ -1,8 +1,8 @@
-use Rattle.std.proofs.Common.{◌≡◌, ◌∙◌, arith}
+use Rattle.std.proofs.Common.{◌≡◌, [], ◌∷◌, Ok, arith}
 use Rattle.std.proofs.lemmas.List.Sums.{prefix_len-le-length}
-use Rattle.std.proofs.lemmas.Result.{MatchResult-weaker}
 use Rattle.axe_file.specs.TextGrammar.{is_white, plain_form}
 use Rattle.axe_file.specs.TextReading.{read_header, read_parts}
+use Rattle.axe_file.proofs.TextScans.{goes_on}
 use Rattle.axe_file.proofs.TextHeads.{named_at, plain_at, plain_at_end, named_means}
 use Rattle.axe_file.proofs.text_header.header_of.Goals as goal
 use Rattle.axe_file.proofs.text_header.header_of.Goals.{else-start-bytes-via-then-start-bytes+else-bytes-start-eq109, else-start-bytes-via-else-start-bytes}
@@ -21,4 +21,4 @@ returns-else-start-bytes-clause-read c =
       | else-start-bytes-via-then-start-bytes+else-bytes-start-eq109 w ↦ plain_at c.args.bytes.now c.skip_space-start.result c.skip_space-start.ensures w.if-start-bytes.true w.if-bytes-start-eq109.false
       | else-start-bytes-via-else-start-bytes w ↦ plain_at_end c.args.bytes.now c.skip_space-start.result c.skip_space-start.ensures w.if-start-bytes.false
     ] in
-    MatchResult-weaker c.plain_header.result c.plain_header.ensures.read (λ header e. same ∙ e) (λ fault (k, f, e). (k, f, same ∙ e))
+    goes_on c.plain_header.result _ _ (λ header. Ok (record { values = header.mode ∷ header.order ∷ header.rows ∷ header.columns ∷ []; end = header.end })) same c.plain_header.ensures.read

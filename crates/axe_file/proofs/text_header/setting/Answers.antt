@@ -1,6 +1,7 @@
-use Rattle.std.proofs.Common.{◌∙◌}
-use Rattle.std.proofs.lemmas.Result.{err_from_is_err_and, MatchResult-weaker}
+use Rattle.std.proofs.Common.{drop, ◌∙◌}
+use Rattle.std.proofs.lemmas.Result.{err_from_is_err_and}
 use Rattle.axe_file.specs.TextReading.{read_word, read_numeral}
+use Rattle.axe_file.proofs.TextScans.{goes_on}
 use Rattle.axe_file.proofs.text_header.setting.Goals as goal
 
 pub returns-in_err-at-clause-read : goal.returns-in_err-at-clause-read
@@ -20,4 +21,4 @@ pub returns-clause-read : goal.returns-clause-read
 returns-clause-read c next =
     let gap = c.in_ok-at.ensures.read (read_word c.args.name.now (read_numeral next)) in
     let word = c.in_ok-at-2.ensures.read (read_numeral next) in
-    MatchResult-weaker c.numeral.result (c.numeral.ensures.read next) (λ found e. gap ∙ word ∙ e) (λ fault (k, f, e). (k, f, gap ∙ word ∙ e))
+    goes_on c.numeral.result _ _ (λ found. next found.0 (drop found.1 c.args.bytes.now) found.1) (gap ∙ word) (c.numeral.ensures.read next)

@@ -1,0 +1,229 @@
+-- Independent rows taken one by one, and the inverse from the coordinates of the unit vectors.
+use Rattle.std.specs.Prelude.{◌≡◌, ℕ, suc, ◌+◌, ◌<◌, ◌≤◌, List, [], ◌∷◌, ◌++◌, length, get_or, cond, eqb, Bool, true, false, None, Result, Ok, Err, MatchResult}
+use Rattle.std.proofs.lemmas.List.{length-append, get_or_append_left, get_or-append-add, ext_get_or}
+use Rattle.std.proofs.lemmas.List.Elements.{All-from_get_or}
+use Rattle.axe_algebra.specs.NumberField.{NumberField}
+use Rattle.axe_algebra.specs.Field.{Field}
+use Rattle.axe_algebra.specs.Vectors.{Vector, Matrix}
+use Rattle.axe_algebra.specs.Spans
+use Rattle.axe_algebra.specs.Bridge.{vector_of, matrix_of}
+use Rattle.axe_algebra.specs.Lists.{unit_row, combination, product, identity, IsVectorOver, IsMatrixOver, IsSquareOver, IsIndependent, IsSpanned}
+use Rattle.axe_algebra.proofs.ProductLaws.{times_same, times_longer}
+use Rattle.axe_algebra.proofs.Exchange.{cut, cut_below, cut_length, times_cut, with_row, with_row_at, with_row_before, independent_not_spanned}
+use Rattle.axe_algebra.proofs.SquareMatrices.{rows_of_invertible}
+use Rattle.axe_algebra.proofs.ListEntries.{table_row}
+use Rattle.axe_algebra.proofs.ListProducts.{product_length, identity_length}
+use Rattle.axe_algebra.proofs.ListLaws.{inverse_of_lists, left_inverse_of_lists}
+use Rattle.axe_algebra.proofs.ListSpans.{spanned_or_not}
+use Rattle.axe_field.specs.Order.{Order}
+use Rattle.axe_field.specs.NumberFields.{number_field, gf}
+use Rattle.axe_row.specs.Rows.{RowValue}
+use Rattle.axe_row.specs.Refusals.{Answers}
+use Rattle.axe_row.specs.declared.Refusal.{Refusal}
+use Rattle.axe_row.specs.declared.Refusal.TheVariants.{FieldsDiffer, ShapesDiffer, NotSquare, Singular, NotInvariant, WholeSpace, ZeroSeed, NoRows, ZeroSpace, Memory}
+use Rattle.axe_matrix.specs.Matrices.{MatrixValue, IsMatrix}
+use Rattle.axe_matrix.proofs.ProductLaws.{get_or-product}
+use Rattle.axe_echelon.specs.Echelons.{EchelonValue, IsEchelon, AreCoordinates, IsInverseMatrix, IsInvertible, InverseRefused}
+use Rattle.axe_echelon.specs.Inserted.{HasAllRows, HasUnitCoordinates, RowsRefused}
+use Rattle.axe_echelon.proofs.FormLaws.{below_or_at}
+use mathlib.Core.Path.{refl, sym, ◌∙◌, ap, ap₂, subst}
+use native.Mathlib.Omega.{arith}
+
+module _ (F : Field) where
+  -- the first of independent rows are independent
+  pub independent_first : (m n : ℕ) (a b : Matrix F) → m ≤ n → ((t : ℕ) → t < m → b t ≡ a t) → Spans.IsIndependent F n a → Spans.IsIndependent F m b
+  independent_first m n a b few same independent = record {
+    only_zero = λ c vanishes t below.
+        sym (cut_below F m c t below)
+        ∙ independent.only_zero (cut F m c)
+        (times_longer F m n (cut F m c) a few (λ s past inside. cut_length F m c s past) ∙ times_cut F m c a
+        ∙ times_same F m c c a b (λ s inside. refl) (λ s inside. sym (same s inside)) ∙ vanishes)
+        t (omega arith);
+  }
+
+  -- a row in the span of the rows before it shows rows to be dependent
+  pub dependent_by_row : (k n : ℕ) (a b : Matrix F) (x : Vector F) → k < n → ((t : ℕ) → t < k → b t ≡ a t) → x ≡ a k → Spans.InSpan F k b x →
+      ¬ (Spans.IsIndependent F n a)
+  dependent_by_row k n a b x below same is in_span independent =
+      independent_not_spanned F k b x
+      (independent_first (suc k) n a (with_row F k b x) (omega arith)
+      (below_or_at (λ t. with_row F k b x t ≡ a t) k (λ t inside. with_row_before F k b x t inside ∙ same t inside) (with_row_at F k b x ∙ is)) independent)
+      in_span
+
+-- a matrix over a field of numbers
+pub matrix_over : (m : MatrixValue) → IsMatrix m → IsMatrixOver (number_field m.order) m.cols m.rows
+unfolding number_field
+matrix_over m h = λ i d below. record {
+  length_is = h.row_lengths i d below;
+  elements = h.elements i d below;
+}
+
+-- the first rows of a matrix were inserted
+pub record HasFirstRows (m : MatrixValue) (i : ℕ) (e : EchelonValue) : Type 0 where
+  pub field : e.order ≡ m.order
+  pub columns : e.cols ≡ m.cols
+  pub count : length e.rows ≡ i
+  pub few : i ≤ length m.rows
+  pub rows : (t : ℕ) → t < i → get_or e.rows t [] ≡ get_or m.rows t []
+  pub well_formed : IsEchelon e
+
+pub first_rows_none : (m : MatrixValue) (e : EchelonValue) → e ≡ record { order = m.order; cols = m.cols; rows = [] } → IsEchelon e → HasFirstRows m 0 e
+first_rows_none m e is h = record {
+  field = ap (λ (x : EchelonValue). x.order) is;
+  columns = ap (λ (x : EchelonValue). x.cols) is;
+  count = ap (λ (x : EchelonValue). length x.rows) is;
+  few = omega arith;
+  rows = λ t below. absurd (omega arith);
+  well_formed = h;
+}
+
+pub first_rows_more : (m : MatrixValue) (i : ℕ) (e next : EchelonValue) (row : RowValue) → HasFirstRows m i e → i < length m.rows →
+    row.entries ≡ get_or m.rows i [] → next ≡ record { order = e.order; cols = e.cols; rows = e.rows ++ row.entries ∷ [] } → IsEchelon next →
+    HasFirstRows m (i + 1) next
+first_rows_more m i e next row first below row_is is h = record {
+  field = ap (λ (x : EchelonValue). x.order) is ∙ first.field;
+  columns = ap (λ (x : EchelonValue). x.cols) is ∙ first.columns;
+  count = ap (λ (x : EchelonValue). length x.rows) is
+      ∙ (let grown : length (e.rows ++ row.entries ∷ []) ≡ i + 1 = omega (arith, first.count, length-append e.rows (row.entries ∷ [])) in grown);
+  few = omega arith;
+  rows = λ t inside. below_or_at (λ t. get_or next.rows t [] ≡ get_or m.rows t []) i
+      (λ t before. ap (λ (x : EchelonValue). get_or x.rows t []) is ∙ get_or_append_left e.rows (row.entries ∷ []) [] t (omega (arith, first.count))
+      ∙ first.rows t before)
+      (ap (λ (x : EchelonValue). get_or x.rows i []) is
+      ∙ ap (λ k. get_or (e.rows ++ row.entries ∷ []) k []) (let same : i ≡ length e.rows + 0 = omega (arith, first.count) in same)
+      ∙ get_or-append-add e.rows (row.entries ∷ []) 0 [] ∙ row_is)
+      t (omega arith);
+  well_formed = h;
+}
+
+pub first_rows_all : (m : MatrixValue) (i : ℕ) (e : EchelonValue) → HasFirstRows m i e → length m.rows ≤ i → HasAllRows m e
+first_rows_all m i e first whole = record {
+  field = first.field;
+  columns = first.columns;
+  rows = ext_get_or [] e.rows m.rows (let same : length e.rows ≡ length m.rows = omega (arith, first.count, first.few) in same)
+      (λ t below. first.rows t (omega (arith, first.count)));
+  well_formed = first.well_formed;
+}
+
+pub first_rows_dependent : (m : MatrixValue) (i : ℕ) (e : EchelonValue) (row : RowValue) → HasFirstRows m i e → i < length m.rows →
+    row.entries ≡ get_or m.rows i [] → IsSpanned (number_field e.order) e.rows row.entries → ¬ (IsIndependent (number_field m.order) m.rows)
+first_rows_dependent m i e row first below row_is spanned =
+    dependent_by_row (gf m.order) i (length m.rows) (matrix_of (number_field m.order) m.rows) (matrix_of (number_field m.order) e.rows)
+    (vector_of (number_field m.order) row.entries) below (λ t inside. ap (vector_of (number_field m.order)) (first.rows t inside))
+    (ap (vector_of (number_field m.order)) row_is)
+    (subst (λ k. Spans.InSpan (gf m.order) k (matrix_of (number_field m.order) e.rows) (vector_of (number_field m.order) row.entries)) first.count
+    (subst (λ o. IsSpanned (number_field o) e.rows row.entries) first.field spanned))
+
+-- a row that is not new is in the span
+pub spanned_of_not_new : (e : EchelonValue) (v : List ℕ) (new : Bool) → IsEchelon e → length v ≡ e.cols → (¬ (IsSpanned (number_field e.order) e.rows v) → new ≡ true) →
+    new ≡ false → IsSpanned (number_field e.order) e.rows v
+spanned_of_not_new e v new h long exactly not_new = cases (spanned_or_not (number_field e.order) e.cols e.rows v h.over long)
+  where
+    both : new ≡ true → new ≡ false → ⊥
+    both first second = cc
+
+    cases : Dec (IsSpanned (number_field e.order) e.rows v) → IsSpanned (number_field e.order) e.rows v
+    cases (yes spanned) = spanned
+    cases (no outside) = absurd (both (exactly outside) not_new)
+
+-- an invertible matrix has independent rows
+pub independent_of_invertible : (m : MatrixValue) → IsMatrix m → length m.rows ≡ m.cols → IsInvertible m → IsIndependent (number_field m.order) m.rows
+independent_of_invertible m h square (inverse, is) =
+    subst (λ k. Spans.IsIndependent (gf m.order) k (matrix_of (number_field m.order) m.rows)) (sym square)
+    (rows_of_invertible (gf m.order) m.cols (matrix_of (number_field m.order) m.rows)
+    (record {
+      inverse = matrix_of (number_field m.order) inverse.rows;
+      inverts = inverse_of_lists (number_field m.order) m.cols m.rows inverse.rows (record { length_is = square; matrix = matrix_over m h }) is.square is.inverts;
+    }))
+
+pub inverse_none : (e : EchelonValue) (m : MatrixValue) → m ≡ record { order = e.order; cols = e.cols; rows = [] } → HasUnitCoordinates e 0 m
+inverse_none e m is = record {
+  field = ap (λ (x : MatrixValue). x.order) is;
+  columns = ap (λ (x : MatrixValue). x.cols) is;
+  count = ap (λ (x : MatrixValue). length x.rows) is;
+  rows = λ t below. absurd (omega arith);
+}
+
+pub inverse_more : (e : EchelonValue) (i : ℕ) (m next : MatrixValue) (row : RowValue) → HasUnitCoordinates e i m → AreCoordinates e (unit_row e.cols i) row →
+    next ≡ record { order = m.order; cols = m.cols; rows = m.rows ++ row.entries ∷ [] } → HasUnitCoordinates e (i + 1) next
+inverse_more e i m next row so_far coordinates is = record {
+  field = ap (λ (x : MatrixValue). x.order) is ∙ so_far.field;
+  columns = ap (λ (x : MatrixValue). x.cols) is ∙ so_far.columns;
+  count = ap (λ (x : MatrixValue). length x.rows) is
+      ∙ (let grown : length (m.rows ++ row.entries ∷ []) ≡ i + 1 = omega (arith, so_far.count, length-append m.rows (row.entries ∷ [])) in grown);
+  rows = λ t inside. below_or_at (λ t. AreCoordinates e (unit_row e.cols t) (record { order = e.order; entries = get_or next.rows t [] })) i
+      (λ t before. subst (λ (u : List ℕ). AreCoordinates e (unit_row e.cols t) (record { order = e.order; entries = u })) (sym (row_before t before)) (so_far.rows t before))
+      (subst (λ (u : List ℕ). AreCoordinates e (unit_row e.cols i) (record { order = e.order; entries = u })) (sym row_last)
+      (record { field = refl; over = coordinates.over; combine = coordinates.combine }))
+      t (omega arith);
+}
+  where
+    row_before : (t : ℕ) → t < i → get_or next.rows t [] ≡ get_or m.rows t []
+    row_before t before = ap (λ (x : MatrixValue). get_or x.rows t []) is ∙ get_or_append_left m.rows (row.entries ∷ []) [] t (omega (arith, so_far.count))
+
+    row_last : get_or next.rows i [] ≡ row.entries
+    row_last =
+        ap (λ (x : MatrixValue). get_or x.rows i []) is
+        ∙ ap (λ k. get_or (m.rows ++ row.entries ∷ []) k []) (let same : i ≡ length m.rows + 0 = omega (arith, so_far.count) in same)
+        ∙ get_or-append-add m.rows (row.entries ∷ []) 0 []
+
+pub inverse_whole : (m : MatrixValue) (e : EchelonValue) (i : ℕ) (b : MatrixValue) → IsMatrix m → length m.rows ≡ m.cols → HasAllRows m e →
+    HasUnitCoordinates e i b → i ≡ e.cols → IsInverseMatrix m b
+unfolding identity
+inverse_whole m e i b h square all so_far whole = record {
+  field = so_far.field ∙ all.field;
+  columns = so_far.columns ∙ all.columns;
+  square = square_b;
+  inverts = left_inverse_of_lists K m.cols m.rows b.rows (record { length_is = square; matrix = matrix_over m h }) square_b one;
+}
+  where
+    K : NumberField
+    K = number_field m.order
+
+    row : (t : ℕ) → t < i → AreCoordinates e (unit_row e.cols t) (record { order = e.order; entries = get_or b.rows t [] })
+    row = so_far.rows
+
+    row_over : (t : ℕ) → t < i → IsVectorOver K m.cols (get_or b.rows t [])
+    row_over t below =
+        subst (λ n. IsVectorOver K n (get_or b.rows t [])) (ap (λ (l : List (List ℕ)). length l) all.rows ∙ square)
+        (subst (λ o. IsVectorOver (number_field o) (length e.rows) (get_or b.rows t [])) all.field (row t below).over)
+
+    square_b : IsSquareOver K m.cols b.rows
+    square_b = record {
+      length_is = so_far.count ∙ whole ∙ all.columns;
+      matrix = All-from_get_or (IsVectorOver K m.cols) b.rows [] (λ t below. row_over t (omega (arith, so_far.count)));
+    }
+
+    combined : (t : ℕ) → t < i → combination K m.cols (get_or b.rows t []) m.rows ≡ unit_row m.cols t
+    combined t below =
+        ap (λ (l : List (List ℕ)). combination K m.cols (get_or b.rows t []) l) (sym all.rows)
+        ∙ ap₂ (λ (o : Order) (n : ℕ). combination (number_field o) n (get_or b.rows t []) e.rows) (sym all.field) (sym all.columns)
+        ∙ sym (row t below).combine ∙ ap (λ n. unit_row n t) all.columns
+
+    one : product K m.cols b.rows m.rows ≡ identity m.cols
+    one = ext_get_or [] (product K m.cols b.rows m.rows) (identity m.cols)
+        (product_length K m.cols b.rows m.rows ∙ square_b.length_is ∙ sym (identity_length K m.cols))
+        (λ t below. at t (omega (arith, below, product_length K m.cols b.rows m.rows)))
+      where
+        at : (t : ℕ) → t < length b.rows → get_or (product K m.cols b.rows m.rows) t [] ≡ get_or (identity m.cols) t []
+        at t below =
+            get_or-product K m.cols b.rows m.rows t below ∙ combined t (omega (arith, so_far.count))
+            ∙ sym (table_row m.cols m.cols (λ i j. cond (eqb i j) 1 0) t (omega (arith, square_b.length_is)))
+
+-- where the rows are refused, so is the inverse
+pub refused_rows : (m : MatrixValue) (refusal : Refusal) → IsMatrix m → length m.rows ≡ m.cols → RowsRefused m refusal → InverseRefused m refusal
+refused_rows m Singular h square dependent = λ invertible. dependent (independent_of_invertible m h square invertible)
+refused_rows m Memory h square refused = refused
+refused_rows m FieldsDiffer h square refused = refused
+refused_rows m ShapesDiffer h square refused = refused
+refused_rows m NotSquare h square refused = refused
+refused_rows m NotInvariant h square refused = refused
+refused_rows m WholeSpace h square refused = refused
+refused_rows m ZeroSeed h square refused = refused
+refused_rows m NoRows h square refused = refused
+refused_rows m ZeroSpace h square refused = refused
+
+pub answered_inverse : (m : MatrixValue) (result : Result MatrixValue Refusal) (P : MatrixValue → Type 0) → Answers None P result →
+    ((b : MatrixValue) → P b → IsInverseMatrix m b) → MatchResult result (IsInverseMatrix m) (InverseRefused m)
+answered_inverse m (Ok b) P h f = f b h
+answered_inverse m (Err refusal) P h f = subst (InverseRefused m) (sym h) tt

@@ -1,0 +1,77 @@
+-- Echelon forms as callers see them: independent rows in the order in which they came.
+use Rattle.std.specs.Prelude.{◌≡◌, ℕ, ◌≤◌, ◌==◌, List, [], ◌∷◌, ◌++◌, length, Bool, Option, Some, None, if◌then◌else◌}
+use Rattle.axe_algebra.specs.Lists.{IsMatrixOver, IsIndependent, IsNullSpaceBasis, IsSquareOver, IsInverse, combination, IsVectorOver, IsReducedBasis}
+use Rattle.axe_field.specs.Order.{Order}
+use Rattle.axe_field.specs.NumberFields.{number_field}
+use Rattle.axe_row.specs.Rows.{RowValue}
+use Rattle.axe_row.specs.declared.Refusal.{Refusal}
+use Rattle.axe_row.specs.declared.Refusal.TheVariants.{FieldsDiffer, ShapesDiffer, NotSquare, Singular, NotInvariant, WholeSpace, ZeroSeed, NoRows, ZeroSpace, Memory}
+use Rattle.axe_matrix.specs.declared.TheConstants.{MAX_COLUMNS}
+use Rattle.axe_matrix.specs.Matrices.{MatrixValue}
+
+-- the order of the field, the length of the rows, and the rows for which insertion answered true, in their order
+pub record EchelonValue : Type 0 where
+  pub order : Order
+  pub cols : ℕ
+  pub rows : List (List ℕ)
+
+-- there is a column, no more columns than a matrix may have, and the rows are independent vectors of that length
+pub record IsEchelon (e : EchelonValue) : Type 0 where
+  pub some_column : 1 ≤ e.cols
+  pub columns_fit : e.cols ≤ MAX_COLUMNS
+  pub over : IsMatrixOver (number_field e.order) e.cols e.rows
+  pub independent : IsIndependent (number_field e.order) e.rows
+
+-- one more row, where it is new
+abbrev pub with_row_where : Bool → EchelonValue → List ℕ → EchelonValue
+with_row_where new e row = if new then record { order = e.order; cols = e.cols; rows = e.rows ++ row ∷ [] } else e
+
+-- these are the coefficients with which the rows combine to v, one for each row in their order
+pub record AreCoordinates (e : EchelonValue) (v : List ℕ) (coordinates : RowValue) : Type 0 where
+  pub field : coordinates.order ≡ e.order
+  pub over : IsVectorOver (number_field e.order) (length e.rows) coordinates.entries
+  pub combine : v ≡ combination (number_field e.order) e.cols coordinates.entries e.rows
+
+-- the matrix has as its rows the reduced basis of the rows' span
+pub record IsReducedMatrix (e : EchelonValue) (m : MatrixValue) : Type 0 where
+  pub field : m.order ≡ e.order
+  pub columns : m.cols ≡ e.cols
+  pub basis : IsReducedBasis (number_field e.order) e.rows m.rows
+
+-- a matrix without rows has no null space here
+abbrev pub null_space_refusal : MatrixValue → Option Refusal
+null_space_refusal m = if (length m.rows == 0) then Some NoRows else None
+
+-- the matrix has as its rows the reduced basis of the null space of m: of all v with v m = 0 (Parker 1984)
+pub record IsNullSpaceMatrix (m basis : MatrixValue) : Type 0 where
+  pub field : basis.order ≡ m.order
+  pub columns : basis.cols ≡ length m.rows
+  pub basis_of_null_space : IsNullSpaceBasis (number_field m.order) m.rows basis.rows
+
+-- a matrix that is not square has no inverse
+abbrev pub inverse_refusal : MatrixValue → Option Refusal
+inverse_refusal m = if (length m.rows == m.cols) then None else Some NotSquare
+
+-- the matrix is the inverse of the square matrix m
+pub record IsInverseMatrix (m inverse : MatrixValue) : Type 0 where
+  pub field : inverse.order ≡ m.order
+  pub columns : inverse.cols ≡ m.cols
+  pub square : IsSquareOver (number_field m.order) m.cols inverse.rows
+  pub inverts : IsInverse (number_field m.order) m.cols m.rows inverse.rows
+
+-- the square matrix m has an inverse
+abbrev pub IsInvertible : MatrixValue → Type 0
+IsInvertible m = (inverse : MatrixValue) × IsInverseMatrix m inverse
+
+-- why the inverse of a square matrix is not given: it has none, or there was no memory
+abbrev pub InverseRefused : MatrixValue → Refusal → Type 0
+InverseRefused m Singular = ¬ (IsInvertible m)
+InverseRefused m Memory = Unit {0}
+InverseRefused m FieldsDiffer = ⊥
+InverseRefused m ShapesDiffer = ⊥
+InverseRefused m NotSquare = ⊥
+InverseRefused m NotInvariant = ⊥
+InverseRefused m WholeSpace = ⊥
+InverseRefused m ZeroSeed = ⊥
+InverseRefused m NoRows = ⊥
+InverseRefused m ZeroSpace = ⊥

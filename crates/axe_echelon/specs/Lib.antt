@@ -1,0 +1,4 @@
+pub mod Echelons
+pub mod Forms
+pub mod Steps
+pub mod Inserted

@@ -1,0 +1,80 @@
+-- The steps of an elimination, one for each row that was new.
+use Rattle.std.specs.Prelude.{◌≡◌, ◌≢◌, ℕ, suc, ◌<◌, ◌≤◌, List, [], ◌∷◌, ◌++◌, All, map, length, get_or}
+use Rattle.axe_algebra.specs.Vectors.{HasLength, add_vectors, times}
+use Rattle.axe_algebra.specs.Reduced.{IsZeroAtPivots}
+use Rattle.axe_algebra.specs.Bridge.{vector_of, matrix_of}
+use Rattle.axe_algebra.specs.Lists.{IsVectorOver, IsSpanned, IsPivot}
+use Rattle.axe_field.specs.Order.{Order}
+use Rattle.axe_field.specs.NumberFields.{number_field, gf}
+use Rattle.axe_row.specs.Rows.{RowValue}
+use Rattle.axe_matrix.specs.declared.TheConstants.{MAX_COLUMNS}
+use Rattle.axe_echelon.specs.Echelons.{EchelonValue}
+use Rattle.axe_echelon.specs.Forms.{IsEchelonForm}
+use Rattle.axe_echelon.specs.declared.Step.{Step}
+
+-- the rows as they were inserted, the rows of the echelon form, their coefficients, and their pivots
+abbrev pub inserted_rows : List Step → List (List ℕ)
+inserted_rows steps = map (λ (step : Step). step.inserted.entries) steps
+
+abbrev pub echelon_rows : List Step → List (List ℕ)
+echelon_rows steps = map (λ (step : Step). step.row.entries) steps
+
+abbrev pub coefficient_rows : List Step → List (List ℕ)
+coefficient_rows steps = map (λ (step : Step). step.coefficients.entries) steps
+
+abbrev pub pivots : List Step → List ℕ
+pivots steps = map (λ (step : Step). step.pivot) steps
+
+abbrev pub echelon_of : Order → ℕ → List Step → EchelonValue
+echelon_of order cols steps = record { order = order; cols = cols; rows = inserted_rows steps }
+
+-- the rows of a step are over one field, and as long as the echelon form has columns
+pub record IsStep (order : Order) (cols : ℕ) (step : Step) : Type 0 where
+  pub row_field : step.row.order ≡ order
+  pub coefficients_field : step.coefficients.order ≡ order
+  pub inserted_over : IsVectorOver (number_field order) cols step.inserted.entries
+  pub row_over : IsVectorOver (number_field order) cols step.row.entries
+  pub coefficients_over : IsVectorOver (number_field order) cols step.coefficients.entries
+
+-- the steps give an echelon form of the rows that were inserted
+pub record AreSteps (order : Order) (cols : ℕ) (steps : List Step) : Type 0 where
+  pub some_column : 1 ≤ cols
+  pub columns_fit : cols ≤ MAX_COLUMNS
+  pub each : All (IsStep order cols) steps
+  pub form : IsEchelonForm (gf order) cols (length (inserted_rows steps)) (matrix_of (number_field order) (inserted_rows steps))
+      (matrix_of (number_field order) (echelon_rows steps)) (matrix_of (number_field order) (coefficient_rows steps)) (λ t. get_or (pivots steps) t 0)
+
+-- a row from which all pivots were cleared: it is the first row plus the combination of the echelon's rows with these
+-- coefficients
+pub record IsEliminated (e : EchelonValue) (first row coefficients : RowValue) : Type 0 where
+  pub row_field : row.order ≡ e.order
+  pub coefficients_field : coefficients.order ≡ e.order
+  pub row_over : IsVectorOver (number_field e.order) e.cols row.entries
+  pub coefficients_over : IsVectorOver (number_field e.order) e.cols coefficients.entries
+  pub offset : vector_of (number_field e.order) row.entries ≡
+      add_vectors (gf e.order) (vector_of (number_field e.order) first.entries)
+      (times (gf e.order) (length e.rows) (vector_of (number_field e.order) coefficients.entries) (matrix_of (number_field e.order) e.rows))
+  pub at_pivots : IsZeroAtPivots (gf e.order) (length e.rows) (matrix_of (number_field e.order) e.rows) (vector_of (number_field e.order) row.entries)
+  pub few : HasLength (gf e.order) (length e.rows) (vector_of (number_field e.order) coefficients.entries)
+
+-- the step that one more row gives
+pub record IsNextStep (e : EchelonValue) (v : List ℕ) (step : Step) : Type 0 where
+  pub inserted : step.inserted.entries ≡ v
+  pub rows : IsStep e.order e.cols step
+  pub outside : ¬ (IsSpanned (number_field e.order) e.rows v)
+  pub place : step.pivot < e.cols
+  pub one : vector_of (number_field e.order) step.row.entries step.pivot ≡ (gf e.order).one
+  pub before : (i : ℕ) → i < step.pivot → vector_of (number_field e.order) step.row.entries i ≡ (gf e.order).zero
+  pub at_pivots : IsZeroAtPivots (gf e.order) (length e.rows) (matrix_of (number_field e.order) e.rows) (vector_of (number_field e.order) step.row.entries)
+  pub combines : vector_of (number_field e.order) step.row.entries ≡
+      times (gf e.order) (suc (length e.rows)) (vector_of (number_field e.order) step.coefficients.entries)
+      (matrix_of (number_field e.order) (e.rows ++ v ∷ []))
+  pub few : HasLength (gf e.order) (suc (length e.rows)) (vector_of (number_field e.order) step.coefficients.entries)
+
+-- the vector of the span that is 1 at a pivot and 0 at all other pivots
+pub record IsPivotRow (e : EchelonValue) (pivot : ℕ) (row : RowValue) : Type 0 where
+  pub field : row.order ≡ e.order
+  pub over : IsVectorOver (number_field e.order) e.cols row.entries
+  pub in_span : IsSpanned (number_field e.order) e.rows row.entries
+  pub one : vector_of (number_field e.order) row.entries pivot ≡ (gf e.order).one
+  pub zeros : (j : ℕ) → IsPivot (number_field e.order) e.rows j → j ≢ pivot → vector_of (number_field e.order) row.entries j ≡ (gf e.order).zero

@@ -1,0 +1,68 @@
+//! Inverses of matrices.
+
+ghost use Rattle.std.specs.Prelude.{◌≡◌, ◌≢◌, ◌<◌, length, None, IfOk, MatchResult};
+ghost use Rattle.axe_algebra.specs.Lists.{unit_row};
+ghost use Rattle.axe_row.specs.Refusals.{Answers};
+ghost use Rattle.axe_row.specs.declared.Refusal.TheVariants.{NotSquare};
+ghost use Rattle.axe_matrix.specs.Matrices.{IsMatrix};
+ghost use Rattle.axe_echelon.specs.Echelons.{IsEchelon, AreCoordinates, IsInverseMatrix, InverseRefused};
+ghost use Rattle.axe_echelon.specs.Inserted.{HasAllRows, HasUnitCoordinates, RowsRefused};
+
+use super::{Echelon, append, unit_vector};
+use axe_matrix::{Matrix, Refusal, Row};
+use std::alloc::Global;
+
+/// The inverse of a matrix: the matrix whose products with it from both sides are the identity. A matrix that is not
+/// square is refused as NotSquare, and a square one that has no inverse as Singular.
+pub fn inverse(alloc: Global, matrix: &Matrix) -> Result<Matrix, Refusal>
+    ensures not_square { length matrix.now.rows ≢ matrix.now.cols → result ≡ Err NotSquare }
+    ensures square { length matrix.now.rows ≡ matrix.now.cols → MatchResult result (IsInverseMatrix matrix.now) (InverseRefused matrix.now) }
+    ensures well_formed { IfOk result IsMatrix }
+{
+    if matrix.rows() != matrix.cols() {
+        return Err(Refusal::NotSquare);
+    }
+    let rows = insert_rows(alloc, matrix)?;
+    all_unit_coordinates(alloc, &rows)
+}
+
+/// The echelon form of all rows of a matrix. Rows that are not independent are refused as Singular.
+fn insert_rows(alloc: Global, matrix: &Matrix) -> Result<Echelon, Refusal>
+    ensures { MatchResult result (HasAllRows matrix.now) (RowsRefused matrix.now) }
+{
+    let mut rows = Echelon::new(alloc, *matrix.field(), matrix.cols());
+    for index in 0..matrix.rows() {
+        let row = matrix.row(index).copy(alloc)?;
+        if !rows.insert(row)? {
+            return Err(Refusal::Singular);
+        }
+    }
+    Ok(rows)
+}
+
+/// The coefficients of a unit vector over the rows of an echelon form that are as many as its columns.
+fn unit_coordinates(alloc: Global, rows: &Echelon, index: usize) -> Result<Row, Refusal>
+    requires full { length rows.now.rows ≡ rows.now.cols }
+    requires within { index < rows.now.cols }
+    ensures { Answers None (AreCoordinates rows.now (unit_row rows.now.cols index)) result }
+{
+    let unit = unit_vector(alloc, *rows.field(), rows.cols(), index)?;
+    match rows.coordinates(alloc, &unit)? {
+        Some(coordinates) => Ok(coordinates),
+        None => unreachable!(),
+    }
+}
+
+/// The matrix of the coefficients of all unit vectors over the rows of an echelon form that are as many as its columns.
+fn all_unit_coordinates(alloc: Global, rows: &Echelon) -> Result<Matrix, Refusal>
+    requires { length rows.now.rows ≡ rows.now.cols }
+    ensures coordinates { Answers None (HasUnitCoordinates rows.now rows.now.cols) result }
+    ensures well_formed { Answers None IsMatrix result }
+{
+    let mut all = Matrix::empty(alloc, *rows.field(), rows.cols());
+    for index in 0..rows.cols() {
+        let row = unit_coordinates(alloc, rows, index)?;
+        append(&mut all, row)?;
+    }
+    Ok(all)
+}

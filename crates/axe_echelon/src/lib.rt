@@ -1,0 +1,373 @@
+//! Echelon forms over a small finite field: independent rows one by one, their span, and the null spaces and inverses of
+//! matrices.
+#![tactic(auto)]
+
+ghost use Rattle.std.specs.Prelude.{◌≡◌, ◌<◌, ◌≤◌, ◌↔◌, ◌++◌, ◌∷◌, [], length, replicate, slice_index, IsTrue, None, IfOk, OnErr, MatchOption};
+ghost use Rattle.axe_algebra.specs.Lists.{listed, unit_row, IsPivot, IsRepresentative, IsSpanned};
+ghost use Rattle.axe_field.specs.Arithmetic.{field_neg};
+ghost use Rattle.axe_field.specs.NumberFields.{number_field};
+ghost use Rattle.axe_row.specs.Refusals.{Answers};
+ghost use Rattle.axe_row.specs.Rows.{IsRow};
+ghost use Rattle.axe_matrix.specs.Matrices.{IsMatrix};
+ghost use Rattle.axe_echelon.specs.Echelons.{IsEchelon, with_row_where, AreCoordinates, IsReducedMatrix};
+ghost use Rattle.axe_echelon.specs.Steps.{IsEliminated, IsNextStep, IsPivotRow};
+
+mod inverses;
+mod null_spaces;
+
+use axe_field::Field;
+use axe_matrix::{MAX_COLUMNS, MAX_ROWS, Matrix, Refusal, Row};
+pub use inverses::inverse;
+pub use null_spaces::null_space;
+use std::alloc::Global;
+use std::marker::Model;
+
+/// What one new row gave: the row as it was inserted, and a row of the echelon form with its pivot. The latter is the
+/// combination of the inserted rows with these coefficients, of which only as many as there are rows may differ from 0.
+#[derive(Drop)]
+struct Step {
+    inserted: Row,
+    pivot: usize,
+    row: Row,
+    coefficients: Row,
+}
+
+/// Independent rows of one length over one field, in the order in which they were inserted, with an echelon form of them.
+#[derive(Drop)]
+pub struct Echelon {
+    alloc: Global,
+    field: Field,
+    cols: usize,
+    steps: Vec<Step>,
+}
+
+impl Model for Echelon {
+    ghost use Rattle.axe_echelon.specs.Echelons.{EchelonValue};
+
+    ghost Value = { EchelonValue };
+
+    ghost use Rattle.axe_echelon.specs.Steps.{echelon_of, AreSteps};
+
+    ghost view = { λ a. echelon_of a.field a.cols a.steps.items };
+
+    ghost invariant = { λ a. AreSteps a.field a.cols a.steps.items };
+}
+
+impl Echelon {
+    /// The echelon form of no rows, of so many columns. It takes no memory until a row is inserted.
+    pub fn new(alloc: Global, field: Field, cols: usize) -> Echelon
+        requires some_column { 1 ≤ cols }
+        requires columns_fit { cols ≤ MAX_COLUMNS }
+        ensures no_rows { result ≡ record { order = field; cols = cols; rows = [] } }
+        ensures well_formed { IsEchelon result }
+    {
+        Echelon {
+            alloc,
+            field,
+            cols,
+            steps: Vec::new(alloc),
+        }
+    }
+
+    /// The field of the rows.
+    pub fn field(&self) -> &Field
+        ensures order { result.now ≡ self.now.order }
+        ensures well_formed { IsEchelon self.now }
+    {
+        &self.field
+    }
+
+    /// How many entries each row has.
+    pub fn cols(&self) -> usize
+        ensures count { result ≡ self.now.cols }
+        ensures well_formed { IsEchelon self.now }
+    {
+        self.cols
+    }
+
+    /// How many rows there are: the dimension of their span.
+    pub fn rank(&self) -> usize
+        ensures count { result ≡ length self.now.rows }
+        ensures well_formed { IsEchelon self.now }
+    {
+        self.steps.len()
+    }
+
+    /// Inserts a row over the field with an entry for each column, and tells whether it is new: whether it was not in
+    /// the span of the rows. A row that is not new changes nothing, nor does one for which there is no memory.
+    pub fn insert(&mut self, row: Row) -> Result<bool, Refusal>
+        requires field { row.order ≡ self.old.order }
+        requires fits { length row.entries ≡ self.old.cols }
+        ensures exactly { IfOk result (λ new. IsTrue new ↔ ¬ (IsSpanned (number_field self.old.order) self.old.rows row.entries)) }
+        ensures inserted { Answers None (λ new. self.new ≡ with_row_where new self.old row.entries) result }
+        ensures unchanged { OnErr result (self.new ≡ self.old) }
+        ensures well_formed { IsEchelon self.new }
+    {
+        if self.rank() == self.cols() {
+            return Ok(false);
+        }
+        let Some(step) = self.next_step(row)? else {
+            return Ok(false);
+        };
+        self.steps.push(step).map_err(|_| Refusal::Memory)?;
+        Ok(true)
+    }
+
+    /// The step that one more row gives, or `None` where the row is in the span.
+    fn next_step(&self, row: Row) -> Result<Option<Step>, Refusal>
+        requires field { row.order ≡ self.now.order }
+        requires fits { length row.entries ≡ self.now.cols }
+        requires room { length self.now.rows < self.now.cols }
+        ensures { Answers None (λ step. MatchOption step
+            (IsSpanned (number_field self.now.order) self.now.rows row.entries)
+            (IsNextStep self.now row.entries)) result }
+    {
+        let mut rest = row.copy(self.alloc)?;
+        let mut coefficients = Row::zero(self.alloc, *self.field(), self.cols())?;
+        self.eliminate(&mut rest, &mut coefficients);
+        let Some(pivot) = rest.first_nonzero() else {
+            return Ok(None);
+        };
+        let scalar = self.field().inv(rest.get(pivot));
+        coefficients.set(self.rank(), 1);
+        coefficients.scale(scalar);
+        rest.scale(scalar);
+        Ok(Some(Step {
+            inserted: row,
+            pivot,
+            row: rest,
+            coefficients,
+        }))
+    }
+
+    /// Clears the pivots from a row by adding multiples of the form's rows, and collects the coefficients of what was
+    /// added in a row of zeros.
+    fn eliminate(&self, row: &mut Row, coefficients: &mut Row)
+        requires row_field { row.old.order ≡ self.now.order }
+        requires row_fits { length row.old.entries ≡ self.now.cols }
+        requires zeros { coefficients.old ≡ record { order = self.now.order; entries = replicate self.now.cols 0 } }
+        ensures { IsEliminated self.now row.old row.new coefficients.new }
+    {
+        let field = *row.field();
+        for step in &self.steps {
+            let scalar = field.neg(row.get(step.pivot));
+            row.add_scaled(scalar, &step.row);
+            coefficients.add_scaled(scalar, &step.coefficients);
+        }
+    }
+
+    /// Makes a row over the field the one vector of its coset modulo the span that is 0 at each pivot.
+    pub fn reduce(&self, row: &mut Row)
+        requires field { row.old.order ≡ self.now.order }
+        requires fits { length row.old.entries ≡ self.now.cols }
+        ensures representative { IsRepresentative (number_field self.now.order) self.now.rows row.old.entries row.new.entries }
+        ensures same_field { row.new.order ≡ self.now.order }
+        ensures as_long { length row.new.entries ≡ self.now.cols }
+        ensures row_well_formed { IsRow row.new }
+        ensures well_formed { IsEchelon self.now }
+    {
+        let field = *row.field();
+        for step in &self.steps {
+            let factor = field.neg(row.get(step.pivot));
+            row.add_scaled(factor, &step.row);
+        }
+    }
+
+    /// The coefficients of a row over the inserted rows, in their order, or `None` where the row is not in their span.
+    pub fn coordinates(&self, alloc: Global, row: &Row) -> Result<Option<Row>, Refusal>
+        requires field { row.now.order ≡ self.now.order }
+        requires fits { length row.now.entries ≡ self.now.cols }
+        ensures coefficients { Answers None (λ coordinates. MatchOption coordinates
+            (¬ (IsSpanned (number_field self.now.order) self.now.rows row.now.entries))
+            (AreCoordinates self.now row.now.entries)) result }
+        ensures well_formed { IsEchelon self.now }
+    {
+        let mut coefficients = Row::zero(alloc, *self.field(), self.cols())?;
+        let mut rest = row.copy(alloc)?;
+        self.eliminate(&mut rest, &mut coefficients);
+        if !rest.is_zero() {
+            return Ok(None);
+        }
+        Ok(Some(negated_start(alloc, &coefficients, self.rank())?))
+    }
+
+    /// The reduced basis of the span: for each pivot, in ascending order, the vector of the span that is 1 there and 0 at
+    /// all other pivots.
+    pub fn reduced(&self, alloc: Global) -> Result<Matrix, Refusal>
+        ensures basis { Answers None (IsReducedMatrix self.now) result }
+        ensures matrix_well_formed { Answers None IsMatrix result }
+        ensures well_formed { IsEchelon self.now }
+    {
+        let mut reduced = Matrix::empty(alloc, *self.field(), self.cols());
+        for column in 0..self.cols() {
+            if self.is_pivot(column) {
+                let row = self.pivot_row(alloc, column)?;
+                append(&mut reduced, row)?;
+            }
+        }
+        Ok(reduced)
+    }
+
+    /// The vector of the span that is 1 at a pivot and 0 at all other pivots.
+    fn pivot_row(&self, alloc: Global, pivot: usize) -> Result<Row, Refusal>
+        requires within { pivot < self.now.cols }
+        requires pivot { IsPivot (number_field self.now.order) self.now.rows pivot }
+        ensures { Answers None (IsPivotRow self.now pivot) result }
+    {
+        let field = *self.field();
+        let mut row = unit_vector(alloc, field, self.cols(), pivot)?;
+        self.reduce(&mut row);
+        row.scale(field.neg(1));
+        row.set(pivot, 1);
+        Ok(row)
+    }
+
+    /// Whether a column is a pivot: whether some vector of the span has its first nonzero entry there.
+    pub fn is_pivot(&self, column: usize) -> bool
+        ensures { IsTrue result ↔ IsPivot (number_field self.now.order) self.now.rows column }
+    {
+        for step in &self.steps {
+            if step.pivot == column {
+                return true;
+            }
+        }
+        false
+    }
+}
+
+/// The negatives of the first entries of a row.
+fn negated_start(alloc: Global, row: &Row, len: usize) -> Result<Row, Refusal>
+    requires { len ≤ length row.now.entries }
+    ensures { Answers None (λ start. start ≡ record {
+      order = row.now.order;
+      entries = listed len (λ j. field_neg row.now.order (slice_index row.now.entries j));
+    }) result }
+{
+    let field = *row.field();
+    let mut start = Row::zero(alloc, field, len)?;
+    for index in 0..len {
+        start.set(index, field.neg(row.get(index)));
+    }
+    Ok(start)
+}
+
+/// The unit vector of a length: 1 at an index, 0 elsewhere.
+fn unit_vector(alloc: Global, field: Field, len: usize, index: usize) -> Result<Row, Refusal>
+    requires { index < len }
+    ensures unit { Answers None (λ row. row ≡ record { order = field; entries = unit_row len index }) result }
+    ensures well_formed { Answers None IsRow result }
+{
+    let mut row = Row::zero(alloc, field, len)?;
+    row.set(index, 1);
+    Ok(row)
+}
+
+/// Appends a row to a matrix; for want of memory the row is dropped, and the matrix is unchanged.
+fn append(matrix: &mut Matrix, row: Row) -> Result<(), Refusal>
+    requires field { row.order ≡ matrix.old.order }
+    requires fits { length row.entries ≡ matrix.old.cols }
+    requires room { length matrix.old.rows < MAX_ROWS }
+    ensures appended { Answers None (λ _. matrix.new ≡ record matrix.old { rows = matrix.old.rows ++ row.entries ∷ [] }) result }
+    ensures well_formed { IsMatrix matrix.new }
+{
+    matrix.push_row(row).map_err(|_| Refusal::Memory)
+}
+
+#[cfg(test)]
+mod tests {
+    use super::*;
+    use std::process::Abort;
+
+    /// The matrix over this field with two rows of two entries.
+    fn two_by_two(
+        rt: &impl Abort,
+        alloc: Global,
+        field: Field,
+        entries: [[u8; 2]; 2],
+    ) -> Result<Matrix, Refusal> {
+        let [[a, b], [c, d]] = entries;
+        assert!(rt; field.is_element(a) && field.is_element(b));
+        assert!(rt; field.is_element(c) && field.is_element(d));
+        let first = Row::from_elements(alloc, field, &[a, b])?;
+        let second = Row::from_elements(alloc, field, &[c, d])?;
+        let mut matrix = Matrix::empty(alloc, field, 2);
+        append(&mut matrix, first)?;
+        assert_eq!(rt; matrix.rows(), 1);
+        append(&mut matrix, second)?;
+        Ok(matrix)
+    }
+
+    #[test]
+    fn inserts_over_two_elements(rt: HostRuntime) -> Result<(), Refusal> {
+        let field = Field::new(2).expect(&rt, "the field of two elements");
+        let alloc = rt.alloc();
+        let mut echelon = Echelon::new(alloc, field, 3);
+        assert!(rt; echelon.insert(Row::from_elements(alloc, field, &[1, 0, 1])?)?);
+        assert!(rt; echelon.insert(Row::from_elements(alloc, field, &[0, 1, 1])?)?);
+        assert!(rt; !echelon.insert(Row::from_elements(alloc, field, &[1, 1, 0])?)?);
+        assert_eq!(rt; echelon.rank(), 2);
+        assert!(rt; echelon.is_pivot(0) && echelon.is_pivot(1) && !echelon.is_pivot(2));
+        let spanned = Row::from_elements(alloc, field, &[1, 1, 0])?;
+        let coordinates = echelon
+            .coordinates(alloc, &spanned)?
+            .expect(&rt, "coordinates");
+        assert!(rt; coordinates.same(&Row::from_elements(alloc, field, &[1, 1])?));
+        let outside = Row::from_elements(alloc, field, &[0, 0, 1])?;
+        assert!(rt; echelon.coordinates(alloc, &outside)?.is_none());
+        let mut reduced = Row::from_elements(alloc, field, &[1, 1, 1])?;
+        echelon.reduce(&mut reduced);
+        assert!(rt; reduced.same(&outside));
+        Ok(())
+    }
+
+    #[test]
+    fn reduces_over_two_elements(rt: HostRuntime) -> Result<(), Refusal> {
+        let field = Field::new(2).expect(&rt, "the field of two elements");
+        let alloc = rt.alloc();
+        let mut echelon = Echelon::new(alloc, field, 3);
+        assert!(rt; echelon.insert(Row::from_elements(alloc, field, &[1, 1, 1])?)?);
+        assert!(rt; echelon.insert(Row::from_elements(alloc, field, &[0, 1, 1])?)?);
+        let reduced = echelon.reduced(alloc)?;
+        assert_eq!(rt; reduced.rows(), 2);
+        assert!(rt;
+            reduced
+                .row(0)
+                .same(&Row::from_elements(alloc, field, &[1, 0, 0])?)
+        );
+        assert!(rt;
+            reduced
+                .row(1)
+                .same(&Row::from_elements(alloc, field, &[0, 1, 1])?)
+        );
+        Ok(())
+    }
+
+    #[test]
+    fn finds_null_spaces_over_two_elements(rt: HostRuntime) -> Result<(), Refusal> {
+        let field = Field::new(2).expect(&rt, "the field of two elements");
+        let alloc = rt.alloc();
+        let none = null_space(alloc, &two_by_two(&rt, alloc, field, [[1, 0], [0, 1]])?)?;
+        assert_eq!(rt; (none.rows(), none.cols()), (0, 2));
+        let line = null_space(alloc, &two_by_two(&rt, alloc, field, [[1, 0], [1, 0]])?)?;
+        assert_eq!(rt; line.rows(), 1);
+        assert!(rt;
+            line.row(0)
+                .same(&Row::from_elements(alloc, field, &[1, 1])?)
+        );
+        Ok(())
+    }
+
+    #[test]
+    fn inverts_over_three_elements(rt: HostRuntime) -> Result<(), Refusal> {
+        let field = Field::new(3).expect(&rt, "the field of three elements");
+        let alloc = rt.alloc();
+        let inverse_found = inverse(alloc, &two_by_two(&rt, alloc, field, [[1, 2], [0, 1]])?)?;
+        assert!(rt; inverse_found.same(&two_by_two(&rt, alloc, field, [[1, 1], [0, 1]])?));
+        let singular = inverse(alloc, &two_by_two(&rt, alloc, field, [[1, 0], [1, 0]])?);
+        assert!(rt; matches!(singular, Err(Refusal::Singular)));
+        let mut wide = Matrix::empty(alloc, field, 3);
+        append(&mut wide, Row::from_elements(alloc, field, &[1, 0, 0])?)?;
+        assert!(rt; matches!(inverse(alloc, &wide), Err(Refusal::NotSquare)));
+        Ok(())
+    }
+}
