@@ -1,0 +1,99 @@
+-- Generators that are made one by one, and the module that they make.
+use Rattle.std.specs.Prelude.{◌≡◌, ◌≢◌, ℕ, ◌+◌, ◌<◌, ◌≤◌, List, [], ◌∷◌, ◌++◌, length, get_or, Option, None, Result, Ok}
+use Rattle.std.specs.List.{All}
+use Rattle.std.proofs.lemmas.Bool.{eq-eqb, ne_eqb}
+use Rattle.std.proofs.lemmas.List.{length-append, length-map, map-append, get_or_append_left, get_or-append-add, ext_get_or}
+use Rattle.std.proofs.lemmas.List.Elements.{All-nil, All-head, All-tail, All-push}
+use Rattle.axe_field.specs.Order.{Order, order_number}
+use Rattle.axe_row.specs.declared.Refusal.{Refusal}
+use Rattle.axe_matrix.specs.Matrices.{MatrixValue}
+use Rattle.axe_spin.specs.Modules.{ModuleValue, generator_refusal, generators_refusal, first_of, unless_refused, rows_of_each, module_of_matrices}
+use Rattle.axe_spin.specs.Generators.{IsGeneratorMatrix}
+use mathlib.Core.Path.{refl, sym, ◌∙◌, ap, subst}
+use native.Mathlib.Omega.{arith}
+use native.Mathlib.Decide.{ℕ_discrete}
+
+-- so many generators over a field and of a dimension, the rows of number i with P i
+pub record AreNewGenerators (order : Order) (dim : ℕ) (P : ℕ → List (List ℕ) → Type 0) (count : ℕ) (matrices : List MatrixValue) : Type 0 where
+  pub each : All (IsGeneratorMatrix order dim) matrices
+  pub as_many : length matrices ≡ count
+  pub made : (i : ℕ) → i < count → P i (get_or (rows_of_each matrices) i [])
+
+-- none
+pub generators_none : (order : Order) (dim : ℕ) (P : ℕ → List (List ℕ) → Type 0) (matrices : List MatrixValue) → matrices ≡ [] →
+    AreNewGenerators order dim P 0 matrices
+generators_none order dim P matrices is = subst (AreNewGenerators order dim P 0) (sym is) (record {
+  each = All-nil (IsGeneratorMatrix order dim);
+  as_many = refl;
+  made = λ i below. absurd (omega arith);
+})
+
+-- one more
+pub generators_more : (order : Order) (dim : ℕ) (P : ℕ → List (List ℕ) → Type 0) (count : ℕ) (matrices next : List MatrixValue) (m : MatrixValue) →
+    AreNewGenerators order dim P count matrices → next ≡ matrices ++ m ∷ [] → IsGeneratorMatrix order dim m → P count m.rows →
+    AreNewGenerators order dim P (count + 1) next
+generators_more order dim P count matrices next m are is generator made = subst (AreNewGenerators order dim P (count + 1)) (sym is) (record {
+  each = All-push (IsGeneratorMatrix order dim) matrices m are.each generator;
+  as_many = omega (arith, length-append matrices (m ∷ []), are.as_many);
+  made = λ i below. at i below (ℕ_discrete i count);
+})
+  where
+    lists : rows_of_each (matrices ++ m ∷ []) ≡ rows_of_each matrices ++ m.rows ∷ []
+    lists = map-append (λ (m : MatrixValue). m.rows) matrices (m ∷ [])
+
+    many : length (rows_of_each matrices) ≡ count
+    many = length-map matrices (λ (m : MatrixValue). m.rows) ∙ are.as_many
+
+    at : (i : ℕ) → i < count + 1 → Dec (i ≡ count) → P i (get_or (rows_of_each (matrices ++ m ∷ [])) i [])
+    at i below (no other) = subst (P i)
+        (sym (ap (λ (l : List (List (List ℕ))). get_or l i []) lists ∙ get_or_append_left (rows_of_each matrices) (m.rows ∷ []) [] i (omega (arith, many))))
+        (are.made i (omega arith))
+    at i below (yes same) =
+        let place : i ≡ length (rows_of_each matrices) + 0 = omega (arith, many) in
+        subst (P i)
+        (sym (ap (λ (l : List (List (List ℕ))). get_or l i []) lists
+        ∙ ap (λ k. get_or (rows_of_each matrices ++ m.rows ∷ []) k []) place
+        ∙ get_or-append-add (rows_of_each matrices) (m.rows ∷ []) 0 []))
+        (subst (λ k. P k m.rows) (sym same) made)
+
+-- where each is determined, the list of their rows is
+pub generators_are : (order : Order) (dim : ℕ) (f : ℕ → List (List ℕ)) (count : ℕ) (matrices : List MatrixValue) (lists : List (List (List ℕ))) →
+    AreNewGenerators order dim (λ i rows. rows ≡ f i) count matrices → length lists ≡ count → ((i : ℕ) → i < count → get_or lists i [] ≡ f i) →
+    rows_of_each matrices ≡ lists
+generators_are order dim f count matrices lists are many same =
+    let long : length (rows_of_each matrices) ≡ count = length-map matrices (λ (m : MatrixValue). m.rows) ∙ are.as_many in
+    ext_get_or [] (rows_of_each matrices) lists (long ∙ sym many) (λ i below. are.made i (omega (arith, long)) ∙ sym (same i (omega (arith, long))))
+
+-- nothing refuses generators
+generator_accepted : (order : Order) (dim : ℕ) (m : MatrixValue) → IsGeneratorMatrix order dim m → generator_refusal order dim m ≡ None
+generator_accepted order dim m h =
+    let some : length m.rows ≢ 0 = λ none. omega (arith, none, h.rows, h.columns, h.well_formed.some_column) in
+    rw (
+      ne_eqb (length m.rows) 0 some,
+      eq-eqb (length m.rows) m.cols (h.rows ∙ sym h.columns),
+      eq-eqb (order_number m.order) (order_number order) (ap order_number h.field),
+      eq-eqb m.cols dim h.columns,
+    ) refl
+
+generators_accepted : (order : Order) (dim : ℕ) (matrices : List MatrixValue) → All (IsGeneratorMatrix order dim) matrices →
+    generators_refusal order dim matrices ≡ None
+generators_accepted order dim [] each = refl
+generators_accepted order dim (m ∷ rest) each =
+    ap (λ (r : Option Refusal). first_of r (generators_refusal order dim rest)) (generator_accepted order dim m (All-head (IsGeneratorMatrix order dim) m rest each))
+    ∙ generators_accepted order dim rest (All-tail (IsGeneratorMatrix order dim) m rest each)
+
+-- some generators make the module with their rows
+pub module_of_generators : (order : Order) (dim : ℕ) (matrices : List MatrixValue) → 1 ≤ length matrices → All (IsGeneratorMatrix order dim) matrices →
+    module_of_matrices matrices ≡ Ok (record { order = order; dim = dim; generators = rows_of_each matrices })
+module_of_generators order dim [] some each = absurd (omega arith)
+module_of_generators order dim (m ∷ rest) some each =
+    let first : IsGeneratorMatrix order dim m = All-head (IsGeneratorMatrix order dim) m rest each in
+    (λ i. unless_refused (generators_refusal (first.field i) (first.columns i) (m ∷ rest))
+    (record { order = first.field i; dim = first.columns i; generators = rows_of_each (m ∷ rest) }))
+    ∙ ap (λ (r : Option Refusal). unless_refused r (record { order = order; dim = dim; generators = rows_of_each (m ∷ rest) }))
+    (generators_accepted order dim (m ∷ rest) each)
+
+pub module_of_made : (order : Order) (dim : ℕ) (P : ℕ → List (List ℕ) → Type 0) (count : ℕ) (matrices : List MatrixValue) (result : Result ModuleValue Refusal) →
+    AreNewGenerators order dim P count matrices → 1 ≤ count → result ≡ module_of_matrices matrices →
+    result ≡ Ok (record { order = order; dim = dim; generators = rows_of_each matrices })
+module_of_made order dim P count matrices result are some is = is ∙ module_of_generators order dim matrices (omega (arith, are.as_many)) are.each

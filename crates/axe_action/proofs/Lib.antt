@@ -1,0 +1,10 @@
+pub mod GeneratorLists
+pub mod SubSpans
+pub mod SubAnswers
+pub mod SubRows
+pub mod SubBases
+pub mod QuotientSpans
+pub mod QuotientRows
+pub mod DualLaws
+pub mod BasisLaws
+pub mod ConjugateLaws

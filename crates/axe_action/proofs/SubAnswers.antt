@@ -1,0 +1,42 @@
+-- Answers for an action on a span, carried from one question to another.
+use Rattle.std.specs.Prelude.{◌≡◌, Option, Some, None, Result, Ok, Err}
+use Rattle.axe_row.specs.Refusals.{Answers}
+use Rattle.axe_row.specs.declared.Refusal.{Refusal}
+use Rattle.axe_row.specs.declared.Refusal.TheVariants.{FieldsDiffer, ShapesDiffer, NotSquare, Singular, NotInvariant, WholeSpace, ZeroSeed, NoRows, ZeroSpace, Memory}
+use Rattle.axe_spin.specs.Modules.{unless_refused}
+use Rattle.axe_action.specs.Actions.{AnswersSubAction}
+use mathlib.Core.Path.{refl}
+
+-- a value that there is was not refused, and a refusal that was given stands
+pub not_refused : {A : Type 0} (refusal : Option Refusal) (value found : A) → Ok found ≡ unless_refused refusal value → refusal ≡ None
+not_refused (Some other) value found e = cc
+not_refused None value found e = refl
+
+pub refused_with : {A : Type 0} (refusal : Option Refusal) (value : A) (why : Refusal) → Err why ≡ unless_refused refusal value → refusal ≡ Some why
+refused_with (Some other) value why e = cc
+refused_with None value why e = cc
+
+-- a refusal where the space is not invariant, of another answer
+pub refused_too : {S T : Type 0} (I J : Type 0) (P : S → Type 0) (Q : T → Type 0) (refusal : Refusal) → (J → I) →
+    AnswersSubAction None I P (Err refusal) → AnswersSubAction None J Q (Err refusal)
+refused_too I J P Q NotInvariant back h = λ invariant. h (back invariant)
+refused_too I J P Q Memory back h = tt
+refused_too I J P Q FieldsDiffer back h = absurd h
+refused_too I J P Q ShapesDiffer back h = absurd h
+refused_too I J P Q NotSquare back h = absurd h
+refused_too I J P Q Singular back h = absurd h
+refused_too I J P Q WholeSpace back h = absurd h
+refused_too I J P Q ZeroSeed back h = absurd h
+refused_too I J P Q NoRows back h = absurd h
+refused_too I J P Q ZeroSpace back h = absurd h
+
+-- an answer to the same question, that says more
+pub answered_more : {T : Type 0} (I J : Type 0) (P Q : T → Type 0) (result : Result T Refusal) → (I → J) → (J → I) → ((action : T) → P action → Q action) →
+    AnswersSubAction None I P result → AnswersSubAction None J Q result
+answered_more I J P Q (Ok action) forth back more h = (forth h.0, more action h.1)
+answered_more I J P Q (Err refusal) forth back more h = refused_too I J P Q refusal back h
+
+-- an answer that says more
+pub answers_weaker : {T : Type 0} (result : Result T Refusal) (P Q : T → Type 0) → Answers None P result → ((value : T) → P value → Q value) → Answers None Q result
+answers_weaker (Ok value) P Q h more = more value h
+answers_weaker (Err refusal) P Q h more = h

@@ -1,0 +1,21 @@
+use Rattle.std.proofs.Common.{subst, arith}
+use Rattle.axe_row.specs.Rows.{RowValue}
+use Rattle.axe_echelon.specs.Echelons.{IsEchelon}
+use Rattle.axe_action.specs.FreeColumns.{IsRowModulo}
+use Rattle.axe_action.proofs.QuotientRows.{free_count, free_within, modulo_more}
+use Rattle.axe_action.proofs.quotients.generator_modulo.Goals as goal
+
+pub empty-action-requires-clause-columns_fit : goal.empty-action-requires-clause-columns_fit
+empty-action-requires-clause-columns_fit c =
+    let formed : IsEchelon c.args.span.now = c.field.ensures.well_formed in
+    omega (arith, free_count c.args.span.now c.args.columns.now formed c.requires.free, formed.columns_fit)
+
+pub row_modulo-requires-clause-within : goal.row_modulo-requires-clause-within
+row_modulo-requires-clause-within c = free_within c.args.span.now c.args.columns.now c.requires.free
+
+pub loop-column-preserved : goal.loop-column-preserved
+loop-column-preserved c =
+    modulo_more c.args.span.now c.args.columns.now c.args.generator.now.rows c.loop-column.column-index c.loop-column.action c.append.new.matrix c.in_ok-row.row
+    c.loop-column.invariant
+    (subst (λ (r : RowValue). IsRowModulo c.args.span.now c.args.columns.now r.entries c.in_ok-row.row.entries) c.row.ensures.value c.in_ok-row.ensures.modulo)
+    c.in_ok-append.ensures.appended c.append.ensures.well_formed

@@ -1,0 +1,53 @@
+use Rattle.std.proofs.Common.{◌≡◌, ◌<◌, ◌≤◌, length, ap, sym, ◌∙◌, subst, arith}
+use Rattle.axe_algebra.specs.Lists.{combination, IsSpanned}
+use Rattle.axe_algebra.proofs.ListSpans.{independent_rows_are_few}
+use Rattle.axe_field.specs.NumberFields.{number_field}
+use Rattle.axe_row.specs.Rows.{RowValue}
+use Rattle.axe_matrix.proofs.ProductLaws.{length-combination}
+use Rattle.axe_echelon.specs.Echelons.{EchelonValue, IsEchelon, AreCoordinates}
+use Rattle.axe_action.specs.Coordinates.{image_of_row, HasActionRows}
+use Rattle.axe_action.proofs.SubRows.{form_over, action_row_of, image_outside, action_rows_more, action_images}
+use Rattle.axe_action.proofs.subspaces.generator_action.Goals as goal
+
+pub empty-action-requires-clause-columns_fit : goal.empty-action-requires-clause-columns_fit
+empty-action-requires-clause-columns_fit c =
+    let formed : IsEchelon c.args.span.now = c.rank.ensures.well_formed in
+    let few : length c.args.span.now.rows ≤ c.args.span.now.cols =
+    independent_rows_are_few (number_field c.args.span.now.order) c.args.span.now.cols c.args.span.now.rows formed.over formed.independent in
+    omega (arith, c.rank.ensures.count, formed.columns_fit)
+
+pub coordinates-requires-clause-fits : goal.coordinates-requires-clause-fits
+coordinates-requires-clause-fits c =
+    ap (λ (r : RowValue). length r.entries) c.in_ok-image.ensures.product ∙ length-combination _ _ _ _ ∙ sym (ap (λ (e : EchelonValue). e.cols) c.requires.span)
+
+pub returns-in_default : goal.returns-in_default
+returns-in_default c =
+    let image : c.in_ok-image.image.entries ≡ image_of_row c.args.generator.now c.args.rows.now.rows c.loop-index.index =
+    ap (λ (r : RowValue). r.entries) c.in_ok-image.ensures.product
+    ∙ ap (λ (r : RowValue). combination (number_field c.args.generator.now.order) c.args.generator.now.cols r.entries c.args.generator.now.rows) c.row.ensures.value in
+    let below : c.loop-index.index < length c.args.rows.now.rows = omega (arith, c.loop-index-test.true, c.rows-index-end.ensures.count) in
+    let outside : ¬ (IsSpanned (number_field c.args.span.now.order) c.args.span.now.rows c.in_ok-image.image.entries) =
+    rw c.in_default.is at c.in_ok-coefficients.ensures.coefficients in
+    image_outside c.args.generator.now c.args.rows.now.rows c.loop-index.index c.args.span.now c.in_ok-image.image c.requires.span image below outside
+
+pub loop-index-preserved : goal.loop-index-preserved
+loop-index-preserved c =
+    let image : c.in_ok-image.image.entries ≡ image_of_row c.args.generator.now c.args.rows.now.rows c.loop-index.index =
+    ap (λ (r : RowValue). r.entries) c.in_ok-image.ensures.product
+    ∙ ap (λ (r : RowValue). combination (number_field c.args.generator.now.order) c.args.generator.now.cols r.entries c.args.generator.now.rows) c.row.ensures.value in
+    let are : AreCoordinates c.args.span.now c.in_ok-image.image.entries c.in-Some.coefficients =
+    rw c.in-Some.is at c.in_ok-coefficients.ensures.coefficients in
+    action_rows_more c.args.generator.now c.args.rows.now.rows c.loop-index.index c.loop-index.action c.append.new.matrix c.in-Some.coefficients
+    c.loop-index.invariant
+    (action_row_of c.args.generator.now c.args.rows.now.rows c.loop-index.index c.args.span.now c.in_ok-image.image c.in-Some.coefficients c.requires.span image are)
+    c.in_ok-append.ensures.appended c.append.ensures.well_formed
+
+pub returns : goal.returns
+returns c =
+    let whole : c.loop-index.index ≡ length c.args.rows.now.rows =
+    omega (arith, c.loop-index-test.false, c.loop-index.auto.index-end, c.rows-index-end.ensures.count) in
+    let enough : length c.args.rows.now.rows ≤ c.loop-index.index = omega arith in (
+      action_images c.args.generator.now c.args.rows.now.rows c.loop-index.index c.loop-index.action c.loop-index.invariant
+          (form_over c.args.generator.now c.args.rows.now.rows c.args.span.now c.requires.span c.rank.ensures.well_formed) enough,
+      subst (λ k. HasActionRows c.args.generator.now c.args.rows.now.rows k c.loop-index.action) whole c.loop-index.invariant,
+    )

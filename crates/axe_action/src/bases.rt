@@ -1,0 +1,31 @@
+//! Bases of the whole space.
+
+ghost use Rattle.std.specs.Prelude.{None, IfOk};
+ghost use Rattle.axe_algebra.specs.Lists.{IsIndependent};
+ghost use Rattle.axe_field.specs.NumberFields.{number_field};
+ghost use Rattle.axe_row.specs.Refusals.{Answers};
+ghost use Rattle.axe_matrix.specs.Matrices.{IsMatrix};
+ghost use Rattle.axe_action.specs.Actions.{IsExtendedMatrix};
+
+use crate::rows::{append, unit_vector};
+use crate::subspaces::span_of;
+use axe_matrix::{Matrix, Refusal};
+use std::alloc::Global;
+
+/// Independent rows, extended to a basis of all vectors of their length: these rows, then the unit vectors of the columns
+/// that are no pivots of their span, ascending.
+pub fn extend_basis(alloc: Global, rows: &Matrix) -> Result<Matrix, Refusal>
+    requires independent { IsIndependent (number_field rows.now.order) rows.now.rows }
+    ensures extended { Answers None (IsExtendedMatrix rows.now) result }
+    ensures well_formed { IfOk result IsMatrix }
+{
+    let span = span_of(alloc, rows)?;
+    let mut extended = rows.copy(alloc)?;
+    for column in 0..rows.cols() {
+        if !span.is_pivot(column) {
+            let unit = unit_vector(alloc, *rows.field(), rows.cols(), column)?;
+            append(&mut extended, unit)?;
+        }
+    }
+    Ok(extended)
+}

@@ -1,0 +1,51 @@
+//! Modules over another basis.
+
+ghost use Rattle.std.specs.Prelude.{◌≡◌, length, None, IfOk};
+ghost use Rattle.axe_row.specs.Refusals.{Answers};
+ghost use Rattle.axe_matrix.specs.Matrices.{IsMatrix, matrix_product};
+ghost use Rattle.axe_spin.specs.Modules.{IsModule};
+ghost use Rattle.axe_action.specs.Actions.{conjugate_refusal, AnswersConjugate};
+
+use axe_echelon::inverse;
+use axe_matrix::{Matrix, Refusal};
+use axe_spin::Module;
+use std::alloc::Global;
+
+/// The module over the rows of an invertible matrix p as its basis: each generator g becomes `p g p^-1`. A matrix over
+/// another field than the module is refused as FieldsDiffer, else one that is not square of the module's dimension as
+/// ShapesDiffer, and else one that has no inverse as Singular.
+pub fn conjugate(alloc: Global, module: &Module, basis: &Matrix) -> Result<Module, Refusal>
+    ensures conjugate { AnswersConjugate (conjugate_refusal «module».now basis.now) «module».now basis.now result }
+    ensures well_formed { IfOk result IsModule }
+{
+    if basis.field().order() != module.field().order() {
+        return Err(Refusal::FieldsDiffer);
+    }
+    if basis.rows() != module.dim() || basis.cols() != module.dim() {
+        return Err(Refusal::ShapesDiffer);
+    }
+    let inverse = inverse(alloc, basis)?;
+    let mut conjugates = Vec::new(alloc);
+    for index in 0..module.gens() {
+        let conjugate = triple_product(alloc, basis, module.generator(index), &inverse)?;
+        conjugates.push(conjugate).map_err(|_| Refusal::Memory)?;
+    }
+    Module::new(conjugates)
+}
+
+/// The product of three square matrices of one size over one field.
+fn triple_product(
+    alloc: Global,
+    first: &Matrix,
+    second: &Matrix,
+    third: &Matrix,
+) -> Result<Matrix, Refusal>
+    requires second_field { second.now.order ≡ first.now.order }
+    requires third_field { third.now.order ≡ first.now.order }
+    requires second_fits { length second.now.rows ≡ first.now.cols }
+    requires third_fits { length third.now.rows ≡ second.now.cols }
+    ensures product { Answers None (λ product. product ≡ matrix_product (matrix_product first.now second.now) third.now) result }
+    ensures well_formed { IfOk result IsMatrix }
+{
+    first.mul(alloc, second)?.mul(alloc, third)
+}

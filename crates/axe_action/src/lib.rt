@@ -1,0 +1,15 @@
+//! How a module acts on its invariant spaces and modulo them; duals, annihilators, extended bases and conjugates.
+#![tactic(auto)]
+
+mod bases;
+mod conjugates;
+mod duals;
+mod quotients;
+mod rows;
+mod subspaces;
+
+pub use bases::extend_basis;
+pub use conjugates::conjugate;
+pub use duals::{annihilator, dual};
+pub use quotients::quotient_action;
+pub use subspaces::{basis_action, sub_action};

@@ -1,0 +1,132 @@
+//! The action of a module on an invariant space.
+
+ghost use Rattle.std.specs.Prelude.{◌≡◌, ◌<◌, ◌≤◌, ◌++◌, ◌∷◌, [], length, None, IfOk};
+ghost use Rattle.axe_algebra.specs.Lists.{IsIndependent};
+ghost use Rattle.axe_field.specs.NumberFields.{number_field};
+ghost use Rattle.axe_row.specs.Refusals.{Answers};
+ghost use Rattle.axe_matrix.specs.Matrices.{IsMatrix};
+ghost use Rattle.axe_spin.specs.Modules.{IsModule, unless_refused};
+ghost use Rattle.axe_action.specs.Actions.{rows_refusal, sub_action_refusal, AnswersSubAction, IsInvariantIn, IsActionOnSpan, IsBasisAction};
+ghost use Rattle.axe_action.specs.Coordinates.{IsSpanOfRows, HasImagesIn, HasActionRows};
+
+use axe_echelon::Echelon;
+use axe_matrix::{MAX_ROWS, Matrix, Refusal, Row};
+use axe_spin::{Module, has_only_zeros};
+use std::alloc::Global;
+
+/// The action of a module on the span of the rows of a matrix, over the reduced basis of that span. Rows over another field
+/// than the module are refused as FieldsDiffer, else rows of another length than the dimension as ShapesDiffer, else rows
+/// that are all zero, or none, as ZeroSpace, and else rows whose span is not invariant as NotInvariant.
+pub fn sub_action(alloc: Global, module: &Module, rows: &Matrix) -> Result<Module, Refusal>
+    ensures action { AnswersSubAction (sub_action_refusal «module».now rows.now) (IsInvariantIn «module».now rows.now) (IsActionOnSpan «module».now rows.now) result }
+    ensures well_formed { IfOk result IsModule }
+{
+    check_space(module, rows)?;
+    let basis = span_of(alloc, rows)?.reduced(alloc)?;
+    action_over(alloc, module, &basis)
+}
+
+/// The action of a module on the span of independent rows, over these rows as they stand: a row times a generator is the
+/// combination of the rows with the coefficients in that row of the action's matrix. The refusals are those of
+/// [`sub_action`].
+pub fn basis_action(alloc: Global, module: &Module, rows: &Matrix) -> Result<Module, Refusal>
+    requires independent { IsIndependent (number_field rows.now.order) rows.now.rows }
+    ensures action { AnswersSubAction (sub_action_refusal «module».now rows.now) (IsInvariantIn «module».now rows.now) (IsBasisAction «module».now rows.now) result }
+    ensures well_formed { IfOk result IsModule }
+{
+    check_space(module, rows)?;
+    action_over(alloc, module, rows)
+}
+
+/// Refuses rows that are no vectors of a module.
+pub(crate) fn check_rows(module: &Module, rows: &Matrix) -> Result<(), Refusal>
+    ensures { result ≡ unless_refused (rows_refusal «module».now rows.now) tt }
+{
+    if rows.field().order() != module.field().order() {
+        return Err(Refusal::FieldsDiffer);
+    }
+    if rows.cols() != module.dim() {
+        return Err(Refusal::ShapesDiffer);
+    }
+    Ok(())
+}
+
+/// Refuses rows that are no vectors of a module, and rows that span zero.
+fn check_space(module: &Module, rows: &Matrix) -> Result<(), Refusal>
+    ensures { result ≡ unless_refused (sub_action_refusal «module».now rows.now) tt }
+{
+    check_rows(module, rows)?;
+    if has_only_zeros(rows) {
+        return Err(Refusal::ZeroSpace);
+    }
+    Ok(())
+}
+
+/// The echelon form of the span of the rows of a matrix, into which they are inserted in order.
+pub(crate) fn span_of(alloc: Global, rows: &Matrix) -> Result<Echelon, Refusal>
+    ensures span { Answers None (IsSpanOfRows rows.now) result }
+    ensures well_formed { IsMatrix rows.now }
+{
+    let mut span = Echelon::new(alloc, *rows.field(), rows.cols());
+    for index in 0..rows.rows() {
+        let row = rows.row(index).copy(alloc)?;
+        span.insert(row)?;
+    }
+    Ok(span)
+}
+
+/// The action of a module on the span of independent rows, of which there is one at least, over these rows.
+fn action_over(alloc: Global, module: &Module, rows: &Matrix) -> Result<Module, Refusal>
+    requires independent { IsIndependent (number_field rows.now.order) rows.now.rows }
+    requires some_row { 1 ≤ length rows.now.rows }
+    requires field { rows.now.order ≡ «module».now.order }
+    requires fits { rows.now.cols ≡ «module».now.dim }
+    ensures action { AnswersSubAction None (IsInvariantIn «module».now rows.now) (IsBasisAction «module».now rows.now) result }
+    ensures well_formed { IfOk result IsModule }
+{
+    let span = span_of(alloc, rows)?;
+    let mut actions = Vec::new(alloc);
+    for number in 0..module.gens() {
+        let action = generator_action(alloc, module.generator(number), &span, rows)?;
+        actions.push(action).map_err(|_| Refusal::Memory)?;
+    }
+    Module::new(actions)
+}
+
+/// The matrix by which a generator acts on independent rows, whose span is given too: row t has the coefficients of row t
+/// times the generator.
+fn generator_action(
+    alloc: Global,
+    generator: &Matrix,
+    span: &Echelon,
+    rows: &Matrix,
+) -> Result<Matrix, Refusal>
+    requires square { length generator.now.rows ≡ generator.now.cols }
+    requires span { span.now ≡ record { order = generator.now.order; cols = generator.now.cols; rows = rows.now.rows } }
+    requires some_row { 1 ≤ length rows.now.rows }
+    requires field { rows.now.order ≡ generator.now.order }
+    requires fits { rows.now.cols ≡ generator.now.cols }
+    ensures { AnswersSubAction None (HasImagesIn generator.now rows.now.rows rows.now.rows)
+        (HasActionRows generator.now rows.now.rows (length rows.now.rows)) result }
+{
+    let mut action = Matrix::empty(alloc, *span.field(), span.rank());
+    for index in 0..rows.rows() {
+        let image = generator.vec_mul(alloc, rows.row(index))?;
+        let Some(coefficients) = span.coordinates(alloc, &image)? else {
+            return Err(Refusal::NotInvariant);
+        };
+        append(&mut action, coefficients)?;
+    }
+    Ok(action)
+}
+
+/// Appends a row to a matrix; for want of memory the row is dropped, and the matrix is unchanged.
+pub(crate) fn append(matrix: &mut Matrix, row: Row) -> Result<(), Refusal>
+    requires field { row.order ≡ matrix.old.order }
+    requires fits { length row.entries ≡ matrix.old.cols }
+    requires room { length matrix.old.rows < MAX_ROWS }
+    ensures appended { Answers None (λ _. matrix.new ≡ record matrix.old { rows = matrix.old.rows ++ row.entries ∷ [] }) result }
+    ensures well_formed { IsMatrix matrix.new }
+{
+    matrix.push_row(row).map_err(|_| Refusal::Memory)
+}

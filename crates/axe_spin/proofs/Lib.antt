@@ -1,0 +1,5 @@
+pub mod ModuleLaws
+pub mod SpunLaws
+pub mod GeneratedLaws
+pub mod StandardLaws
+pub mod StandardImages

@@ -1,0 +1,26 @@
+use Rattle.std.proofs.Common.{ap}
+use Rattle.axe_matrix.specs.Matrices.{MatrixValue}
+use Rattle.axe_spin.proofs.StandardLaws.{first_is_offered, standard_matrix}
+use Rattle.axe_spin.proofs.standard.standard_basis.Goals as goal
+
+pub spin-requires-clause-field : goal.spin-requires-clause-field
+spin-requires-clause-field c =
+    ap (λ (x : MatrixValue). x.order)
+    (first_is_offered c.args.module.now c.args.vector.now c.in_ok-first.first c.empty-rows.result c.offer.new.rows _ _ c.empty-rows.ensures.no_rows
+    c.field-2.ensures.order c.dim-2.ensures.count c.in_ok-first.ensures.copied c.in_ok-first.ensures.well_formed c.requires.field c.requires.nonzero
+    c.in_ok-offer.ensures.offered)
+
+pub spin-requires-clause-fits : goal.spin-requires-clause-fits
+spin-requires-clause-fits c =
+    ap (λ (x : MatrixValue). x.cols)
+    (first_is_offered c.args.module.now c.args.vector.now c.in_ok-first.first c.empty-rows.result c.offer.new.rows _ _ c.empty-rows.ensures.no_rows
+    c.field-2.ensures.order c.dim-2.ensures.count c.in_ok-first.ensures.copied c.in_ok-first.ensures.well_formed c.requires.field c.requires.nonzero
+    c.in_ok-offer.ensures.offered)
+
+pub returns-clause-basis : goal.returns-clause-basis
+returns-clause-basis c =
+    standard_matrix c.args.module.now c.args.vector.now c.offer.new.rows c.spin.new.rows c.field.ensures.well_formed
+    (first_is_offered c.args.module.now c.args.vector.now c.in_ok-first.first c.empty-rows.result c.offer.new.rows _ _ c.empty-rows.ensures.no_rows
+    c.field-2.ensures.order c.dim-2.ensures.count c.in_ok-first.ensures.copied c.in_ok-first.ensures.well_formed c.requires.field c.requires.nonzero
+    c.in_ok-offer.ensures.offered)
+    c.in_ok-spin.ensures.spun

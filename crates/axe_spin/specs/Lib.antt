@@ -1,0 +1,5 @@
+pub mod Modules
+pub mod Generators
+pub mod Spinning
+pub mod Spun
+pub mod SpinLaws

@@ -1,0 +1,64 @@
+-- Modules: square matrices of one dimension over one field.
+use Rattle.std.specs.Prelude.{ℕ, ◌≤◌, ◌==◌, not, List, [], ◌∷◌, length, map, slice_index_or, Option, Some, None, Result, Ok, Err, if◌then◌else◌}
+use Rattle.axe_algebra.specs.Lists.{IsModuleOver}
+use Rattle.axe_field.specs.Order.{Order, order_number}
+use Rattle.axe_field.specs.NumberFields.{number_field}
+use Rattle.axe_row.specs.declared.Refusal.{Refusal}
+use Rattle.axe_row.specs.declared.Refusal.TheVariants.{FieldsDiffer, ShapesDiffer, NotSquare, NoRows}
+use Rattle.axe_matrix.specs.declared.TheConstants.{MAX_COLUMNS}
+use Rattle.axe_matrix.specs.Matrices.{MatrixValue}
+use Rattle.axe_spin.specs.declared.TheConstants.{MAX_GENERATORS}
+
+-- a module: the order of its field, its dimension, and its generators, each the list of its rows (Parker 1984)
+pub record ModuleValue : Type 0 where
+  pub order : Order
+  pub dim : ℕ
+  pub generators : List (List (List ℕ))
+
+-- the dimension is at least 1, the generators are square matrices of that dimension, and there are no more of them and of
+-- columns than the limits allow
+pub record IsModule (m : ModuleValue) : Type 0 where
+  pub over : IsModuleOver (number_field m.order) m.dim m.generators
+  pub dim_fits : m.dim ≤ MAX_COLUMNS
+  pub some_generator : 1 ≤ length m.generators
+  pub generators_fit : length m.generators ≤ MAX_GENERATORS
+
+-- generator i of a module, counted from 0, as a matrix
+abbrev pub generator_of : ModuleValue → ℕ → MatrixValue
+generator_of m i = record { order = m.order; cols = m.dim; rows = slice_index_or m.generators i [] }
+
+-- why a matrix is no generator of a module over this field and of this dimension: it has no rows, or else is not square,
+-- or else is over another field, or else has another number of rows
+abbrev pub generator_refusal : Order → ℕ → MatrixValue → Option Refusal
+generator_refusal order dim m =
+    if length m.rows == 0 then Some NoRows
+    else (if not (length m.rows == m.cols) then Some NotSquare
+    else (if not (order_number m.order == order_number order) then Some FieldsDiffer
+    else (if not (m.cols == dim) then Some ShapesDiffer else None)))
+
+-- the first of two refusals that stands
+abbrev pub first_of : Option Refusal → Option Refusal → Option Refusal
+first_of (Some refusal) other = Some refusal
+first_of None other = other
+
+-- why not all of the matrices are such generators: the refusal of the first that is none
+abbrev pub generators_refusal : Order → ℕ → List MatrixValue → Option Refusal
+generators_refusal order dim [] = None
+generators_refusal order dim (m ∷ rest) = first_of (generator_refusal order dim m) (generators_refusal order dim rest)
+
+-- a value, unless a refusal stands
+abbrev pub unless_refused : {A : Type 0} → Option Refusal → A → Result A Refusal
+unless_refused (Some refusal) value = Err refusal
+unless_refused None value = Ok value
+
+-- the rows of each of the matrices
+abbrev pub rows_of_each : List MatrixValue → List (List (List ℕ))
+rows_of_each matrices = map (λ (m : MatrixValue). m.rows) matrices
+
+-- the module whose generators are these matrices, over the field and of the dimension of the first, or the refusal of the
+-- first that is no generator beside the first; of no matrices there is no module
+abbrev pub module_of_matrices : List MatrixValue → Result ModuleValue Refusal
+module_of_matrices [] = Err NoRows
+module_of_matrices (first ∷ rest) =
+    unless_refused (generators_refusal first.order first.cols (first ∷ rest))
+    (record { order = first.order; dim = first.cols; generators = rows_of_each (first ∷ rest) })

@@ -1,0 +1,16 @@
+//! Modules over a small finite field: the spaces that rows generate in them, and standard bases.
+#![tactic(auto)]
+
+mod generated;
+mod laws;
+mod module;
+mod spinning;
+mod standard;
+
+pub use generated::{generate, has_only_zeros};
+pub use laws::{isomorphism_carries_standard_basis, multiple_has_the_same_standard_matrices};
+pub use module::Module;
+pub use standard::standard_basis;
+
+/// The most generators that a module has. It has at least one.
+pub const MAX_GENERATORS: usize = 16;

@@ -1,0 +1,83 @@
+//! Spinning: rows and the images of rows under the generators of a module, taken in order, until their span is invariant.
+
+ghost use Rattle.std.specs.Prelude.{◌≡◌, ◌+◌, ◌<◌, length, None};
+ghost use Rattle.axe_row.specs.Refusals.{Answers};
+ghost use Rattle.axe_matrix.specs.Matrices.{IsMatrix};
+ghost use Rattle.axe_spin.specs.Spun.{IsSpanOf, IsOffered, IsSpunMatrix, SpinsOn};
+
+use crate::module::Module;
+use axe_echelon::Echelon;
+use axe_matrix::{Matrix, Refusal, Row};
+use std::alloc::Global;
+
+/// Appends a row to independent rows, and to the echelon form of their span, where it is not in that span.
+pub(crate) fn offer(
+    alloc: Global,
+    span: &mut Echelon,
+    rows: &mut Matrix,
+    row: Row,
+) -> Result<(), Refusal>
+    requires well_formed { IsMatrix rows.old }
+    requires span { IsSpanOf span.old rows.old }
+    requires field { row.order ≡ rows.old.order }
+    requires fits { length row.entries ≡ rows.old.cols }
+    ensures offered { Answers None (λ _. IsOffered rows.old row.entries rows.new) result }
+    ensures span { Answers None (λ _. IsSpanOf span.new rows.new) result }
+    ensures well_formed { Answers None (λ _. IsMatrix rows.new) result }
+{
+    let copy = row.copy(alloc)?;
+    if span.insert(copy)? {
+        rows.push_row(row).map_err(|_| Refusal::Memory)?;
+    }
+    Ok(())
+}
+
+/// Spins independent rows in a module: takes the rows in turn, and for each the generators in order; an image that is not
+/// in the span so far is appended.
+pub(crate) fn spin(
+    alloc: Global,
+    module: &Module,
+    span: &mut Echelon,
+    rows: &mut Matrix,
+) -> Result<(), Refusal>
+    requires well_formed { IsMatrix rows.old }
+    requires span { IsSpanOf span.old rows.old }
+    requires field { rows.old.order ≡ «module».now.order }
+    requires fits { rows.old.cols ≡ «module».now.dim }
+    ensures spun { Answers None (λ _. IsSpunMatrix «module».now rows.old rows.new) result }
+    ensures span { Answers None (λ _. IsSpanOf span.new rows.new) result }
+    ensures well_formed { Answers None (λ _. IsMatrix rows.new) result }
+{
+    // There are no more independent rows than columns.
+    for source in 0..span.cols() {
+        if source == rows.rows() {
+            break;
+        }
+        take_images(alloc, module, span, rows, source)?;
+    }
+    Ok(())
+}
+
+/// Offers the images of one row under the generators, in order.
+fn take_images(
+    alloc: Global,
+    module: &Module,
+    span: &mut Echelon,
+    rows: &mut Matrix,
+    source: usize,
+) -> Result<(), Refusal>
+    requires well_formed { IsMatrix rows.old }
+    requires span { IsSpanOf span.old rows.old }
+    requires field { rows.old.order ≡ «module».now.order }
+    requires fits { rows.old.cols ≡ «module».now.dim }
+    requires within { source < length rows.old.rows }
+    ensures taken { Answers None (λ _. SpinsOn «module».now rows.old rows.new source 0 (source + 1) 0) result }
+    ensures span { Answers None (λ _. IsSpanOf span.new rows.new) result }
+    ensures well_formed { Answers None (λ _. IsMatrix rows.new) result }
+{
+    for number in 0..module.gens() {
+        let image = module.generator(number).vec_mul(alloc, rows.row(source))?;
+        offer(alloc, span, rows, image)?;
+    }
+    Ok(())
+}
