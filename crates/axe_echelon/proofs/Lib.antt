@@ -1,5 +1,8 @@
 pub mod FormLaws
 pub mod StepLaws
+pub mod ClearingLaws
+pub mod PivotLaws
+pub mod MoreStepsLaws
 pub mod EliminationLaws
 pub mod ReducedLaws
 pub mod InverseLaws

@@ -1,5 +1,5 @@
 -- The steps of an elimination, one for each row that was new.
-use Rattle.std.specs.Prelude.{◌≡◌, ◌≢◌, ℕ, suc, ◌<◌, ◌≤◌, List, [], ◌∷◌, ◌++◌, All, map, length, get_or}
+use Rattle.std.specs.Prelude.{◌≡◌, ◌≢◌, ℕ, suc, ◌<◌, ◌≤◌, List, [], ◌∷◌, ◌++◌, All, Contains, map, length, get_or, ◌↔◌, Bool, false, IsTrue}
 use Rattle.axe_algebra.specs.Vectors.{HasLength, add_vectors, times}
 use Rattle.axe_algebra.specs.Reduced.{IsZeroAtPivots}
 use Rattle.axe_algebra.specs.Bridge.{vector_of, matrix_of}
@@ -43,6 +43,12 @@ pub record AreSteps (order : Order) (cols : ℕ) (steps : List Step) : Type 0 wh
   pub each : All (IsStep order cols) steps
   pub form : IsEchelonForm (gf order) cols (length (inserted_rows steps)) (matrix_of (number_field order) (inserted_rows steps))
       (matrix_of (number_field order) (echelon_rows steps)) (matrix_of (number_field order) (coefficient_rows steps)) (λ t. get_or (pivots steps) t 0)
+
+-- the table tells of each column whether it is the pivot of a step
+pub record AreTabledSteps (order : Order) (cols : ℕ) (steps : List Step) (table : List Bool) : Type 0 where
+  pub are_steps : AreSteps order cols steps
+  pub table_fits : length table ≤ cols
+  pub tells : (column : ℕ) → IsTrue (get_or table column false) ↔ Contains (pivots steps) column
 
 -- a row from which all pivots were cleared: it is the first row plus the combination of the echelon's rows with these
 -- coefficients

@@ -39,6 +39,8 @@ pub struct Echelon {
     field: Field,
     cols: usize,
     steps: Vec<Step>,
+    /// Whether each column is a pivot. It is empty until a row is inserted, and no column past its end is one.
+    pivots: Vec<bool>,
 }
 
 impl Model for Echelon {
@@ -46,11 +48,11 @@ impl Model for Echelon {
 
     ghost Value = { EchelonValue };
 
-    ghost use Rattle.axe_echelon.specs.Steps.{echelon_of, AreSteps};
+    ghost use Rattle.axe_echelon.specs.Steps.{echelon_of, AreTabledSteps};
 
     ghost view = { λ a. echelon_of a.field a.cols a.steps.items };
 
-    ghost invariant = { λ a. AreSteps a.field a.cols a.steps.items };
+    ghost invariant = { λ a. AreTabledSteps a.field a.cols a.steps.items a.pivots.items };
 }
 
 impl Echelon {
@@ -66,6 +68,7 @@ impl Echelon {
             field,
             cols,
             steps: Vec::new(alloc),
+            pivots: Vec::new(alloc),
         }
     }
 
@@ -109,7 +112,10 @@ impl Echelon {
         let Some(step) = self.next_step(row)? else {
             return Ok(false);
         };
+        let pivot = step.pivot;
+        self.pivots.resize(self.cols, false)?;
         self.steps.push(step).map_err(|_| Refusal::Memory)?;
+        self.pivots[pivot] = true;
         Ok(true)
     }
 
@@ -150,9 +156,12 @@ impl Echelon {
     {
         let field = *row.field();
         for step in &self.steps {
-            let scalar = field.neg(row.get(step.pivot));
-            row.add_scaled(scalar, &step.row);
-            coefficients.add_scaled(scalar, &step.coefficients);
+            let entry = row.get(step.pivot);
+            if entry != 0 {
+                let scalar = field.neg(entry);
+                row.add_scaled(scalar, &step.row);
+                coefficients.add_scaled(scalar, &step.coefficients);
+            }
         }
     }
 
@@ -168,8 +177,11 @@ impl Echelon {
     {
         let field = *row.field();
         for step in &self.steps {
-            let factor = field.neg(row.get(step.pivot));
-            row.add_scaled(factor, &step.row);
+            let entry = row.get(step.pivot);
+            if entry != 0 {
+                let factor = field.neg(entry);
+                row.add_scaled(factor, &step.row);
+            }
         }
     }
 
@@ -226,12 +238,7 @@ impl Echelon {
     pub fn is_pivot(&self, column: usize) -> bool
         ensures { IsTrue result ↔ IsPivot (number_field self.now.order) self.now.rows column }
     {
-        for step in &self.steps {
-            if step.pivot == column {
-                return true;
-            }
-        }
-        false
+        self.pivots.get(column).copied().unwrap_or(false)
     }
 }
 
@@ -271,103 +278,4 @@ fn append(matrix: &mut Matrix, row: Row) -> Result<(), Refusal>
     ensures well_formed { IsMatrix matrix.new }
 {
     matrix.push_row(row).map_err(|_| Refusal::Memory)
-}
-
-#[cfg(test)]
-mod tests {
-    use super::*;
-    use std::process::Abort;
-
-    /// The matrix over this field with two rows of two entries.
-    fn two_by_two(
-        rt: &impl Abort,
-        alloc: Global,
-        field: Field,
-        entries: [[u8; 2]; 2],
-    ) -> Result<Matrix, Refusal> {
-        let [[a, b], [c, d]] = entries;
-        assert!(rt; field.is_element(a) && field.is_element(b));
-        assert!(rt; field.is_element(c) && field.is_element(d));
-        let first = Row::from_elements(alloc, field, &[a, b])?;
-        let second = Row::from_elements(alloc, field, &[c, d])?;
-        let mut matrix = Matrix::empty(alloc, field, 2);
-        append(&mut matrix, first)?;
-        assert_eq!(rt; matrix.rows(), 1);
-        append(&mut matrix, second)?;
-        Ok(matrix)
-    }
-
-    #[test]
-    fn inserts_over_two_elements(rt: HostRuntime) -> Result<(), Refusal> {
-        let field = Field::new(2).expect(&rt, "the field of two elements");
-        let alloc = rt.alloc();
-        let mut echelon = Echelon::new(alloc, field, 3);
-        assert!(rt; echelon.insert(Row::from_elements(alloc, field, &[1, 0, 1])?)?);
-        assert!(rt; echelon.insert(Row::from_elements(alloc, field, &[0, 1, 1])?)?);
-        assert!(rt; !echelon.insert(Row::from_elements(alloc, field, &[1, 1, 0])?)?);
-        assert_eq!(rt; echelon.rank(), 2);
-        assert!(rt; echelon.is_pivot(0) && echelon.is_pivot(1) && !echelon.is_pivot(2));
-        let spanned = Row::from_elements(alloc, field, &[1, 1, 0])?;
-        let coordinates = echelon
-            .coordinates(alloc, &spanned)?
-            .expect(&rt, "coordinates");
-        assert!(rt; coordinates.same(&Row::from_elements(alloc, field, &[1, 1])?));
-        let outside = Row::from_elements(alloc, field, &[0, 0, 1])?;
-        assert!(rt; echelon.coordinates(alloc, &outside)?.is_none());
-        let mut reduced = Row::from_elements(alloc, field, &[1, 1, 1])?;
-        echelon.reduce(&mut reduced);
-        assert!(rt; reduced.same(&outside));
-        Ok(())
-    }
-
-    #[test]
-    fn reduces_over_two_elements(rt: HostRuntime) -> Result<(), Refusal> {
-        let field = Field::new(2).expect(&rt, "the field of two elements");
-        let alloc = rt.alloc();
-        let mut echelon = Echelon::new(alloc, field, 3);
-        assert!(rt; echelon.insert(Row::from_elements(alloc, field, &[1, 1, 1])?)?);
-        assert!(rt; echelon.insert(Row::from_elements(alloc, field, &[0, 1, 1])?)?);
-        let reduced = echelon.reduced(alloc)?;
-        assert_eq!(rt; reduced.rows(), 2);
-        assert!(rt;
-            reduced
-                .row(0)
-                .same(&Row::from_elements(alloc, field, &[1, 0, 0])?)
-        );
-        assert!(rt;
-            reduced
-                .row(1)
-                .same(&Row::from_elements(alloc, field, &[0, 1, 1])?)
-        );
-        Ok(())
-    }
-
-    #[test]
-    fn finds_null_spaces_over_two_elements(rt: HostRuntime) -> Result<(), Refusal> {
-        let field = Field::new(2).expect(&rt, "the field of two elements");
-        let alloc = rt.alloc();
-        let none = null_space(alloc, &two_by_two(&rt, alloc, field, [[1, 0], [0, 1]])?)?;
-        assert_eq!(rt; (none.rows(), none.cols()), (0, 2));
-        let line = null_space(alloc, &two_by_two(&rt, alloc, field, [[1, 0], [1, 0]])?)?;
-        assert_eq!(rt; line.rows(), 1);
-        assert!(rt;
-            line.row(0)
-                .same(&Row::from_elements(alloc, field, &[1, 1])?)
-        );
-        Ok(())
-    }
-
-    #[test]
-    fn inverts_over_three_elements(rt: HostRuntime) -> Result<(), Refusal> {
-        let field = Field::new(3).expect(&rt, "the field of three elements");
-        let alloc = rt.alloc();
-        let inverse_found = inverse(alloc, &two_by_two(&rt, alloc, field, [[1, 2], [0, 1]])?)?;
-        assert!(rt; inverse_found.same(&two_by_two(&rt, alloc, field, [[1, 1], [0, 1]])?));
-        let singular = inverse(alloc, &two_by_two(&rt, alloc, field, [[1, 0], [1, 0]])?);
-        assert!(rt; matches!(singular, Err(Refusal::Singular)));
-        let mut wide = Matrix::empty(alloc, field, 3);
-        append(&mut wide, Row::from_elements(alloc, field, &[1, 0, 0])?)?;
-        assert!(rt; matches!(inverse(alloc, &wide), Err(Refusal::NotSquare)));
-        Ok(())
-    }
 }

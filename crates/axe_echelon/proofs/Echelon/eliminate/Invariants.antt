@@ -1,4 +1,4 @@
-use Rattle.axe_echelon.proofs.StepLaws.{IsEliminatedSoFar}
+use Rattle.axe_echelon.proofs.ClearingLaws.{IsEliminatedSoFar}
 use Rattle.axe_echelon.proofs.Echelon.eliminate.Given as goal
 
 abbrev pub invariant-loop-step : goal.invariant-loop-step

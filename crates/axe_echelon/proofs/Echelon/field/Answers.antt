@@ -2,4 +2,4 @@ use Rattle.axe_echelon.proofs.StepLaws.{echelon_of_steps}
 use Rattle.axe_echelon.proofs.Echelon.field.Goals as goal
 
 pub returns-clause-well_formed : goal.returns-clause-well_formed
-returns-clause-well_formed c = rw (← c.self.view_is) (echelon_of_steps _ _ _ c.self.invariant)
+returns-clause-well_formed c = rw (← c.self.view_is) (echelon_of_steps _ _ _ c.self.invariant.are_steps)

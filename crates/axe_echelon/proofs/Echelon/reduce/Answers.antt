@@ -1,16 +1,18 @@
 use Rattle.std.proofs.Common.{◌≡◌, ◌<◌, ◌≤◌, length, ap, ◌∙◌, arith}
 use Rattle.axe_echelon.specs.Echelons.{EchelonValue}
 use Rattle.axe_echelon.specs.Steps.{AreSteps, inserted_rows}
-use Rattle.axe_echelon.proofs.StepLaws.{over_of_row, is_row_of_over, reduced_so_far_none, step_place, reduce_step, reduced_all, echelon_of_steps}
+use Rattle.axe_echelon.proofs.StepLaws.{over_of_row, is_row_of_over, step_place, echelon_of_steps}
+use Rattle.axe_echelon.proofs.ClearingLaws.{reduced_so_far_none, reduce_step, reduce_step_none, reduced_all}
+use Rattle.axe_echelon.proofs.Echelon.reduce.Goals.{then-entry-ne0, else-entry-ne0}
 use Rattle.axe_echelon.proofs.Echelon.reduce.Goals as goal
 
 pub loop-step-init : goal.loop-step-init
 loop-step-init c = reduced_so_far_none _ _ _ _ c.requires.field (over_of_row _ _ _ c.requires.field c.field.ensures.well_formed c.requires.fits)
 
-pub get-requires : goal.get-requires
-get-requires c =
+pub get-entry-requires : goal.get-entry-requires
+get-entry-requires c =
     let are : AreSteps c.args.self.now.order c.args.self.now.cols c.deref-step-items.result.now =
-    rw (c.deref-step-items.ensures.value, ← c.self.view_is) c.self.invariant in
+    rw (c.deref-step-items.ensures.value, ← c.self.view_is) c.self.invariant.are_steps in
     let below : c.loop-step.step-index < length c.deref-step-items.result.now = omega (arith, c.loop-step-test.true) in
     let place = step_place _ _ _ c.loop-step.step-index c.step-item.result are below c.step-item.is in
     omega (arith, place, c.loop-step.invariant.over.length_is)
@@ -18,17 +20,23 @@ get-requires c =
 pub loop-step-preserved : goal.loop-step-preserved
 loop-step-preserved c =
     let are : AreSteps c.args.self.now.order c.args.self.now.cols c.deref-step-items.result.now =
-    rw (c.deref-step-items.ensures.value, ← c.self.view_is) c.self.invariant in
+    rw (c.deref-step-items.ensures.value, ← c.self.view_is) c.self.invariant.are_steps in
     let below : c.loop-step.step-index < length c.deref-step-items.result.now = omega (arith, c.loop-step-test.true) in
-    reduce_step c.args.self.now.order c.field.result.now c.args.self.now.cols c.deref-step-items.result.now c.loop-step.step-index c.step-item.result
-    c.args.row.now c.loop-step.row c.add_scaled.new.self c.neg-factor.result c.get.result are below c.step-item.is c.loop-step.invariant
-    (c.field.ensures.order ∙ c.requires.field) c.neg-factor.ensures.element c.neg-factor.ensures.value c.get.ensures.entry
-    c.add_scaled.ensures.sum c.add_scaled.ensures.as_long c.add_scaled.ensures.well_formed
+    elim c.if-entry-ne0.branch [
+      | then-entry-ne0 w ↦
+          rw w.row-is (reduce_step c.args.self.now.order c.field.result.now c.args.self.now.cols c.deref-step-items.result.now c.loop-step.step-index
+          c.step-item.result c.args.row.now c.loop-step.row w.add_scaled.new.self w.neg-factor.result c.get-entry.result are below c.step-item.is
+          c.loop-step.invariant (c.field.ensures.order ∙ c.requires.field) w.neg-factor.ensures.element w.neg-factor.ensures.value
+          c.get-entry.ensures.entry w.add_scaled.ensures.sum w.add_scaled.ensures.as_long w.add_scaled.ensures.well_formed)
+      | else-entry-ne0 w ↦
+          rw w.row-is (reduce_step_none _ _ _ c.loop-step.step-index c.step-item.result _ c.loop-step.row c.get-entry.result
+          are below c.step-item.is c.loop-step.invariant c.get-entry.ensures.entry w.if-entry-ne0.false)
+    ]
 
 pub returns-clause-representative : goal.returns-clause-representative
 returns-clause-representative c =
     let are : AreSteps c.args.self.now.order c.args.self.now.cols c.deref-step-items.result.now =
-    rw (c.deref-step-items.ensures.value, ← c.self.view_is) c.self.invariant in
+    rw (c.deref-step-items.ensures.value, ← c.self.view_is) c.self.invariant.are_steps in
     let rows : inserted_rows c.deref-step-items.result.now ≡ c.args.self.now.rows =
     ap inserted_rows c.deref-step-items.ensures.value ∙ ap (λ (e : EchelonValue). e.rows) c.self.view_is in
     let all : length c.deref-step-items.result.now ≤ c.loop-step.step-index = omega (arith, c.loop-step-test.false) in
@@ -38,4 +46,4 @@ pub returns-clause-row_well_formed : goal.returns-clause-row_well_formed
 returns-clause-row_well_formed c = is_row_of_over _ _ _ c.loop-step.invariant.field c.loop-step.invariant.over
 
 pub returns-clause-well_formed : goal.returns-clause-well_formed
-returns-clause-well_formed c = rw (← c.self.view_is) (echelon_of_steps _ _ _ c.self.invariant)
+returns-clause-well_formed c = rw (← c.self.view_is) (echelon_of_steps _ _ _ c.self.invariant.are_steps)

@@ -1,4 +1,4 @@
-use Rattle.axe_echelon.proofs.StepLaws.{IsReducedSoFar}
+use Rattle.axe_echelon.proofs.ClearingLaws.{IsReducedSoFar}
 use Rattle.axe_echelon.proofs.Echelon.reduce.Given as goal
 
 abbrev pub invariant-loop-step : goal.invariant-loop-step

@@ -1,14 +1,18 @@
-use Rattle.std.proofs.Common.{◌≡◌, ◌<◌, length, get_or, [], ap, sym, ◌∙◌, arith}
+use Rattle.std.proofs.Common.{ℕ, List, Bool, false, ◌≡◌, ◌<◌, length, get_or, [], ap, sym, ◌∙◌, arith}
 use Rattle.axe_algebra.specs.Lists.{unit_row, IsSpanned}
 use Rattle.axe_algebra.proofs.ListEntries.{listed_length}
 use Rattle.axe_field.specs.NumberFields.{number_field}
 use Rattle.axe_row.specs.Rows.{RowValue}
-use Rattle.axe_echelon.specs.Echelons.{with_row_where}
+use Rattle.axe_echelon.specs.Echelons.{EchelonValue, with_row_where}
 use Rattle.axe_echelon.specs.Inserted.{IsRelation}
 use Rattle.axe_echelon.proofs.InverseLaws.{spanned_of_not_new}
 use Rattle.axe_echelon.proofs.NullRowLaws.{null_so_far_none, null_so_far_new, null_so_far_old, null_so_far_all, answers_more}
 use Rattle.axe_echelon.proofs.null_spaces.null_space_of_rows.Goals.{then-branch+in_ok-append, else-branch+in_ok-vector+in_ok-insert-2}
 use Rattle.axe_echelon.proofs.null_spaces.null_space_of_rows.Goals as goal
+
+-- a row that is not new changes nothing
+unchanged : (next e : EchelonValue) (new : Bool) (row : List ℕ) → next ≡ with_row_where new e row → new ≡ false → next ≡ e
+unchanged next e new row is not_new = is ∙ ap (λ b. with_row_where b e row) not_new
 
 pub loop-index-init : goal.loop-index-init
 loop-index-init c =
@@ -26,6 +30,32 @@ append-requires-clause-fits c =
     ap (λ (r : RowValue). length r.entries) c.in_ok-unit.ensures.unit ∙ listed_length c.rows-in-loop-index.result _ ∙ c.rows-in-loop-index.ensures.count
     ∙ sym c.loop-index.invariant.units_columns
 
+pub null_vector-requires-clause-row_field : goal.null_vector-requires-clause-row_field
+null_vector-requires-clause-row_field c =
+    let same = unchanged c.insert.new.self c.loop-index.image c.in_ok-insert.field-0 c.in_ok-row.row.entries c.in_ok-insert.ensures.inserted c.if-branch.false in
+    ap (λ (r : RowValue). r.order) c.row-else-branch.ensures.value ∙ sym (ap (λ (e : EchelonValue). e.order) same ∙ c.loop-index.invariant.image_field)
+
+pub null_vector-requires-clause-row_fits : goal.null_vector-requires-clause-row_fits
+null_vector-requires-clause-row_fits c =
+    let same = unchanged c.insert.new.self c.loop-index.image c.in_ok-insert.field-0 c.in_ok-row.row.entries c.in_ok-insert.ensures.inserted c.if-branch.false in
+    c.row-else-branch.ensures.as_long ∙ sym (ap (λ (e : EchelonValue). e.cols) same ∙ c.loop-index.invariant.image_columns)
+
+pub null_vector-requires-clause-as_many : goal.null_vector-requires-clause-as_many
+null_vector-requires-clause-as_many c =
+    let same = unchanged c.insert.new.self c.loop-index.image c.in_ok-insert.field-0 c.in_ok-row.row.entries c.in_ok-insert.ensures.inserted c.if-branch.false in
+    c.loop-index.invariant.as_many ∙ sym (ap (λ (e : EchelonValue). length e.rows) same)
+
+pub null_vector-requires-clause-units_field : goal.null_vector-requires-clause-units_field
+null_vector-requires-clause-units_field c =
+    let same = unchanged c.insert.new.self c.loop-index.image c.in_ok-insert.field-0 c.in_ok-row.row.entries c.in_ok-insert.ensures.inserted c.if-branch.false in
+    c.loop-index.invariant.units_field ∙ sym (ap (λ (e : EchelonValue). e.order) same ∙ c.loop-index.invariant.image_field)
+
+pub null_vector-requires-clause-unit_field : goal.null_vector-requires-clause-unit_field
+null_vector-requires-clause-unit_field c =
+    let same = unchanged c.insert.new.self c.loop-index.image c.in_ok-insert.field-0 c.in_ok-row.row.entries c.in_ok-insert.ensures.inserted c.if-branch.false in
+    ap (λ (r : RowValue). r.order) c.in_ok-unit.ensures.unit ∙ c.field-field.ensures.order
+    ∙ sym (ap (λ (e : EchelonValue). e.order) same ∙ c.loop-index.invariant.image_field)
+
 pub null_vector-requires-clause-unit_fits : goal.null_vector-requires-clause-unit_fits
 null_vector-requires-clause-unit_fits c =
     ap (λ (r : RowValue). length r.entries) c.in_ok-unit.ensures.unit ∙ listed_length c.rows-in-loop-index.result _ ∙ c.rows-in-loop-index.ensures.count
@@ -33,8 +63,7 @@ null_vector-requires-clause-unit_fits c =
 
 pub null_vector-requires-clause-spanned : goal.null_vector-requires-clause-spanned
 null_vector-requires-clause-spanned c =
-    let same : c.insert.new.self ≡ c.loop-index.image =
-    c.in_ok-insert.ensures.inserted ∙ ap (λ b. with_row_where b c.loop-index.image c.in_ok-row.row.entries) c.if-branch.false in
+    let same = unchanged c.insert.new.self c.loop-index.image c.in_ok-insert.field-0 c.in_ok-row.row.entries c.in_ok-insert.ensures.inserted c.if-branch.false in
     let row : c.in_ok-row.row.entries ≡ c.row-else-branch.result.now.entries =
     ap (λ (r : RowValue). r.entries) (c.in_ok-row.ensures.copied ∙ c.row.ensures.value ∙ sym c.row-else-branch.ensures.value) in
     let long : length c.in_ok-row.row.entries ≡ c.loop-index.image.cols =
@@ -58,8 +87,7 @@ loop-index-preserved c =
           (c.in_ok-insert.ensures.inserted ∙ ap (λ b. with_row_where b c.loop-index.image c.in_ok-row.row.entries) w.if-branch.true)
           c.insert.ensures.well_formed w.in_ok-append.ensures.appended w.append.ensures.well_formed)
       | else-branch+in_ok-vector+in_ok-insert-2 w ↦
-          let same : c.insert.new.self ≡ c.loop-index.image =
-          c.in_ok-insert.ensures.inserted ∙ ap (λ b. with_row_where b c.loop-index.image c.in_ok-row.row.entries) w.if-branch.false in
+          let same = unchanged c.insert.new.self c.loop-index.image c.in_ok-insert.field-0 c.in_ok-row.row.entries c.in_ok-insert.ensures.inserted w.if-branch.false in
           let again : c.in_ok-row.row.entries ≡ w.row-else-branch.result.now.entries =
           ap (λ (r : RowValue). r.entries) (c.in_ok-row.ensures.copied ∙ c.row.ensures.value ∙ sym w.row-else-branch.ensures.value) in
           let relation : IsRelation c.loop-index.image c.loop-index.units c.in_ok-row.row.entries c.in_ok-unit.unit.entries w.in_ok-vector.vector =
