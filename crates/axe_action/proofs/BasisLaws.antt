@@ -15,7 +15,6 @@ use Rattle.axe_matrix.specs.Matrices.{MatrixValue, IsMatrix}
 use Rattle.axe_echelon.specs.Echelons.{EchelonValue}
 use Rattle.axe_echelon.specs.Inserted.{HasAllRows}
 use Rattle.axe_echelon.proofs.InverseLaws.{matrix_over}
-use Rattle.axe_action.specs.Actions.{IsExtendedMatrix}
 use Rattle.axe_action.specs.Coordinates.{IsSpanOfRows}
 use mathlib.Core.Path.{sym, ◌∙◌, ap, ap₂, subst}
 use native.Mathlib.Omega.{arith}
@@ -196,20 +195,6 @@ extended_has_room rows column extended h independent so_far no_pivot inside =
     let many : length extended.rows ≡ length rows.rows + length (map (unit_row rows.cols) so_far.free) =
     ap (λ (l : List (List ℕ)). length l) so_far.equals ∙ length-append rows.rows (map (unit_row rows.cols) so_far.free) in
     omega (arith, few, many, length-map so_far.free (unit_row rows.cols), length-append so_far.free (column ∷ []), h.columns_fit)
-
--- all columns
-pub extended_all : (rows : MatrixValue) (column : ℕ) (extended : MatrixValue) → IsExtendedBefore rows column extended → column ≡ rows.cols →
-    IsExtendedMatrix rows extended
-extended_all rows column extended so_far whole = record {
-  field = so_far.field;
-  columns = so_far.columns;
-  extends = record {
-    columns = so_far.free;
-    free = free_columns_of (number_field rows.order) rows.rows rows.cols so_far.free
-        (subst (λ k. AreFreeBefore (number_field rows.order) rows.rows k so_far.free) whole so_far.are_free);
-    equals = so_far.equals;
-  };
-}
 
 -- the pivots of the echelon form of all rows are those of the rows
 pub pivot_of_span : (rows : MatrixValue) (span : EchelonValue) (column : ℕ) → HasAllRows rows span → IsPivot (number_field span.order) span.rows column →

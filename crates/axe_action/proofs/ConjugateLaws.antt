@@ -1,5 +1,5 @@
 -- Conjugates of generators by an invertible matrix.
-use Rattle.std.specs.Prelude.{◌≡◌, ℕ, List, [], length, get_or, None, Result, Ok, Err}
+use Rattle.std.specs.Prelude.{◌≡◌, ℕ, List, [], length, get_or, None, Result, Ok}
 use Rattle.std.proofs.lemmas.Bool.{eq-eqb}
 use Rattle.std.proofs.lemmas.List.{length-map}
 use Rattle.axe_algebra.specs.NumberField.{NumberField}
@@ -7,10 +7,9 @@ use Rattle.axe_algebra.specs.Lists.{product, IsSquareOver, IsInverse, IsConjugat
 use Rattle.axe_field.specs.Order.{Order, order_number}
 use Rattle.axe_field.specs.NumberFields.{number_field}
 use Rattle.axe_row.specs.declared.Refusal.{Refusal}
-use Rattle.axe_row.specs.declared.Refusal.TheVariants.{FieldsDiffer, ShapesDiffer, NotSquare, Singular, NotInvariant, WholeSpace, ZeroSeed, NoRows, ZeroSpace, Memory}
 use Rattle.axe_matrix.specs.Matrices.{MatrixValue, IsMatrix, matrix_product}
 use Rattle.axe_matrix.proofs.ProductLaws.{length-product}
-use Rattle.axe_echelon.specs.Echelons.{IsInverseMatrix, InverseRefused}
+use Rattle.axe_echelon.specs.Echelons.{IsInverseMatrix}
 use Rattle.axe_spin.specs.Modules.{ModuleValue, generator_of, rows_of_each}
 use Rattle.axe_spin.specs.Generators.{IsGeneratorMatrix}
 use Rattle.axe_action.specs.Actions.{conjugate_refusal, AnswersConjugate, IsConjugateModule}
@@ -79,16 +78,3 @@ conjugate_is m p count matrices result all fits are is = rw (conjugate_accepted 
       count = length-map matrices (λ (x : MatrixValue). x.rows) ∙ are.as_many ∙ all;
       each = λ i below. are.made i (omega arith);
     }
-
--- a matrix without inverse has no conjugate
-pub conjugate_not_inverted : (m : ModuleValue) (p : MatrixValue) (refusal : Refusal) → InverseRefused p refusal → AnswersConjugate None m p (Err refusal)
-conjugate_not_inverted m p Singular h = h
-conjugate_not_inverted m p Memory h = tt
-conjugate_not_inverted m p FieldsDiffer h = h
-conjugate_not_inverted m p ShapesDiffer h = h
-conjugate_not_inverted m p NotSquare h = h
-conjugate_not_inverted m p NotInvariant h = h
-conjugate_not_inverted m p WholeSpace h = h
-conjugate_not_inverted m p ZeroSeed h = h
-conjugate_not_inverted m p NoRows h = h
-conjugate_not_inverted m p ZeroSpace h = h

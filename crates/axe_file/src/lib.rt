@@ -31,8 +31,3 @@ pub const PACKED_LIMIT: usize = 4_194_304;
 
 /// No text file is longer than this, in bytes.
 pub const TEXT_LIMIT: usize = 16_777_216;
-
-#[cfg(test)]
-mod tests;
-#[cfg(test)]
-mod text_tests;

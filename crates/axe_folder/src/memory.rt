@@ -89,31 +89,3 @@ impl Folder for MemFolder {
         Ok(())
     }
 }
-
-#[cfg(test)]
-mod tests {
-    use super::*;
-
-    #[test]
-    fn keeps_files_by_name(rt: HostRuntime) -> Result<(), FolderFault> {
-        let mut folder = MemFolder::new(rt.alloc());
-        assert!(rt; folder.bytes("A").is_none());
-        assert!(rt; matches!(folder.get("A", 3), Err(FolderFault::Missing)));
-
-        folder.put("A", b"one")?;
-        folder.put("B", b"")?;
-        assert!(rt; folder.bytes("A") == Some(b"one".as_slice()));
-        assert!(rt; folder.get("A", 3)?.as_slice() == b"one".as_slice());
-        assert!(rt; folder.get("B", 0)?.is_empty());
-        assert!(rt; matches!(folder.get("A", 2), Err(FolderFault::TooLong)));
-
-        folder.put("A", b"another")?;
-        assert!(rt; folder.get("A", 7)?.as_slice() == b"another".as_slice());
-
-        folder.remove("A")?;
-        folder.remove("A")?;
-        assert!(rt; matches!(folder.get("A", 7), Err(FolderFault::Missing)));
-        assert!(rt; folder.bytes("B").is_some());
-        Ok(())
-    }
-}

@@ -53,22 +53,3 @@ pub fn read_within<R: Read>(
     }
     Err(FolderFault::Device)
 }
-
-#[cfg(test)]
-mod tests {
-    use super::*;
-
-    #[test]
-    fn reads_up_to_the_limit(rt: HostRuntime) -> Result<(), FolderFault> {
-        let alloc = rt.alloc();
-        assert!(rt; read_within(alloc, &mut b"".as_slice(), 0)?.is_empty());
-        assert!(rt; read_within(alloc, &mut b"abc".as_slice(), 3)?.as_slice() == b"abc".as_slice());
-        assert!(rt;
-            matches!(
-                read_within(alloc, &mut b"abc".as_slice(), 2),
-                Err(FolderFault::TooLong)
-            )
-        );
-        Ok(())
-    }
-}

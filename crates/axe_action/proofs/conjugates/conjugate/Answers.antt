@@ -1,10 +1,11 @@
-use Rattle.std.proofs.Common.{◌≡◌, ◌++◌, ◌∷◌, [], length, ap, sym, ◌∙◌, arith, rules}
+use Rattle.std.proofs.Common.{◌≡◌, ◌++◌, ◌∷◌, [], length, ap, sym, ◌∙◌, arith, rules, Err}
+use Rattle.axe_row.specs.declared.Refusal.TheVariants.{Memory}
 use Rattle.axe_matrix.specs.Matrices.{MatrixValue, matrix_product}
 use Rattle.axe_matrix.proofs.MatrixLaws.{same_fields}
 use Rattle.axe_echelon.specs.Echelons.{IsInverseMatrix}
 use Rattle.axe_spin.specs.Modules.{generator_of}
 use Rattle.axe_action.proofs.GeneratorLists.{generators_more, module_of_made}
-use Rattle.axe_action.proofs.ConjugateLaws.{IsBasisFor, conjugate_of_generator, conjugate_is_generator, conjugate_is}
+use Rattle.axe_action.proofs.ConjugateLaws.{IsBasisFor, conjugate_of_generator, conjugate_is_generator, conjugate_is, conjugate_accepted}
 use Rattle.axe_action.proofs.conjugates.conjugate.Goals as goal
 
 pub loop-index-preserved : goal.loop-index-preserved
@@ -37,3 +38,13 @@ returns-clause-conjugate c =
     conjugate_is c.args.module.now c.args.basis.now c.loop-index.index c.loop-index.conjugates.items c.new.result whole fits c.loop-index.invariant
     (module_of_made _ _ _ c.loop-index.index c.loop-index.conjugates.items c.new.result c.loop-index.invariant
     (omega (arith, whole, c.gens-index-end.ensures.well_formed.some_generator)) c.new.ensures.made)
+
+pub returns-in_err-map_err-clause-conjugate : goal.returns-in_err-map_err-clause-conjugate
+returns-in_err-map_err-clause-conjugate c =
+    let fits : IsBasisFor c.args.module.now c.args.basis.now = record {
+      field = same_fields _ _ _ _ _ _ c.field.ensures.order c.order.ensures.value c.if-order.false c.order-2.ensures.value c.field-2.ensures.order;
+      rows = sym c.rows.ensures.count ∙ c.if-rows-dim.false ∙ c.dim.ensures.count;
+      columns = sym c.cols.ensures.count ∙ c.if-cols-dim.false ∙ c.dim-else-rows-dim.ensures.count;
+    } in
+    let is : c.from_residual-in_err-map_err.result ≡ Err Memory = search rules in
+    rw (conjugate_accepted c.args.module.now c.args.basis.now fits, is) tt

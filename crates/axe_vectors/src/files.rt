@@ -1,11 +1,7 @@
-//! Texts of matrices, read and written.
-
-use crate::{FileFault, read_text, write_text};
+//! Files of matrices, packed and text: read, refused and written.
+use axe_file::{FileFault, read_packed, read_text, write_packed, write_text};
 use axe_matrix::Matrix;
 use std::alloc::Global;
-
-/// What reading is to answer: the order, the number of rows and of columns, and the entries, or the fault.
-type Answer = Result<(u8, usize, usize, &'static [u8]), FileFault>;
 
 /// Whether a matrix has this order, these numbers of rows and columns, and these entries, row after row.
 fn has(matrix: &Matrix, order: u8, rows: usize, columns: usize, entries: &[u8]) -> bool {
@@ -22,6 +18,71 @@ fn has(matrix: &Matrix, order: u8, rows: usize, columns: usize, entries: &[u8]) 
     }
     expected.next().is_none()
 }
+
+#[test]
+fn first_faults(rt: HostRuntime) {
+    let cases: [(&[u8], FileFault); 12] = [
+        (b"AXP1\x02\0\0\0\x01\0\0\0\x01\0\0", FileFault::ShortHeader),
+        (b"AXP2\0\0\0\0\0\0\0\0\0\0\0\0", FileFault::BadMagic),
+        (b"AXP1\x06\x01\0\0\0\0\0\0\0\0\0\0", FileFault::BadField),
+        (b"AXP1\x02\x01\0\0\0\0\0\0\0\0\0\0", FileFault::BadReserved),
+        (b"AXP1\x02\0\0\0\x01\x08\0\0\0\0\0\0", FileFault::BadRows),
+        (b"AXP1\x02\0\0\0\x01\0\0\0\0\0\0\0", FileFault::BadCols),
+        (
+            b"AXP1\x05\0\0\0\x01\0\0\0\x01\0\0\0\x7D",
+            FileFault::BadByte(16),
+        ),
+        (
+            b"AXP1\x05\0\0\0\x01\0\0\0\x01\0\0\0\x65",
+            FileFault::BadPadding(16),
+        ),
+        (
+            b"AXP1\x02\0\0\0\x02\0\0\0\x02\0\0\0\x40",
+            FileFault::Truncated,
+        ),
+        (
+            b"AXP1\x02\0\0\0\x02\0\0\0\x02\0\0\0\x40\xC0\0",
+            FileFault::TrailingBytes,
+        ),
+        (
+            b"AXP1\x02\0\0\0\x01\0\0\0\x02\0\0\0\x60",
+            FileFault::BadPadding(16),
+        ),
+        (
+            b"AXP1\x03\0\0\0\x01\0\0\0\x01\0\0\0\xF3",
+            FileFault::BadByte(16),
+        ),
+    ];
+    for (bytes, fault) in cases {
+        assert_eq!(rt; read_packed(rt.alloc(), bytes).err(), Some(fault));
+    }
+}
+
+#[test]
+fn matrices_and_their_spellings(rt: HostRuntime) -> Result<(), FileFault> {
+    let cases: [(&[u8], u8, usize, usize, &[u8]); 4] = [
+        (
+            b"AXP1\x02\0\0\0\x02\0\0\0\x02\0\0\0\x40\xC0",
+            2,
+            2,
+            2,
+            &[0, 1, 1, 1],
+        ),
+        (b"AXP1\x09\0\0\0\x01\0\0\0\x01\0\0\0\x24", 9, 1, 1, &[4]),
+        (b"AXP1\x04\0\0\0\x01\0\0\0\x01\0\0\0\x40", 4, 1, 1, &[1]),
+        (b"AXP1\x07\0\0\0\0\0\0\0\x03\0\0\0", 7, 0, 3, &[]),
+    ];
+    for (bytes, order, rows, columns, entries) in cases {
+        let matrix = read_packed(rt.alloc(), bytes)?;
+        assert!(rt; has(&matrix, order, rows, columns, entries));
+        let written = write_packed(rt.alloc(), &matrix)?;
+        assert_eq!(rt; written.as_slice(), bytes);
+    }
+    Ok(())
+}
+
+/// What reading is to answer: the order, the number of rows and of columns, and the entries, or the fault.
+type Answer = Result<(u8, usize, usize, &'static [u8]), FileFault>;
 
 /// Whether reading the text gives the answer.
 fn gives(alloc: Global, text: &[u8], answer: Answer) -> bool {

@@ -1,0 +1,6 @@
+use Rattle.std.proofs.Common.{refl}
+use Rattle.axe_folder.proofs.directory.DirFolderFolder.put.Goals as goal
+
+-- a name that no file in the directory can have is Device
+pub returns-then-not-is_plain_name-clause-no_such_name : goal.returns-then-not-is_plain_name-clause-no_such_name
+returns-then-not-is_plain_name-clause-no_such_name g c = λ _. refl
