@@ -1,8 +1,8 @@
 -- The action of a module modulo a span, row by row, and its columns.
-use Rattle.std.specs.Prelude.{◌≡◌, ◌≢◌, ℕ, ◌+◌, ◌<◌, ◌≤◌, List, [], ◌∷◌, ◌++◌, length, get_or, map, None, Result, Bool, true, false, IsTrue, ◌↔◌}
+use Rattle.std.specs.Prelude.{◌≡◌, ◌≢◌, ℕ, ◌+◌, ◌<◌, ◌≤◌, List, [], ◌∷◌, ◌++◌, length, get_or, map, None, Result, Bool, true, false, not, IsTrue, ◌↔◌}
 use Rattle.std.specs.List.{All}
-use Rattle.std.proofs.Common.{replicate, set, get_or-set_other, get_or-set_same}
-use Rattle.std.proofs.lemmas.List.{length-append, length-map, length-set, length-replicate, get_or_append_left, get_or-append-add, get_or-map, ext_get_or}
+use Rattle.std.proofs.Common.{set, get_or-set_other, get_or-set_same}
+use Rattle.std.proofs.lemmas.List.{length-append, length-map, length-set, get_or_append_left, get_or-append-add, get_or-map, ext_get_or}
 use Rattle.std.proofs.lemmas.List.Elements.{All-from_get_or, All-map, All-weaker}
 use Rattle.axe_algebra.specs.NumberField.{NumberField}
 use Rattle.axe_algebra.specs.Bridge.{matrix_of}
@@ -36,27 +36,17 @@ pub record AreFreeBelow (e : EchelonValue) (i : ℕ) (columns : List ℕ) : Type
   pub each : (t : ℕ) → t < length columns → IsFreeColumn e (get_or columns t 0)
   pub all : (j : ℕ) → j < i → IsFreeColumn e j → (t : ℕ) × (t < length columns) × (get_or columns t 0 ≡ j)
 
-pub free_none : (e : EchelonValue) (columns : List ℕ) → columns ≡ [] → AreFreeBelow e 0 columns
-free_none e columns is = subst (AreFreeBelow e 0) (sym is) (record {
-  ascending = λ s t order below. absurd (omega arith);
-  below = λ t below. absurd (omega arith);
-  each = λ t below. absurd (omega arith);
-  all = λ j below free. absurd (omega arith);
-})
-
--- whether a column is a pivot, by a test
-pub free_of_test : (e : EchelonValue) (j : ℕ) (pivot : Bool) → (IsTrue pivot ↔ IsPivot (number_field e.order) e.rows j) → pivot ≡ false → j < e.cols → IsFreeColumn e j
-free_of_test e j true exactly is below = absurd (different is)
-  where
-    different : true ≡ false → ⊥
-    different same = cc
-free_of_test e j false exactly is below = record { below = below; no_pivot = λ pivot. different (exactly.1 pivot) }
+-- a column is free exactly where a test finds no pivot
+pub free_exactly : (e : EchelonValue) (j : ℕ) (pivot : Bool) → j < e.cols → (IsTrue pivot ↔ IsPivot (number_field e.order) e.rows j) →
+    IsTrue (not pivot) ↔ IsFreeColumn e j
+free_exactly e j true below exactly = (λ is. absurd (different is), λ free. absurd (free.no_pivot (exactly.0 refl)))
   where
     different : false ≡ true → ⊥
     different same = cc
-
-pub pivot_of_test : (e : EchelonValue) (j : ℕ) (pivot : Bool) → (IsTrue pivot ↔ IsPivot (number_field e.order) e.rows j) → pivot ≡ true → ¬ (IsFreeColumn e j)
-pivot_of_test e j pivot exactly is = λ free. free.no_pivot (exactly.0 is)
+free_exactly e j false below exactly = (λ is. record { below = below; no_pivot = λ pivot. different (exactly.1 pivot) }, λ free. refl)
+  where
+    different : false ≡ true → ⊥
+    different same = cc
 
 -- a pivot
 pub free_pivot : (e : EchelonValue) (i : ℕ) (columns : List ℕ) → AreFreeBelow e i columns → ¬ (IsFreeColumn e i) → AreFreeBelow e (i + 1) columns
@@ -148,14 +138,6 @@ pub record HasEntriesAt (row : RowValue) (columns : List ℕ) (i : ℕ) (entries
   pub fits : length entries.entries ≡ length columns
   pub taken : (s : ℕ) → s < i → get_or entries.entries s 0 ≡ get_or row.entries (get_or columns s 0) 0
 
-pub entries_none : (row : RowValue) (columns : List ℕ) (n : ℕ) (entries : RowValue) → entries ≡ record { order = row.order; entries = replicate n 0 } → n ≡ length columns →
-    HasEntriesAt row columns 0 entries
-entries_none row columns n entries is same = record {
-  field = ap (λ (x : RowValue). x.order) is;
-  fits = ap (λ (x : RowValue). length x.entries) is ∙ length-replicate n 0 ∙ same;
-  taken = λ s below. absurd (omega arith);
-}
-
 pub entries_more : (row : RowValue) (columns : List ℕ) (i : ℕ) (entries next : RowValue) (number : ℕ) → HasEntriesAt row columns i entries → i < length columns →
     next ≡ record { order = entries.order; entries = set entries.entries i number } → number ≡ get_or row.entries (get_or columns i 0) 0 →
     HasEntriesAt row columns (i + 1) next
@@ -177,17 +159,6 @@ entries_all row columns i entries so_far whole =
     (ext_get_or 0 entries.entries (map (λ column. get_or row.entries column 0) columns)
     (so_far.fits ∙ sym (length-map columns (λ column. get_or row.entries column 0)))
     (λ s below. so_far.taken s (omega (arith, so_far.fits)) ∙ sym (get_or-map (λ column. get_or row.entries column 0) columns s 0 0 (omega (arith, so_far.fits)))))
-
--- no rows yet
-pub modulo_none : (e : EchelonValue) (columns : List ℕ) (g : List (List ℕ)) (action : MatrixValue) →
-    action ≡ record { order = e.order; cols = length columns; rows = [] } → IsMatrix action → HasRowsModulo e columns g 0 action
-modulo_none e columns g action is h = record {
-  field = ap (λ (x : MatrixValue). x.order) is;
-  width = ap (λ (x : MatrixValue). x.cols) is;
-  count = ap (λ (x : MatrixValue). length x.rows) is;
-  well_formed = h;
-  each = λ t below. absurd (omega arith);
-}
 
 -- one more row
 pub modulo_more : (e : EchelonValue) (columns : List ℕ) (g : List (List ℕ)) (i : ℕ) (action next : MatrixValue) (row : RowValue) →

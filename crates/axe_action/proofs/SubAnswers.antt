@@ -5,16 +5,12 @@ use Rattle.axe_row.specs.declared.Refusal.{Refusal}
 use Rattle.axe_row.specs.declared.Refusal.TheVariants.{FieldsDiffer, ShapesDiffer, NotSquare, Singular, NotInvariant, WholeSpace, ZeroSeed, NoRows, ZeroSpace, Memory}
 use Rattle.axe_spin.specs.Modules.{unless_refused}
 use Rattle.axe_action.specs.Actions.{AnswersSubAction}
-use mathlib.Core.Path.{refl}
+use mathlib.Core.Path.{refl, sym, subst}
 
--- a value that there is was not refused, and a refusal that was given stands
+-- a value that there is was not refused
 pub not_refused : {A : Type 0} (refusal : Option Refusal) (value found : A) → Ok found ≡ unless_refused refusal value → refusal ≡ None
 not_refused (Some other) value found e = cc
 not_refused None value found e = refl
-
-pub refused_with : {A : Type 0} (refusal : Option Refusal) (value : A) (why : Refusal) → Err why ≡ unless_refused refusal value → refusal ≡ Some why
-refused_with (Some other) value why e = cc
-refused_with None value why e = cc
 
 -- a refusal where the space is not invariant, of another answer
 pub refused_too : {S T : Type 0} (I J : Type 0) (P : S → Type 0) (Q : T → Type 0) (refusal : Refusal) → (J → I) →
@@ -29,6 +25,10 @@ refused_too I J P Q WholeSpace back h = absurd h
 refused_too I J P Q ZeroSeed back h = absurd h
 refused_too I J P Q NoRows back h = absurd h
 refused_too I J P Q ZeroSpace back h = absurd h
+
+-- the answer where there is no memory
+pub without_memory : {T : Type 0} (I : Type 0) (P : T → Type 0) (refusal : Refusal) → refusal ≡ Memory → AnswersSubAction None I P (Err refusal)
+without_memory I P refusal is = subst (λ r. AnswersSubAction None I P (Err r)) (sym is) tt
 
 -- an answer to the same question, that says more
 pub answered_more : {T : Type 0} (I J : Type 0) (P Q : T → Type 0) (result : Result T Refusal) → (I → J) → (J → I) → ((action : T) → P action → Q action) →

@@ -3,7 +3,7 @@ use Rattle.std.specs.Prelude.{◌≡◌, ℕ, ◌+◌, ◌<◌, ◌≤◌, List,
 use Rattle.std.proofs.lemmas.List.{length-append, get_or_append_left, get_or-append-add}
 use Rattle.axe_algebra.specs.NumberField.{NumberField}
 use Rattle.axe_algebra.specs.Lists.{IsMatrixOver, IsSquareOver, IsIndependent, IsSpanned, IsSubAction}
-use Rattle.axe_algebra.proofs.ListSpans.{spanned_by_coefficients, independent_rows_are_few}
+use Rattle.axe_algebra.proofs.ListSpans.{spanned_by_coefficients}
 use Rattle.axe_algebra.proofs.ListModules.{invariant_by_images, images_of_invariant, sub_action_by_rows}
 use Rattle.axe_field.specs.NumberFields.{number_field}
 use Rattle.axe_row.specs.Rows.{RowValue}
@@ -39,11 +39,6 @@ span_is_form rows e g span independent field columns =
 pub form_over : (g : MatrixValue) (rows : List (List ℕ)) (e : EchelonValue) → e ≡ form_of g rows → IsEchelon e → IsMatrixOver (number_field g.order) g.cols rows
 form_over g rows e is h = let formed : IsEchelon (form_of g rows) = subst IsEchelon is h in formed.over
 
-pub form_few : (g : MatrixValue) (rows : List (List ℕ)) (e : EchelonValue) → e ≡ form_of g rows → IsEchelon e → length rows ≤ g.cols
-form_few g rows e is h =
-    let formed : IsEchelon (form_of g rows) = subst IsEchelon is h in
-    independent_rows_are_few (number_field g.order) g.cols rows formed.over formed.independent
-
 -- the coefficients of an image
 pub action_row_of : (g : MatrixValue) (rows : List (List ℕ)) (t : ℕ) (e : EchelonValue) (image coefficients : RowValue) → e ≡ form_of g rows →
     image.entries ≡ image_of_row g rows t → AreCoordinates e image.entries coefficients → IsActionRow g rows t coefficients.entries
@@ -57,17 +52,6 @@ pub image_outside : (g : MatrixValue) (rows : List (List ℕ)) (t : ℕ) (e : Ec
 image_outside g rows t e image is image_is below outside = λ images.
     outside (subst (λ (x : EchelonValue). IsSpanned (number_field x.order) x.rows image.entries) (sym is)
     (subst (IsSpanned (number_field g.order) rows) (sym image_is) (images t below)))
-
--- no rows yet
-pub action_rows_none : (g : MatrixValue) (rows : List (List ℕ)) (action : MatrixValue) → action ≡ record { order = g.order; cols = length rows; rows = [] } →
-    IsMatrix action → HasActionRows g rows 0 action
-action_rows_none g rows action is h = record {
-  field = ap (λ (x : MatrixValue). x.order) is;
-  columns = ap (λ (x : MatrixValue). x.cols) is;
-  count = ap (λ (x : MatrixValue). length x.rows) is;
-  well_formed = h;
-  each = λ t below. absurd (omega arith);
-}
 
 -- one more row
 pub action_rows_more : (g : MatrixValue) (rows : List (List ℕ)) (i : ℕ) (action next : MatrixValue) (row : RowValue) → HasActionRows g rows i action →

@@ -21,7 +21,7 @@ use Rattle.axe_matrix.specs.Matrices.{MatrixValue}
 use Rattle.axe_echelon.specs.Echelons.{EchelonValue, IsEchelon, with_row_where}
 use Rattle.axe_echelon.proofs.FormLaws.{below_or_at}
 use Rattle.axe_echelon.proofs.EliminationLaws.{zero_row_of_vector}
-use Rattle.axe_echelon.proofs.InverseLaws.{HasFirstRows, first_rows_none, first_rows_more, first_rows_all, first_rows_dependent, spanned_of_not_new}
+use Rattle.axe_echelon.proofs.InverseLaws.{HasFirstRows, first_rows_more, first_rows_all, first_rows_dependent, spanned_of_not_new}
 use Rattle.axe_spin.specs.Spinning.{has_only_zeros}
 use Rattle.axe_action.specs.Coordinates.{IsSpanOfRows}
 use mathlib.Core.Path.{refl, sym, ◌∙◌, ap, subst}
@@ -36,19 +36,6 @@ pub record IsSpanOfFirst (m : MatrixValue) (i : ℕ) (e : EchelonValue) : Type 0
   pub back : (t : ℕ) → t < length e.rows → IsSpanned (number_field m.order) m.rows (get_or e.rows t [])
   pub all : IsIndependent (number_field m.order) m.rows → HasFirstRows m i e
   pub well_formed : IsEchelon e
-
-pub span_none : (m : MatrixValue) (e : EchelonValue) → e ≡ record { order = m.order; cols = m.cols; rows = [] } → IsEchelon e → IsSpanOfFirst m 0 e
-span_none m e is h =
-    let none : length e.rows ≡ 0 = ap (λ (x : EchelonValue). length x.rows) is in
-    record {
-      field = ap (λ (x : EchelonValue). x.order) is;
-      columns = ap (λ (x : EchelonValue). x.cols) is;
-      few = omega arith;
-      forth = λ t below. absurd (omega arith);
-      back = λ t below. absurd (omega arith);
-      all = λ independent. first_rows_none m e is h;
-      well_formed = h;
-    }
 
 -- a new row
 span_new : (m : MatrixValue) (i : ℕ) (e next : EchelonValue) (row : RowValue) → IsSpanOfFirst m i e → i < length m.rows → row.entries ≡ get_or m.rows i [] →

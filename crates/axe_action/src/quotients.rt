@@ -7,9 +7,10 @@ ghost use Rattle.axe_echelon.specs.Echelons.{IsEchelon};
 ghost use Rattle.axe_spin.specs.Modules.{IsModule};
 ghost use Rattle.axe_action.specs.Actions.{rows_refusal, AnswersQuotientAction, SpansModule, IsInvariantIn, IsActionModulo};
 ghost use Rattle.axe_action.specs.Coordinates.{IsSpanOfRows, HasImagesIn};
-ghost use Rattle.axe_action.specs.FreeColumns.{AreFreeColumns, IsRowModulo, HasRowsModulo};
+ghost use Rattle.axe_action.specs.FreeColumns.{IsFreeColumn, AreFreeColumns, IsRowModulo, HasRowsModulo};
 
-use crate::subspaces::{append, check_rows, span_of};
+use crate::rows::append;
+use crate::subspaces::{check_rows, span_of};
 use axe_echelon::Echelon;
 use axe_matrix::{Matrix, Refusal, Row};
 use axe_spin::Module;
@@ -104,11 +105,19 @@ fn free_columns(alloc: Global, span: &Echelon) -> Result<Vec<usize>, Refusal>
 {
     let mut columns = Vec::new(alloc);
     for column in 0..span.cols() {
-        if !span.is_pivot(column) {
+        if is_free(span, column) {
             columns.push(column).map_err(|_| Refusal::Memory)?;
         }
     }
     Ok(columns)
+}
+
+/// Whether a column is no pivot of a span.
+fn is_free(span: &Echelon, column: usize) -> bool
+    requires { column < span.now.cols }
+    ensures { IsTrue result ↔ IsFreeColumn span.now column }
+{
+    !span.is_pivot(column)
 }
 
 /// The matrix by which a generator acts modulo a span: its rows at the columns that are no pivots, reduced, at these

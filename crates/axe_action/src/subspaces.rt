@@ -1,6 +1,6 @@
 //! The action of a module on an invariant space.
 
-ghost use Rattle.std.specs.Prelude.{◌≡◌, ◌<◌, ◌≤◌, ◌++◌, ◌∷◌, [], length, None, IfOk};
+ghost use Rattle.std.specs.Prelude.{◌≡◌, ◌≤◌, length, None, IfOk};
 ghost use Rattle.axe_algebra.specs.Lists.{IsIndependent};
 ghost use Rattle.axe_field.specs.NumberFields.{number_field};
 ghost use Rattle.axe_row.specs.Refusals.{Answers};
@@ -9,8 +9,9 @@ ghost use Rattle.axe_spin.specs.Modules.{IsModule, unless_refused};
 ghost use Rattle.axe_action.specs.Actions.{rows_refusal, sub_action_refusal, AnswersSubAction, IsInvariantIn, IsActionOnSpan, IsBasisAction};
 ghost use Rattle.axe_action.specs.Coordinates.{IsSpanOfRows, HasImagesIn, HasActionRows};
 
+use crate::rows::append;
 use axe_echelon::Echelon;
-use axe_matrix::{MAX_ROWS, Matrix, Refusal, Row};
+use axe_matrix::{Matrix, Refusal};
 use axe_spin::{Module, has_only_zeros};
 use std::alloc::Global;
 
@@ -118,15 +119,4 @@ fn generator_action(
         append(&mut action, coefficients)?;
     }
     Ok(action)
-}
-
-/// Appends a row to a matrix; for want of memory the row is dropped, and the matrix is unchanged.
-pub(crate) fn append(matrix: &mut Matrix, row: Row) -> Result<(), Refusal>
-    requires field { row.order ≡ matrix.old.order }
-    requires fits { length row.entries ≡ matrix.old.cols }
-    requires room { length matrix.old.rows < MAX_ROWS }
-    ensures appended { Answers None (λ _. matrix.new ≡ record matrix.old { rows = matrix.old.rows ++ row.entries ∷ [] }) result }
-    ensures well_formed { IsMatrix matrix.new }
-{
-    matrix.push_row(row).map_err(|_| Refusal::Memory)
 }

@@ -18,6 +18,10 @@ plan_in draft = record { steps = map step_in draft.changes.items; shown = draft.
 abbrev pub with_step : Plan → Step → Plan
 with_step plan step = record { steps = plan.steps ++ step ∷ []; shown = plan.shown }
 
+-- the plan with more steps
+abbrev pub with_steps : Plan → List Step → Plan
+with_steps plan steps = record { steps = plan.steps ++ steps; shown = plan.shown }
+
 -- the plan that shows this text
 abbrev pub with_text : Plan → List ℕ → Plan
 with_text plan text = record { steps = plan.steps; shown = text }

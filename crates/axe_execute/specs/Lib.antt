@@ -1,4 +1,5 @@
 pub mod Meaning
+pub mod Relations
 pub mod Outcome
 pub mod Drafts
 pub mod Faults

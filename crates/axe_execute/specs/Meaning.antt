@@ -1,7 +1,10 @@
--- What a command means: given the files of a folder, its plan or the first thing that stands against it.
-use Rattle.std.specs.Prelude.{◌≡◌, ◌⊎◌, ℕ, List, [], ◌∷◌, Option, Some, None, Result, Ok, Err}
+-- What a command means whose result is a function of its files: its plan, or the first thing that stands against it.
+use Rattle.std.specs.Prelude.{◌≡◌, ◌⊎◌, ℕ, ◌+◌, List, [], ◌∷◌, ◌++◌, length, map, decimal, Option, Some, None, Result, Ok, Err}
+use Rattle.std.specs.List.{range_with_len}
+use Rattle.axe_algebra.specs.Lists.{listed}
 use Rattle.axe_row.specs.declared.Refusal.{Refusal}
 use Rattle.axe_matrix.specs.Matrices.{MatrixValue, product_refusal, matrix_product, sum_refusal, sum_of_matrices, transpose_refusal, transposed_matrix}
+use Rattle.axe_spin.specs.Modules.{ModuleValue, generator_of, module_of_matrices}
 use Rattle.axe_file.specs.declared.fault.FileFault.{FileFault}
 use Rattle.axe_file.specs.declared.TheConstants.{PACKED_LIMIT, TEXT_LIMIT}
 use Rattle.axe_file.specs.Packed.{packed, packed_fault, unpacked}
@@ -11,7 +14,7 @@ use Rattle.axe_folder.specs.declared.fault.FolderFault.{FolderFault}
 use Rattle.axe_folder.specs.Files.{Files, file_at, with_file, without_file}
 use Rattle.axe_folder.specs.Outcomes.{fetched}
 use Rattle.axe_words.specs.declared.command.Command.{Command}
-use Rattle.axe_words.specs.declared.command.Command.TheVariants.{Zcv, Zpr, Zmu, Zad, Ztr}
+use Rattle.axe_words.specs.declared.command.Command.TheVariants.{Zcv, Zpr, Zmu, Zad, Ztr, Ziv, Znu, Zsp, Zqt}
 
 -- one change to the files of a folder: a name is given these bytes, or its file is taken away
 pub data Step : Type 0 where
@@ -66,6 +69,11 @@ abbrev pub unless_refused : {A : Type 0} → Option Refusal → A → Result A P
 unless_refused None value = Ok value
 unless_refused (Some refusal) value = Err (Refuses refusal)
 
+-- the answer of an operation, a refusal as the problem that it is
+abbrev pub or_refuses : {A : Type 0} → Result A Refusal → Result A Problem
+or_refuses (Ok value) = Ok value
+or_refuses (Err refusal) = Err (Refuses refusal)
+
 -- the bytes of the file of this name, which are to be at most `limit`
 unfoldable pub bytes_in : Files → List ℕ → ℕ → Result (List ℕ) Problem
 bytes_in files name limit = fetch_named name (fetched (file_at files name) limit)
@@ -81,6 +89,35 @@ unfoldable pub text_matrix_in : Files → List ℕ → Result MatrixValue Proble
 text_matrix_in files name = do
   bytes ← bytes_in files name TEXT_LIMIT
   unless_faulty name (text_fault bytes) (text_matrix bytes)
+
+-- the matrices whose packed spellings are the files of these names, each fetched and read before the next
+abbrev pub matrices_in : Files → List (List ℕ) → Result (List MatrixValue) Problem
+matrices_in files [] = Ok []
+matrices_in files (name ∷ names) = do
+  first ← matrix_in files name
+  rest ← matrices_in files names
+  Ok (first ∷ rest)
+
+-- the name of the file of a number: the name of its module, a dot (46) and the number in decimal
+abbrev pub numbered : List ℕ → ℕ → List ℕ
+numbered name number = name ++ 46 ∷ decimal number
+
+-- the names of the files of a module's generators, whose numbers are 1 to their count
+abbrev pub numbered_names : List ℕ → ℕ → List (List ℕ)
+numbered_names name count = map (numbered name) (range_with_len 1 count)
+
+-- the module whose generators are these matrices, unless one of them is refused
+unfoldable pub checked_module : List MatrixValue → Result ModuleValue Problem
+checked_module matrices = or_refuses (module_of_matrices matrices)
+
+-- the module whose generators are the files 1 to `count` of a name, beside the matrix of the file `seed`: the files are read
+-- in this order, and then the generators are looked at
+unfoldable pub seeded_module : ℕ → List ℕ → List ℕ → Files → Result (ModuleValue × MatrixValue) Problem
+seeded_module count name seed files = do
+  matrices ← matrices_in files (numbered_names name count)
+  vectors ← matrix_in files seed
+  m ← checked_module matrices
+  Ok (m, vectors)
 
 -- the product of two matrices, unless it refuses them
 unfoldable pub checked_product : MatrixValue → MatrixValue → Result MatrixValue Problem
@@ -102,6 +139,14 @@ put_packed name a = record { steps = Put name (packed a) ∷ []; shown = [] }
 abbrev pub put_or_show_text : Option (List ℕ) → MatrixValue → Plan
 put_or_show_text (Some name) a = record { steps = Put name (text_of a) ∷ []; shown = [] }
 put_or_show_text None a = record { steps = []; shown = text_of a }
+
+-- the step that puts generator i of a module, counted from 0, packed, as the file of number i + 1
+abbrev pub put_generator : List ℕ → ModuleValue → ℕ → Step
+put_generator name m i = Put (numbered name (i + 1)) (packed (generator_of m i))
+
+-- the steps that put the generators of a module in order
+abbrev pub put_generators : List ℕ → ModuleValue → List Step
+put_generators name m = listed (length m.generators) (put_generator name m)
 
 -- `zcv`: the matrix of which a file is a text is put, packed
 unfoldable pub conversion_plan : List ℕ → List ℕ → Files → Result Plan Problem
@@ -150,11 +195,7 @@ names_read (Zpr input out) = input ∷ []
 names_read (Zmu left right out) = left ∷ right ∷ []
 names_read (Zad left right out) = left ∷ right ∷ []
 names_read (Ztr input out) = input ∷ []
-
--- the meaning of a command
-abbrev pub plan_of : Command → Files → Result Plan Problem
-plan_of (Zcv input out) files = conversion_plan input out files
-plan_of (Zpr input out) files = printing_plan input out files
-plan_of (Zmu left right out) files = product_plan left right out files
-plan_of (Zad left right out) files = sum_plan left right out files
-plan_of (Ztr input out) files = transpose_plan input out files
+names_read (Ziv input out) = input ∷ []
+names_read (Znu input out) = input ∷ []
+names_read (Zsp generators standard action name seed out) = numbered_names name generators ++ seed ∷ []
+names_read (Zqt generators subspace name out) = subspace ∷ numbered_names name generators

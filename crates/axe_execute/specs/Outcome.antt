@@ -1,5 +1,5 @@
 -- How a command may end: what its answer says of its meaning, of the files, and of the folder's device.
-use Rattle.std.specs.Prelude.{◌≡◌, ◌⊎◌, ⊤, ℕ, ◌+◌, ◌<◌, min, List, ◌∷◌, ◌++◌, Result, Ok, Err, IsOkAnd, string_bytes}
+use Rattle.std.specs.Prelude.{◌≡◌, ◌⊎◌, ⊤, ℕ, ◌+◌, ◌<◌, min, List, ◌∷◌, ◌++◌, Result, Ok, Err, string_bytes}
 use Rattle.axe_folder.specs.declared.fault.FolderFault.TheVariants as folder
 use Rattle.axe_folder.specs.Files.{Files}
 use Rattle.axe_folder.specs.Outcomes.{Puts, Removes, most_failures}
@@ -7,19 +7,20 @@ use Rattle.axe_execute.specs.declared.fault.Fault.{Fault}
 use Rattle.axe_execute.specs.declared.fault.Fault.TheVariants.{File, Folder, Refused, Usage, Memory}
 use Rattle.axe_execute.specs.declared.execution.Shown.{Shown}
 use Rattle.axe_execute.specs.Meaning.{Step, Put, Remove, step_name, step_applied, applied, Plan, Problem, Unfetched, Unreadable, Refuses, IsOneOf}
+use Rattle.axe_execute.specs.Relations.{Meaning}
 
 -- ---- reading
 
--- the answer of a call that reads the files of these names: what is meant, its value as `view` sees it or the problem
+-- the answer of a call that reads the files of these names: one that is right, its value as `view` sees it or the problem
 -- that stands. A device that fails at one of the files, and want of memory, stop it before it knows
-abbrev pub Agrees : {T V : Type 0} → List (List ℕ) → (T → V) → Result T Fault → Result V Problem → Type 0
-Agrees names view (Ok value) meaning = meaning ≡ Ok (view value)
-Agrees names view (Err (File name fault)) meaning = meaning ≡ Err (Unreadable (string_bytes name) fault)
-Agrees names view (Err (Folder name folder.Missing)) meaning = meaning ≡ Err (Unfetched (string_bytes name) folder.Missing)
-Agrees names view (Err (Folder name folder.TooLong)) meaning = meaning ≡ Err (Unfetched (string_bytes name) folder.TooLong)
+abbrev pub Agrees : {T V : Type 0} → List (List ℕ) → (T → V) → Result T Fault → Meaning V → Type 0
+Agrees names view (Ok value) meaning = meaning (Ok (view value))
+Agrees names view (Err (File name fault)) meaning = meaning (Err (Unreadable (string_bytes name) fault))
+Agrees names view (Err (Folder name folder.Missing)) meaning = meaning (Err (Unfetched (string_bytes name) folder.Missing))
+Agrees names view (Err (Folder name folder.TooLong)) meaning = meaning (Err (Unfetched (string_bytes name) folder.TooLong))
 Agrees names view (Err (Folder name folder.Device)) meaning = IsOneOf names (string_bytes name)
 Agrees names view (Err (Folder name folder.Memory)) meaning = ⊥
-Agrees names view (Err (Refused refusal)) meaning = meaning ≡ Err (Refuses refusal)
+Agrees names view (Err (Refused refusal)) meaning = meaning (Err (Refuses refusal))
 Agrees names view (Err (Usage text)) meaning = ⊥
 Agrees names view (Err Memory) meaning = ⊤
 
@@ -75,25 +76,29 @@ Carries (Err Memory) steps old new = Halted steps old new
 -- ---- commands
 
 -- this stands against the command, and no file has changed
-abbrev pub StoppedBy : Problem → Result Plan Problem → Files → Files → Type 0
-StoppedBy problem meaning old new = (meaning ≡ Err problem) × (new ≡ old)
+abbrev pub StoppedBy : Problem → Meaning Plan → Files → Files → Type 0
+StoppedBy problem meaning old new = meaning (Err problem) × (new ≡ old)
+
+-- the command has a plan, of which this holds
+abbrev pub HasPlan : Meaning Plan → (Plan → Type 0) → Type 0
+HasPlan meaning P = (plan : Plan) × meaning (Ok plan) × P plan
 
 -- how a command that reads the files of these names may end, given its meaning:
 -- it shows a text, where it has a plan, all of whose steps are made, with this text;
 -- a fault of a file, a file that is absent or too long, or a refusal, where just that stands against it: no file changes;
 -- a fault of the device: no file changes and it is one of the files that it reads, or its plan broke off at a step;
 -- want of memory: no file changes, or its plan halted at a step
-abbrev pub Executes : Result Shown Fault → List (List ℕ) → Result Plan Problem → Files → Files → Type 0
-Executes (Ok shown) names meaning old new = IsOkAnd meaning (λ plan. (shown.text.items ≡ plan.shown) × (new ≡ applied plan.steps old))
+abbrev pub Executes : Result Shown Fault → List (List ℕ) → Meaning Plan → Files → Files → Type 0
+Executes (Ok shown) names meaning old new = HasPlan meaning (λ plan. (shown.text.items ≡ plan.shown) × (new ≡ applied plan.steps old))
 Executes (Err (File name fault)) names meaning old new = StoppedBy (Unreadable (string_bytes name) fault) meaning old new
 Executes (Err (Folder name folder.Missing)) names meaning old new = StoppedBy (Unfetched (string_bytes name) folder.Missing) meaning old new
 Executes (Err (Folder name folder.TooLong)) names meaning old new = StoppedBy (Unfetched (string_bytes name) folder.TooLong) meaning old new
 Executes (Err (Folder name folder.Device)) names meaning old new =
-    (IsOneOf names (string_bytes name) × (new ≡ old)) ⊎ IsOkAnd meaning (λ plan. BrokeOff plan.steps (string_bytes name) old new)
+    (IsOneOf names (string_bytes name) × (new ≡ old)) ⊎ HasPlan meaning (λ plan. BrokeOff plan.steps (string_bytes name) old new)
 Executes (Err (Folder name folder.Memory)) names meaning old new = ⊥
 Executes (Err (Refused refusal)) names meaning old new = StoppedBy (Refuses refusal) meaning old new
 Executes (Err (Usage text)) names meaning old new = ⊥
-Executes (Err Memory) names meaning old new = (new ≡ old) ⊎ IsOkAnd meaning (λ plan. Halted plan.steps old new)
+Executes (Err Memory) names meaning old new = (new ≡ old) ⊎ HasPlan meaning (λ plan. Halted plan.steps old new)
 
 -- ---- the device
 

@@ -4,9 +4,11 @@ ghost use Rattle.axe_execute.specs.Drafts.{step_in};
 ghost use Rattle.axe_execute.specs.Outcome.{Carries, Counted};
 
 use crate::fault::Fault;
+use crate::modules::numbered;
 use axe_file::{write_packed, write_text};
 use axe_folder::Folder;
 use axe_matrix::Matrix;
+use axe_spin::Module;
 use axe_words::Name;
 use std::alloc::Global;
 
@@ -50,12 +52,12 @@ impl Change {
 }
 
 impl Draft {
-    ghost use Rattle.std.specs.Prelude.{◌≡◌, [], OnOk, IfErr};
+    ghost use Rattle.std.specs.Prelude.{◌≡◌, [], OnOk, IfErr, string_bytes};
     ghost use Rattle.axe_file.specs.Packed.{packed};
     ghost use Rattle.axe_file.specs.TextWriting.{text_of};
     ghost use Rattle.axe_execute.specs.declared.fault.Fault.TheVariants.{Memory};
-    ghost use Rattle.axe_execute.specs.Meaning.{Put};
-    ghost use Rattle.axe_execute.specs.Drafts.{plan_in, with_step, with_text};
+    ghost use Rattle.axe_execute.specs.Meaning.{Put, put_generators};
+    ghost use Rattle.axe_execute.specs.Drafts.{plan_in, with_step, with_steps, with_text};
 
     /// The draft that changes nothing and shows nothing.
     pub(crate) fn new(alloc: Global) -> Draft
@@ -77,7 +79,32 @@ impl Draft {
         ensures put { OnOk result (plan_in self.new ≡ with_step (plan_in self.old) (Put name.now (packed matrix.now))) }
         ensures memory { IfErr result (λ fault. fault ≡ Memory) }
     {
-        let name = String::from_str(alloc, name.as_str())?;
+        let file = String::from_str(alloc, name.as_str())?;
+        self.put_packed_file(alloc, file, matrix)
+    }
+
+    /// Adds that the files NAME.1, NAME.2 and so on are given the packed spellings of a module's generators, in order.
+    pub(crate) fn put_generators(
+        &mut self,
+        alloc: Global,
+        name: &Name,
+        module: &Module,
+    ) -> Result<(), Fault>
+        ensures put { OnOk result (plan_in self.new ≡ with_steps (plan_in self.old) (put_generators name.now «module».now)) }
+        ensures memory { IfErr result (λ fault. fault ≡ Memory) }
+    {
+        for index in 0..module.gens() {
+            let file = numbered(alloc, name, index + 1)?;
+            self.put_packed_file(alloc, file, module.generator(index))?;
+        }
+        Ok(())
+    }
+
+    // Adds that the file of this name is given the packed spelling of a matrix.
+    fn put_packed_file(&mut self, alloc: Global, name: String, matrix: &Matrix) -> Result<(), Fault>
+        ensures put { OnOk result (plan_in self.new ≡ with_step (plan_in self.old) (Put (string_bytes name) (packed matrix.now))) }
+        ensures memory { IfErr result (λ fault. fault ≡ Memory) }
+    {
         let bytes = write_packed(alloc, matrix).map_err(|_| Fault::Memory)?;
         self.changes.push(Change::Put { name, bytes })?;
         Ok(())

@@ -1,6 +1,7 @@
 //! Commands, executed.
 ghost use Rattle.std.specs.Prelude.{IsTrue};
-ghost use Rattle.axe_execute.specs.Meaning.{names_read, plan_of};
+ghost use Rattle.axe_execute.specs.Meaning.{names_read};
+ghost use Rattle.axe_execute.specs.Relations.{Means};
 ghost use Rattle.axe_execute.specs.Outcome.{Executes, BlamesDevice, Counted};
 
 use crate::draft::{Draft, make_all};
@@ -25,7 +26,7 @@ pub struct Shown {
 /// the folder doesn't tell its files nothing is promised but that the call returns.
 pub fn execute<F: Folder>(alloc: Global, command: &Command, folder: &mut F) -> Result<Shown, Fault>
     ensures outcome { IsTrue F.tells →
-        (let meaning = plan_of command.now (F.files folder.old) in
+        (let meaning = Means command.now (F.files folder.old) in
         Executes result (names_read command.now) meaning (F.files folder.old) (F.files folder.new)) }
     ensures device { IsTrue F.tells → BlamesDevice result (F.failures folder.old) (F.failures folder.new) }
     ensures counted { IsTrue F.tells → Counted result (F.failures folder.old) (F.failures folder.new) }

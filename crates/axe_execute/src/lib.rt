@@ -7,10 +7,15 @@
 mod draft;
 mod execution;
 mod fault;
+mod laws;
+mod modules;
 mod planning;
 mod printed;
+mod quotients;
 mod reading;
+mod spinning;
 
 pub use execution::{Shown, execute};
 pub use fault::Fault;
+pub use laws::commands_have_one_meaning;
 pub use printed::{line, number, status};

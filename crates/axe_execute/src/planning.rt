@@ -1,14 +1,18 @@
 //! What each command is about to do: its files are read, its result is computed, and everything that it will write is made.
 //! Nothing is written here.
 ghost use Rattle.std.specs.Prelude.{◌≡◌, IsTrue, [], ◌∷◌, option_copied};
-ghost use Rattle.axe_execute.specs.Meaning.{names_read, plan_of, checked_product, checked_sum, checked_transpose};
+ghost use Rattle.axe_execute.specs.Meaning.{names_read, checked_product, checked_sum, checked_transpose};
 ghost use Rattle.axe_execute.specs.Meaning.{conversion_plan, printing_plan, product_plan, sum_plan, transpose_plan};
+ghost use Rattle.axe_execute.specs.Relations.{Is, InverseOf, NullSpaceOf, InversePlan, NullSpacePlan, Means};
 ghost use Rattle.axe_execute.specs.Outcome.{Agrees, Counted};
 ghost use Rattle.axe_execute.specs.Drafts.{plan_in};
 
 use crate::draft::Draft;
 use crate::fault::Fault;
+use crate::quotients::quotient_draft;
 use crate::reading::{read_matrix, read_text_matrix};
+use crate::spinning::SeededModule;
+use axe_echelon::{inverse, null_space};
 use axe_folder::Folder;
 use axe_matrix::Matrix;
 use axe_words::{Command, Name};
@@ -22,7 +26,7 @@ pub(crate) fn draft_of<F: Folder>(
 ) -> Result<Draft, Fault>
     ensures means { IsTrue F.tells →
         Agrees (names_read command.now) plan_in result
-        (plan_of command.now (F.files folder.old)) }
+        (Means command.now (F.files folder.old)) }
     ensures kept { IsTrue F.tells → F.files folder.new ≡ F.files folder.old }
     ensures counted { IsTrue F.tells → Counted result (F.failures folder.old) (F.failures folder.new) }
 {
@@ -32,6 +36,25 @@ pub(crate) fn draft_of<F: Folder>(
         Command::Zmu { left, right, out } => product_draft(alloc, left, right, out, folder),
         Command::Zad { left, right, out } => sum_draft(alloc, left, right, out, folder),
         Command::Ztr { input, out } => transpose_draft(alloc, input, out, folder),
+        Command::Ziv { input, out } => inverse_draft(alloc, input, out, folder),
+        Command::Znu { input, out } => null_space_draft(alloc, input, out, folder),
+        Command::Zsp {
+            generators,
+            standard,
+            action,
+            name,
+            seed,
+            out,
+        } => {
+            let seeded = SeededModule::read(alloc, folder, *generators, name, seed)?;
+            seeded.draft(alloc, *standard, action.as_ref(), out)
+        }
+        Command::Zqt {
+            generators,
+            subspace,
+            name,
+            out,
+        } => quotient_draft(alloc, *generators, subspace, name, out, folder),
     }
 }
 
@@ -45,7 +68,7 @@ fn conversion_draft<F: Folder>(
 ) -> Result<Draft, Fault>
     ensures means { IsTrue F.tells →
         Agrees (input.now ∷ []) plan_in result
-        (conversion_plan input.now out.now (F.files folder.old)) }
+        (Is (conversion_plan input.now out.now (F.files folder.old))) }
     ensures kept { IsTrue F.tells → F.files folder.new ≡ F.files folder.old }
     ensures counted { IsTrue F.tells → Counted result (F.failures folder.old) (F.failures folder.new) }
 {
@@ -65,7 +88,7 @@ fn printing_draft<F: Folder>(
 ) -> Result<Draft, Fault>
     ensures means { IsTrue F.tells →
         Agrees (input.now ∷ []) plan_in result
-        (printing_plan input.now (option_copied out.entry) (F.files folder.old)) }
+        (Is (printing_plan input.now (option_copied out.entry) (F.files folder.old))) }
     ensures kept { IsTrue F.tells → F.files folder.new ≡ F.files folder.old }
     ensures counted { IsTrue F.tells → Counted result (F.failures folder.old) (F.failures folder.new) }
 {
@@ -89,7 +112,7 @@ fn product_draft<F: Folder>(
 ) -> Result<Draft, Fault>
     ensures means { IsTrue F.tells →
         Agrees (left.now ∷ right.now ∷ []) plan_in result
-        (product_plan left.now right.now out.now (F.files folder.old)) }
+        (Is (product_plan left.now right.now out.now (F.files folder.old))) }
     ensures kept { IsTrue F.tells → F.files folder.new ≡ F.files folder.old }
     ensures counted { IsTrue F.tells → Counted result (F.failures folder.old) (F.failures folder.new) }
 {
@@ -112,7 +135,7 @@ fn sum_draft<F: Folder>(
 ) -> Result<Draft, Fault>
     ensures means { IsTrue F.tells →
         Agrees (left.now ∷ right.now ∷ []) plan_in result
-        (sum_plan left.now right.now out.now (F.files folder.old)) }
+        (Is (sum_plan left.now right.now out.now (F.files folder.old))) }
     ensures kept { IsTrue F.tells → F.files folder.new ≡ F.files folder.old }
     ensures counted { IsTrue F.tells → Counted result (F.failures folder.old) (F.failures folder.new) }
 {
@@ -134,7 +157,7 @@ fn transpose_draft<F: Folder>(
 ) -> Result<Draft, Fault>
     ensures means { IsTrue F.tells →
         Agrees (input.now ∷ []) plan_in result
-        (transpose_plan input.now out.now (F.files folder.old)) }
+        (Is (transpose_plan input.now out.now (F.files folder.old))) }
     ensures kept { IsTrue F.tells → F.files folder.new ≡ F.files folder.old }
     ensures counted { IsTrue F.tells → Counted result (F.failures folder.old) (F.failures folder.new) }
 {
@@ -145,10 +168,52 @@ fn transpose_draft<F: Folder>(
     Ok(draft)
 }
 
+// The draft of `ziv`: the inverse of a matrix.
+#[tactic(auto, unfolding(crate::specs::Relations::InversePlan))]
+fn inverse_draft<F: Folder>(
+    alloc: Global,
+    input: &Name,
+    out: &Name,
+    folder: &mut F,
+) -> Result<Draft, Fault>
+    ensures means { IsTrue F.tells →
+        Agrees (input.now ∷ []) plan_in result
+        (InversePlan input.now out.now (F.files folder.old)) }
+    ensures kept { IsTrue F.tells → F.files folder.new ≡ F.files folder.old }
+    ensures counted { IsTrue F.tells → Counted result (F.failures folder.old) (F.failures folder.new) }
+{
+    let matrix = read_matrix(alloc, folder, input)?;
+    let inverse = invert(alloc, &matrix)?;
+    let mut draft = Draft::new(alloc);
+    draft.put_packed(alloc, out, &inverse)?;
+    Ok(draft)
+}
+
+// The draft of `znu`: the reduced basis of the null space of a matrix.
+#[tactic(auto, unfolding(crate::specs::Relations::NullSpacePlan))]
+fn null_space_draft<F: Folder>(
+    alloc: Global,
+    input: &Name,
+    out: &Name,
+    folder: &mut F,
+) -> Result<Draft, Fault>
+    ensures means { IsTrue F.tells →
+        Agrees (input.now ∷ []) plan_in result
+        (NullSpacePlan input.now out.now (F.files folder.old)) }
+    ensures kept { IsTrue F.tells → F.files folder.new ≡ F.files folder.old }
+    ensures counted { IsTrue F.tells → Counted result (F.failures folder.old) (F.failures folder.new) }
+{
+    let matrix = read_matrix(alloc, folder, input)?;
+    let basis = null_space_basis(alloc, &matrix)?;
+    let mut draft = Draft::new(alloc);
+    draft.put_packed(alloc, out, &basis)?;
+    Ok(draft)
+}
+
 // The product of two matrices.
 #[tactic(auto, unfolding(crate::specs::Meaning::checked_product))]
 fn multiply(alloc: Global, left: &Matrix, right: &Matrix) -> Result<Matrix, Fault>
-    ensures { Agrees [] (λ product. product) result (checked_product left.now right.now) }
+    ensures { Agrees [] (λ product. product) result (Is (checked_product left.now right.now)) }
 {
     Ok(left.mul(alloc, right)?)
 }
@@ -156,7 +221,7 @@ fn multiply(alloc: Global, left: &Matrix, right: &Matrix) -> Result<Matrix, Faul
 // The sum of two matrices.
 #[tactic(auto, unfolding(crate::specs::Meaning::checked_sum))]
 fn add(alloc: Global, left: &Matrix, right: &Matrix) -> Result<Matrix, Fault>
-    ensures { Agrees [] (λ sum. sum) result (checked_sum left.now right.now) }
+    ensures { Agrees [] (λ sum. sum) result (Is (checked_sum left.now right.now)) }
 {
     Ok(left.add(alloc, right)?)
 }
@@ -164,7 +229,23 @@ fn add(alloc: Global, left: &Matrix, right: &Matrix) -> Result<Matrix, Fault>
 // The transpose of a matrix.
 #[tactic(auto, unfolding(crate::specs::Meaning::checked_transpose))]
 fn transpose(alloc: Global, matrix: &Matrix) -> Result<Matrix, Fault>
-    ensures { Agrees [] (λ transpose. transpose) result (checked_transpose matrix.now) }
+    ensures { Agrees [] (λ transpose. transpose) result (Is (checked_transpose matrix.now)) }
 {
     Ok(matrix.transpose(alloc)?)
+}
+
+// The inverse of a matrix.
+#[tactic(auto, unfolding(crate::specs::Relations::InverseOf))]
+fn invert(alloc: Global, matrix: &Matrix) -> Result<Matrix, Fault>
+    ensures { Agrees [] (λ inverse. inverse) result (InverseOf matrix.now) }
+{
+    Ok(inverse(alloc, matrix)?)
+}
+
+// The reduced basis of the null space of a matrix.
+#[tactic(auto, unfolding(crate::specs::Relations::NullSpaceOf))]
+fn null_space_basis(alloc: Global, matrix: &Matrix) -> Result<Matrix, Fault>
+    ensures { Agrees [] (λ basis. basis) result (NullSpaceOf matrix.now) }
+{
+    Ok(null_space(alloc, matrix)?)
 }

@@ -1,6 +1,8 @@
 //! Files, fetched from a folder and read.
-ghost use Rattle.std.specs.Prelude.{◌≡◌, IsTrue, [], ◌∷◌};
+ghost use Rattle.std.specs.Prelude.{◌≡◌, IsTrue, [], ◌∷◌, IfOk};
+ghost use Rattle.axe_matrix.specs.Matrices.{IsMatrix};
 ghost use Rattle.axe_execute.specs.Meaning.{bytes_in, matrix_in, text_matrix_in};
+ghost use Rattle.axe_execute.specs.Relations.{Is};
 ghost use Rattle.axe_execute.specs.Outcome.{Agrees, Counted};
 
 use crate::fault::Fault;
@@ -10,8 +12,7 @@ use axe_matrix::Matrix;
 use axe_words::Name;
 use std::alloc::Global;
 
-/// The matrix of a packed file.
-#[tactic(auto, unfolding(crate::specs::Meaning::matrix_in))]
+/// The matrix of the packed file that a command names.
 pub(crate) fn read_matrix<F: Folder>(
     alloc: Global,
     folder: &mut F,
@@ -19,14 +20,32 @@ pub(crate) fn read_matrix<F: Folder>(
 ) -> Result<Matrix, Fault>
     ensures means { IsTrue F.tells →
         Agrees (name.now ∷ []) (λ matrix. matrix) result
-        (matrix_in (F.files folder.old) name.now) }
+        (Is (matrix_in (F.files folder.old) name.now)) }
     ensures kept { IsTrue F.tells → F.files folder.new ≡ F.files folder.old }
     ensures counted { IsTrue F.tells → Counted result (F.failures folder.old) (F.failures folder.new) }
+    ensures well_formed { IfOk result IsMatrix }
 {
-    let bytes = fetch(alloc, folder, name, PACKED_LIMIT)?;
+    read_matrix_file(alloc, folder, name.as_str())
+}
+
+/// The matrix of a packed file.
+#[tactic(auto, unfolding(crate::specs::Meaning::matrix_in))]
+pub(crate) fn read_matrix_file<F: Folder>(
+    alloc: Global,
+    folder: &mut F,
+    file: &str,
+) -> Result<Matrix, Fault>
+    ensures means { IsTrue F.tells →
+        Agrees (file.now ∷ []) (λ matrix. matrix) result
+        (Is (matrix_in (F.files folder.old) file.now)) }
+    ensures kept { IsTrue F.tells → F.files folder.new ≡ F.files folder.old }
+    ensures counted { IsTrue F.tells → Counted result (F.failures folder.old) (F.failures folder.new) }
+    ensures well_formed { IfOk result IsMatrix }
+{
+    let bytes = fetch(alloc, folder, file, PACKED_LIMIT)?;
     match read_packed(alloc, &bytes) {
         Ok(matrix) => Ok(matrix),
-        Err(fault) => Err(Fault::of_file(String::from_str(alloc, name.as_str())?, fault)),
+        Err(fault) => Err(Fault::of_file(String::from_str(alloc, file)?, fault)),
     }
 }
 
@@ -39,11 +58,11 @@ pub(crate) fn read_text_matrix<F: Folder>(
 ) -> Result<Matrix, Fault>
     ensures means { IsTrue F.tells →
         Agrees (name.now ∷ []) (λ matrix. matrix) result
-        (text_matrix_in (F.files folder.old) name.now) }
+        (Is (text_matrix_in (F.files folder.old) name.now)) }
     ensures kept { IsTrue F.tells → F.files folder.new ≡ F.files folder.old }
     ensures counted { IsTrue F.tells → Counted result (F.failures folder.old) (F.failures folder.new) }
 {
-    let bytes = fetch(alloc, folder, name, TEXT_LIMIT)?;
+    let bytes = fetch(alloc, folder, name.as_str(), TEXT_LIMIT)?;
     match read_text(alloc, &bytes) {
         Ok(matrix) => Ok(matrix),
         Err(fault) => Err(Fault::of_file(String::from_str(alloc, name.as_str())?, fault)),
@@ -55,20 +74,19 @@ pub(crate) fn read_text_matrix<F: Folder>(
 fn fetch<F: Folder>(
     alloc: Global,
     folder: &mut F,
-    name: &Name,
+    file: &str,
     limit: usize,
 ) -> Result<Vec<u8>, Fault>
     ensures means { IsTrue F.tells →
-        Agrees (name.now ∷ []) (λ bytes. bytes.items) result
-        (bytes_in (F.files folder.old) name.now limit) }
+        Agrees (file.now ∷ []) (λ bytes. bytes.items) result
+        (Is (bytes_in (F.files folder.old) file.now limit)) }
     ensures kept { IsTrue F.tells → F.files folder.new ≡ F.files folder.old }
     ensures counted { IsTrue F.tells → Counted result (F.failures folder.old) (F.failures folder.new) }
 {
     // The name is copied before the call, so that want of memory can't hide a fault of the device.
-    let text = name.as_str();
-    let file = String::from_str(alloc, text)?;
-    match folder.get(text, limit) {
+    let name = String::from_str(alloc, file)?;
+    match folder.get(file, limit) {
         Ok(bytes) => Ok(bytes),
-        Err(fault) => Err(Fault::of_folder(file, fault)),
+        Err(fault) => Err(Fault::of_folder(name, fault)),
     }
 }

@@ -6,7 +6,8 @@ pub(crate) const ABOUT: &str = "A workbench for modules of matrices over small f
 /// Of the program.
 pub(crate) const LONG_ABOUT: &str = "\
 A workbench for modules of matrices over the fields of order 2, 3, 4, 5, 7, 8 and 9.
-It takes matrices in as text and prints them, and multiplies, adds and transposes them.";
+It takes matrices in as text and prints them, multiplies, adds, transposes and inverts them,
+finds their null spaces, spins vectors in modules, and takes quotients of modules.";
 
 /// Of `zcv`, in a line.
 pub(crate) const ZCV_ABOUT: &str = "Convert the text of a matrix to a packed file";
@@ -93,6 +94,130 @@ A has at least one row: without rows its transpose would have no columns.
 OUT is written when the transpose is made, so it may be A itself. Where anything is
 wrong before that, no file changes. Where all goes well, nothing is printed.";
 
+/// Of `ziv`, in a line.
+pub(crate) const ZIV_ABOUT: &str = "Invert a matrix";
+
+/// Of `ziv`.
+pub(crate) const ZIV_LONG_ABOUT: &str = "\
+Invert a matrix: read A, and write its inverse to OUT.
+
+The inverse is the matrix whose products with A, from the left and from the right, are the
+identity, which has 1 where row and column agree and 0 elsewhere. Over the field of order 3
+these two matrices are the inverses of one another:
+
+  matrix field=3 rows=2 cols=2       matrix field=3 rows=2 cols=2
+  12                                 11
+  01                                 01
+
+A has as many rows as columns. It has an inverse where no row of it is a combination of the
+other rows; where one is, A is refused as singular.
+OUT is written when the inverse is made, so it may be A itself. Where anything is wrong
+before that, no file changes. Where all goes well, nothing is printed.";
+
+/// Of `znu`, in a line.
+pub(crate) const ZNU_ABOUT: &str = "Find the null space of a matrix";
+
+/// Of `znu`.
+pub(crate) const ZNU_LONG_ABOUT: &str = "\
+Find the null space of a matrix: read A, and write the reduced basis of its null space to
+OUT.
+
+The null space has all vectors v with v A = 0. Vectors are rows, and v has an entry for each
+row of A: the rows of A, each multiplied by its entry, have the sum 0. So OUT has as many
+columns as A has rows, and it has a row for each row of A that is a combination of the rows
+before it. This is a matrix over the field of order 2 and the reduced basis of its null
+space:
+
+  matrix field=2 rows=3 cols=2       matrix field=2 rows=1 cols=3
+  10                                 111
+  01
+  11
+
+In a reduced basis the first entry of each row that is not 0 is 1, stands further to the
+right than that of the row before, and has only 0 above and below it. Every null space has
+one reduced basis, which has no rows where only the zero vector is in the null space.
+
+A has at least one row: without rows OUT would have no columns.
+OUT is written when the basis is made, so it may be A itself. Where anything is wrong
+before that, no file changes. Where all goes well, nothing is printed.";
+
+/// Of `zsp`, in a line.
+pub(crate) const ZSP_ABOUT: &str = "Spin vectors in a module";
+
+/// Of `zsp`.
+pub(crate) const ZSP_LONG_ABOUT: &str = "\
+Spin vectors in a module: read the generators from NAME.1 to NAME.N, and the vectors, the
+rows of a matrix, from SEED, and write the reduced basis of the space that they generate to
+OUT.
+
+The generators act on row vectors from the right: g takes v to v g. A space is invariant
+where every generator takes it into itself: a submodule. The space that vectors generate is
+the smallest invariant one that has them all. It is spanned by the vectors and their images
+under all products of generators.
+
+With -b it writes another basis, of the space that the first nonzero row of SEED alone
+generates: the standard basis of that row. It begins with the row. Then the rows found so
+far are taken in turn, and for each the generators in order, and an image that is no
+combination of the rows so far is added at the end. Where an isomorphism takes one vector
+to another, it takes the one's standard basis to the other's.
+
+With -a it writes the action on the rows of OUT, too: row i of ACT.j has the coefficients
+of row i of OUT times generator j, over the rows of OUT. So ACT.1 to ACT.N are the
+submodule over this basis.
+
+The generators are square matrices of one size over one field; SEED is over the same field,
+has as many columns, and a row that is not zero.
+Files are written when all of them are made, so they may be files that are read. Where
+anything is wrong before that, no file changes. Where all goes well, nothing is printed.";
+
+/// Of `zqt`, in a line.
+pub(crate) const ZQT_ABOUT: &str = "Take the quotient of a module by a submodule";
+
+/// Of `zqt`.
+pub(crate) const ZQT_LONG_ABOUT: &str = "\
+Take the quotient of a module by a submodule: read rows that span the submodule from SUB,
+and the generators from NAME.1 to NAME.N, and write the generators of the quotient to
+OUTNAME.1 to OUTNAME.N.
+
+A column is a pivot of a space where some vector of the space has its first nonzero entry
+there. The unit vectors of the columns that are no pivots, ascending, are a basis of the
+quotient, and the matrices that are written are over this basis. So the quotient's
+dimension is that of the module less that of the submodule.
+
+The generators are square matrices of one size over one field; SUB is over the same field
+and has as many columns. Its rows may be dependent, and there may be none; but they do not
+span all vectors, and every generator takes their span into itself: zsp makes such rows.
+Files are written when all of them are made, so they may be files that are read. Where
+anything is wrong before that, no file changes. Where all goes well, nothing is printed.";
+
+/// Of the file that a product is written to.
+pub(crate) const OUT_PRODUCT: &str = "The file to write the product to; what it held is replaced";
+
+/// Of the file that a sum is written to.
+pub(crate) const OUT_SUM: &str = "The file to write the sum to; what it held is replaced";
+
+/// Of the file that a transpose is written to.
+pub(crate) const OUT_TRANSPOSE: &str =
+    "The file to write the transpose to; what it held is replaced";
+
+/// Of the file that an inverse is written to.
+pub(crate) const OUT_INVERSE: &str = "The file to write the inverse to; what it held is replaced";
+
+/// Of the file that a null space is written to.
+pub(crate) const OUT_BASIS: &str =
+    "The file to write the reduced basis to; what it held is replaced";
+
+/// Of the file that spun rows are written to.
+pub(crate) const OUT_ROWS: &str = "The file to write the rows to; what it held is replaced";
+
+/// Of the name of a module.
+pub(crate) const NAME_GENERATORS: &str =
+    "The module: its generators are in the files NAME.1 to NAME.N";
+
+/// Of the name of the module that is written.
+pub(crate) const OUT_NAME_GENERATORS: &str =
+    "The quotient: its generators are written to OUTNAME.1 to OUTNAME.N";
+
 /// Of files and exit statuses, after what is said of the program or of a command.
 pub(crate) const FILES_AND_STATUSES: &str = "\
 Files:
@@ -100,14 +225,15 @@ Files:
   of 16 bytes, which begins with the letters AXP1, and then the rows. zcv makes such
   a file of a text, and zpr makes a text of such a file. A file's name has 1 to 100
   characters: letters and digits of ASCII and the signs . _ - +, of which none comes
-  first.
+  first. A module NAME with N generators is kept in N such files, NAME.1 to NAME.N.
 
 Exit status:
   0  the command is done, or help was printed
   2  the words are no command line of axe, or one of them is no file name
   3  a file is damaged: it is no packed matrix or, for zcv, no text of a matrix
-  4  the command is refused: the fields differ, the shapes do not fit, or there are no
-     rows to be transposed
+  4  the command is refused: the fields differ, the shapes do not fit, a matrix has no
+     rows, a matrix that has to be square is not, or one to be inverted has no inverse;
+     SEED has no nonzero row; the span of SUB is not invariant, or is everything
   6  a file is missing or too long, or its device failed
   7  there was not enough memory
 

@@ -13,7 +13,7 @@ mod lines;
 #[cfg(test)]
 mod tests;
 
-use axe_words::{Command, Name, NameFault};
+use axe_words::{Command, GeneratorCount, Name, NameFault};
 use clap::ArgMatches;
 use clap::error::ErrorKind;
 use std::alloc::{AllocError, Global};
@@ -89,7 +89,40 @@ fn command_of(alloc: Global, command: &str, found: &ArgMatches<'_>) -> Result<Co
             input: name_of(alloc, found, lines::LEFT)?,
             out: name_of(alloc, found, lines::OUT)?,
         }),
+        lines::ZIV => Ok(Command::Ziv {
+            input: name_of(alloc, found, lines::LEFT)?,
+            out: name_of(alloc, found, lines::OUT)?,
+        }),
+        lines::ZNU => Ok(Command::Znu {
+            input: name_of(alloc, found, lines::LEFT)?,
+            out: name_of(alloc, found, lines::OUT)?,
+        }),
+        lines::ZSP => Ok(Command::Zsp {
+            generators: generators_of(alloc, found)?,
+            standard: found.get_flag(lines::STANDARD),
+            action: optional_name_of(alloc, found, lines::ACTION)?,
+            name: name_of(alloc, found, lines::NAME)?,
+            seed: name_of(alloc, found, lines::SEED)?,
+            out: name_of(alloc, found, lines::OUT)?,
+        }),
+        lines::ZQT => Ok(Command::Zqt {
+            generators: generators_of(alloc, found)?,
+            subspace: name_of(alloc, found, lines::SUBSPACE)?,
+            name: name_of(alloc, found, lines::NAME)?,
+            out: name_of(alloc, found, lines::OUT_NAME)?,
+        }),
         _ => Err(no_command(alloc)?),
+    }
+}
+
+// The number of a module's generators. Another number than 1 to 16 has been refused by `clap` already.
+fn generators_of(alloc: Global, found: &ArgMatches<'_>) -> Result<GeneratorCount, ParseFault> {
+    match found
+        .get_one::<u8>(lines::GENERATORS)
+        .and_then(GeneratorCount::new)
+    {
+        Some(count) => Ok(count),
+        None => Err(usage(alloc, "axe: bad number of generators\n")?),
     }
 }
 

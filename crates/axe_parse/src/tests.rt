@@ -64,6 +64,44 @@ fn told(alloc: Global, command: &Command) -> Result<String, AllocError> {
         Command::Ztr { input, out } => {
             format!(in alloc; "transpose {} to {}", input.as_str(), out.as_str())
         }
+        Command::Ziv { input, out } => {
+            format!(in alloc; "invert {} to {}", input.as_str(), out.as_str())
+        }
+        Command::Znu { input, out } => {
+            format!(in alloc; "null space of {} to {}", input.as_str(), out.as_str())
+        }
+        Command::Zsp {
+            generators,
+            standard,
+            action,
+            name,
+            seed,
+            out,
+        } => {
+            format!(in alloc;
+                "spin {} by {} generators of {} to {}, standard {}, action {}",
+                seed.as_str(),
+                generators.get(),
+                name.as_str(),
+                out.as_str(),
+                standard,
+                action.as_ref().map_or("none", |action| action.as_str())
+            )
+        }
+        Command::Zqt {
+            generators,
+            subspace,
+            name,
+            out,
+        } => {
+            format!(in alloc;
+                "quotient by {} of {} generators of {} to {}",
+                subspace.as_str(),
+                generators.get(),
+                name.as_str(),
+                out.as_str()
+            )
+        }
     }
 }
 
@@ -79,6 +117,9 @@ fn words_make_commands(rt: HostRuntime) -> Result<(), ParseFault> {
         ("zmu,--,A,B-2.x,9+_", "multiply A by B-2.x to 9+_"),
         ("zad,A,B-2.x,9+_", "add A and B-2.x to 9+_"),
         ("ztr,A,OUT", "transpose A to OUT"),
+        ("ziv,A,OUT", "invert A to OUT"),
+        ("znu,A,OUT", "null space of A to OUT"),
+        ("znu,--,9+_,A", "null space of 9+_ to A"),
     ];
     for (line, wanted) in commands {
         let command = answer_of(rt.alloc(), line)??;
@@ -112,6 +153,12 @@ fn other_words_are_usage(rt: HostRuntime) -> Result<(), AllocError> {
         ("zad,A,B,C,D", "Usage: axe zad <A> <B> <OUT>\n"),
         ("ztr,A", "Usage: axe ztr <A> <OUT>\n"),
         ("ztr,A,B,C", "Usage: axe ztr <A> <OUT>\n"),
+        ("ziv", "Usage: axe ziv <A> <OUT>\n"),
+        ("ziv,A", "Usage: axe ziv <A> <OUT>\n"),
+        ("ziv,A,B,C", "Usage: axe ziv <A> <OUT>\n"),
+        ("znu", "Usage: axe znu <A> <OUT>\n"),
+        ("znu,A", "Usage: axe znu <A> <OUT>\n"),
+        ("znu,A,B,C", "Usage: axe znu <A> <OUT>\n"),
     ];
     for (line, usage) in counts {
         let answer = answer_of(rt.alloc(), line)?;
@@ -160,6 +207,10 @@ fn bad_names_have_a_text_of_their_own(rt: HostRuntime) -> Result<(), AllocError>
         "zad,A,B,../OUT",
         "ztr,-,OUT",
         "ztr,A,é",
+        "ziv,.A,OUT",
+        "ziv,A,",
+        "znu,a/b,OUT",
+        "znu,A,..",
     ];
     for line in lines {
         let answer = answer_of(rt.alloc(), line)?;
@@ -182,6 +233,8 @@ fn help_and_version_are_shown(rt: HostRuntime) -> Result<(), AllocError> {
         ("-h", "  zmu   Multiply two matrices\n"),
         ("-h", "  zad   Add two matrices\n"),
         ("-h", "  ztr   Transpose a matrix\n"),
+        ("-h", "  ziv   Invert a matrix\n"),
+        ("-h", "  znu   Find the null space of a matrix\n"),
         ("--help", "fields of order 2, 3, 4, 5, 7, 8 and 9"),
         ("--help", "  zmu   Multiply two matrices\n"),
         ("help", "  zmu   Multiply two matrices\n"),
@@ -198,6 +251,10 @@ fn help_and_version_are_shown(rt: HostRuntime) -> Result<(), AllocError> {
         ("help,zmu", "Usage: axe zmu <A> <B> <OUT>\n"),
         ("zad,--help", "the sum A plus B"),
         ("ztr,--help", "at least one row"),
+        ("ziv,-h", "Usage: axe ziv <A> <OUT>\n"),
+        ("ziv,--help", "refused as singular"),
+        ("help,znu", "Usage: axe znu <A> <OUT>\n"),
+        ("znu,--help", "all vectors v with v A = 0"),
     ];
     for (line, part) in shown {
         let answer = answer_of(rt.alloc(), line)?;

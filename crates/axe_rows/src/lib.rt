@@ -9,6 +9,8 @@ mod directory;
 #[cfg(test)]
 mod lines;
 #[cfg(test)]
+mod null_spaces;
+#[cfg(test)]
 mod products;
 #[cfg(test)]
 mod sums;

@@ -1,2 +1,3 @@
 pub mod Commands
+pub mod Counts
 pub mod Names

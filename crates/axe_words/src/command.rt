@@ -1,4 +1,5 @@
 //! What a command line asks for.
+use crate::count::GeneratorCount;
 use crate::name::Name;
 
 /// One command of `axe` with its files. Files lie in the working directory, and are packed matrices where nothing else is
@@ -42,6 +43,49 @@ pub enum Command {
         /// The file of the matrix.
         input: Name,
         /// The file that the transpose is written to, which may be the matrix's own.
+        out: Name,
+    },
+    /// `ziv IN OUT`: inverts a matrix.
+    Ziv {
+        /// The file of the matrix.
+        input: Name,
+        /// The file that the inverse is written to, which may be the matrix's own.
+        out: Name,
+    },
+    /// `znu IN OUT`: gives the null space of a matrix.
+    Znu {
+        /// The file of the matrix.
+        input: Name,
+        /// The file that the reduced basis of the null space is written to, which may be the matrix's own.
+        out: Name,
+    },
+    /// `zsp [-g N] [-b] [-a ACT] NAME SEED OUT`: spins vectors in a module. The module's generators are the files NAME.1 to
+    /// NAME.N.
+    Zsp {
+        /// How many generators there are.
+        generators: GeneratorCount,
+        /// Whether the standard basis of the first vector other than zero is asked for, in the place of the reduced basis
+        /// of the space that all vectors generate.
+        standard: bool,
+        /// The name before the numbers of the files that the action on these rows is written to, where it is asked for.
+        action: Option<Name>,
+        /// The name before the numbers of the generators' files.
+        name: Name,
+        /// The file of the vectors, the rows of a matrix.
+        seed: Name,
+        /// The file that the rows are written to.
+        out: Name,
+    },
+    /// `zqt [-g N] SUB NAME OUTNAME`: gives the action of a module modulo an invariant space. The module's generators are the
+    /// files NAME.1 to NAME.N.
+    Zqt {
+        /// How many generators there are.
+        generators: GeneratorCount,
+        /// The file of rows that span the space.
+        subspace: Name,
+        /// The name before the numbers of the generators' files.
+        name: Name,
+        /// The name before the numbers of the files that the action is written to.
         out: Name,
     },
 }

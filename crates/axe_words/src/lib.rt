@@ -2,9 +2,14 @@
 #![tactic(auto)]
 
 pub mod command;
+pub mod count;
 pub mod name;
 #[cfg(test)]
 mod tests;
 
 pub use command::Command;
+pub use count::GeneratorCount;
 pub use name::{Name, NameFault};
+
+/// The most generators that a module has.
+pub const MAX_GENERATORS: u8 = 16;

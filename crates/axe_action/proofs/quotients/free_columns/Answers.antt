@@ -1,17 +1,18 @@
-use Rattle.std.proofs.Common.{rules, ◌≡◌, ◌<◌, [], ◌∷◌, ◌++◌, arith}
-use Rattle.axe_action.proofs.QuotientRows.{free_of_test, pivot_of_test, free_pivot, free_more}
-use Rattle.axe_action.proofs.quotients.free_columns.Goals.{then-not-is_pivot+in_ok-map_err, else-not-is_pivot}
+use Rattle.std.proofs.Common.{rules, ◌≡◌, [], ◌∷◌, ◌++◌}
+use Rattle.axe_action.specs.FreeColumns.{IsFreeColumn}
+use Rattle.axe_action.proofs.QuotientSpans.{test_failed}
+use Rattle.axe_action.proofs.QuotientRows.{free_pivot, free_more}
+use Rattle.axe_action.proofs.quotients.free_columns.Goals.{then-is_free+in_ok-map_err, else-is_free}
 use Rattle.axe_action.proofs.quotients.free_columns.Goals as goal
 
 pub loop-column-preserved : goal.loop-column-preserved
 loop-column-preserved c =
-    let below : c.loop-column.column < c.args.span.now.cols = omega (arith, c.loop-column-test.true, c.cols-column-end.ensures.count) in
-    elim c.if-not-is_pivot.branch [
-      | then-not-is_pivot+in_ok-map_err w ↦
+    elim c.if-is_free.branch [
+      | then-is_free+in_ok-map_err w ↦
           let pushed : w.push.new.self.items ≡ c.loop-column.columns.items ++ c.loop-column.column ∷ [] = search rules in
           rw w.columns-is (free_more c.args.span.now c.loop-column.column c.loop-column.columns.items w.push.new.self.items c.loop-column.invariant pushed
-          (free_of_test c.args.span.now c.loop-column.column c.is_pivot.result c.is_pivot.ensures w.if-not-is_pivot.true below))
-      | else-not-is_pivot w ↦
+          (c.is_free.ensures.0 w.if-is_free.true))
+      | else-is_free w ↦
           rw w.columns-is (free_pivot c.args.span.now c.loop-column.column c.loop-column.columns.items c.loop-column.invariant
-          (pivot_of_test c.args.span.now c.loop-column.column c.is_pivot.result c.is_pivot.ensures w.if-not-is_pivot.false))
+          (test_failed (IsFreeColumn c.args.span.now c.loop-column.column) c.is_free.result c.is_free.ensures w.if-is_free.false))
     ]

@@ -1,0 +1,35 @@
+-- Meanings with at most one answer.
+use Rattle.std.proofs.Common.{◌≡◌, refl, sym, ◌∙◌, ap, subst, Option, Some, None, Result, Ok, Err, IfOk}
+use Rattle.axe_row.specs.declared.Refusal.{Refusal}
+use Rattle.axe_execute.specs.Meaning.{Problem}
+use Rattle.axe_execute.specs.Relations.{Meaning, AtMostOne, Is, Has, HasOrRefuses, UnlessRefused, After, ◌>>=◌}
+
+pub is_one : {A : Type 0} (right : Result A Problem) → AtMostOne (Is right)
+is_one right first second is_first is_second = sym is_first ∙ is_second
+
+pub has_one : {A : Type 0} (P : A → Type 0) → ((a b : A) → P a → P b → a ≡ b) → AtMostOne (Has P)
+has_one P only (Ok a) (Ok b) of_a of_b = ap Ok (only a b of_a of_b)
+has_one P only (Ok a) (Err problem) of_a of_b = absurd of_b
+has_one P only (Err problem) second of_a of_b = absurd of_a
+
+pub has_or_refuses_one : {A : Type 0} (P : A → Type 0) (refusal : Refusal) → ((a b : A) → P a → P b → a ≡ b) → AtMostOne (HasOrRefuses P refusal)
+has_or_refuses_one P refusal only (Ok a) (Ok b) of_a of_b = ap Ok (only a b of_a of_b)
+has_or_refuses_one P refusal only (Ok a) (Err problem) of_a none = absurd (none.1 (a, of_a))
+has_or_refuses_one P refusal only (Err problem) (Ok b) none of_b = absurd (none.1 (b, of_b))
+has_or_refuses_one P refusal only (Err problem) (Err other) none nor = ap Err (none.0 ∙ sym nor.0)
+
+pub unless_refused_one : {A : Type 0} (refusal : Option Refusal) (meaning : Meaning A) → (refusal ≡ None → AtMostOne meaning) →
+    AtMostOne (UnlessRefused refusal meaning)
+unless_refused_one None meaning one = one refl
+unless_refused_one (Some refusal) meaning one = λ first second is_first is_second. is_first ∙ sym is_second
+
+-- what comes after a first answer, whose value has a property
+after_one : {A B : Type 0} (P : A → Type 0) (before : Result A Problem) (next : A → Meaning B) → IfOk before P →
+    ((value : A) → P value → AtMostOne (next value)) → AtMostOne (After before next)
+after_one P (Ok value) next has one = one value has
+after_one P (Err problem) next has one = λ first second is_first is_second. is_first ∙ sym is_second
+
+pub then_one : {A B : Type 0} (P : A → Type 0) (first : Meaning A) (next : A → Meaning B) → ((before : Result A Problem) → first before → IfOk before P) →
+    AtMostOne first → ((value : A) → P value → AtMostOne (next value)) → AtMostOne (first >>= next)
+then_one P first next has only one a b (before, is_before, after_a) (before', is_before', after_b) =
+    after_one P before next (has before is_before) one a b after_a (subst (λ answer. After answer next b) (only before' before is_before' is_before) after_b)

@@ -1,0 +1,51 @@
+//! `zqt`: the action of a module modulo an invariant space.
+ghost use Rattle.std.specs.Prelude.{◌≡◌, IsTrue, [], ◌∷◌, IfOk};
+ghost use Rattle.axe_spin.specs.Modules.{IsModule};
+ghost use Rattle.axe_execute.specs.Meaning.{numbered_names};
+ghost use Rattle.axe_execute.specs.Relations.{ActionModulo, QuotientPlan};
+ghost use Rattle.axe_execute.specs.Outcome.{Agrees, Counted};
+ghost use Rattle.axe_execute.specs.Drafts.{plan_in};
+
+use crate::draft::Draft;
+use crate::fault::Fault;
+use crate::modules::{module_of, read_generators};
+use crate::reading::read_matrix;
+use axe_action::quotient_action;
+use axe_folder::Folder;
+use axe_matrix::Matrix;
+use axe_spin::Module;
+use axe_words::{GeneratorCount, Name};
+use std::alloc::Global;
+
+/// The draft of `zqt`: the quotient of a module by the space that rows span.
+#[tactic(auto, unfolding(crate::specs::Relations::QuotientPlan))]
+pub(crate) fn quotient_draft<F: Folder>(
+    alloc: Global,
+    generators: GeneratorCount,
+    subspace: &Name,
+    name: &Name,
+    out: &Name,
+    folder: &mut F,
+) -> Result<Draft, Fault>
+    ensures means { IsTrue F.tells →
+        Agrees (subspace.now ∷ numbered_names name.now generators) plan_in result
+        (QuotientPlan generators subspace.now name.now out.now (F.files folder.old)) }
+    ensures kept { IsTrue F.tells → F.files folder.new ≡ F.files folder.old }
+    ensures counted { IsTrue F.tells → Counted result (F.failures folder.old) (F.failures folder.new) }
+{
+    let rows = read_matrix(alloc, folder, subspace)?;
+    let matrices = read_generators(alloc, folder, name, generators)?;
+    let module = module_of(matrices)?;
+    let quotient = action_modulo(alloc, &module, &rows)?;
+    let mut draft = Draft::new(alloc);
+    draft.put_generators(alloc, out, &quotient)?;
+    Ok(draft)
+}
+
+// The quotient action of a module modulo the space that rows span.
+#[tactic(auto, unfolding(crate::specs::Relations::ActionModulo))]
+fn action_modulo(alloc: Global, module: &Module, rows: &Matrix) -> Result<Module, Fault>
+    ensures { Agrees [] (λ action. action) result (ActionModulo «module».now rows.now) }
+{
+    Ok(quotient_action(alloc, module, rows)?)
+}
