@@ -10,8 +10,6 @@ ghost use Rattle.axe_words.specs.Commands.{HasNames};
 
 mod help;
 mod lines;
-#[cfg(test)]
-mod tests;
 
 use axe_words::{Command, GeneratorCount, Name, NameFault};
 use clap::ArgMatches;

@@ -4,6 +4,12 @@
 #![tactic(auto)]
 
 #[cfg(test)]
+mod actions;
+#[cfg(test)]
+mod duals;
+#[cfg(test)]
+mod echelons;
+#[cfg(test)]
 mod fields;
 #[cfg(test)]
 mod files;
@@ -12,4 +18,10 @@ mod folders;
 #[cfg(test)]
 mod matrices;
 #[cfg(test)]
+mod modules;
+#[cfg(test)]
 mod rows;
+#[cfg(test)]
+mod spinning;
+#[cfg(test)]
+mod values;

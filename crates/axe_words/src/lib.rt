@@ -4,8 +4,6 @@
 pub mod command;
 pub mod count;
 pub mod name;
-#[cfg(test)]
-mod tests;
 
 pub use command::Command;
 pub use count::GeneratorCount;

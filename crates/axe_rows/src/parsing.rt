@@ -1,6 +1,5 @@
 //! Which words give which answer.
-use crate::{ParseFault, parse};
-use axe_words::Command;
+use axe_command::{Command, ParseFault, parse};
 use std::alloc::{AllocError, Global};
 
 // The words of a line, of which each ends at a comma.
@@ -130,14 +129,40 @@ fn words_make_commands(rt: HostRuntime) -> Result<(), ParseFault> {
 }
 
 #[test]
-fn other_words_are_usage(rt: HostRuntime) -> Result<(), AllocError> {
-    let no_words = Vec::new(rt.alloc());
-    assert!(rt;
-        matches!(
-            parse(rt.alloc(), no_words.as_slice()),
-            Err(ParseFault::Usage(_))
-        )
-    );
+fn words_with_options_make_commands(rt: HostRuntime) -> Result<(), ParseFault> {
+    let commands = [
+        (
+            "zsp,M,S,OUT",
+            "spin S by 2 generators of M to OUT, standard false, action none",
+        ),
+        (
+            "zsp,-g,1,-b,-a,T,M,S,OUT",
+            "spin S by 1 generators of M to OUT, standard true, action T",
+        ),
+        (
+            "zsp,-g16,-ba,T,M,S,OUT",
+            "spin S by 16 generators of M to OUT, standard true, action T",
+        ),
+        (
+            "zsp,M,S,OUT,-g=3",
+            "spin S by 3 generators of M to OUT, standard false, action none",
+        ),
+        ("zqt,S,M,Q", "quotient by S of 2 generators of M to Q"),
+        (
+            "zqt,-g,16,S,M,Q",
+            "quotient by S of 16 generators of M to Q",
+        ),
+    ];
+    for (line, wanted) in commands {
+        let command = answer_of(rt.alloc(), line)??;
+        let told = told(rt.alloc(), &command)?;
+        assert!(rt; told.as_str() == wanted, "{line}: {told}");
+    }
+    Ok(())
+}
+
+#[test]
+fn too_few_or_too_many_words_are_usage(rt: HostRuntime) -> Result<(), AllocError> {
     let counts = [
         ("zcv", "Usage: axe zcv <IN> <OUT>\n"),
         ("zcv,A", "Usage: axe zcv <IN> <OUT>\n"),
@@ -159,12 +184,50 @@ fn other_words_are_usage(rt: HostRuntime) -> Result<(), AllocError> {
         ("znu", "Usage: axe znu <A> <OUT>\n"),
         ("znu,A", "Usage: axe znu <A> <OUT>\n"),
         ("znu,A,B,C", "Usage: axe znu <A> <OUT>\n"),
+        ("zsp,M,S", "Usage: axe zsp <NAME> <SEED> <OUT>\n"),
+        (
+            "zsp,M,S,OUT,A",
+            "Usage: axe zsp [OPTIONS] <NAME> <SEED> <OUT>\n",
+        ),
+        ("zqt,S,M", "Usage: axe zqt <SUB> <NAME> <OUTNAME>\n"),
+        (
+            "zqt,S,M,Q,A",
+            "Usage: axe zqt [OPTIONS] <SUB> <NAME> <OUTNAME>\n",
+        ),
     ];
     for (line, usage) in counts {
         let answer = answer_of(rt.alloc(), line)?;
         let text = usage_text(&answer);
         assert!(rt; text.contains(usage), "{line}: {text}");
     }
+    Ok(())
+}
+
+#[test]
+fn other_numbers_of_generators_are_usage(rt: HostRuntime) -> Result<(), AllocError> {
+    let numbers = [
+        ("zsp,-g,17,M,S,OUT", "invalid value '17' for '-g <N>'"),
+        ("zsp,-g,0,M,S,OUT", "invalid value '0' for '-g <N>'"),
+        ("zqt,-g,x,S,M,Q", "invalid value 'x' for '-g <N>'"),
+        ("zqt,S,M,Q,-g", "a value is required for '-g <N>'"),
+    ];
+    for (line, part) in numbers {
+        let answer = answer_of(rt.alloc(), line)?;
+        let text = usage_text(&answer);
+        assert!(rt; text.contains(part), "{line}: {text}");
+    }
+    Ok(())
+}
+
+#[test]
+fn other_words_are_usage(rt: HostRuntime) -> Result<(), AllocError> {
+    let no_words = Vec::new(rt.alloc());
+    assert!(rt;
+        matches!(
+            parse(rt.alloc(), no_words.as_slice()),
+            Err(ParseFault::Usage(_))
+        )
+    );
     let commands = [
         "",
         "axe",
@@ -175,6 +238,8 @@ fn other_words_are_usage(rt: HostRuntime) -> Result<(), AllocError> {
         "--words",
         "zmu,-C,B,OUT",
         "zpr,A,-o",
+        "zsp,-c,M,S,OUT",
+        "zqt,-b,S,M,Q",
     ];
     for line in commands {
         let answer = answer_of(rt.alloc(), line)?;
@@ -211,6 +276,9 @@ fn bad_names_have_a_text_of_their_own(rt: HostRuntime) -> Result<(), AllocError>
         "ziv,A,",
         "znu,a/b,OUT",
         "znu,A,..",
+        "zsp,a/b,S,OUT",
+        "zsp,-a,.T,M,S,OUT",
+        "zqt,S,M,..",
     ];
     for line in lines {
         let answer = answer_of(rt.alloc(), line)?;
@@ -235,6 +303,11 @@ fn help_and_version_are_shown(rt: HostRuntime) -> Result<(), AllocError> {
         ("-h", "  ztr   Transpose a matrix\n"),
         ("-h", "  ziv   Invert a matrix\n"),
         ("-h", "  znu   Find the null space of a matrix\n"),
+        ("-h", "  zsp   Spin vectors in a module\n"),
+        (
+            "-h",
+            "  zqt   Take the quotient of a module by a submodule\n",
+        ),
         ("--help", "fields of order 2, 3, 4, 5, 7, 8 and 9"),
         ("--help", "  zmu   Multiply two matrices\n"),
         ("help", "  zmu   Multiply two matrices\n"),
@@ -255,6 +328,13 @@ fn help_and_version_are_shown(rt: HostRuntime) -> Result<(), AllocError> {
         ("ziv,--help", "refused as singular"),
         ("help,znu", "Usage: axe znu <A> <OUT>\n"),
         ("znu,--help", "all vectors v with v A = 0"),
+        ("zsp,-h", "Usage: axe zsp [OPTIONS] <NAME> <SEED> <OUT>\n"),
+        ("help,zsp", "the standard basis of that row"),
+        (
+            "zqt,-h",
+            "Usage: axe zqt [OPTIONS] <SUB> <NAME> <OUTNAME>\n",
+        ),
+        ("zqt,--help", "the generators of the quotient"),
     ];
     for (line, part) in shown {
         let answer = answer_of(rt.alloc(), line)?;

@@ -1,5 +1,5 @@
 //! Which texts are names, at the edges of the rule.
-use crate::name::{Name, NameFault};
+use axe_command::{Name, NameFault};
 use std::alloc::{AllocError, Global};
 
 // Whether each of the texts is a name with just this text, also when it is copied.
