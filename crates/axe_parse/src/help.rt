@@ -190,6 +190,13 @@ span all vectors, and every generator takes their span into itself: zsp makes su
 Files are written when all of them are made, so they may be files that are read. Where
 anything is wrong before that, no file changes. Where all goes well, nothing is printed.";
 
+/// Of the file that a matrix is written to.
+pub(crate) const OUT_MATRIX: &str = "The file to write the matrix to; what it held is replaced";
+
+/// Of the file that a text is written to.
+pub(crate) const OUT_TEXT: &str =
+    "The file to write the text to; what it held is replaced. Without it the text is shown";
+
 /// Of the file that a product is written to.
 pub(crate) const OUT_PRODUCT: &str = "The file to write the product to; what it held is replaced";
 

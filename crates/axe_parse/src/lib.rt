@@ -65,52 +65,115 @@ fn command_of(alloc: Global, command: &str, found: &ArgMatches<'_>) -> Result<Co
     ensures { IfOk result HasNames }
 {
     match command {
-        lines::ZCV => Ok(Command::Zcv {
-            input: name_of(alloc, found, lines::IN)?,
-            out: name_of(alloc, found, lines::OUT)?,
-        }),
-        lines::ZPR => Ok(Command::Zpr {
-            input: name_of(alloc, found, lines::IN)?,
-            out: optional_name_of(alloc, found, lines::OUT)?,
-        }),
-        lines::ZMU => Ok(Command::Zmu {
-            left: name_of(alloc, found, lines::LEFT)?,
-            right: name_of(alloc, found, lines::RIGHT)?,
-            out: name_of(alloc, found, lines::OUT)?,
-        }),
-        lines::ZAD => Ok(Command::Zad {
-            left: name_of(alloc, found, lines::LEFT)?,
-            right: name_of(alloc, found, lines::RIGHT)?,
-            out: name_of(alloc, found, lines::OUT)?,
-        }),
-        lines::ZTR => Ok(Command::Ztr {
-            input: name_of(alloc, found, lines::LEFT)?,
-            out: name_of(alloc, found, lines::OUT)?,
-        }),
-        lines::ZIV => Ok(Command::Ziv {
-            input: name_of(alloc, found, lines::LEFT)?,
-            out: name_of(alloc, found, lines::OUT)?,
-        }),
-        lines::ZNU => Ok(Command::Znu {
-            input: name_of(alloc, found, lines::LEFT)?,
-            out: name_of(alloc, found, lines::OUT)?,
-        }),
-        lines::ZSP => Ok(Command::Zsp {
-            generators: generators_of(alloc, found)?,
-            standard: found.get_flag(lines::STANDARD),
-            action: optional_name_of(alloc, found, lines::ACTION)?,
-            name: name_of(alloc, found, lines::NAME)?,
-            seed: name_of(alloc, found, lines::SEED)?,
-            out: name_of(alloc, found, lines::OUT)?,
-        }),
-        lines::ZQT => Ok(Command::Zqt {
-            generators: generators_of(alloc, found)?,
-            subspace: name_of(alloc, found, lines::SUBSPACE)?,
-            name: name_of(alloc, found, lines::NAME)?,
-            out: name_of(alloc, found, lines::OUT_NAME)?,
-        }),
+        lines::ZCV => zcv_of(alloc, found),
+        lines::ZPR => zpr_of(alloc, found),
+        lines::ZMU => zmu_of(alloc, found),
+        lines::ZAD => zad_of(alloc, found),
+        lines::ZTR => ztr_of(alloc, found),
+        lines::ZIV => ziv_of(alloc, found),
+        lines::ZNU => znu_of(alloc, found),
+        lines::ZSP => zsp_of(alloc, found),
+        lines::ZQT => zqt_of(alloc, found),
         _ => Err(no_command(alloc)?),
     }
+}
+
+// The command `zcv IN OUT`.
+fn zcv_of(alloc: Global, found: &ArgMatches<'_>) -> Result<Command, ParseFault>
+    ensures { IfOk result HasNames }
+{
+    Ok(Command::Zcv {
+        input: name_of(alloc, found, lines::IN)?,
+        out: name_of(alloc, found, lines::OUT)?,
+    })
+}
+
+// The command `zpr IN [OUT]`.
+fn zpr_of(alloc: Global, found: &ArgMatches<'_>) -> Result<Command, ParseFault>
+    ensures { IfOk result HasNames }
+{
+    Ok(Command::Zpr {
+        input: name_of(alloc, found, lines::IN)?,
+        out: optional_name_of(alloc, found, lines::OUT)?,
+    })
+}
+
+// The command `zmu A B OUT`.
+fn zmu_of(alloc: Global, found: &ArgMatches<'_>) -> Result<Command, ParseFault>
+    ensures { IfOk result HasNames }
+{
+    Ok(Command::Zmu {
+        left: name_of(alloc, found, lines::LEFT)?,
+        right: name_of(alloc, found, lines::RIGHT)?,
+        out: name_of(alloc, found, lines::OUT)?,
+    })
+}
+
+// The command `zad A B OUT`.
+fn zad_of(alloc: Global, found: &ArgMatches<'_>) -> Result<Command, ParseFault>
+    ensures { IfOk result HasNames }
+{
+    Ok(Command::Zad {
+        left: name_of(alloc, found, lines::LEFT)?,
+        right: name_of(alloc, found, lines::RIGHT)?,
+        out: name_of(alloc, found, lines::OUT)?,
+    })
+}
+
+// The command `ztr A OUT`.
+fn ztr_of(alloc: Global, found: &ArgMatches<'_>) -> Result<Command, ParseFault>
+    ensures { IfOk result HasNames }
+{
+    Ok(Command::Ztr {
+        input: name_of(alloc, found, lines::LEFT)?,
+        out: name_of(alloc, found, lines::OUT)?,
+    })
+}
+
+// The command `ziv A OUT`.
+fn ziv_of(alloc: Global, found: &ArgMatches<'_>) -> Result<Command, ParseFault>
+    ensures { IfOk result HasNames }
+{
+    Ok(Command::Ziv {
+        input: name_of(alloc, found, lines::LEFT)?,
+        out: name_of(alloc, found, lines::OUT)?,
+    })
+}
+
+// The command `znu A OUT`.
+fn znu_of(alloc: Global, found: &ArgMatches<'_>) -> Result<Command, ParseFault>
+    ensures { IfOk result HasNames }
+{
+    Ok(Command::Znu {
+        input: name_of(alloc, found, lines::LEFT)?,
+        out: name_of(alloc, found, lines::OUT)?,
+    })
+}
+
+// The command `zsp [-g N] [-b] [-a ACT] NAME SEED OUT`.
+fn zsp_of(alloc: Global, found: &ArgMatches<'_>) -> Result<Command, ParseFault>
+    ensures { IfOk result HasNames }
+{
+    Ok(Command::Zsp {
+        generators: generators_of(alloc, found)?,
+        standard: found.get_flag(lines::STANDARD),
+        action: optional_name_of(alloc, found, lines::ACTION)?,
+        name: name_of(alloc, found, lines::NAME)?,
+        seed: name_of(alloc, found, lines::SEED)?,
+        out: name_of(alloc, found, lines::OUT)?,
+    })
+}
+
+// The command `zqt [-g N] SUB NAME OUTNAME`.
+fn zqt_of(alloc: Global, found: &ArgMatches<'_>) -> Result<Command, ParseFault>
+    ensures { IfOk result HasNames }
+{
+    Ok(Command::Zqt {
+        generators: generators_of(alloc, found)?,
+        subspace: name_of(alloc, found, lines::SUBSPACE)?,
+        name: name_of(alloc, found, lines::NAME)?,
+        out: name_of(alloc, found, lines::OUT_NAME)?,
+    })
 }
 
 // The number of a module's generators. Another number than 1 to 16 has been refused by `clap` already.

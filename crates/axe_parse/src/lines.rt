@@ -67,11 +67,21 @@ pub(crate) const OUT_NAME: &str = "OUTNAME";
 
 /// All command lines of `axe`, for words without the program's name.
 pub(crate) fn command_lines<'a>(alloc: Global) -> Result<Command<'a>, AllocError> {
-    let ztr = command(alloc, ZTR, help::ZTR_ABOUT, help::ZTR_LONG_ABOUT);
-    let ziv = command(alloc, ZIV, help::ZIV_ABOUT, help::ZIV_LONG_ABOUT);
-    let znu = command(alloc, ZNU, help::ZNU_ABOUT, help::ZNU_LONG_ABOUT);
+    let axe = program(alloc)?;
+    let axe = with_zcv(alloc, axe)?;
+    let axe = with_zpr(alloc, axe)?;
+    let axe = with_zmu(alloc, axe)?;
+    let axe = with_zad(alloc, axe)?;
+    let axe = with_ztr(alloc, axe)?;
+    let axe = with_ziv(alloc, axe)?;
+    let axe = with_znu(alloc, axe)?;
+    let axe = with_zsp(alloc, axe)?;
+    with_zqt(alloc, axe)
+}
+
+// The program before it has any command.
+fn program<'a>(alloc: Global) -> Result<Command<'a>, AllocError> {
     Command::new(alloc, "axe")
-        .bin_name("axe")?
         .no_binary_name(true)
         .version("0.1.0")
         .about(help::ABOUT)
@@ -79,69 +89,70 @@ pub(crate) fn command_lines<'a>(alloc: Global) -> Result<Command<'a>, AllocError
         .after_long_help(help::FILES_AND_STATUSES)
         .subcommand_required(true)
         .arg_required_else_help(true)
-        .subcommand(zcv_lines(alloc)?)?
-        .subcommand(zpr_lines(alloc)?)?
-        .subcommand(zmu_lines(alloc)?)?
-        .subcommand(zad_lines(alloc)?)?
-        .subcommand(one_matrix_lines(alloc, ztr, help::OUT_TRANSPOSE)?)?
-        .subcommand(one_matrix_lines(alloc, ziv, help::OUT_INVERSE)?)?
-        .subcommand(one_matrix_lines(alloc, znu, help::OUT_BASIS)?)?
-        .subcommand(zsp_lines(alloc)?)?
-        .subcommand(zqt_lines(alloc)?)
+        .bin_name("axe")
 }
 
-// The command line `zcv IN OUT`.
-fn zcv_lines<'a>(alloc: Global) -> Result<Command<'a>, AllocError> {
-    command(alloc, ZCV, help::ZCV_ABOUT, help::ZCV_LONG_ABOUT)
-        .arg(file(alloc, IN, "The file of the text"))?
-        .arg(file(
-            alloc,
-            OUT,
-            "The file to write the matrix to; what it held is replaced",
-        ))
+// Adds the command line `zcv IN OUT`.
+fn with_zcv<'a>(alloc: Global, axe: Command<'a>) -> Result<Command<'a>, AllocError> {
+    let text = file(alloc, IN, "The file of the text");
+    let files = vec![in alloc; text, file(alloc, OUT, help::OUT_MATRIX)]?;
+    let zcv = command(alloc, ZCV, help::ZCV_ABOUT, help::ZCV_LONG_ABOUT);
+    with_command(axe, zcv, files)
 }
 
-// The command lines `zpr IN` and `zpr IN OUT`.
-fn zpr_lines<'a>(alloc: Global) -> Result<Command<'a>, AllocError> {
-    let out = file(
-        alloc,
-        OUT,
-        "The file to write the text to; what it held is replaced. Without it the text is shown",
-    );
-    command(alloc, ZPR, help::ZPR_ABOUT, help::ZPR_LONG_ABOUT)
-        .arg(file(alloc, IN, "The file of the matrix"))?
-        .arg(out.required(false))
+// Adds the command lines `zpr IN` and `zpr IN OUT`.
+fn with_zpr<'a>(alloc: Global, axe: Command<'a>) -> Result<Command<'a>, AllocError> {
+    let matrix = file(alloc, IN, "The file of the matrix");
+    let out = file(alloc, OUT, help::OUT_TEXT).required(false);
+    let files = vec![in alloc; matrix, out]?;
+    let zpr = command(alloc, ZPR, help::ZPR_ABOUT, help::ZPR_LONG_ABOUT);
+    with_command(axe, zpr, files)
 }
 
-// The command line `zmu A B OUT`.
-fn zmu_lines<'a>(alloc: Global) -> Result<Command<'a>, AllocError> {
-    let command = command(alloc, ZMU, help::ZMU_ABOUT, help::ZMU_LONG_ABOUT)
-        .arg(file(alloc, LEFT, "The file of the left factor"))?
-        .arg(file(alloc, RIGHT, "The file of the right factor"))?;
-    command.arg(file(alloc, OUT, help::OUT_PRODUCT))
+// Adds the command line `zmu A B OUT`.
+fn with_zmu<'a>(alloc: Global, axe: Command<'a>) -> Result<Command<'a>, AllocError> {
+    let left = file(alloc, LEFT, "The file of the left factor");
+    let right = file(alloc, RIGHT, "The file of the right factor");
+    let files = vec![in alloc; left, right, file(alloc, OUT, help::OUT_PRODUCT)]?;
+    let zmu = command(alloc, ZMU, help::ZMU_ABOUT, help::ZMU_LONG_ABOUT);
+    with_command(axe, zmu, files)
 }
 
-// The command line `zad A B OUT`.
-fn zad_lines<'a>(alloc: Global) -> Result<Command<'a>, AllocError> {
-    let command = command(alloc, ZAD, help::ZAD_ABOUT, help::ZAD_LONG_ABOUT)
-        .arg(file(alloc, LEFT, "The file of the first term"))?
-        .arg(file(alloc, RIGHT, "The file of the second term"))?;
-    command.arg(file(alloc, OUT, help::OUT_SUM))
+// Adds the command line `zad A B OUT`.
+fn with_zad<'a>(alloc: Global, axe: Command<'a>) -> Result<Command<'a>, AllocError> {
+    let left = file(alloc, LEFT, "The file of the first term");
+    let right = file(alloc, RIGHT, "The file of the second term");
+    let files = vec![in alloc; left, right, file(alloc, OUT, help::OUT_SUM)]?;
+    let zad = command(alloc, ZAD, help::ZAD_ABOUT, help::ZAD_LONG_ABOUT);
+    with_command(axe, zad, files)
 }
 
-// The command line `COMMAND A OUT` of a command that makes a matrix of another.
-fn one_matrix_lines<'a>(
-    alloc: Global,
-    command: Command<'a>,
-    out: &'a str,
-) -> Result<Command<'a>, AllocError> {
-    command
-        .arg(file(alloc, LEFT, "The file of the matrix"))?
-        .arg(file(alloc, OUT, out))
+// Adds the command line `ztr A OUT`.
+fn with_ztr<'a>(alloc: Global, axe: Command<'a>) -> Result<Command<'a>, AllocError> {
+    let ztr = command(alloc, ZTR, help::ZTR_ABOUT, help::ZTR_LONG_ABOUT);
+    with_command(axe, ztr, one_matrix(alloc, help::OUT_TRANSPOSE)?)
 }
 
-// The command line `zsp [-g N] [-b] [-a ACT] NAME SEED OUT`.
-fn zsp_lines<'a>(alloc: Global) -> Result<Command<'a>, AllocError> {
+// Adds the command line `ziv A OUT`.
+fn with_ziv<'a>(alloc: Global, axe: Command<'a>) -> Result<Command<'a>, AllocError> {
+    let ziv = command(alloc, ZIV, help::ZIV_ABOUT, help::ZIV_LONG_ABOUT);
+    with_command(axe, ziv, one_matrix(alloc, help::OUT_INVERSE)?)
+}
+
+// Adds the command line `znu A OUT`.
+fn with_znu<'a>(alloc: Global, axe: Command<'a>) -> Result<Command<'a>, AllocError> {
+    let znu = command(alloc, ZNU, help::ZNU_ABOUT, help::ZNU_LONG_ABOUT);
+    with_command(axe, znu, one_matrix(alloc, help::OUT_BASIS)?)
+}
+
+// Adds the command line `zsp [-g N] [-b] [-a ACT] NAME SEED OUT`.
+fn with_zsp<'a>(alloc: Global, axe: Command<'a>) -> Result<Command<'a>, AllocError> {
+    let zsp = command(alloc, ZSP, help::ZSP_ABOUT, help::ZSP_LONG_ABOUT);
+    with_command(axe, zsp, zsp_words(alloc)?)
+}
+
+// The words that `zsp` takes.
+fn zsp_words<'a>(alloc: Global) -> Result<Vec<Arg<'a>>, AllocError> {
     let standard = Arg::new(alloc, STANDARD)
         .short('b')
         .action(ArgAction::SetTrue)
@@ -149,22 +160,35 @@ fn zsp_lines<'a>(alloc: Global) -> Result<Command<'a>, AllocError> {
     let action = Arg::new(alloc, ACTION)
         .short('a')
         .help("Write the action on these rows to ACT.1 to ACT.N, too");
-    command(alloc, ZSP, help::ZSP_ABOUT, help::ZSP_LONG_ABOUT)
-        .arg(generators(alloc))?
-        .arg(standard)?
-        .arg(action)?
-        .arg(file(alloc, NAME, help::NAME_GENERATORS))?
-        .arg(file(alloc, SEED, "The file of the vectors to be spun"))?
-        .arg(file(alloc, OUT, help::OUT_ROWS))
+    let name = file(alloc, NAME, help::NAME_GENERATORS);
+    let seed = file(alloc, SEED, "The file of the vectors to be spun");
+    let out = file(alloc, OUT, help::OUT_ROWS);
+    Ok(vec![in alloc; generators(alloc), standard, action, name, seed, out]?)
 }
 
-// The command line `zqt [-g N] SUB NAME OUTNAME`.
-fn zqt_lines<'a>(alloc: Global) -> Result<Command<'a>, AllocError> {
-    command(alloc, ZQT, help::ZQT_ABOUT, help::ZQT_LONG_ABOUT)
-        .arg(generators(alloc))?
-        .arg(file(alloc, SUBSPACE, "The file of rows that span the space"))?
-        .arg(file(alloc, NAME, help::NAME_GENERATORS))?
-        .arg(file(alloc, OUT_NAME, help::OUT_NAME_GENERATORS))
+// Adds the command line `zqt [-g N] SUB NAME OUTNAME`.
+fn with_zqt<'a>(alloc: Global, axe: Command<'a>) -> Result<Command<'a>, AllocError> {
+    let subspace = file(alloc, SUBSPACE, "The file of rows that span the space");
+    let name = file(alloc, NAME, help::NAME_GENERATORS);
+    let out = file(alloc, OUT_NAME, help::OUT_NAME_GENERATORS);
+    let words = vec![in alloc; generators(alloc), subspace, name, out]?;
+    let zqt = command(alloc, ZQT, help::ZQT_ABOUT, help::ZQT_LONG_ABOUT);
+    with_command(axe, zqt, words)
+}
+
+// The files `A OUT` of a command that makes a matrix of another.
+fn one_matrix<'a>(alloc: Global, out: &'a str) -> Result<Vec<Arg<'a>>, AllocError> {
+    let matrix = file(alloc, LEFT, "The file of the matrix");
+    Ok(vec![in alloc; matrix, file(alloc, OUT, out)]?)
+}
+
+// Adds a command with the words that it takes, in this order.
+fn with_command<'a>(
+    axe: Command<'a>,
+    command: Command<'a>,
+    words: Vec<Arg<'a>>,
+) -> Result<Command<'a>, AllocError> {
+    axe.subcommand(command.args(words)?)
 }
 
 // The option that says how many generators a module has.
