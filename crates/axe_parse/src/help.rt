@@ -217,6 +217,9 @@ pub(crate) const OUT_BASIS: &str =
 /// Of the file that spun rows are written to.
 pub(crate) const OUT_ROWS: &str = "The file to write the rows to; what it held is replaced";
 
+/// Of the number of a module's generators.
+pub(crate) const GENERATORS: &str = "How many generators the module has, 1 to 16";
+
 /// Of the name of a module.
 pub(crate) const NAME_GENERATORS: &str =
     "The module: its generators are in the files NAME.1 to NAME.N";

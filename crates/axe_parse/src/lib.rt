@@ -10,6 +10,7 @@ ghost use Rattle.axe_words.specs.Commands.{HasNames};
 
 mod help;
 mod lines;
+mod program;
 
 use axe_words::{Command, GeneratorCount, Name, NameFault};
 use clap::ArgMatches;
@@ -49,11 +50,16 @@ impl From<AllocError> for ParseFault {
 pub fn parse(alloc: Global, words: &[String]) -> Result<Command, ParseFault>
     ensures { IfOk result HasNames }
 {
-    let lines = lines::command_lines(alloc)?;
-    let matches = match lines.try_get_matches_from(words) {
-        Ok(matches) => matches,
-        Err(error) => return Err(fault_of(alloc, &error)?),
-    };
+    match program::program(alloc)?.try_get_matches_from(words) {
+        Ok(matches) => command_in(alloc, &matches),
+        Err(error) => Err(fault_of(alloc, &error)?),
+    }
+}
+
+// The command that `clap` found.
+fn command_in(alloc: Global, matches: &ArgMatches<'_>) -> Result<Command, ParseFault>
+    ensures { IfOk result HasNames }
+{
     match matches.subcommand() {
         Some((command, found)) => command_of(alloc, command, found),
         None => Err(no_command(alloc)?),
@@ -82,10 +88,8 @@ fn command_of(alloc: Global, command: &str, found: &ArgMatches<'_>) -> Result<Co
 fn zcv_of(alloc: Global, found: &ArgMatches<'_>) -> Result<Command, ParseFault>
     ensures { IfOk result HasNames }
 {
-    Ok(Command::Zcv {
-        input: name_of(alloc, found, lines::IN)?,
-        out: name_of(alloc, found, lines::OUT)?,
-    })
+    let (input, out) = two_names_of(alloc, found, lines::IN, lines::OUT)?;
+    Ok(Command::Zcv { input, out })
 }
 
 // The command `zpr IN [OUT]`.
@@ -102,65 +106,56 @@ fn zpr_of(alloc: Global, found: &ArgMatches<'_>) -> Result<Command, ParseFault>
 fn zmu_of(alloc: Global, found: &ArgMatches<'_>) -> Result<Command, ParseFault>
     ensures { IfOk result HasNames }
 {
-    Ok(Command::Zmu {
-        left: name_of(alloc, found, lines::LEFT)?,
-        right: name_of(alloc, found, lines::RIGHT)?,
-        out: name_of(alloc, found, lines::OUT)?,
-    })
+    let (left, right, out) = three_names_of(alloc, found, lines::LEFT, lines::RIGHT, lines::OUT)?;
+    Ok(Command::Zmu { left, right, out })
 }
 
 // The command `zad A B OUT`.
 fn zad_of(alloc: Global, found: &ArgMatches<'_>) -> Result<Command, ParseFault>
     ensures { IfOk result HasNames }
 {
-    Ok(Command::Zad {
-        left: name_of(alloc, found, lines::LEFT)?,
-        right: name_of(alloc, found, lines::RIGHT)?,
-        out: name_of(alloc, found, lines::OUT)?,
-    })
+    let (left, right, out) = three_names_of(alloc, found, lines::LEFT, lines::RIGHT, lines::OUT)?;
+    Ok(Command::Zad { left, right, out })
 }
 
 // The command `ztr A OUT`.
 fn ztr_of(alloc: Global, found: &ArgMatches<'_>) -> Result<Command, ParseFault>
     ensures { IfOk result HasNames }
 {
-    Ok(Command::Ztr {
-        input: name_of(alloc, found, lines::LEFT)?,
-        out: name_of(alloc, found, lines::OUT)?,
-    })
+    let (input, out) = two_names_of(alloc, found, lines::LEFT, lines::OUT)?;
+    Ok(Command::Ztr { input, out })
 }
 
 // The command `ziv A OUT`.
 fn ziv_of(alloc: Global, found: &ArgMatches<'_>) -> Result<Command, ParseFault>
     ensures { IfOk result HasNames }
 {
-    Ok(Command::Ziv {
-        input: name_of(alloc, found, lines::LEFT)?,
-        out: name_of(alloc, found, lines::OUT)?,
-    })
+    let (input, out) = two_names_of(alloc, found, lines::LEFT, lines::OUT)?;
+    Ok(Command::Ziv { input, out })
 }
 
 // The command `znu A OUT`.
 fn znu_of(alloc: Global, found: &ArgMatches<'_>) -> Result<Command, ParseFault>
     ensures { IfOk result HasNames }
 {
-    Ok(Command::Znu {
-        input: name_of(alloc, found, lines::LEFT)?,
-        out: name_of(alloc, found, lines::OUT)?,
-    })
+    let (input, out) = two_names_of(alloc, found, lines::LEFT, lines::OUT)?;
+    Ok(Command::Znu { input, out })
 }
 
 // The command `zsp [-g N] [-b] [-a ACT] NAME SEED OUT`.
 fn zsp_of(alloc: Global, found: &ArgMatches<'_>) -> Result<Command, ParseFault>
     ensures { IfOk result HasNames }
 {
+    let generators = generators_of(alloc, found)?;
+    let action = optional_name_of(alloc, found, lines::ACTION)?;
+    let (name, seed, out) = three_names_of(alloc, found, lines::NAME, lines::SEED, lines::OUT)?;
     Ok(Command::Zsp {
-        generators: generators_of(alloc, found)?,
+        generators,
         standard: found.get_flag(lines::STANDARD),
-        action: optional_name_of(alloc, found, lines::ACTION)?,
-        name: name_of(alloc, found, lines::NAME)?,
-        seed: name_of(alloc, found, lines::SEED)?,
-        out: name_of(alloc, found, lines::OUT)?,
+        action,
+        name,
+        seed,
+        out,
     })
 }
 
@@ -168,20 +163,26 @@ fn zsp_of(alloc: Global, found: &ArgMatches<'_>) -> Result<Command, ParseFault>
 fn zqt_of(alloc: Global, found: &ArgMatches<'_>) -> Result<Command, ParseFault>
     ensures { IfOk result HasNames }
 {
+    let generators = generators_of(alloc, found)?;
+    let (subspace, name, out) = three_names_of(
+        alloc,
+        found,
+        lines::SUBSPACE,
+        lines::NAME,
+        lines::OUT_NAME,
+    )?;
     Ok(Command::Zqt {
-        generators: generators_of(alloc, found)?,
-        subspace: name_of(alloc, found, lines::SUBSPACE)?,
-        name: name_of(alloc, found, lines::NAME)?,
-        out: name_of(alloc, found, lines::OUT_NAME)?,
+        generators,
+        subspace,
+        name,
+        out,
     })
 }
 
-// The number of a module's generators. Another number than 1 to 16 has been refused by `clap` already.
+// The number of a module's generators. A number that is missing, or is not 1 to 16, has been refused by `clap` already.
 fn generators_of(alloc: Global, found: &ArgMatches<'_>) -> Result<GeneratorCount, ParseFault> {
-    match found
-        .get_one::<u8>(lines::GENERATORS)
-        .and_then(GeneratorCount::new)
-    {
+    let number = found.get_one::<u8>(lines::GENERATORS).unwrap_or(0);
+    match GeneratorCount::new(number) {
         Some(count) => Ok(count),
         None => Err(usage(alloc, "axe: bad number of generators\n")?),
     }
@@ -195,6 +196,34 @@ fn fault_of(alloc: Global, error: &clap::Error) -> Result<ParseFault, AllocError
         ErrorKind::DisplayHelp | ErrorKind::DisplayVersion => ParseFault::Help(text),
         _ => ParseFault::Usage(text),
     })
+}
+
+// The names of two files that have to be given.
+fn two_names_of(
+    alloc: Global,
+    found: &ArgMatches<'_>,
+    first: &str,
+    second: &str,
+) -> Result<(Name, Name), ParseFault>
+    ensures { IfOk result (λ names. (is_name names.0 ≡ true) × (is_name names.1 ≡ true)) }
+{
+    let first = name_of(alloc, found, first)?;
+    Ok((first, name_of(alloc, found, second)?))
+}
+
+// The names of three files that have to be given.
+fn three_names_of(
+    alloc: Global,
+    found: &ArgMatches<'_>,
+    first: &str,
+    second: &str,
+    third: &str,
+) -> Result<(Name, Name, Name), ParseFault>
+    ensures { IfOk result (λ names. (is_name names.0 ≡ true) × (is_name names.1 ≡ true)
+        × (is_name names.2 ≡ true)) }
+{
+    let (first, second) = two_names_of(alloc, found, first, second)?;
+    Ok((first, second, name_of(alloc, found, third)?))
 }
 
 // The name of a file that has to be given. A word that is missing, which `clap` has refused already, counts as the empty
