@@ -42,10 +42,14 @@ inverses-at o a ha =
     let most : order_number o ≤ 9 = order_number-at_most o in
     table_of-at (field_inv o) a (omega arith)
 
--- the tables of a value that keeps its invariant
+-- the fields of a value that keeps its invariant
+pub inside-is : (a : Inside) (o : Order) → a ≡ inside_of (order_with a.order) → order_with a.order ≡ o → a ≡ inside_of o
+inside-is a o e view = e ∙ ap inside_of view
+
+-- and its tables
 pub inside-tables : (a : Inside) (o : Order) → a ≡ inside_of (order_with a.order) → order_with a.order ≡ o →
     a.tables ≡ tables_of o
-inside-tables a o e view = ap (λ (s : Inside). s.tables) (e ∙ ap inside_of view)
+inside-tables a o e view = ap (λ (s : Inside). s.tables) (inside-is a o e view)
 
 -- the entry of a table of sums or products at indices that are the elements
 pub entry_along : (t s : List (List ℕ)) (i a j b v : ℕ) → t ≡ s → i ≡ a → j ≡ b → get_or (get_or s a []) b 0 ≡ v →

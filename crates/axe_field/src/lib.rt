@@ -82,13 +82,13 @@ impl Field {
         ensures err { OnErr result ((o : Order) → order_number o ≢ order) }
     {
         let (prime, degree, tables) = match order {
-            2 => (2, 1, tables::TWO),
-            3 => (3, 1, tables::THREE),
-            4 => (2, 2, tables::FOUR),
-            5 => (5, 1, tables::FIVE),
-            7 => (7, 1, tables::SEVEN),
-            8 => (2, 3, tables::EIGHT),
-            9 => (3, 2, tables::NINE),
+            2 => (2, 1, tables::two()),
+            3 => (3, 1, tables::three()),
+            4 => (2, 2, tables::four()),
+            5 => (5, 1, tables::five()),
+            7 => (7, 1, tables::seven()),
+            8 => (2, 3, tables::eight()),
+            9 => (3, 2, tables::nine()),
             _ => return Err(BadField),
         };
         Ok(Field {
