@@ -8,6 +8,10 @@ use Rattle.axe_matrix.proofs.Matrix.copy.Goals as goal
 pub loop-index-init : goal.loop-index-init
 loop-index-init c = IsPartialMatrix-none _ _ _ _ _ _ c.empty-copy.ensures.no_rows c.empty-copy.ensures.well_formed c.field.ensures.order c.cols.ensures.count
 
+pub append-requires-clause-fits : goal.append-requires-clause-fits
+append-requires-clause-fits c =
+    ap (λ (row : RowValue). length row.entries) c.in_ok-row.ensures.copied ∙ c.row.ensures.as_long ∙ sym c.loop-index.invariant.columns
+
 pub loop-index-preserved : goal.loop-index-preserved
 loop-index-preserved c =
     let row = c.in_ok-row.ensures.copied ∙ c.row.ensures.value in

@@ -1,11 +1,15 @@
-use Rattle.std.proofs.Common.{refl, ap, ◌∙◌, arith}
+use Rattle.std.proofs.Common.{length, refl, sym, ap, ◌∙◌, arith}
 use Rattle.axe_row.specs.Rows.{RowValue}
-use Rattle.axe_matrix.proofs.VectorLaws.{replicate-listed}
+use Rattle.axe_matrix.proofs.VectorLaws.{length-listed, replicate-listed}
 use Rattle.axe_matrix.proofs.PartialMatrices.{IsPartialMatrix-none, IsPartialMatrix-more, IsPartialMatrix-all}
 use Rattle.axe_matrix.proofs.Matrix.zero.Goals as goal
 
 pub loop-index-init : goal.loop-index-init
 loop-index-init c = IsPartialMatrix-none _ _ _ _ _ _ c.empty-matrix.ensures.no_rows c.empty-matrix.ensures.well_formed refl refl
+
+pub append-requires-clause-fits : goal.append-requires-clause-fits
+append-requires-clause-fits c =
+    ap (λ (row : RowValue). length row.entries) c.in_ok-row.ensures.zeros ∙ ap length (replicate-listed c.args.cols 0) ∙ length-listed _ _ ∙ sym c.loop-index.invariant.columns
 
 pub loop-index-preserved : goal.loop-index-preserved
 loop-index-preserved c =
