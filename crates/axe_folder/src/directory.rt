@@ -1,8 +1,9 @@
 //! A folder of the file system.
-ghost use Rattle.std.specs.Prelude.{◌≡◌, IsTrue, IfOk, IsOkUnless};
+ghost use Rattle.std.specs.Prelude.{◌≡◌, IsTrue, IfOk, IfErr, IsOkUnless};
 ghost use Rattle.std.specs.List.{list_any};
 ghost use Rattle.std.specs.Path.{path_buf_bytes};
 ghost use Rattle.axe_folder.specs.FileName.{is_plain_name, is_separator, path_in};
+ghost use Rattle.axe_folder.specs.Outcomes.{IsWriteFault};
 
 use crate::fault::FolderFault;
 use crate::folder::Folder;
@@ -43,6 +44,16 @@ fn open_fault(error: io::Error) -> FolderFault {
     match error.kind() {
         ErrorKind::NotFound => FolderFault::Missing,
         _ => FolderFault::Device,
+    }
+}
+
+/// The outcome of a removal that failed: there is nothing to remove where there was no such file.
+fn removal_of(error: io::Error) -> Result<(), FolderFault>
+    ensures { IfErr result IsWriteFault }
+{
+    match error.kind() {
+        ErrorKind::NotFound => Ok(()),
+        _ => Err(FolderFault::Device),
     }
 }
 
@@ -114,8 +125,8 @@ impl<R: Files + AllocGlobal + Drop> Folder for DirFolder<R> {
         }
         let path = self.path_of(name)?;
         match fs::remove_file(&self.runtime, path.as_path()) {
-            Err(error) if error.kind() != ErrorKind::NotFound => Err(FolderFault::Device),
-            _ => Ok(()),
+            Ok(()) => Ok(()),
+            Err(error) => removal_of(error),
         }
     }
 }
