@@ -1,20 +1,26 @@
 -- Conjugates of generators by an invertible matrix.
-use Rattle.std.specs.Prelude.{◌≡◌, ℕ, List, [], length, get_or, None, Result, Ok}
-use Rattle.std.proofs.lemmas.Bool.{eq-eqb}
+use Rattle.std.specs.Prelude.{◌≡◌, ℕ, List, [], length, get_or, ◌==◌, ◌&&◌, not, Bool, true, false, Option, Some, None, Result, Ok, Err, if◌then◌else◌}
+use Rattle.std.specs.Result.{IsErrAnd}
+use Rattle.std.proofs.lemmas.Bool.{eq-eqb, eqb-true}
 use Rattle.std.proofs.lemmas.List.{length-map}
 use Rattle.axe_algebra.specs.NumberField.{NumberField}
 use Rattle.axe_algebra.specs.Lists.{product, IsSquareOver, IsInverse, IsConjugate}
 use Rattle.axe_field.specs.Order.{Order, order_number}
 use Rattle.axe_field.specs.NumberFields.{number_field}
+use Rattle.axe_row.specs.Refusals.{Answers}
 use Rattle.axe_row.specs.declared.Refusal.{Refusal}
-use Rattle.axe_matrix.specs.Matrices.{MatrixValue, IsMatrix, matrix_product}
-use Rattle.axe_matrix.proofs.ProductLaws.{length-product}
-use Rattle.axe_echelon.specs.Echelons.{IsInverseMatrix}
-use Rattle.axe_spin.specs.Modules.{ModuleValue, generator_of, rows_of_each}
+use Rattle.axe_row.specs.declared.Refusal.TheVariants.{FieldsDiffer, ShapesDiffer, NotSquare, Singular, NotInvariant, WholeSpace, ZeroSeed, NoRows, ZeroSpace, Memory}
+use Rattle.axe_matrix.specs.Matrices.{MatrixValue, IsMatrix, product_refusal, matrix_product}
+use Rattle.axe_matrix.proofs.MatrixLaws.{same_order}
+use Rattle.axe_matrix.proofs.ProductLaws.{length-product, product_refusal-none}
+use Rattle.axe_echelon.specs.Echelons.{IsInverseMatrix, InverseRefused}
+use Rattle.axe_echelon.proofs.Exits.{handed_on}
+use Rattle.axe_spin.specs.Modules.{ModuleValue, generator_of, unless_refused, rows_of_each}
 use Rattle.axe_spin.specs.Generators.{IsGeneratorMatrix}
 use Rattle.axe_action.specs.Actions.{conjugate_refusal, AnswersConjugate, IsConjugateModule}
 use Rattle.axe_action.proofs.GeneratorLists.{AreNewGenerators}
-use mathlib.Core.Path.{refl, ◌∙◌, ap, ap₂, subst}
+use Rattle.axe_action.proofs.SubAnswers.{same_refusal, no_value}
+use mathlib.Core.Path.{refl, sym, ◌∙◌, ap, ap₂, subst}
 use native.Mathlib.Omega.{arith}
 
 -- the matrix is over the module's field and of its dimension
@@ -27,6 +33,23 @@ pub record IsBasisFor (m : ModuleValue) (p : MatrixValue) : Type 0 where
 pub conjugate_accepted : (m : ModuleValue) (p : MatrixValue) → IsBasisFor m p → conjugate_refusal m p ≡ None
 conjugate_accepted m p h =
     rw (eq-eqb (order_number p.order) (order_number m.order) (ap order_number h.field), eq-eqb (length p.rows) m.dim h.rows, eq-eqb p.cols m.dim h.columns) refl
+
+-- and it is one where nothing does
+pub basis_if_accepted : (m : ModuleValue) (p : MatrixValue) → conjugate_refusal m p ≡ None → IsBasisFor m p
+basis_if_accepted m p none =
+    let tests = passed (order_number p.order == order_number m.order) (length p.rows == m.dim) (p.cols == m.dim) none in
+    record {
+      field = same_order p.order m.order (eqb-true (order_number p.order) (order_number m.order) tests.0);
+      rows = eqb-true (length p.rows) m.dim tests.1;
+      columns = eqb-true p.cols m.dim tests.2;
+    }
+  where
+    passed : (a b c : Bool) → (if not a then Some FieldsDiffer else (if not (b && c) then Some ShapesDiffer else None)) ≡ None →
+        (a ≡ true) × (b ≡ true) × (c ≡ true)
+    passed true true true e = (refl, refl, refl)
+    passed true true false e = cc
+    passed true false c e = cc
+    passed false b c e = cc
 
 module _ (m : ModuleValue) (p q : MatrixValue) (fits : IsBasisFor m p) (inverse : IsInverseMatrix p q) where
   K : NumberField
@@ -78,3 +101,48 @@ conjugate_is m p count matrices result all fits are is = rw (conjugate_accepted 
       count = length-map matrices (λ (x : MatrixValue). x.rows) ∙ are.as_many ∙ all;
       each = λ i below. are.made i (omega arith);
     }
+
+-- it was refused
+pub conjugate_refused : {A : Type 0} (m : ModuleValue) (p : MatrixValue) (why : Option Refusal) (value : A) (result : Result ModuleValue Refusal)
+    (refusal : Refusal) → Err refusal ≡ unless_refused why value → IsErrAnd result (λ r. r ≡ refusal) → AnswersConjugate why m p result
+conjugate_refused m p (Some other) value result refusal e h = handed_on result refusal h ∙ ap Err (same_refusal refusal other e)
+conjugate_refused m p None value result refusal e h = absurd (no_value value refusal e)
+
+-- there was no memory
+pub conjugate_no_memory : (m : ModuleValue) (p : MatrixValue) (result : Result ModuleValue Refusal) (refusal : Refusal) → IsBasisFor m p → refusal ≡ Memory →
+    IsErrAnd result (λ r. r ≡ refusal) → AnswersConjugate (conjugate_refusal m p) m p result
+conjugate_no_memory m p result refusal fits memory h =
+    subst (λ why. AnswersConjugate why m p result) (sym (conjugate_accepted m p fits))
+    (subst (λ r. AnswersConjugate None m p r) (sym (handed_on result refusal h ∙ ap Err memory)) tt)
+
+-- there was no inverse
+pub conjugate_no_inverse : (m : ModuleValue) (p : MatrixValue) (result : Result ModuleValue Refusal) (refusal : Refusal) → IsBasisFor m p →
+    InverseRefused p refusal → IsErrAnd result (λ r. r ≡ refusal) → AnswersConjugate (conjugate_refusal m p) m p result
+conjugate_no_inverse m p result refusal fits why h =
+    subst (λ why. AnswersConjugate why m p result) (sym (conjugate_accepted m p fits))
+    (subst (λ r. AnswersConjugate None m p r) (sym (handed_on result refusal h)) (answer refusal why))
+  where
+    answer : (refusal : Refusal) → InverseRefused p refusal → AnswersConjugate None m p (Err refusal)
+    answer Singular none = none
+    answer Memory _ = tt
+    answer FieldsDiffer never = absurd never
+    answer ShapesDiffer never = absurd never
+    answer NotSquare never = absurd never
+    answer NotInvariant never = absurd never
+    answer WholeSpace never = absurd never
+    answer ZeroSeed never = absurd never
+    answer NoRows never = absurd never
+    answer ZeroSpace never = absurd never
+
+-- a product of three, from those of two
+pub product_of_three : (first second third product : MatrixValue) (result : Result MatrixValue Refusal) → product_refusal first second ≡ None →
+    Answers (product_refusal first second) (λ whole. whole ≡ matrix_product first second) (Ok product) → third.order ≡ first.order → length third.rows ≡ second.cols →
+    Answers (product_refusal product third) (λ whole. whole ≡ matrix_product product third) result →
+    Answers None (λ whole. whole ≡ matrix_product (matrix_product first second) third) result
+product_of_three first second third product result none answer field fits h =
+    let is : product ≡ matrix_product first second = subst (λ why. Answers why (λ whole. whole ≡ matrix_product first second) (Ok product)) none answer in
+    subst (λ p. Answers None (λ whole. whole ≡ matrix_product p third) result) is
+    (subst (λ why. Answers why (λ whole. whole ≡ matrix_product product third) result)
+    (product_refusal-none product third (ap (λ (m : MatrixValue). order_number m.order) is ∙ sym (ap order_number field))
+    (ap (λ (m : MatrixValue). m.cols) is ∙ sym fits))
+    h)

@@ -7,7 +7,8 @@ use Rattle.std.proofs.lemmas.List.Elements.{All-nil, All-head, All-tail, All-pus
 use Rattle.axe_field.specs.Order.{Order, order_number}
 use Rattle.axe_row.specs.declared.Refusal.{Refusal}
 use Rattle.axe_matrix.specs.Matrices.{MatrixValue}
-use Rattle.axe_spin.specs.Modules.{ModuleValue, generator_refusal, generators_refusal, first_of, unless_refused, rows_of_each, module_of_matrices}
+use Rattle.axe_spin.specs.declared.TheConstants.{MAX_GENERATORS}
+use Rattle.axe_spin.specs.Modules.{ModuleValue, IsModule, generator_refusal, generators_refusal, first_of, unless_refused, rows_of_each, module_of_matrices}
 use Rattle.axe_spin.specs.Generators.{IsGeneratorMatrix}
 use mathlib.Core.Path.{refl, sym, ◌∙◌, ap, subst}
 use native.Mathlib.Omega.{arith}
@@ -97,3 +98,15 @@ pub module_of_made : (order : Order) (dim : ℕ) (P : ℕ → List (List ℕ) �
     AreNewGenerators order dim P count matrices → 1 ≤ count → result ≡ module_of_matrices matrices →
     result ≡ Ok (record { order = order; dim = dim; generators = rows_of_each matrices })
 module_of_made order dim P count matrices result are some is = is ∙ module_of_generators order dim matrices (omega (arith, are.as_many)) are.each
+
+-- where all generators of a module were taken, there is one, and there are no more than the limit
+pub all_taken : (taken gens count : ℕ) → gens ≡ count → gens ≤ taken → taken ≤ gens → taken ≡ count
+all_taken taken gens count same many few = omega arith
+
+pub some_made : (m : ModuleValue) (order : Order) (dim : ℕ) (P : ℕ → List (List ℕ) → Type 0) (count gens : ℕ) (matrices : List MatrixValue) → IsModule m →
+    AreNewGenerators order dim P count matrices → gens ≡ length m.generators → gens ≤ count → 1 ≤ length matrices
+some_made m order dim P count gens matrices h are same many = omega (arith, are.as_many, h.some_generator)
+
+pub made_fit : (m : ModuleValue) (order : Order) (dim : ℕ) (P : ℕ → List (List ℕ) → Type 0) (count gens : ℕ) (matrices : List MatrixValue) → IsModule m →
+    AreNewGenerators order dim P count matrices → gens ≡ length m.generators → count ≤ gens → length matrices ≤ MAX_GENERATORS
+made_fit m order dim P count gens matrices h are same few = omega (arith, are.as_many, h.generators_fit)

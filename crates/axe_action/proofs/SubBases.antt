@@ -1,5 +1,5 @@
 -- The action on a span over its reduced basis, from that over the rows of this basis.
-use Rattle.std.specs.Prelude.{◌≡◌, ℕ, ◌≤◌, ◌==◌, not, length, Bool, true, false, Some, None, Result, if◌then◌else◌}
+use Rattle.std.specs.Prelude.{◌≡◌, ℕ, ◌≤◌, ◌==◌, not, List, [], ◌∷◌, length, Bool, true, false, Option, Some, None, Result, Ok, Err, if◌then◌else◌}
 use Rattle.std.proofs.lemmas.Bool.{eqb-true}
 use Rattle.axe_algebra.specs.NumberField.{NumberField}
 use Rattle.axe_algebra.specs.Field.{Field}
@@ -20,13 +20,14 @@ use Rattle.axe_matrix.specs.Matrices.{MatrixValue, IsMatrix}
 use Rattle.axe_matrix.proofs.MatrixLaws.{same_order}
 use Rattle.axe_echelon.specs.Echelons.{EchelonValue, IsReducedMatrix}
 use Rattle.axe_echelon.proofs.InverseLaws.{matrix_over}
-use Rattle.axe_spin.specs.Modules.{ModuleValue}
+use Rattle.axe_spin.specs.Modules.{ModuleValue, unless_refused}
 use Rattle.axe_spin.specs.Spinning.{has_only_zeros}
-use Rattle.axe_action.specs.Actions.{sub_action_refusal, AnswersSubAction, IsInvariantIn, IsBasisAction, IsActionOnSpan}
+use Rattle.axe_action.specs.Actions.{rows_refusal, sub_action_refusal, AnswersSubAction, IsInvariantIn, IsBasisAction, IsActionOnSpan}
 use Rattle.axe_action.specs.Coordinates.{IsSpanOfRows}
-use Rattle.axe_action.proofs.SubAnswers.{answered_more}
+use Rattle.axe_action.proofs.SubAnswers.{answered_more, no_value}
 use Rattle.axe_action.proofs.SubSpans.{some_basis_row}
 use mathlib.Core.Path.{refl, sym, ◌∙◌, subst}
+use native.Mathlib.Omega.{arith}
 
 -- spans that are the same are invariant together
 pub same_invariant : (F : Field) (M : Module F) (k : ℕ) (v : Matrix F) (r : ℕ) (w : Matrix F) → Spans.SameSpan F k v r w → IsInvariant F M k v → IsInvariant F M r w
@@ -55,6 +56,50 @@ space_rows m rows none =
     passed true true true e = cc
     passed true false c e = cc
     passed false b c e = cc
+
+-- the refusals for two and for three tests
+abbrev two : Bool → Bool → Option Refusal
+two a b = if not a then Some FieldsDiffer else (if not b then Some ShapesDiffer else None)
+
+abbrev three : Bool → Bool → Bool → Option Refusal
+three a b c = if not a then Some FieldsDiffer else (if not b then Some ShapesDiffer else (if c then Some ZeroSpace else None))
+
+-- what refuses the rows as vectors refuses them as a space
+pub refused_as_rows : {A : Type 0} (value : A) (m : ModuleValue) (rows : MatrixValue) (refusal : Refusal) → Err refusal ≡ unless_refused (rows_refusal m rows) value →
+    Err refusal ≡ unless_refused (sub_action_refusal m rows) value
+refused_as_rows value m rows refusal = at (order_number rows.order == order_number m.order) (rows.cols == m.dim) (has_only_zeros rows.rows)
+  where
+    at : (a b c : Bool) → Err refusal ≡ unless_refused (two a b) value → Err refusal ≡ unless_refused (three a b c) value
+    at true true c e = absurd (no_value value refusal e)
+    at true false c e = e
+    at false b c e = e
+
+-- else rows of zeros are refused
+pub refused_as_zero : {A : Type 0} (value : A) (m : ModuleValue) (rows : MatrixValue) → rows_refusal m rows ≡ None → has_only_zeros rows.rows ≡ true →
+    Err ZeroSpace ≡ unless_refused (sub_action_refusal m rows) value
+refused_as_zero value m rows = at (order_number rows.order == order_number m.order) (rows.cols == m.dim) (has_only_zeros rows.rows)
+  where
+    at : (a b c : Bool) → two a b ≡ None → c ≡ true → Err ZeroSpace ≡ unless_refused (three a b c) value
+    at true true true e zero = refl
+    at true true false e zero = cc
+    at true false c e zero = cc
+    at false b c e zero = cc
+
+-- and others are not
+pub accepted_space : {A : Type 0} (value : A) (m : ModuleValue) (rows : MatrixValue) → rows_refusal m rows ≡ None → has_only_zeros rows.rows ≡ false →
+    Ok value ≡ unless_refused (sub_action_refusal m rows) value
+accepted_space value m rows = at (order_number rows.order == order_number m.order) (rows.cols == m.dim) (has_only_zeros rows.rows)
+  where
+    at : (a b c : Bool) → two a b ≡ None → c ≡ false → Ok value ≡ unless_refused (three a b c) value
+    at true true true e some = cc
+    at true true false e some = refl
+    at true false c e some = cc
+    at false b c e some = cc
+
+-- there is one of them
+pub some_row : (rows : List (List ℕ)) → has_only_zeros rows ≡ false → 1 ≤ length rows
+some_row [] e = cc
+some_row (row ∷ rest) e = omega arith
 
 -- what is known of the reduced basis of their span
 pub record IsBasisOfSpan (m : ModuleValue) (rows basis : MatrixValue) : Type 0 where

@@ -3,9 +3,10 @@
 ghost use Rattle.std.specs.Prelude.{◌≡◌, length, None, IfOk};
 ghost use Rattle.axe_row.specs.Refusals.{Answers};
 ghost use Rattle.axe_matrix.specs.Matrices.{IsMatrix, matrix_product};
-ghost use Rattle.axe_spin.specs.Modules.{IsModule};
+ghost use Rattle.axe_spin.specs.Modules.{IsModule, unless_refused};
 ghost use Rattle.axe_action.specs.Actions.{conjugate_refusal, AnswersConjugate};
 
+use crate::rows::push;
 use axe_echelon::inverse;
 use axe_matrix::{Matrix, Refusal};
 use axe_spin::Module;
@@ -18,19 +19,27 @@ pub fn conjugate(alloc: Global, module: &Module, basis: &Matrix) -> Result<Modul
     ensures conjugate { AnswersConjugate (conjugate_refusal «module».now basis.now) «module».now basis.now result }
     ensures well_formed { IfOk result IsModule }
 {
+    check_basis(module, basis)?;
+    let inverse = inverse(alloc, basis)?;
+    let mut conjugates = Vec::new(alloc);
+    for index in 0..module.gens() {
+        let conjugate = triple_product(alloc, basis, module.generator(index), &inverse)?;
+        push(&mut conjugates, conjugate)?;
+    }
+    Module::new(conjugates)
+}
+
+/// Refuses a matrix that is over another field than a module, or not square of its dimension.
+fn check_basis(module: &Module, basis: &Matrix) -> Result<(), Refusal>
+    ensures { result ≡ unless_refused (conjugate_refusal «module».now basis.now) tt }
+{
     if basis.field().order() != module.field().order() {
         return Err(Refusal::FieldsDiffer);
     }
     if basis.rows() != module.dim() || basis.cols() != module.dim() {
         return Err(Refusal::ShapesDiffer);
     }
-    let inverse = inverse(alloc, basis)?;
-    let mut conjugates = Vec::new(alloc);
-    for index in 0..module.gens() {
-        let conjugate = triple_product(alloc, basis, module.generator(index), &inverse)?;
-        conjugates.push(conjugate).map_err(|_| Refusal::Memory)?;
-    }
-    Module::new(conjugates)
+    Ok(())
 }
 
 /// The product of three square matrices of one size over one field.

@@ -9,7 +9,7 @@ ghost use Rattle.axe_action.specs.Actions.{rows_refusal, AnswersQuotientAction, 
 ghost use Rattle.axe_action.specs.Coordinates.{IsSpanOfRows, HasImagesIn};
 ghost use Rattle.axe_action.specs.FreeColumns.{IsFreeColumn, AreFreeColumns, IsRowModulo, HasRowsModulo};
 
-use crate::rows::append;
+use crate::rows::{append, push};
 use crate::subspaces::{check_rows, span_of};
 use axe_echelon::Echelon;
 use axe_matrix::{Matrix, Refusal, Row};
@@ -93,7 +93,7 @@ fn action_modulo(alloc: Global, module: &Module, span: &Echelon) -> Result<Modul
     let mut actions = Vec::new(alloc);
     for number in 0..module.gens() {
         let action = generator_modulo(alloc, module.generator(number), span, &columns)?;
-        actions.push(action).map_err(|_| Refusal::Memory)?;
+        push(&mut actions, action)?;
     }
     Module::new(actions)
 }

@@ -1,4 +1,4 @@
-//! Rows of matrices that are being made.
+//! Matrices, and lists of matrices, that are being made.
 
 ghost use Rattle.std.specs.Prelude.{◌≡◌, ◌<◌, ◌++◌, ◌∷◌, [], length, None};
 ghost use Rattle.axe_algebra.specs.Lists.{unit_row};
@@ -36,4 +36,11 @@ pub(crate) fn append(matrix: &mut Matrix, row: Row) -> Result<(), Refusal>
     ensures well_formed { IsMatrix matrix.new }
 {
     matrix.push_row(row).map_err(|_| Refusal::Memory)
+}
+
+/// Appends a matrix to a list; for want of memory the matrix is dropped, and the list is unchanged.
+pub(crate) fn push(matrices: &mut Vec<Matrix>, matrix: Matrix) -> Result<(), Refusal>
+    ensures { Answers None (λ _. matrices.new.items ≡ matrices.old.items ++ matrix ∷ []) result }
+{
+    matrices.push(matrix).map_err(|_| Refusal::Memory)
 }

@@ -9,7 +9,7 @@ ghost use Rattle.axe_spin.specs.Modules.{IsModule, unless_refused};
 ghost use Rattle.axe_action.specs.Actions.{rows_refusal, sub_action_refusal, AnswersSubAction, IsInvariantIn, IsActionOnSpan, IsBasisAction};
 ghost use Rattle.axe_action.specs.Coordinates.{IsSpanOfRows, HasImagesIn, HasActionRows};
 
-use crate::rows::append;
+use crate::rows::{append, push};
 use axe_echelon::Echelon;
 use axe_matrix::{Matrix, Refusal};
 use axe_spin::{Module, has_only_zeros};
@@ -89,7 +89,7 @@ fn action_over(alloc: Global, module: &Module, rows: &Matrix) -> Result<Module, 
     let mut actions = Vec::new(alloc);
     for number in 0..module.gens() {
         let action = generator_action(alloc, module.generator(number), &span, rows)?;
-        actions.push(action).map_err(|_| Refusal::Memory)?;
+        push(&mut actions, action)?;
     }
     Module::new(actions)
 }

@@ -1,3 +1,4 @@
+pub mod Exits
 pub mod FormLaws
 pub mod StepLaws
 pub mod ClearingLaws

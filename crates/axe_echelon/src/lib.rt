@@ -114,7 +114,7 @@ impl Echelon {
         };
         let pivot = step.pivot;
         self.pivots.resize(self.cols, false)?;
-        self.steps.push(step).map_err(|_| Refusal::Memory)?;
+        push_step(&mut self.steps, step)?;
         self.pivots[pivot] = true;
         Ok(true)
     }
@@ -240,6 +240,14 @@ impl Echelon {
     {
         self.pivots.get(column).copied().unwrap_or(false)
     }
+}
+
+/// Appends a step to a list; for want of memory the step is dropped, and the list is unchanged.
+fn push_step(steps: &mut Vec<Step>, step: Step) -> Result<(), Refusal>
+    ensures pushed { Answers None (λ _. steps.new.items ≡ steps.old.items ++ step ∷ []) result }
+    ensures unchanged { OnErr result (steps.new.items ≡ steps.old.items) }
+{
+    steps.push(step).map_err(|_| Refusal::Memory)
 }
 
 /// The negatives of the first entries of a row.

@@ -1,7 +1,7 @@
 -- Matrices that are the generators of a module: how they are found to be, and that they make one.
-use Rattle.std.proofs.Common.{◌≡◌, ℕ, ◌+◌, ◌<◌, ◌≤◌, List, [], ◌∷◌, Option, Some, None, Ok, Err, length, take, drop, get_or, refl, sym, ap, ◌∙◌, subst, arith}
+use Rattle.std.proofs.Common.{◌≡◌, ℕ, ◌+◌, ◌<◌, ◌≤◌, List, [], ◌∷◌, ◌++◌, Option, Some, None, Ok, Err, length, take, drop, get_or, refl, sym, ap, ◌∙◌, subst, arith}
 use Rattle.std.specs.List.{All}
-use Rattle.std.proofs.lemmas.List.{take_all, length-map, at_drop_more, at_drop_all}
+use Rattle.std.proofs.lemmas.List.{take_all, take_more, length-map, at_drop_more, at_drop_all}
 use Rattle.std.proofs.lemmas.List.Elements.{All-nil, All-get_or, All-more, All-map, All-weaker}
 use Rattle.axe_algebra.specs.Lists.{IsMatrixOver, IsSquareOver}
 use Rattle.axe_field.specs.Order.{Order}
@@ -10,7 +10,7 @@ use Rattle.axe_row.specs.declared.Refusal.{Refusal}
 use Rattle.axe_matrix.specs.Matrices.{MatrixValue}
 use Rattle.axe_echelon.proofs.InverseLaws.{matrix_over}
 use Rattle.axe_spin.specs.declared.TheConstants.{MAX_GENERATORS}
-use Rattle.axe_spin.specs.Modules.{generator_refusal, first_of, generators_refusal, unless_refused, rows_of_each, module_of_matrices}
+use Rattle.axe_spin.specs.Modules.{ModuleValue, generator_refusal, first_of, generators_refusal, unless_refused, rows_of_each, module_of_matrices}
 use Rattle.axe_spin.specs.Generators.{IsGeneratorMatrix, MakeModule}
 
 -- what refuses the value, where there is none
@@ -110,3 +110,20 @@ MakeModule-of_generators order dim matrices some few each =
         generators_fit = omega (arith, count);
       };
     }
+
+-- copies of the first matrices, and one more
+pub copies_more : (matrices items copies next : List MatrixValue) (index : ℕ) (matrix copy : MatrixValue) → items ≡ matrices → copies ≡ take index matrices →
+    index < length items → matrix ≡ get_or items index matrix → copy ≡ matrix → next ≡ copies ++ copy ∷ [] → next ≡ take (index + 1) matrices
+copies_more matrices items copies next index matrix copy value are below is same pushed =
+    pushed ∙ (λ i. are i ++ (same ∙ is ∙ ap (λ (l : List MatrixValue). get_or l index matrix) value) i ∷ [])
+    ∙ sym (take_more matrices index matrix (subst (λ (l : List MatrixValue). index < length l) value below))
+
+-- copies of all
+pub copies_all : (matrices items copies : List MatrixValue) (index : ℕ) → items ≡ matrices → copies ≡ take index matrices → length items ≤ index → copies ≡ matrices
+copies_all matrices items copies index value are all =
+    are ∙ take_all index matrices (subst (λ (l : List MatrixValue). length l ≤ index) value all)
+
+-- they are the generators of the same module
+pub module_of_copies : (order : Order) (dim : ℕ) (copies matrices : List MatrixValue) → copies ≡ matrices →
+    ◌≡◌ {A = ModuleValue} (record { order = order; dim = dim; generators = rows_of_each copies }) (record { order = order; dim = dim; generators = rows_of_each matrices })
+module_of_copies order dim copies matrices e = λ i. record { order = order; dim = dim; generators = rows_of_each (e i) }

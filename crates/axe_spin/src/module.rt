@@ -1,6 +1,6 @@
 //! Modules.
 
-ghost use Rattle.std.specs.Prelude.{◌≡◌, ◌<◌, ◌≤◌, length, None, IfOk};
+ghost use Rattle.std.specs.Prelude.{◌≡◌, ◌<◌, ◌≤◌, ◌++◌, ◌∷◌, [], length, None, IfOk};
 ghost use Rattle.axe_row.specs.Refusals.{Answers};
 ghost use Rattle.axe_matrix.specs.Matrices.{IsMatrix};
 ghost use Rattle.axe_spin.specs.Modules.{IsModule, generator_of, generator_refusal, unless_refused, module_of_matrices};
@@ -99,7 +99,7 @@ impl Module {
         let mut generators = Vec::new(alloc);
         for generator in &self.generators {
             let copy = generator.copy(alloc)?;
-            generators.push(copy).map_err(|_| Refusal::Memory)?;
+            push(&mut generators, copy)?;
         }
         Ok(Module {
             field: self.field,
@@ -127,4 +127,11 @@ fn check_generator(matrix: &Matrix, field: &Field, dim: usize) -> Result<(), Ref
         return Err(Refusal::ShapesDiffer);
     }
     Ok(())
+}
+
+/// Appends a matrix to a list; for want of memory the matrix is dropped, and the list is unchanged.
+fn push(matrices: &mut Vec<Matrix>, matrix: Matrix) -> Result<(), Refusal>
+    ensures { Answers None (λ _. matrices.new.items ≡ matrices.old.items ++ matrix ∷ []) result }
+{
+    matrices.push(matrix).map_err(|_| Refusal::Memory)
 }

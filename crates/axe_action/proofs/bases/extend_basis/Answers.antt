@@ -1,4 +1,7 @@
 use Rattle.std.proofs.Common.{◌≡◌, length, ap, sym, ◌∙◌, arith}
+use Rattle.axe_matrix.specs.Matrices.{IsMatrix}
+use Rattle.std.proofs.lemmas.Result.{IfOk-from_err}
+use Rattle.axe_echelon.proofs.Exits.{no_memory}
 use Rattle.axe_algebra.specs.Lists.{unit_row}
 use Rattle.axe_algebra.proofs.ListEntries.{listed_length}
 use Rattle.axe_row.specs.Rows.{RowValue}
@@ -35,3 +38,27 @@ loop-column-preserved c =
           rw w.extended-is (extended_at_pivot c.args.rows.now c.loop-column.column c.loop-column.extended c.loop-column.invariant
           (pivot_of_span c.args.rows.now c.in_ok-span.span c.loop-column.column (all_rows c.args.rows.now c.in_ok-span.span c.requires.independent c.in_ok-span.ensures.span) (c.is_pivot.ensures.0 w.if-not-is_pivot.false)))
     ]
+
+pub returns-in_err-span-clause-extended : goal.returns-in_err-span-clause-extended
+returns-in_err-span-clause-extended c = no_memory _ c.from_residual.result _ c.from_residual.ensures.1 c.in_err-span.ensures.span
+
+pub returns-in_err-span-clause-well_formed : goal.returns-in_err-span-clause-well_formed
+returns-in_err-span-clause-well_formed c = IfOk-from_err c.from_residual.result IsMatrix c.from_residual.ensures.0
+
+pub returns-in_err-extended-clause-extended : goal.returns-in_err-extended-clause-extended
+returns-in_err-extended-clause-extended c = no_memory _ c.from_residual-in_err-extended.result _ c.from_residual-in_err-extended.ensures.1 c.in_err-extended.ensures.copied
+
+pub returns-in_err-extended-clause-well_formed : goal.returns-in_err-extended-clause-well_formed
+returns-in_err-extended-clause-well_formed c = IfOk-from_err c.from_residual-in_err-extended.result IsMatrix c.from_residual-in_err-extended.ensures.0
+
+pub returns-in_err-unit-clause-extended : goal.returns-in_err-unit-clause-extended
+returns-in_err-unit-clause-extended c = no_memory _ c.from_residual-in_err-unit.result _ c.from_residual-in_err-unit.ensures.1 c.in_err-unit.ensures.unit
+
+pub returns-in_err-unit-clause-well_formed : goal.returns-in_err-unit-clause-well_formed
+returns-in_err-unit-clause-well_formed c = IfOk-from_err c.from_residual-in_err-unit.result IsMatrix c.from_residual-in_err-unit.ensures.0
+
+pub returns-in_err-append-clause-extended : goal.returns-in_err-append-clause-extended
+returns-in_err-append-clause-extended c = no_memory _ c.from_residual-in_err-append.result _ c.from_residual-in_err-append.ensures.1 c.in_err-append.ensures.appended
+
+pub returns-in_err-append-clause-well_formed : goal.returns-in_err-append-clause-well_formed
+returns-in_err-append-clause-well_formed c = IfOk-from_err c.from_residual-in_err-append.result IsMatrix c.from_residual-in_err-append.ensures.0

@@ -1,4 +1,5 @@
 use Rattle.std.proofs.Common.{subst, arith}
+use Rattle.axe_echelon.proofs.Exits.{no_memory}
 use Rattle.axe_row.specs.Rows.{RowValue}
 use Rattle.axe_echelon.specs.Echelons.{IsEchelon}
 use Rattle.axe_action.specs.FreeColumns.{IsRowModulo}
@@ -19,3 +20,9 @@ loop-column-preserved c =
     c.loop-column.invariant
     (subst (λ (r : RowValue). IsRowModulo c.args.span.now c.args.columns.now r.entries c.in_ok-row.row.entries) c.row.ensures.value c.in_ok-row.ensures.modulo)
     c.in_ok-append.ensures.appended c.append.ensures.well_formed
+
+pub returns-in_err-row : goal.returns-in_err-row
+returns-in_err-row c = no_memory _ c.from_residual.result _ c.from_residual.ensures.1 c.in_err-row.ensures.modulo
+
+pub returns-in_err-append : goal.returns-in_err-append
+returns-in_err-append c = no_memory _ c.from_residual-in_err-append.result _ c.from_residual-in_err-append.ensures.1 c.in_err-append.ensures.appended

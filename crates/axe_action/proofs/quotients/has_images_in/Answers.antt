@@ -1,4 +1,5 @@
 use Rattle.std.proofs.Common.{◌≡◌, ◌<◌, length, ap, sym, ◌∙◌, arith, below_more}
+use Rattle.axe_echelon.proofs.Exits.{no_memory}
 use Rattle.axe_algebra.specs.Lists.{combination}
 use Rattle.axe_field.specs.NumberFields.{number_field}
 use Rattle.axe_row.specs.Rows.{RowValue}
@@ -30,3 +31,6 @@ loop-index-preserved c =
     below_more _ _ c.loop-index.invariant
     (image_within c.args.generator.now c.args.rows.now.rows c.loop-index.index c.args.span.now c.in_ok-image.image c.reduce.new.row c.is_zero.result
     c.requires.span_field image c.reduce.ensures.representative c.is_zero.ensures c.if-not-is_zero.false)
+
+pub returns-in_err-image : goal.returns-in_err-image
+returns-in_err-image c = no_memory _ c.from_residual.result _ c.from_residual.ensures.1 c.in_err-image.ensures.product

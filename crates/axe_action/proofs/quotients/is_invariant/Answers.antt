@@ -1,4 +1,5 @@
 use Rattle.std.proofs.Common.{◌<◌, ◌≤◌, length, sym, subst, arith, below_more}
+use Rattle.axe_echelon.proofs.Exits.{no_memory}
 use Rattle.axe_action.specs.Actions.{IsInvariantIn}
 use Rattle.axe_action.specs.Coordinates.{HasImagesIn}
 use Rattle.axe_action.proofs.QuotientSpans.{IsSpanIn, span_in, vectors_over, images_of_span, invariant_of_images, test_fails, test_holds, test_failed}
@@ -30,3 +31,6 @@ returns c =
     (invariant_of_images c.args.module.now c.args.rows.now c.args.span.now.rows c.gens-number-end.ensures.well_formed
     (vectors_over c.args.module.now c.args.rows.now c.requires.field c.requires.fits c.requires.well_formed) span.same
     (λ j below. c.loop-number.invariant j (omega arith)))
+
+pub returns-in_err-has_images_in : goal.returns-in_err-has_images_in
+returns-in_err-has_images_in c = no_memory _ c.from_residual.result _ c.from_residual.ensures.1 c.in_err-has_images_in.ensures

@@ -1,4 +1,5 @@
-use Rattle.std.proofs.Common.{◌≡◌, ◌<◌, ◌≤◌, length, ap, sym, ◌∙◌, subst, arith}
+use Rattle.std.proofs.Common.{◌≡◌, ◌<◌, ◌≤◌, length, ap, sym, ◌∙◌, subst, arith, None, refl}
+use Rattle.axe_action.proofs.SubAnswers.{no_memory_for_action}
 use Rattle.axe_algebra.specs.Lists.{combination, IsSpanned}
 use Rattle.axe_algebra.proofs.ListSpans.{independent_rows_are_few}
 use Rattle.axe_field.specs.NumberFields.{number_field}
@@ -51,3 +52,12 @@ returns c =
           (form_over c.args.generator.now c.args.rows.now.rows c.args.span.now c.requires.span c.rank.ensures.well_formed) enough,
       subst (λ k. HasActionRows c.args.generator.now c.args.rows.now.rows k c.loop-index.action) whole c.loop-index.invariant,
     )
+
+pub returns-in_err-image : goal.returns-in_err-image
+returns-in_err-image c = no_memory_for_action None _ _ c.from_residual.result _ refl c.in_err-image.ensures.product c.from_residual.ensures.1
+
+pub returns-in_err-coefficients : goal.returns-in_err-coefficients
+returns-in_err-coefficients c = no_memory_for_action None _ _ c.from_residual-in_err-coefficients.result _ refl c.in_err-coefficients.ensures.coefficients c.from_residual-in_err-coefficients.ensures.1
+
+pub returns-in_err-append : goal.returns-in_err-append
+returns-in_err-append c = no_memory_for_action None _ _ c.from_residual-in_err-append.result _ refl c.in_err-append.ensures.appended c.from_residual-in_err-append.ensures.1

@@ -1,4 +1,5 @@
 use Rattle.std.proofs.Common.{◌≡◌, ◌<◌, ◌≤◌, length, get_or, [], ap, sym, ◌∙◌, arith}
+use Rattle.axe_echelon.proofs.Exits.{no_memory}
 use Rattle.axe_row.specs.Rows.{RowValue}
 use Rattle.axe_action.proofs.SubSpans.{span_more, span_whole}
 use Rattle.axe_action.proofs.subspaces.span_of.Goals as goal
@@ -17,3 +18,18 @@ pub returns-clause-span : goal.returns-clause-span
 returns-clause-span c =
     let whole : length c.args.rows.now.rows ≤ c.loop-index.index = omega (arith, c.loop-index-test.false, c.rows-index-end.ensures.count) in
     span_whole c.args.rows.now c.loop-index.index c.loop-index.span c.loop-index.invariant whole
+
+pub returns-in_err-row-clause-span : goal.returns-in_err-row-clause-span
+returns-in_err-row-clause-span c = no_memory _ c.from_residual.result _ c.from_residual.ensures.1 c.in_err-row.ensures.copied
+
+pub returns-in_err-row-clause-well_formed : goal.returns-in_err-row-clause-well_formed
+returns-in_err-row-clause-well_formed c = c.rows-index-end.ensures.well_formed
+
+pub returns-in_err-insert-clause-span : goal.returns-in_err-insert-clause-span
+returns-in_err-insert-clause-span c = no_memory _ c.from_residual-in_err-insert.result _ c.from_residual-in_err-insert.ensures.1 c.in_err-insert.ensures.inserted
+
+pub returns-in_err-insert-clause-well_formed : goal.returns-in_err-insert-clause-well_formed
+returns-in_err-insert-clause-well_formed c = c.rows-index-end.ensures.well_formed
+
+pub returns-clause-well_formed : goal.returns-clause-well_formed
+returns-clause-well_formed c = c.rows-index-end.ensures.well_formed

@@ -1,6 +1,8 @@
 use Rattle.std.proofs.Common.{sym, subst}
+use Rattle.std.proofs.lemmas.Result.{IfOk-from_err}
+use Rattle.axe_spin.specs.Modules.{IsModule}
 use Rattle.axe_action.specs.Actions.{sub_action_refusal, AnswersSubAction, IsInvariantIn, IsActionOnSpan}
-use Rattle.axe_action.proofs.SubAnswers.{not_refused}
+use Rattle.axe_action.proofs.SubAnswers.{not_refused, refused, no_memory_for_action}
 use Rattle.axe_action.proofs.SubBases.{IsBasisOfSpan, space_rows, basis_of_span, action_on_span}
 use Rattle.axe_action.proofs.subspaces.sub_action.Goals as goal
 
@@ -30,3 +32,31 @@ returns-clause-action c =
     c.span_of.ensures.well_formed c.in_ok-span_of.ensures.span c.in_ok-basis.ensures.basis c.in_ok-basis.ensures.matrix_well_formed in
     subst (λ r. AnswersSubAction r (IsInvariantIn c.args.module.now c.args.rows.now) (IsActionOnSpan c.args.module.now c.args.rows.now) c.action_over.result)
     (sym none) (action_on_span c.args.module.now c.args.rows.now c.in_ok-basis.basis c.action_over.result basis c.action_over.ensures.action)
+
+pub returns-in_err-check_space-clause-action : goal.returns-in_err-check_space-clause-action
+returns-in_err-check_space-clause-action c =
+    refused (sub_action_refusal c.args.module.now c.args.rows.now) tt _ _ c.from_residual.result _ c.in_err-check_space.ensures c.from_residual.ensures.1
+
+pub returns-in_err-check_space-clause-well_formed : goal.returns-in_err-check_space-clause-well_formed
+returns-in_err-check_space-clause-well_formed c = IfOk-from_err c.from_residual.result IsModule c.from_residual.ensures.0
+
+pub returns-in_err-span_of-clause-action : goal.returns-in_err-span_of-clause-action
+returns-in_err-span_of-clause-action c =
+    let none = not_refused (sub_action_refusal c.args.module.now c.args.rows.now) tt c.in_ok-check_space.field-0 c.in_ok-check_space.ensures in
+    no_memory_for_action (sub_action_refusal c.args.module.now c.args.rows.now) _ _ c.from_residual-in_err-span_of.result _ none c.in_err-span_of.ensures.span
+    c.from_residual-in_err-span_of.ensures.1
+
+pub returns-in_err-span_of-clause-well_formed : goal.returns-in_err-span_of-clause-well_formed
+returns-in_err-span_of-clause-well_formed c = IfOk-from_err c.from_residual-in_err-span_of.result IsModule c.from_residual-in_err-span_of.ensures.0
+
+pub returns-in_err-basis-clause-action : goal.returns-in_err-basis-clause-action
+returns-in_err-basis-clause-action c =
+    let none = not_refused (sub_action_refusal c.args.module.now c.args.rows.now) tt c.in_ok-check_space.field-0 c.in_ok-check_space.ensures in
+    no_memory_for_action (sub_action_refusal c.args.module.now c.args.rows.now) _ _ c.from_residual-in_err-basis.result _ none c.in_err-basis.ensures.basis
+    c.from_residual-in_err-basis.ensures.1
+
+pub returns-in_err-basis-clause-well_formed : goal.returns-in_err-basis-clause-well_formed
+returns-in_err-basis-clause-well_formed c = IfOk-from_err c.from_residual-in_err-basis.result IsModule c.from_residual-in_err-basis.ensures.0
+
+pub returns-clause-well_formed : goal.returns-clause-well_formed
+returns-clause-well_formed c = c.action_over.ensures.well_formed

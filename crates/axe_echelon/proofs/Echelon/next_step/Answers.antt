@@ -1,4 +1,5 @@
 use Rattle.std.proofs.Common.{arith}
+use Rattle.axe_echelon.proofs.Exits.{no_memory}
 use Rattle.axe_algebra.specs.Lists.{IsSpanned}
 use Rattle.axe_field.specs.NumberFields.{number_field}
 use Rattle.axe_row.specs.Rows.{IsRow}
@@ -22,3 +23,9 @@ returns c =
     (omega (arith, c.rank.ensures.count, c.requires.room)) c.set.ensures.replaced c.set.ensures.well_formed c.field-2.ensures.order c.get.ensures.entry
     c.inv-scalar.ensures.element c.inv-scalar.ensures.inverse c.scale.ensures.multiple c.scale.ensures.well_formed c.scale-2.ensures.multiple
     c.scale-2.ensures.well_formed
+
+pub returns-in_err-rest : goal.returns-in_err-rest
+returns-in_err-rest c = no_memory _ c.from_residual.result _ c.from_residual.ensures.1 c.in_err-rest.ensures.copied
+
+pub returns-in_err-coefficients : goal.returns-in_err-coefficients
+returns-in_err-coefficients c = no_memory _ c.from_residual-in_err-coefficients.result _ c.from_residual-in_err-coefficients.ensures.1 c.in_err-coefficients.ensures.zeros

@@ -1,4 +1,5 @@
 use Rattle.std.proofs.Common.{◌≡◌, ◌≤◌, Bool, true, false, arith}
+use Rattle.axe_echelon.proofs.Exits.{no_memory}
 use Rattle.axe_echelon.proofs.ReducedLaws.{reduced_other, reduced_more, reduced_whole}
 use Rattle.axe_echelon.proofs.Echelon.reduced.Goals.{then-is_pivot+in_ok-row+in_ok-append, else-is_pivot}
 use Rattle.axe_echelon.proofs.Echelon.reduced.Goals as goal
@@ -27,3 +28,15 @@ pub returns-clause-basis : goal.returns-clause-basis
 returns-clause-basis c =
     let whole : c.args.self.now.cols ≤ c.loop-column.column = omega (arith, c.cols-column-end.ensures.count, c.loop-column-test.false) in
     reduced_whole c.args.self.now c.loop-column.column c.loop-column.reduced c.cols.ensures.well_formed c.loop-column.invariant.so_far whole
+
+pub returns-in_err-row-clause-basis : goal.returns-in_err-row-clause-basis
+returns-in_err-row-clause-basis c = no_memory _ c.from_residual.result _ c.from_residual.ensures.1 c.in_err-row.ensures
+
+pub returns-in_err-row-clause-matrix_well_formed : goal.returns-in_err-row-clause-matrix_well_formed
+returns-in_err-row-clause-matrix_well_formed c = no_memory _ c.from_residual.result _ c.from_residual.ensures.1 c.in_err-row.ensures
+
+pub returns-in_err-append-clause-basis : goal.returns-in_err-append-clause-basis
+returns-in_err-append-clause-basis c = no_memory _ c.from_residual-in_err-append.result _ c.from_residual-in_err-append.ensures.1 c.in_err-append.ensures.appended
+
+pub returns-in_err-append-clause-matrix_well_formed : goal.returns-in_err-append-clause-matrix_well_formed
+returns-in_err-append-clause-matrix_well_formed c = no_memory _ c.from_residual-in_err-append.result _ c.from_residual-in_err-append.ensures.1 c.in_err-append.ensures.appended

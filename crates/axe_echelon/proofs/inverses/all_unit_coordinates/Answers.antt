@@ -1,3 +1,4 @@
+use Rattle.axe_echelon.proofs.Exits.{no_memory}
 use Rattle.axe_echelon.proofs.InverseLaws.{inverse_more}
 use Rattle.axe_echelon.proofs.inverses.all_unit_coordinates.Goals as goal
 
@@ -7,3 +8,15 @@ loop-index-preserved c = record {
       c.in_ok-append.ensures.appended;
   well_formed = c.append.ensures.well_formed;
 }
+
+pub returns-in_err-row-clause-coordinates : goal.returns-in_err-row-clause-coordinates
+returns-in_err-row-clause-coordinates c = no_memory _ c.from_residual.result _ c.from_residual.ensures.1 c.in_err-row.ensures
+
+pub returns-in_err-row-clause-well_formed : goal.returns-in_err-row-clause-well_formed
+returns-in_err-row-clause-well_formed c = no_memory _ c.from_residual.result _ c.from_residual.ensures.1 c.in_err-row.ensures
+
+pub returns-in_err-append-clause-coordinates : goal.returns-in_err-append-clause-coordinates
+returns-in_err-append-clause-coordinates c = no_memory _ c.from_residual-in_err-append.result _ c.from_residual-in_err-append.ensures.1 c.in_err-append.ensures.appended
+
+pub returns-in_err-append-clause-well_formed : goal.returns-in_err-append-clause-well_formed
+returns-in_err-append-clause-well_formed c = no_memory _ c.from_residual-in_err-append.result _ c.from_residual-in_err-append.ensures.1 c.in_err-append.ensures.appended

@@ -5,6 +5,7 @@ use Rattle.axe_field.specs.NumberFields.{number_field}
 use Rattle.axe_row.specs.Rows.{RowValue}
 use Rattle.axe_echelon.specs.Echelons.{EchelonValue, with_row_where}
 use Rattle.axe_echelon.specs.Inserted.{IsRelation}
+use Rattle.axe_echelon.proofs.Exits.{no_memory}
 use Rattle.axe_echelon.proofs.InverseLaws.{spanned_of_not_new}
 use Rattle.axe_echelon.proofs.NullRowLaws.{null_so_far_none, null_so_far_new, null_so_far_old, null_so_far_all, answers_more}
 use Rattle.axe_echelon.proofs.null_spaces.null_space_of_rows.Goals.{then-branch+in_ok-append, else-branch+in_ok-vector+in_ok-insert-2}
@@ -103,3 +104,42 @@ returns-clause-basis c =
     answers_more c.reduced.result _ _ c.reduced.ensures.basis
     (λ basis reduced. null_so_far_all c.args.matrix.now c.loop-index.index c.loop-index.image c.loop-index.units c.loop-index.null basis c.loop-index.invariant
     whole reduced)
+
+pub returns-in_err-unit-clause-basis : goal.returns-in_err-unit-clause-basis
+returns-in_err-unit-clause-basis c = no_memory _ c.from_residual.result _ c.from_residual.ensures.1 c.in_err-unit.ensures.unit
+
+pub returns-in_err-unit-clause-well_formed : goal.returns-in_err-unit-clause-well_formed
+returns-in_err-unit-clause-well_formed c = no_memory _ c.from_residual.result _ c.from_residual.ensures.1 c.in_err-unit.ensures.unit
+
+pub returns-in_err-row-clause-basis : goal.returns-in_err-row-clause-basis
+returns-in_err-row-clause-basis c = no_memory _ c.from_residual-in_err-row.result _ c.from_residual-in_err-row.ensures.1 c.in_err-row.ensures.copied
+
+pub returns-in_err-row-clause-well_formed : goal.returns-in_err-row-clause-well_formed
+returns-in_err-row-clause-well_formed c = no_memory _ c.from_residual-in_err-row.result _ c.from_residual-in_err-row.ensures.1 c.in_err-row.ensures.copied
+
+pub returns-in_err-insert-clause-basis : goal.returns-in_err-insert-clause-basis
+returns-in_err-insert-clause-basis c = no_memory _ c.from_residual-in_err-insert.result _ c.from_residual-in_err-insert.ensures.1 c.in_err-insert.ensures.inserted
+
+pub returns-in_err-insert-clause-well_formed : goal.returns-in_err-insert-clause-well_formed
+returns-in_err-insert-clause-well_formed c = no_memory _ c.from_residual-in_err-insert.result _ c.from_residual-in_err-insert.ensures.1 c.in_err-insert.ensures.inserted
+
+pub returns-in_err-append-clause-basis : goal.returns-in_err-append-clause-basis
+returns-in_err-append-clause-basis c = no_memory _ c.from_residual-in_err-append.result _ c.from_residual-in_err-append.ensures.1 c.in_err-append.ensures.appended
+
+pub returns-in_err-append-clause-well_formed : goal.returns-in_err-append-clause-well_formed
+returns-in_err-append-clause-well_formed c = no_memory _ c.from_residual-in_err-append.result _ c.from_residual-in_err-append.ensures.1 c.in_err-append.ensures.appended
+
+pub returns-in_err-vector-clause-basis : goal.returns-in_err-vector-clause-basis
+returns-in_err-vector-clause-basis c = no_memory _ c.from_residual-in_err-vector.result _ c.from_residual-in_err-vector.ensures.1 c.in_err-vector.ensures
+
+pub returns-in_err-vector-clause-well_formed : goal.returns-in_err-vector-clause-well_formed
+returns-in_err-vector-clause-well_formed c = no_memory _ c.from_residual-in_err-vector.result _ c.from_residual-in_err-vector.ensures.1 c.in_err-vector.ensures
+
+pub returns-in_err-insert-2-clause-basis : goal.returns-in_err-insert-2-clause-basis
+returns-in_err-insert-2-clause-basis c = no_memory _ c.from_residual-in_err-insert-2.result _ c.from_residual-in_err-insert-2.ensures.1 c.in_err-insert-2.ensures.inserted
+
+pub returns-in_err-insert-2-clause-well_formed : goal.returns-in_err-insert-2-clause-well_formed
+returns-in_err-insert-2-clause-well_formed c = no_memory _ c.from_residual-in_err-insert-2.result _ c.from_residual-in_err-insert-2.ensures.1 c.in_err-insert-2.ensures.inserted
+
+pub returns-clause-well_formed : goal.returns-clause-well_formed
+returns-clause-well_formed c = c.reduced.ensures.matrix_well_formed

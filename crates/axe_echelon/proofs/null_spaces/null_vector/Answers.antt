@@ -1,4 +1,5 @@
 use Rattle.std.proofs.Common.{length, ap, sym, ◌∙◌}
+use Rattle.axe_echelon.proofs.Exits.{no_memory}
 use Rattle.axe_matrix.proofs.ProductLaws.{length-combination}
 use Rattle.axe_row.specs.Rows.{RowValue}
 use Rattle.axe_echelon.specs.Echelons.{AreCoordinates}
@@ -16,3 +17,9 @@ returns c =
     c.neg-minus_one.result c.field.result.now c.requires.units_well_formed c.requires.as_many c.requires.units_field c.requires.unit_field c.requires.unit_fits
     c.field.ensures.well_formed are c.in_ok-combination.ensures.product (c.field.ensures.order ∙ c.requires.unit_field) c.neg-minus_one.ensures.element
     c.neg-minus_one.ensures.value c.add_scaled.ensures.sum c.add_scaled.ensures.as_long c.add_scaled.ensures.well_formed
+
+pub returns-in_err-coordinates : goal.returns-in_err-coordinates
+returns-in_err-coordinates c = no_memory _ c.from_residual.result _ c.from_residual.ensures.1 c.in_err-coordinates.ensures.coefficients
+
+pub returns-in_err-combination : goal.returns-in_err-combination
+returns-in_err-combination c = no_memory _ c.from_residual-in_err-combination.result _ c.from_residual-in_err-combination.ensures.1 c.in_err-combination.ensures.product

@@ -1,6 +1,7 @@
 use Rattle.std.proofs.Common.{◌≡◌, false, ap}
-use Rattle.std.proofs.lemmas.Result.{err_from_is_err_and}
+use Rattle.std.proofs.lemmas.Result.{err_from_is_err_and, IfOk-from_err}
 use Rattle.axe_field.specs.Order.{order_number}
+use Rattle.axe_matrix.specs.Matrices.{MatrixValue, IsMatrix}
 use Rattle.axe_matrix.proofs.MatrixLaws.{same_fields}
 use Rattle.axe_echelon.proofs.NullRowLaws.{answers_more}
 use Rattle.axe_spin.specs.Spinning.{has_only_zeros}
@@ -35,3 +36,21 @@ returns-clause-basis c =
     rw none (answers_more c.reduced.result _ _ c.reduced.ensures.basis
     (λ basis reduced. generated_matrix c.args.module.now c.args.seed.now c.offer_all.new.rows c.spin.new.rows basis c.spin.new.span c.field-2.ensures.well_formed
     fields shapes c.field.ensures.well_formed c.in_ok-offer_all.ensures.basis c.in_ok-spin.ensures.spun c.in_ok-spin.ensures.span reduced))
+
+pub returns-in_err-offer_all-clause-well_formed : goal.returns-in_err-offer_all-clause-well_formed
+returns-in_err-offer_all-clause-well_formed c = IfOk-from_err c.from_residual.result IsMatrix c.from_residual.ensures.0
+
+pub returns-in_err-spin-clause-well_formed : goal.returns-in_err-spin-clause-well_formed
+returns-in_err-spin-clause-well_formed c = IfOk-from_err c.from_residual-in_err-spin.result IsMatrix c.from_residual-in_err-spin.ensures.0
+
+pub offer_all-requires-clause-well_formed : goal.offer_all-requires-clause-well_formed
+offer_all-requires-clause-well_formed c = c.empty-rows.ensures.well_formed
+
+pub offer_all-requires-clause-no_rows : goal.offer_all-requires-clause-no_rows
+offer_all-requires-clause-no_rows c = ap (λ (m : MatrixValue). m.rows) c.empty-rows.ensures.no_rows
+
+pub spin-requires-clause-well_formed : goal.spin-requires-clause-well_formed
+spin-requires-clause-well_formed c = c.in_ok-offer_all.ensures.well_formed
+
+pub spin-requires-clause-span : goal.spin-requires-clause-span
+spin-requires-clause-span c = c.in_ok-offer_all.ensures.span

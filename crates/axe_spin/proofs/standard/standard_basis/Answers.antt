@@ -1,5 +1,7 @@
 use Rattle.std.proofs.Common.{ap}
-use Rattle.axe_matrix.specs.Matrices.{MatrixValue}
+use Rattle.std.proofs.lemmas.Result.{IfOk-from_err}
+use Rattle.axe_matrix.specs.Matrices.{MatrixValue, IsMatrix}
+use Rattle.axe_echelon.proofs.Exits.{no_memory}
 use Rattle.axe_spin.proofs.StandardLaws.{first_is_offered, standard_matrix}
 use Rattle.axe_spin.proofs.standard.standard_basis.Goals as goal
 
@@ -24,3 +26,21 @@ returns-clause-basis c =
     c.field-2.ensures.order c.dim-2.ensures.count c.in_ok-first.ensures.copied c.in_ok-first.ensures.well_formed c.requires.field c.requires.nonzero
     c.in_ok-offer.ensures.offered)
     c.in_ok-spin.ensures.spun
+
+pub returns-in_err-first-clause-basis : goal.returns-in_err-first-clause-basis
+returns-in_err-first-clause-basis c = no_memory _ c.from_residual.result _ c.from_residual.ensures.1 c.in_err-first.ensures.copied
+
+pub returns-in_err-first-clause-well_formed : goal.returns-in_err-first-clause-well_formed
+returns-in_err-first-clause-well_formed c = IfOk-from_err c.from_residual.result IsMatrix c.from_residual.ensures.0
+
+pub returns-in_err-offer-clause-basis : goal.returns-in_err-offer-clause-basis
+returns-in_err-offer-clause-basis c = no_memory _ c.from_residual-in_err-offer.result _ c.from_residual-in_err-offer.ensures.1 c.in_err-offer.ensures.offered
+
+pub returns-in_err-offer-clause-well_formed : goal.returns-in_err-offer-clause-well_formed
+returns-in_err-offer-clause-well_formed c = IfOk-from_err c.from_residual-in_err-offer.result IsMatrix c.from_residual-in_err-offer.ensures.0
+
+pub returns-in_err-spin-clause-basis : goal.returns-in_err-spin-clause-basis
+returns-in_err-spin-clause-basis c = no_memory _ c.from_residual-in_err-spin.result _ c.from_residual-in_err-spin.ensures.1 c.in_err-spin.ensures.spun
+
+pub returns-in_err-spin-clause-well_formed : goal.returns-in_err-spin-clause-well_formed
+returns-in_err-spin-clause-well_formed c = IfOk-from_err c.from_residual-in_err-spin.result IsMatrix c.from_residual-in_err-spin.ensures.0
