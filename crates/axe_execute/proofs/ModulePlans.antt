@@ -82,30 +82,39 @@ module _ (files : Files) (count : ℕ) (name seed : List ℕ) where
 
 -- ---- quotients
 
-module _ (files : Files) (count : ℕ) (subspace name out : List ℕ) (now : Files) (same : now ≡ files) (rows : MatrixValue) (is_rows : matrix_in files subspace ≡ Ok rows)
-    (matrices : List MatrixValue) (are_matrices : matrices_in now (numbered_names name count) ≡ Ok matrices) where
-  found : matrices_in files (numbered_names name count) ≡ Ok matrices
-  found = sym (ap (λ files. matrices_in files (numbered_names name count)) same) ∙ are_matrices
-
-  pub quotient_fault_of_module : (fault : Fault) → Agrees [] (λ (m : ModuleValue). m) (Err fault) (Is (checked_module matrices)) →
+module _ (files : Files) (count : ℕ) (subspace name out : List ℕ) (now : Files) (same : now ≡ files) (rows : MatrixValue) (is_rows : matrix_in files subspace ≡ Ok rows) where
+  pub quotient_fault_of_matrices : {T : Type 0} (view : T → List MatrixValue) (fault : Fault) →
+      Agrees (numbered_names name count) view (Err fault) (Is (matrices_in now (numbered_names name count))) →
       Agrees (subspace ∷ numbered_names name count) plan_in (Err fault) (QuotientPlan count subspace name out files)
   unfolding QuotientPlan
-  quotient_fault_of_module fault right =
-      fault_carries [] (subspace ∷ numbered_names name count) (λ (m : ModuleValue). m) plan_in fault (Is (checked_module matrices))
-      (QuotientPlan count subspace name out files) (among_none (subspace ∷ numbered_names name count))
-      (λ problem e. (Ok rows, is_rows, (Ok matrices, found, (Err problem, e, refl)))) right
+  quotient_fault_of_matrices view fault right =
+      fault_carries (numbered_names name count) (subspace ∷ numbered_names name count) view plan_in fault (Is (matrices_in now (numbered_names name count)))
+      (QuotientPlan count subspace name out files) (among_after (subspace ∷ []) (numbered_names name count))
+      (λ problem e. (Ok rows, is_rows, (Err problem, sym (ap (λ files. matrices_in files (numbered_names name count)) same) ∙ e, refl))) right
 
-  module _ (m : ModuleValue) (is_module : checked_module matrices ≡ Ok m) where
-    pub quotient_fault_of_action : (fault : Fault) → Agrees [] (λ (a : ModuleValue). a) (Err fault) (ActionModulo m rows) →
+  module _ (matrices : List MatrixValue) (are_matrices : matrices_in now (numbered_names name count) ≡ Ok matrices) where
+    found : matrices_in files (numbered_names name count) ≡ Ok matrices
+    found = sym (ap (λ files. matrices_in files (numbered_names name count)) same) ∙ are_matrices
+
+    pub quotient_fault_of_module : (fault : Fault) → Agrees [] (λ (m : ModuleValue). m) (Err fault) (Is (checked_module matrices)) →
         Agrees (subspace ∷ numbered_names name count) plan_in (Err fault) (QuotientPlan count subspace name out files)
     unfolding QuotientPlan
-    quotient_fault_of_action fault right =
-        fault_carries [] (subspace ∷ numbered_names name count) (λ (a : ModuleValue). a) plan_in fault (ActionModulo m rows)
+    quotient_fault_of_module fault right =
+        fault_carries [] (subspace ∷ numbered_names name count) (λ (m : ModuleValue). m) plan_in fault (Is (checked_module matrices))
         (QuotientPlan count subspace name out files) (among_none (subspace ∷ numbered_names name count))
-        (λ problem e. (Ok rows, is_rows, (Ok matrices, found, (Ok m, is_module, (Err problem, e, refl))))) right
+        (λ problem e. (Ok rows, is_rows, (Ok matrices, found, (Err problem, e, refl)))) right
 
-    pub quotient_value : (action : ModuleValue) (empty plan : Plan) → ActionModulo m rows (Ok action) → empty ≡ record { steps = []; shown = [] } →
-        plan ≡ with_steps empty (put_generators out action) → QuotientPlan count subspace name out files (Ok plan)
-    unfolding QuotientPlan
-    quotient_value action empty plan acts nothing put =
-        (Ok rows, is_rows, (Ok matrices, found, (Ok m, is_module, (Ok action, acts, ap Ok (sym (put ∙ ap (λ before. with_steps before (put_generators out action)) nothing))))))
+    module _ (m : ModuleValue) (is_module : checked_module matrices ≡ Ok m) where
+      pub quotient_fault_of_action : (fault : Fault) → Agrees [] (λ (a : ModuleValue). a) (Err fault) (ActionModulo m rows) →
+          Agrees (subspace ∷ numbered_names name count) plan_in (Err fault) (QuotientPlan count subspace name out files)
+      unfolding QuotientPlan
+      quotient_fault_of_action fault right =
+          fault_carries [] (subspace ∷ numbered_names name count) (λ (a : ModuleValue). a) plan_in fault (ActionModulo m rows)
+          (QuotientPlan count subspace name out files) (among_none (subspace ∷ numbered_names name count))
+          (λ problem e. (Ok rows, is_rows, (Ok matrices, found, (Ok m, is_module, (Err problem, e, refl))))) right
+
+      pub quotient_value : (action : ModuleValue) (empty plan : Plan) → ActionModulo m rows (Ok action) → empty ≡ record { steps = []; shown = [] } →
+          plan ≡ with_steps empty (put_generators out action) → QuotientPlan count subspace name out files (Ok plan)
+      unfolding QuotientPlan
+      quotient_value action empty plan acts nothing put =
+          (Ok rows, is_rows, (Ok matrices, found, (Ok m, is_module, (Ok action, acts, ap Ok (sym (put ∙ ap (λ before. with_steps before (put_generators out action)) nothing))))))

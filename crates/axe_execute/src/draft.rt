@@ -105,9 +105,10 @@ impl Draft {
         ensures put { OnOk result (plan_in self.new ≡ with_step (plan_in self.old) (Put (string_bytes name) (packed matrix.now))) }
         ensures memory { IfErr result (λ fault. fault ≡ Memory) }
     {
-        let bytes = write_packed(alloc, matrix).map_err(|_| Fault::Memory)?;
-        self.changes.push(Change::Put { name, bytes })?;
-        Ok(())
+        match write_packed(alloc, matrix) {
+            Ok(bytes) => self.put(name, bytes),
+            Err(_) => Err(Fault::Memory),
+        }
     }
 
     /// Adds that the name is given the text of a matrix.
@@ -121,7 +122,17 @@ impl Draft {
         ensures memory { IfErr result (λ fault. fault ≡ Memory) }
     {
         let name = String::from_str(alloc, name.as_str())?;
-        let bytes = write_text(alloc, matrix).map_err(|_| Fault::Memory)?;
+        match write_text(alloc, matrix) {
+            Ok(bytes) => self.put(name, bytes),
+            Err(_) => Err(Fault::Memory),
+        }
+    }
+
+    // Adds that the name is given these bytes.
+    fn put(&mut self, name: String, bytes: Vec<u8>) -> Result<(), Fault>
+        ensures put { OnOk result (plan_in self.new ≡ with_step (plan_in self.old) (Put (string_bytes name) bytes.items)) }
+        ensures memory { IfErr result (λ fault. fault ≡ Memory) }
+    {
         self.changes.push(Change::Put { name, bytes })?;
         Ok(())
     }
@@ -131,8 +142,13 @@ impl Draft {
         ensures shown { OnOk result (plan_in self.new ≡ with_text (plan_in self.old) (text_of matrix.now)) }
         ensures memory { IfErr result (λ fault. fault ≡ Memory) }
     {
-        self.text = write_text(alloc, matrix).map_err(|_| Fault::Memory)?;
-        Ok(())
+        match write_text(alloc, matrix) {
+            Ok(text) => {
+                self.text = text;
+                Ok(())
+            }
+            Err(_) => Err(Fault::Memory),
+        }
     }
 }
 
