@@ -1,124 +1,89 @@
 //! Actions of modules on invariant spaces and modulo them.
-use crate::values::{Refused, assert_independent, assert_same, matrix_of, module_of, two_points};
+use crate::tables::{Topic, each_call, three_fields};
+use crate::values::{assert_independent, is_module, matrix_of, module_of};
 use axe_action::{basis_action, quotient_action, sub_action};
 use axe_matrix::Refusal;
+use std::alloc::Global;
+use std::process::Abort;
 
-#[test]
-fn a_module_acts_on_its_invariant_spaces(rt: HostRuntime) -> Result<(), Refusal> {
-    let alloc = rt.alloc();
-    let module = two_points(&rt, alloc)?;
-    let wanted = module_of(&rt, alloc, 2, &[&[&[1]]])?;
-    let spans: [&[&[u8]]; 2] = [&[&[1, 1]], &[&[0, 0], &[1, 1], &[1, 1]]];
-    for rows in spans {
-        let span = matrix_of(&rt, alloc, (2, 2), rows)?;
-        assert_same(&rt, &sub_action(alloc, &module, &span)?, &wanted);
+/// - `sub_action`: a module, rows, and the action on the space that they span;
+/// - `basis_action`: a module, independent rows, and the action over these rows;
+/// - `quotient_action`: a module, rows, and the action modulo the space that they span.
+const ACTIONS: &str = "\
+sub_action | 2: 01/10 | 2: 11 | 2: 1
+sub_action | 2: 01/10 | 2: 00/11/11 | 2: 1
+basis_action | 2: 11/10 | 2: 01/10 | 2: 01/11
+quotient_action | 2: 01/10 | 2: 11 | 2: 1
+quotient_action | 2: 01/10 | 2: 0x2 | 2: 01/10
+# In dimension three, on a line and modulo it.
+sub_action | 3: 121/021/001 | 3: 022 | 3: 2
+quotient_action | 3: 121/021/001 | 3: 022 | 3: 12/01
+";
+
+/// The same calls, with rows that are refused.
+const REFUSED: &str = "\
+sub_action | 2: 01/10 | 2: 00 | the space is zero
+sub_action | 2: 01/10 | 2: 0x2 | the space is zero
+sub_action | 2: 01/10 | 2: 10 | the space is not invariant
+sub_action | 2: 01/10 | 3: 11 | the operands are over different fields
+sub_action | 2: 01/10 | 3: 000 | the operands are over different fields
+sub_action | 2: 01/10 | 2: 110 | the shapes of the operands do not fit
+sub_action | 2: 01/10 | 2: 0 | the shapes of the operands do not fit
+sub_action | 2: 01/10 | 2: 0x3 | the shapes of the operands do not fit
+basis_action | 2: 11/10 | 2: 0x2 | the space is zero
+basis_action | 2: 11/10 | 2: 11 | the space is not invariant
+basis_action | 2: 11/10 | 3: 11 | the operands are over different fields
+basis_action | 2: 11/10 | 2: 110 | the shapes of the operands do not fit
+quotient_action | 2: 01/10 | 2: 10/01 | the space is the whole space
+quotient_action | 2: 01/10 | 2: 10 | the space is not invariant
+quotient_action | 2: 01/10 | 3: 11 | the operands are over different fields
+quotient_action | 2: 01/10 | 3: 0x3 | the operands are over different fields
+quotient_action | 2: 01/10 | 2: 110 | the shapes of the operands do not fit
+";
+
+fn acts_on(rt: &impl Abort, alloc: Global, line: &str) -> Result<bool, Refusal> {
+    let (module, rows, wanted) = three_fields(rt, line);
+    let module = module_of(rt, alloc, module)?;
+    let rows = matrix_of(rt, alloc, rows)?;
+    is_module(rt, alloc, sub_action(alloc, &module, &rows), wanted)
+}
+
+fn acts_over(rt: &impl Abort, alloc: Global, line: &str) -> Result<bool, Refusal> {
+    let (module, rows, wanted) = three_fields(rt, line);
+    let module = module_of(rt, alloc, module)?;
+    let rows = matrix_of(rt, alloc, rows)?;
+    assert_independent(rt, alloc, &rows)?;
+    is_module(rt, alloc, basis_action(alloc, &module, &rows), wanted)
+}
+
+fn acts_modulo(rt: &impl Abort, alloc: Global, line: &str) -> Result<bool, Refusal> {
+    let (module, rows, wanted) = three_fields(rt, line);
+    let module = module_of(rt, alloc, module)?;
+    let rows = matrix_of(rt, alloc, rows)?;
+    is_module(rt, alloc, quotient_action(alloc, &module, &rows), wanted)
+}
+
+/// Whether a call answers what its line says.
+pub(crate) fn answers(
+    rt: &impl Abort,
+    alloc: Global,
+    call: &str,
+    line: &str,
+) -> Result<bool, Refusal> {
+    match call {
+        "sub_action" => acts_on(rt, alloc, line),
+        "basis_action" => acts_over(rt, alloc, line),
+        "quotient_action" => acts_modulo(rt, alloc, line),
+        _ => panic!(rt; "no such call: {call}"),
     }
-    Ok(())
 }
 
 #[test]
-fn a_module_does_not_act_on_other_spaces(rt: HostRuntime) -> Result<(), Refusal> {
-    let alloc = rt.alloc();
-    let module = two_points(&rt, alloc)?;
-    let cases: [Refused; 8] = [
-        ((2, 2), &[&[0, 0]], Refusal::ZeroSpace),
-        ((2, 2), &[], Refusal::ZeroSpace),
-        ((2, 2), &[&[1, 0]], Refusal::NotInvariant),
-        ((3, 2), &[&[1, 1]], Refusal::FieldsDiffer),
-        ((3, 3), &[&[0, 0, 0]], Refusal::FieldsDiffer),
-        ((2, 3), &[&[1, 1, 0]], Refusal::ShapesDiffer),
-        ((2, 1), &[&[0]], Refusal::ShapesDiffer),
-        ((2, 3), &[], Refusal::ShapesDiffer),
-    ];
-    for (shape, rows, refusal) in cases {
-        let span = matrix_of(&rt, alloc, shape, rows)?;
-        assert_eq!(rt;
-            sub_action(alloc, &module, &span).err(),
-            Some(refusal),
-            "{rows:?}"
-        );
-    }
-    Ok(())
+fn modules_act_on_invariant_spaces_and_modulo_them(rt: HostRuntime) -> Result<(), Refusal> {
+    each_call(&rt, rt.alloc(), Topic::Actions, ACTIONS)
 }
 
 #[test]
-fn a_module_acts_over_rows_as_they_stand(rt: HostRuntime) -> Result<(), Refusal> {
-    let alloc = rt.alloc();
-    let module = module_of(&rt, alloc, 2, &[&[&[1, 1], &[1, 0]]])?;
-    let basis = matrix_of(&rt, alloc, (2, 2), &[&[0, 1], &[1, 0]])?;
-    assert_independent(&rt, alloc, &basis)?;
-    let wanted = module_of(&rt, alloc, 2, &[&[&[0, 1], &[1, 1]]])?;
-    assert_same(&rt, &basis_action(alloc, &module, &basis)?, &wanted);
-    Ok(())
-}
-
-#[test]
-fn a_module_does_not_act_over_other_independent_rows(rt: HostRuntime) -> Result<(), Refusal> {
-    let alloc = rt.alloc();
-    let module = module_of(&rt, alloc, 2, &[&[&[1, 1], &[1, 0]]])?;
-    let cases: [Refused; 4] = [
-        ((2, 2), &[], Refusal::ZeroSpace),
-        ((2, 2), &[&[1, 1]], Refusal::NotInvariant),
-        ((3, 2), &[&[1, 1]], Refusal::FieldsDiffer),
-        ((2, 3), &[&[1, 1, 0]], Refusal::ShapesDiffer),
-    ];
-    for (shape, rows, refusal) in cases {
-        let basis = matrix_of(&rt, alloc, shape, rows)?;
-        assert_independent(&rt, alloc, &basis)?;
-        assert_eq!(rt;
-            basis_action(alloc, &module, &basis).err(),
-            Some(refusal),
-            "{rows:?}"
-        );
-    }
-    Ok(())
-}
-
-#[test]
-fn a_module_acts_modulo_its_invariant_spaces(rt: HostRuntime) -> Result<(), Refusal> {
-    let alloc = rt.alloc();
-    let module = two_points(&rt, alloc)?;
-    let line = matrix_of(&rt, alloc, (2, 2), &[&[1, 1]])?;
-    let wanted = module_of(&rt, alloc, 2, &[&[&[1]]])?;
-    assert_same(&rt, &quotient_action(alloc, &module, &line)?, &wanted);
-    let none = matrix_of(&rt, alloc, (2, 2), &[])?;
-    let wanted = module_of(&rt, alloc, 2, &[&[&[0, 1], &[1, 0]]])?;
-    assert_same(&rt, &quotient_action(alloc, &module, &none)?, &wanted);
-    Ok(())
-}
-
-#[test]
-fn a_module_does_not_act_modulo_other_spaces(rt: HostRuntime) -> Result<(), Refusal> {
-    let alloc = rt.alloc();
-    let module = two_points(&rt, alloc)?;
-    let cases: [Refused; 5] = [
-        ((2, 2), &[&[1, 0], &[0, 1]], Refusal::WholeSpace),
-        ((2, 2), &[&[1, 0]], Refusal::NotInvariant),
-        ((3, 2), &[&[1, 1]], Refusal::FieldsDiffer),
-        ((3, 3), &[], Refusal::FieldsDiffer),
-        ((2, 3), &[&[1, 1, 0]], Refusal::ShapesDiffer),
-    ];
-    for (shape, rows, refusal) in cases {
-        let span = matrix_of(&rt, alloc, shape, rows)?;
-        assert_eq!(rt;
-            quotient_action(alloc, &module, &span).err(),
-            Some(refusal),
-            "{rows:?}"
-        );
-    }
-    Ok(())
-}
-
-#[test]
-fn a_module_of_dimension_three_acts_on_a_line_and_modulo_it(
-    rt: HostRuntime,
-) -> Result<(), Refusal> {
-    let alloc = rt.alloc();
-    let module = module_of(&rt, alloc, 3, &[&[&[1, 2, 1], &[0, 2, 1], &[0, 0, 1]]])?;
-    let line = matrix_of(&rt, alloc, (3, 3), &[&[0, 2, 2]])?;
-    let wanted = module_of(&rt, alloc, 3, &[&[&[2]]])?;
-    assert_same(&rt, &sub_action(alloc, &module, &line)?, &wanted);
-    let wanted = module_of(&rt, alloc, 3, &[&[&[1, 2], &[0, 1]]])?;
-    assert_same(&rt, &quotient_action(alloc, &module, &line)?, &wanted);
-    Ok(())
+fn modules_do_not_act_on_other_spaces_and_modulo_them(rt: HostRuntime) -> Result<(), Refusal> {
+    each_call(&rt, rt.alloc(), Topic::Actions, REFUSED)
 }

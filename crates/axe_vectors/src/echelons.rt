@@ -1,116 +1,159 @@
 //! Echelon forms: rows that are inserted, reduced and taken apart, null spaces, and inverses.
-use crate::values::{matrix_of, row_of};
+use crate::tables::{Topic, each_call, four_fields, three_fields, two_fields};
+use crate::values::{
+    assert_shape, field_of, is_matrix, is_row, matrix_of, number_of, row_of, truth_of,
+};
 use axe_echelon::{Echelon, inverse, null_space};
-use axe_field::Field;
 use axe_matrix::{Refusal, Row};
 use std::alloc::Global;
 use std::process::Abort;
 
-/// Inserts the row of these entries, and tells whether it is new.
-fn insert(
-    rt: &impl Abort,
-    alloc: Global,
-    echelon: &mut Echelon,
-    entries: &[u8],
-) -> Result<bool, Refusal> {
-    let row = row_of(rt, alloc, *echelon.field(), entries)?;
-    assert!(rt; row.len() == echelon.cols() && row.field() == echelon.field());
-    echelon.insert(row)
-}
+/// Rows that are inserted one after the other, and
+/// - `insert`: another row, whether it is new, and the rank with it;
+/// - `shape`: the order of the field, the rank and the number of columns;
+/// - `is_pivot`: a column, and whether it is a pivot;
+/// - `coordinates`: a row, and its coordinates over the rows that were new;
+/// - `reduce`: a row, and what remains of it;
+/// - `reduced`: the reduced basis.
+const FORMS: &str = "\
+insert | 2: 0x3 | 2: 101 | yes | 1
+insert | 2: 101 | 2: 011 | yes | 2
+insert | 2: 101/011 | 2: 110 | no | 2
+insert | 2: 0x3 | 2: 111 | yes | 1
+insert | 2: 111 | 2: 011 | yes | 2
+shape | 2: 101/011/110 | 2 | 2 | 3
+is_pivot | 2: 0x3 | 0 | no
+is_pivot | 2: 0x3 | 3 | no
+is_pivot | 2: 101/011/110 | 0 | yes
+is_pivot | 2: 101/011/110 | 1 | yes
+is_pivot | 2: 101/011/110 | 2 | no
+is_pivot | 2: 101/011/110 | 3 | no
+coordinates | 2: 101/011 | 2: 110 | 2: 11
+coordinates | 2: 101/011 | 2: 001 | none
+reduce | 2: 101/011 | 2: 111 | 2: 001
+reduced | 2: 111/011 | 2: 100/011
+";
 
-/// The echelon form over the field of two elements of two independent rows of three entries.
-fn form_of(rt: &impl Abort, alloc: Global, rows: [&[u8]; 2]) -> Result<Echelon, Refusal> {
-    let field = Field::new(2).expect(rt, "the field of two elements");
-    let mut echelon = Echelon::new(alloc, field, 3);
-    for entries in rows {
-        assert!(rt; insert(rt, alloc, &mut echelon, entries)?);
+/// A matrix, and its null space or its inverse.
+const NULL_SPACES_AND_INVERSES: &str = "\
+null_space | 2: 10/01 | 2: 0x2
+null_space | 2: 10/10 | 2: 11
+null_space | 2: 0x2 | the matrix has no rows
+inverse | 3: 12/01 | 3: 11/01
+inverse | 3: 10/10 | the matrix has no inverse
+inverse | 3: 000/000 | the matrix is not square
+";
+
+/// The echelon form in which each row of a matrix was inserted.
+fn form_of(rt: &impl Abort, alloc: Global, text: &str) -> Result<Echelon, Refusal> {
+    let matrix = matrix_of(rt, alloc, text)?;
+    let mut form = Echelon::new(alloc, *matrix.field(), matrix.cols());
+    for index in 0..matrix.rows() {
+        let row = matrix.row(index).copy(alloc)?;
+        assert_shape(rt, &row, form.field(), form.cols());
+        form.insert(row)?;
     }
-    Ok(echelon)
+    Ok(form)
 }
 
-/// The coordinates of the row of these entries.
-fn coordinates_of(
+fn inserts(rt: &impl Abort, alloc: Global, line: &str) -> Result<bool, Refusal> {
+    let (rows, row, new, rank) = four_fields(rt, line);
+    let mut form = form_of(rt, alloc, rows)?;
+    let row = row_of(rt, alloc, row)?;
+    assert_shape(rt, &row, form.field(), form.cols());
+    Ok(form.insert(row)? == truth_of(rt, new) && form.rank() == number_of(rt, rank))
+}
+
+fn describes(rt: &impl Abort, alloc: Global, line: &str) -> Result<bool, Refusal> {
+    let (rows, order, rank, columns) = four_fields(rt, line);
+    let form = form_of(rt, alloc, rows)?;
+    Ok(
+        form.field() == &field_of(rt, order)
+            && form.rank() == number_of(rt, rank)
+            && form.cols() == number_of(rt, columns),
+    )
+}
+
+fn tells_pivots(rt: &impl Abort, alloc: Global, line: &str) -> Result<bool, Refusal> {
+    let (rows, column, wanted) = three_fields(rt, line);
+    let form = form_of(rt, alloc, rows)?;
+    Ok(form.is_pivot(number_of(rt, column)) == truth_of(rt, wanted))
+}
+
+/// Whether coordinates are those that are written so, or there are none and `none` is written.
+fn are_coordinates(
     rt: &impl Abort,
     alloc: Global,
-    echelon: &Echelon,
-    entries: &[u8],
-) -> Result<Option<Row>, Refusal> {
-    let row = row_of(rt, alloc, *echelon.field(), entries)?;
-    assert!(rt; row.len() == echelon.cols() && row.field() == echelon.field());
-    echelon.coordinates(alloc, &row)
+    answer: Option<Row>,
+    text: &str,
+) -> Result<bool, Refusal> {
+    match answer {
+        Some(coordinates) => is_row(rt, alloc, &coordinates, text),
+        None => Ok(text == "none"),
+    }
 }
 
-/// The row of these entries, reduced.
-fn reduced_row(
+fn takes_apart(rt: &impl Abort, alloc: Global, line: &str) -> Result<bool, Refusal> {
+    let (rows, row, wanted) = three_fields(rt, line);
+    let form = form_of(rt, alloc, rows)?;
+    let row = row_of(rt, alloc, row)?;
+    assert_shape(rt, &row, form.field(), form.cols());
+    are_coordinates(rt, alloc, form.coordinates(alloc, &row)?, wanted)
+}
+
+fn reduces(rt: &impl Abort, alloc: Global, line: &str) -> Result<bool, Refusal> {
+    let (rows, row, wanted) = three_fields(rt, line);
+    let form = form_of(rt, alloc, rows)?;
+    let mut row = row_of(rt, alloc, row)?;
+    assert_shape(rt, &row, form.field(), form.cols());
+    form.reduce(&mut row);
+    is_row(rt, alloc, &row, wanted)
+}
+
+fn finds_reduced_basis(rt: &impl Abort, alloc: Global, line: &str) -> Result<bool, Refusal> {
+    let (rows, wanted) = two_fields(rt, line);
+    let form = form_of(rt, alloc, rows)?;
+    is_matrix(rt, alloc, form.reduced(alloc), wanted)
+}
+
+fn finds_null_space(rt: &impl Abort, alloc: Global, line: &str) -> Result<bool, Refusal> {
+    let (matrix, wanted) = two_fields(rt, line);
+    let matrix = matrix_of(rt, alloc, matrix)?;
+    is_matrix(rt, alloc, null_space(alloc, &matrix), wanted)
+}
+
+fn inverts(rt: &impl Abort, alloc: Global, line: &str) -> Result<bool, Refusal> {
+    let (matrix, wanted) = two_fields(rt, line);
+    let matrix = matrix_of(rt, alloc, matrix)?;
+    is_matrix(rt, alloc, inverse(alloc, &matrix), wanted)
+}
+
+/// Whether a call answers what its line says.
+pub(crate) fn answers(
     rt: &impl Abort,
     alloc: Global,
-    echelon: &Echelon,
-    entries: &[u8],
-) -> Result<Row, Refusal> {
-    let mut row = row_of(rt, alloc, *echelon.field(), entries)?;
-    assert!(rt; row.len() == echelon.cols() && row.field() == echelon.field());
-    echelon.reduce(&mut row);
-    Ok(row)
+    call: &str,
+    line: &str,
+) -> Result<bool, Refusal> {
+    match call {
+        "insert" => inserts(rt, alloc, line),
+        "shape" => describes(rt, alloc, line),
+        "is_pivot" => tells_pivots(rt, alloc, line),
+        "coordinates" => takes_apart(rt, alloc, line),
+        "reduce" => reduces(rt, alloc, line),
+        "reduced" => finds_reduced_basis(rt, alloc, line),
+        "null_space" => finds_null_space(rt, alloc, line),
+        "inverse" => inverts(rt, alloc, line),
+        _ => panic!(rt; "no such call: {call}"),
+    }
 }
 
 #[test]
-fn tells_what_it_holds_over_two_elements(rt: HostRuntime) -> Result<(), Refusal> {
-    let alloc = rt.alloc();
-    let field = Field::new(2).expect(&rt, "the field of two elements");
-    let none = Echelon::new(alloc, field, 3);
-    assert!(rt; !none.is_pivot(0) && !none.is_pivot(3));
-    let mut echelon = form_of(&rt, alloc, [&[1, 0, 1], &[0, 1, 1]])?;
-    assert!(rt; !insert(&rt, alloc, &mut echelon, &[1, 1, 0])?);
-    assert_eq!(rt; (echelon.rank(), echelon.cols()), (2, 3));
-    assert!(rt; echelon.field() == &field);
-    assert!(rt; echelon.is_pivot(0) && echelon.is_pivot(1));
-    assert!(rt; !echelon.is_pivot(2) && !echelon.is_pivot(3));
-    Ok(())
+fn forms_tell_what_they_hold_and_take_rows_apart(rt: HostRuntime) -> Result<(), Refusal> {
+    each_call(&rt, rt.alloc(), Topic::Echelons, FORMS)
 }
 
 #[test]
-fn takes_rows_apart_over_two_elements(rt: HostRuntime) -> Result<(), Refusal> {
-    let alloc = rt.alloc();
-    let echelon = form_of(&rt, alloc, [&[1, 0, 1], &[0, 1, 1]])?;
-    let coordinates = coordinates_of(&rt, alloc, &echelon, &[1, 1, 0])?.expect(&rt, "coordinates");
-    assert!(rt; coordinates.same(&row_of(&rt, alloc, *echelon.field(), &[1, 1])?));
-    assert!(rt; coordinates_of(&rt, alloc, &echelon, &[0, 0, 1])?.is_none());
-    let outside = row_of(&rt, alloc, *echelon.field(), &[0, 0, 1])?;
-    assert!(rt; reduced_row(&rt, alloc, &echelon, &[1, 1, 1])?.same(&outside));
-    Ok(())
-}
-
-#[test]
-fn reduces_over_two_elements(rt: HostRuntime) -> Result<(), Refusal> {
-    let alloc = rt.alloc();
-    let echelon = form_of(&rt, alloc, [&[1, 1, 1], &[0, 1, 1]])?;
-    let reduced = matrix_of(&rt, alloc, (2, 3), &[&[1, 0, 0], &[0, 1, 1]])?;
-    assert!(rt; echelon.reduced(alloc)?.same(&reduced));
-    Ok(())
-}
-
-#[test]
-fn finds_null_spaces_over_two_elements(rt: HostRuntime) -> Result<(), Refusal> {
-    let alloc = rt.alloc();
-    let identity = matrix_of(&rt, alloc, (2, 2), &[&[1, 0], &[0, 1]])?;
-    let none = matrix_of(&rt, alloc, (2, 2), &[])?;
-    assert!(rt; null_space(alloc, &identity)?.same(&none));
-    let repeated = matrix_of(&rt, alloc, (2, 2), &[&[1, 0], &[1, 0]])?;
-    let line = matrix_of(&rt, alloc, (2, 2), &[&[1, 1]])?;
-    assert!(rt; null_space(alloc, &repeated)?.same(&line));
-    assert_eq!(rt; null_space(alloc, &none).err(), Some(Refusal::NoRows));
-    Ok(())
-}
-
-#[test]
-fn inverts_over_three_elements(rt: HostRuntime) -> Result<(), Refusal> {
-    let alloc = rt.alloc();
-    let matrix = matrix_of(&rt, alloc, (3, 2), &[&[1, 2], &[0, 1]])?;
-    let wanted = matrix_of(&rt, alloc, (3, 2), &[&[1, 1], &[0, 1]])?;
-    assert!(rt; inverse(alloc, &matrix)?.same(&wanted));
-    let singular = matrix_of(&rt, alloc, (3, 2), &[&[1, 0], &[1, 0]])?;
-    assert_eq!(rt; inverse(alloc, &singular).err(), Some(Refusal::Singular));
-    let wide = matrix_of(&rt, alloc, (3, 3), &[&[0, 0, 0], &[0, 0, 0]])?;
-    assert_eq!(rt; inverse(alloc, &wide).err(), Some(Refusal::NotSquare));
-    Ok(())
+fn matrices_have_null_spaces_and_inverses(rt: HostRuntime) -> Result<(), Refusal> {
+    each_call(&rt, rt.alloc(), Topic::Echelons, NULL_SPACES_AND_INVERSES)
 }

@@ -1,156 +1,150 @@
 //! Files of matrices, packed and text: read, refused and written.
+use crate::tables::{Topic, each_call, two_fields};
+use crate::values::{bytes_of_hex, bytes_of_text, is_fault, is_matrix, matrix_of};
 use axe_file::{FileFault, read_packed, read_text, write_packed, write_text};
-use axe_matrix::Matrix;
+use axe_matrix::{Matrix, Refusal};
 use std::alloc::Global;
+use std::process::Abort;
 
-/// Whether a matrix has this order, these numbers of rows and columns, and these entries, row after row.
-fn has(matrix: &Matrix, order: u8, rows: usize, columns: usize, entries: &[u8]) -> bool {
-    if matrix.field().order() != order || matrix.rows() != rows || matrix.cols() != columns {
-        return false;
-    }
-    let mut expected = entries.iter();
-    for i in 0..matrix.rows() {
-        for j in 0..matrix.cols() {
-            if expected.next() != Some(&matrix.get(i, j)) {
-                return false;
-            }
-        }
-    }
-    expected.next().is_none()
-}
+/// - `read_packed`: a packed file, and its matrix or its first fault;
+/// - `write_packed`: a matrix, and its packed file.
+const PACKED: &str = "\
+# 41 58 50 31 is AXP1.
+read_packed | 41 58 50 31 02 00 00 00 01 00 00 00 01 00 00 | ShortHeader
+read_packed | 41 58 50 32 00 00 00 00 00 00 00 00 00 00 00 00 | BadMagic
+read_packed | 41 58 50 31 06 01 00 00 00 00 00 00 00 00 00 00 | BadField
+read_packed | 41 58 50 31 02 01 00 00 00 00 00 00 00 00 00 00 | BadReserved
+read_packed | 41 58 50 31 02 00 00 00 01 08 00 00 00 00 00 00 | BadRows
+read_packed | 41 58 50 31 02 00 00 00 01 00 00 00 00 00 00 00 | BadCols
+read_packed | 41 58 50 31 05 00 00 00 01 00 00 00 01 00 00 00 7D | BadByte at 16
+read_packed | 41 58 50 31 05 00 00 00 01 00 00 00 01 00 00 00 65 | BadPadding at 16
+read_packed | 41 58 50 31 02 00 00 00 02 00 00 00 02 00 00 00 40 | Truncated
+read_packed | 41 58 50 31 02 00 00 00 02 00 00 00 02 00 00 00 40 C0 00 | TrailingBytes
+read_packed | 41 58 50 31 02 00 00 00 01 00 00 00 02 00 00 00 60 | BadPadding at 16
+read_packed | 41 58 50 31 03 00 00 00 01 00 00 00 01 00 00 00 F3 | BadByte at 16
+read_packed | 41 58 50 31 02 00 00 00 02 00 00 00 02 00 00 00 40 C0 | 2: 01/11
+read_packed | 41 58 50 31 09 00 00 00 01 00 00 00 01 00 00 00 24 | 9: 4
+read_packed | 41 58 50 31 04 00 00 00 01 00 00 00 01 00 00 00 40 | 4: 1
+read_packed | 41 58 50 31 07 00 00 00 00 00 00 00 03 00 00 00 | 7: 0x3
+write_packed | 2: 01/11 | 41 58 50 31 02 00 00 00 02 00 00 00 02 00 00 00 40 C0
+write_packed | 9: 4 | 41 58 50 31 09 00 00 00 01 00 00 00 01 00 00 00 24
+write_packed | 4: 1 | 41 58 50 31 04 00 00 00 01 00 00 00 01 00 00 00 40
+write_packed | 7: 0x3 | 41 58 50 31 07 00 00 00 00 00 00 00 03 00 00 00
+";
 
-#[test]
-fn first_faults(rt: HostRuntime) {
-    let cases: [(&[u8], FileFault); 12] = [
-        (b"AXP1\x02\0\0\0\x01\0\0\0\x01\0\0", FileFault::ShortHeader),
-        (b"AXP2\0\0\0\0\0\0\0\0\0\0\0\0", FileFault::BadMagic),
-        (b"AXP1\x06\x01\0\0\0\0\0\0\0\0\0\0", FileFault::BadField),
-        (b"AXP1\x02\x01\0\0\0\0\0\0\0\0\0\0", FileFault::BadReserved),
-        (b"AXP1\x02\0\0\0\x01\x08\0\0\0\0\0\0", FileFault::BadRows),
-        (b"AXP1\x02\0\0\0\x01\0\0\0\0\0\0\0", FileFault::BadCols),
-        (
-            b"AXP1\x05\0\0\0\x01\0\0\0\x01\0\0\0\x7D",
-            FileFault::BadByte(16),
-        ),
-        (
-            b"AXP1\x05\0\0\0\x01\0\0\0\x01\0\0\0\x65",
-            FileFault::BadPadding(16),
-        ),
-        (
-            b"AXP1\x02\0\0\0\x02\0\0\0\x02\0\0\0\x40",
-            FileFault::Truncated,
-        ),
-        (
-            b"AXP1\x02\0\0\0\x02\0\0\0\x02\0\0\0\x40\xC0\0",
-            FileFault::TrailingBytes,
-        ),
-        (
-            b"AXP1\x02\0\0\0\x01\0\0\0\x02\0\0\0\x60",
-            FileFault::BadPadding(16),
-        ),
-        (
-            b"AXP1\x03\0\0\0\x01\0\0\0\x01\0\0\0\xF3",
-            FileFault::BadByte(16),
-        ),
-    ];
-    for (bytes, fault) in cases {
-        assert_eq!(rt; read_packed(rt.alloc(), bytes).err(), Some(fault));
-    }
-}
+/// `read_text`: a text, and its matrix or its first fault.
+const TEXTS: &str = r"read_text | 1 3 2 2\r\n12\r\n01\r\n | 3: 12/01
+read_text | matrix field=3 rows=2 cols=2\n12\n01\n | 3: 12/01
+read_text | 01 03 02 02 1 2 0 1 | 3: 12/01
+read_text | | BadHeader at 0
+read_text | 1 2 1 | BadHeader at 5
+read_text | matrix field=2 rows=1 col=1 | BadHeader at 25
+read_text | 2 3 2 2\n12\n01 | BadMode
+read_text | 1 6 1 1\n0 | BadField
+read_text | 1 2 2049 1 | BadRows
+read_text | 1 2 1 0 | BadCols
+read_text | 1 3 2 2\n12\n0 | TooFewDigits
+read_text | 1 3 2 2\n12\n01\nx | TrailingText at 14
+read_text | 1 2 0 5 | 2: 0x5
+";
 
-#[test]
-fn matrices_and_their_spellings(rt: HostRuntime) -> Result<(), FileFault> {
-    let cases: [(&[u8], u8, usize, usize, &[u8]); 4] = [
-        (
-            b"AXP1\x02\0\0\0\x02\0\0\0\x02\0\0\0\x40\xC0",
-            2,
-            2,
-            2,
-            &[0, 1, 1, 1],
-        ),
-        (b"AXP1\x09\0\0\0\x01\0\0\0\x01\0\0\0\x24", 9, 1, 1, &[4]),
-        (b"AXP1\x04\0\0\0\x01\0\0\0\x01\0\0\0\x40", 4, 1, 1, &[1]),
-        (b"AXP1\x07\0\0\0\0\0\0\0\x03\0\0\0", 7, 0, 3, &[]),
-    ];
-    for (bytes, order, rows, columns, entries) in cases {
-        let matrix = read_packed(rt.alloc(), bytes)?;
-        assert!(rt; has(&matrix, order, rows, columns, entries));
-        let written = write_packed(rt.alloc(), &matrix)?;
-        assert_eq!(rt; written.as_slice(), bytes);
-    }
-    Ok(())
-}
+/// `write_text`: a text that is read, and what is written for its matrix. A line has eighty digits.
+const WRITTEN: &str = "\
+write_text | 1 2 0 5 | matrix field=2 rows=0 cols=5\\n
+write_text | 1 3 2 81 \
+012012012012012012012012012012012012012012012012012012012012012012012012012012012\
+012012012012012012012012012012012012012012012012012012012012012012012012012012011 \
+| matrix field=3 rows=2 cols=81\\n\
+01201201201201201201201201201201201201201201201201201201201201201201201201201201\\n2\\n\
+01201201201201201201201201201201201201201201201201201201201201201201201201201201\\n1\\n
+write_text | matrix field=3 rows=2 cols=81\\n\
+01201201201201201201201201201201201201201201201201201201201201201201201201201201\\n2\\n\
+01201201201201201201201201201201201201201201201201201201201201201201201201201201\\n1\\n \
+| matrix field=3 rows=2 cols=81\\n\
+01201201201201201201201201201201201201201201201201201201201201201201201201201201\\n2\\n\
+01201201201201201201201201201201201201201201201201201201201201201201201201201201\\n1\\n
+";
 
-/// What reading is to answer: the order, the number of rows and of columns, and the entries, or the fault.
-type Answer = Result<(u8, usize, usize, &'static [u8]), FileFault>;
-
-/// Whether reading the text gives the answer.
-fn gives(alloc: Global, text: &[u8], answer: Answer) -> bool {
-    match (read_text(alloc, text), answer) {
-        (Ok(matrix), Ok((order, rows, columns, entries))) => {
-            has(&matrix, order, rows, columns, entries)
-        }
-        (Err(fault), Err(expected)) => fault == expected,
-        _ => false,
+/// Whether an answer is the matrix or the fault that is written so.
+fn is_read(
+    rt: &impl Abort,
+    alloc: Global,
+    answer: Result<Matrix, FileFault>,
+    text: &str,
+) -> Result<bool, Refusal> {
+    match answer {
+        Ok(matrix) => is_matrix(rt, alloc, Ok(matrix), text),
+        Err(fault) => Ok(is_fault(alloc, &fault, text)?),
     }
 }
 
-#[test]
-fn texts_are_read_or_refused(rt: HostRuntime) {
-    let cases: [(&[u8], Answer); 13] = [
-        (b"1 3 2 2\r\n12\r\n01\r\n", Ok((3, 2, 2, &[1, 2, 0, 1]))),
-        (
-            b"matrix field=3 rows=2 cols=2\n12\n01\n",
-            Ok((3, 2, 2, &[1, 2, 0, 1])),
-        ),
-        (b"01 03 02 02 1 2 0 1", Ok((3, 2, 2, &[1, 2, 0, 1]))),
-        (b"", Err(FileFault::BadHeader(0))),
-        (b"1 2 1", Err(FileFault::BadHeader(5))),
-        (
-            b"matrix field=2 rows=1 col=1",
-            Err(FileFault::BadHeader(25)),
-        ),
-        (b"2 3 2 2\n12\n01", Err(FileFault::BadMode)),
-        (b"1 6 1 1\n0", Err(FileFault::BadField)),
-        (b"1 2 2049 1", Err(FileFault::BadRows)),
-        (b"1 2 1 0", Err(FileFault::BadCols)),
-        (b"1 3 2 2\n12\n0", Err(FileFault::TooFewDigits)),
-        (b"1 3 2 2\n12\n01\nx", Err(FileFault::TrailingText(14))),
-        (b"1 2 0 5", Ok((2, 0, 5, &[]))),
-    ];
-    for (text, answer) in cases.iter() {
-        assert!(rt;
-            gives(rt.alloc(), text, *answer),
-            "at {}",
-            text.escape_ascii()
-        );
+/// Whether an answer has these bytes.
+fn is_written(answer: Result<Vec<u8>, FileFault>, bytes: &[u8]) -> bool {
+    match answer {
+        Ok(written) => written.as_slice() == bytes,
+        Err(_) => false,
     }
+}
+
+fn reads_packed(rt: &impl Abort, alloc: Global, line: &str) -> Result<bool, Refusal> {
+    let (bytes, wanted) = two_fields(rt, line);
+    let bytes = bytes_of_hex(rt, alloc, bytes)?;
+    is_read(rt, alloc, read_packed(alloc, &bytes), wanted)
+}
+
+fn writes_packed(rt: &impl Abort, alloc: Global, line: &str) -> Result<bool, Refusal> {
+    let (matrix, wanted) = two_fields(rt, line);
+    let matrix = matrix_of(rt, alloc, matrix)?;
+    let wanted = bytes_of_hex(rt, alloc, wanted)?;
+    Ok(is_written(write_packed(alloc, &matrix), &wanted))
+}
+
+fn reads_text(rt: &impl Abort, alloc: Global, line: &str) -> Result<bool, Refusal> {
+    let (text, wanted) = two_fields(rt, line);
+    let text = bytes_of_text(rt, alloc, text)?;
+    is_read(rt, alloc, read_text(alloc, &text), wanted)
 }
 
 /// What is written for the matrix of a text.
-fn written(alloc: Global, text: &[u8]) -> Result<Vec<u8>, FileFault> {
+fn rewritten(alloc: Global, text: &[u8]) -> Result<Vec<u8>, FileFault> {
     let matrix = read_text(alloc, text)?;
     write_text(alloc, &matrix)
 }
 
-#[test]
-fn texts_are_written_in_lines_of_eighty_digits(rt: HostRuntime) -> Result<(), FileFault> {
-    let eighty =
-        b"01201201201201201201201201201201201201201201201201201201201201201201201201201201";
-    let mut text = Vec::from_slice(rt.alloc(), b"1 3 2 81 ")?;
-    let mut expected = Vec::from_slice(rt.alloc(), b"matrix field=3 rows=2 cols=81\n")?;
-    for last in [b"2", b"1"] {
-        text.extend_from_slice(eighty)?;
-        text.extend_from_slice(last)?;
-        expected.extend_from_slice(eighty)?;
-        expected.extend_from_slice(b"\n")?;
-        expected.extend_from_slice(last)?;
-        expected.extend_from_slice(b"\n")?;
+fn writes_text(rt: &impl Abort, alloc: Global, line: &str) -> Result<bool, Refusal> {
+    let (text, wanted) = two_fields(rt, line);
+    let text = bytes_of_text(rt, alloc, text)?;
+    let wanted = bytes_of_text(rt, alloc, wanted)?;
+    Ok(is_written(rewritten(alloc, &text), &wanted))
+}
+
+/// Whether a call answers what its line says.
+pub(crate) fn answers(
+    rt: &impl Abort,
+    alloc: Global,
+    call: &str,
+    line: &str,
+) -> Result<bool, Refusal> {
+    match call {
+        "read_packed" => reads_packed(rt, alloc, line),
+        "write_packed" => writes_packed(rt, alloc, line),
+        "read_text" => reads_text(rt, alloc, line),
+        "write_text" => writes_text(rt, alloc, line),
+        _ => panic!(rt; "no such call: {call}"),
     }
-    assert!(rt; written(rt.alloc(), &text)?.as_slice() == expected.as_slice());
-    assert!(rt; written(rt.alloc(), &expected)?.as_slice() == expected.as_slice());
-    assert!(rt;
-        written(rt.alloc(), b"1 2 0 5")?.as_slice() == b"matrix field=2 rows=0 cols=5\n".as_slice()
-    );
-    Ok(())
+}
+
+#[test]
+fn packed_files_are_read_refused_and_written(rt: HostRuntime) -> Result<(), Refusal> {
+    each_call(&rt, rt.alloc(), Topic::Files, PACKED)
+}
+
+#[test]
+fn texts_are_read_or_refused(rt: HostRuntime) -> Result<(), Refusal> {
+    each_call(&rt, rt.alloc(), Topic::Files, TEXTS)
+}
+
+#[test]
+fn texts_are_written_in_lines_of_eighty_digits(rt: HostRuntime) -> Result<(), Refusal> {
+    each_call(&rt, rt.alloc(), Topic::Files, WRITTEN)
 }

@@ -1,27 +1,109 @@
 //! Folders, in memory and of the file system: files put, read within a limit, and removed.
-use axe_folder::{DirFolder, Folder, FolderFault, MemFolder};
+use crate::tables::{first_field, one_field, three_fields, two_fields};
+use crate::values::{bytes_of_text, is_fault, number_of};
+use axe_folder::{DirFolder, Folder, MemFolder};
+use axe_matrix::Refusal;
+use std::alloc::Global;
 use std::fs;
+use std::process::Abort;
 use std::test::Fail;
 
+/// Calls in turn on a folder that is empty at first:
+/// - `get`: a name, a limit, and the bytes of the file, or the fault;
+/// - `put`: a name, and the bytes that it is given;
+/// - `remove`: a name.
+const PUT: &str = "\
+get | A | 3 | Missing
+put | A | one
+put | B |
+";
+
+/// The calls that follow on these.
+const PUT_AGAIN_AND_REMOVED: &str = "\
+get | A | 3 | one
+get | B | 0 |
+get | A | 2 | TooLong
+put | A | another
+get | A | 7 | another
+remove | A
+remove | A
+get | A | 7 | Missing
+";
+
+/// Calls in turn on another folder that is empty at first.
+const PUT_READ_AND_REMOVED: &str = "\
+put | EMPTY |
+put | ABC | abc
+get | EMPTY | 0 |
+get | ABC | 3 | abc
+get | ABC | 2 | TooLong
+remove | EMPTY
+remove | ABC
+";
+
+fn puts<F: Folder>(
+    rt: &impl Abort,
+    alloc: Global,
+    folder: &mut F,
+    line: &str,
+) -> Result<bool, Refusal> {
+    let (name, bytes) = two_fields(rt, line);
+    let bytes = bytes_of_text(rt, alloc, bytes)?;
+    Ok(folder.put(name, &bytes).is_ok())
+}
+
+fn gets<F: Folder>(
+    rt: &impl Abort,
+    alloc: Global,
+    folder: &mut F,
+    line: &str,
+) -> Result<bool, Refusal> {
+    let (name, limit, wanted) = three_fields(rt, line);
+    match folder.get(name, number_of(rt, limit)) {
+        Ok(bytes) => Ok(bytes.as_slice() == wanted.as_bytes()),
+        Err(fault) => Ok(is_fault(alloc, &fault, wanted)?),
+    }
+}
+
+/// Whether a call on a folder answers what its line says.
+fn answers<F: Folder>(
+    rt: &impl Abort,
+    alloc: Global,
+    folder: &mut F,
+    line: &str,
+) -> Result<bool, Refusal> {
+    let (call, line) = first_field(rt, line);
+    match call {
+        "put" => puts(rt, alloc, folder, line),
+        "get" => gets(rt, alloc, folder, line),
+        "remove" => Ok(folder.remove(one_field(rt, line)).is_ok()),
+        _ => panic!(rt; "no such call: {call}"),
+    }
+}
+
+/// Makes the calls of a table in turn, and asserts of each that it answers what its line says.
+fn each_call<F: Folder>(
+    rt: &impl Abort,
+    alloc: Global,
+    folder: &mut F,
+    table: &str,
+) -> Result<(), Refusal> {
+    let mut is_empty = true;
+    for line in table.lines() {
+        assert!(rt; answers(rt, alloc, folder, line)?, "{line}");
+        is_empty = false;
+    }
+    assert!(rt; !is_empty, "a table without a call");
+    Ok(())
+}
+
 #[test]
-fn memory_keeps_files_by_name(rt: HostRuntime) -> Result<(), FolderFault> {
+fn memory_keeps_files_by_name(rt: HostRuntime) -> Result<(), Refusal> {
     let mut folder = MemFolder::new(rt.alloc());
     assert!(rt; folder.bytes("A").is_none());
-    assert!(rt; matches!(folder.get("A", 3), Err(FolderFault::Missing)));
-
-    folder.put("A", b"one")?;
-    folder.put("B", b"")?;
+    each_call(&rt, rt.alloc(), &mut folder, PUT)?;
     assert!(rt; folder.bytes("A") == Some(b"one".as_slice()));
-    assert!(rt; folder.get("A", 3)?.as_slice() == b"one".as_slice());
-    assert!(rt; folder.get("B", 0)?.is_empty());
-    assert!(rt; matches!(folder.get("A", 2), Err(FolderFault::TooLong)));
-
-    folder.put("A", b"another")?;
-    assert!(rt; folder.get("A", 7)?.as_slice() == b"another".as_slice());
-
-    folder.remove("A")?;
-    folder.remove("A")?;
-    assert!(rt; matches!(folder.get("A", 7), Err(FolderFault::Missing)));
+    each_call(&rt, rt.alloc(), &mut folder, PUT_AGAIN_AND_REMOVED)?;
     assert!(rt; folder.bytes("B").is_some());
     Ok(())
 }
@@ -31,13 +113,7 @@ fn a_directory_reads_files_up_to_the_limit(rt: HostRuntime) -> Result<(), Fail> 
     let place = "axe_vectors_limits";
     fs::create_dir(&rt, place)?;
     let mut folder = DirFolder::new(rt.clone()?, place)?;
-    folder.put("EMPTY", b"")?;
-    folder.put("ABC", b"abc")?;
-    assert!(rt; folder.get("EMPTY", 0)?.is_empty());
-    assert!(rt; folder.get("ABC", 3)?.as_slice() == b"abc".as_slice());
-    assert!(rt; matches!(folder.get("ABC", 2), Err(FolderFault::TooLong)));
-    folder.remove("EMPTY")?;
-    folder.remove("ABC")?;
+    each_call(&rt, rt.alloc(), &mut folder, PUT_READ_AND_REMOVED)?;
     fs::remove_dir(&rt, place)?;
     Ok(())
 }

@@ -1,85 +1,188 @@
-//! Matrices: products, sums, transposes, copies and blocks.
-use axe_field::Field;
-use axe_matrix::{Matrix, Refusal, Row};
+//! Matrices: their entries, copies and blocks, sums, products and transposes.
+use crate::tables::{Topic, each_call, four_fields, three_fields, two_fields};
+use crate::values::{
+    assert_shape, field_of, is_matrix, is_row, is_row_answer, matrix_of, number_of, range_of,
+    row_of, small_number_of, truth_of, zeros,
+};
+use axe_matrix::{MAX_COLUMNS, MAX_ROWS, Matrix, Refusal};
 use std::alloc::Global;
 use std::process::Abort;
 
-/// The matrix over this field with two rows of two entries.
-pub(crate) fn two_by_two(
+/// - `shape`: a matrix, the order of its field, and how many rows and columns it has;
+/// - `get`: a matrix, a row and a column, and the entry there;
+/// - `row`: a matrix, an index, and the row there;
+/// - `same`: two matrices, and whether they are equal.
+const ENTRIES: &str = "\
+shape | 2: 01/11 | 2 | 2 | 2
+shape | 2: 11 | 2 | 1 | 2
+get | 2: 01/11 | 0 | 0 | 0
+get | 2: 01/11 | 1 | 0 | 1
+row | 2: 11 | 0 | 2: 11
+row | 2: 01/11 | 0 | 2: 01
+same | 2: 01/11 | 2: 01/11 | yes
+same | 2: 01/11 | 2: 10/11 | no
+same | 2: 010/100/001 | 2: 010/001/100 | no
+";
+
+/// - `identity`: the order of a field, how many rows, and the identity;
+/// - `zero`: the order of a field, how many rows and columns, and the matrix of zeros;
+/// - `copy`: a matrix, and its copy;
+/// - `block`: a matrix, rows and columns, and the block of these.
+const MADE: &str = "\
+identity | 2 | 2 | 2: 10/01
+zero | 2 | 2 | 2 | 2: 00/00
+copy | 2: 10/01 | 2: 10/01
+block | 2: 01/11 | 1..2 | 0..2 | 2: 11
+";
+
+/// - `mul`, `add`: two matrices, and their product or sum;
+/// - `transpose`: a matrix, and its transpose;
+/// - `vec_mul`: a matrix, a vector, and the image of the vector.
+const ARITHMETIC: &str = "\
+mul | 2: 11/01 | 2: 10/11 | 2: 01/11
+add | 3: 12/01 | 3: 12/01 | 3: 21/02
+transpose | 3: 12/01 | 3: 10/21
+vec_mul | 2: 01/11 | 2: 11 | 2: 10
+";
+
+/// Whether a matrix has this shape: the order of its field, and how many rows and columns it has.
+fn has_shape(matrix: &Matrix, shape: (u8, usize, usize)) -> bool {
+    let (order, rows, columns) = shape;
+    matrix.field().order() == order && matrix.rows() == rows && matrix.cols() == columns
+}
+
+fn describes(rt: &impl Abort, alloc: Global, line: &str) -> Result<bool, Refusal> {
+    let (matrix, order, rows, columns) = four_fields(rt, line);
+    let matrix = matrix_of(rt, alloc, matrix)?;
+    Ok(
+        matrix.field().order() == small_number_of(rt, order)
+            && matrix.rows() == number_of(rt, rows)
+            && matrix.cols() == number_of(rt, columns),
+    )
+}
+
+fn gets(rt: &impl Abort, alloc: Global, line: &str) -> Result<bool, Refusal> {
+    let (matrix, row, column, wanted) = four_fields(rt, line);
+    let matrix = matrix_of(rt, alloc, matrix)?;
+    let row = number_of(rt, row);
+    let column = number_of(rt, column);
+    assert!(rt; row < matrix.rows() && column < matrix.cols());
+    Ok(matrix.get(row, column) == small_number_of(rt, wanted))
+}
+
+fn gives_row(rt: &impl Abort, alloc: Global, line: &str) -> Result<bool, Refusal> {
+    let (matrix, index, wanted) = three_fields(rt, line);
+    let matrix = matrix_of(rt, alloc, matrix)?;
+    let index = number_of(rt, index);
+    assert!(rt; index < matrix.rows());
+    is_row(rt, alloc, matrix.row(index), wanted)
+}
+
+fn compares(rt: &impl Abort, alloc: Global, line: &str) -> Result<bool, Refusal> {
+    let (left, right, wanted) = three_fields(rt, line);
+    let left = matrix_of(rt, alloc, left)?;
+    let right = matrix_of(rt, alloc, right)?;
+    Ok(left.same(&right) == truth_of(rt, wanted))
+}
+
+fn makes_identity(rt: &impl Abort, alloc: Global, line: &str) -> Result<bool, Refusal> {
+    let (order, rows, wanted) = three_fields(rt, line);
+    let rows = number_of(rt, rows);
+    assert!(rt; 1 <= rows && rows <= MAX_ROWS && rows <= MAX_COLUMNS);
+    is_matrix(
+        rt,
+        alloc,
+        Matrix::identity(alloc, field_of(rt, order), rows),
+        wanted,
+    )
+}
+
+fn makes_zero(rt: &impl Abort, alloc: Global, line: &str) -> Result<bool, Refusal> {
+    let (order, rows, columns, wanted) = four_fields(rt, line);
+    let zero = zeros(rt, alloc, field_of(rt, order), rows, columns);
+    is_matrix(rt, alloc, zero, wanted)
+}
+
+fn copies(rt: &impl Abort, alloc: Global, line: &str) -> Result<bool, Refusal> {
+    let (matrix, wanted) = two_fields(rt, line);
+    let matrix = matrix_of(rt, alloc, matrix)?;
+    is_matrix(rt, alloc, matrix.copy(alloc), wanted)
+}
+
+fn takes_block(rt: &impl Abort, alloc: Global, line: &str) -> Result<bool, Refusal> {
+    let (matrix, rows, columns, wanted) = four_fields(rt, line);
+    let matrix = matrix_of(rt, alloc, matrix)?;
+    let (row, last_row) = range_of(rt, rows);
+    let (column, last_column) = range_of(rt, columns);
+    assert!(rt; row <= last_row && last_row <= matrix.rows());
+    assert!(rt; column < last_column && last_column <= matrix.cols());
+    let block = matrix.block(alloc, row, last_row - row, column, last_column - column);
+    is_matrix(rt, alloc, block, wanted)
+}
+
+fn multiplies(rt: &impl Abort, alloc: Global, line: &str) -> Result<bool, Refusal> {
+    let (left, right, wanted) = three_fields(rt, line);
+    let left = matrix_of(rt, alloc, left)?;
+    let right = matrix_of(rt, alloc, right)?;
+    is_matrix(rt, alloc, left.mul(alloc, &right), wanted)
+}
+
+fn adds(rt: &impl Abort, alloc: Global, line: &str) -> Result<bool, Refusal> {
+    let (left, right, wanted) = three_fields(rt, line);
+    let left = matrix_of(rt, alloc, left)?;
+    let right = matrix_of(rt, alloc, right)?;
+    is_matrix(rt, alloc, left.add(alloc, &right), wanted)
+}
+
+fn transposes(rt: &impl Abort, alloc: Global, line: &str) -> Result<bool, Refusal> {
+    let (matrix, wanted) = two_fields(rt, line);
+    let matrix = matrix_of(rt, alloc, matrix)?;
+    is_matrix(rt, alloc, matrix.transpose(alloc), wanted)
+}
+
+fn maps_vector(rt: &impl Abort, alloc: Global, line: &str) -> Result<bool, Refusal> {
+    let (matrix, vector, wanted) = three_fields(rt, line);
+    let matrix = matrix_of(rt, alloc, matrix)?;
+    let vector = row_of(rt, alloc, vector)?;
+    assert_shape(rt, &vector, matrix.field(), matrix.rows());
+    is_row_answer(rt, alloc, matrix.vec_mul(alloc, &vector), wanted)
+}
+
+/// Whether a call answers what its line says.
+pub(crate) fn answers(
     rt: &impl Abort,
     alloc: Global,
-    field: Field,
-    entries: [[u8; 2]; 2],
-) -> Result<Matrix, Refusal> {
-    let [[a, b], [c, d]] = entries;
-    assert!(rt; field.is_element(a) && field.is_element(b));
-    assert!(rt; field.is_element(c) && field.is_element(d));
-    let mut first = Row::zero(alloc, field, 2)?;
-    first.set(0, a);
-    first.set(1, b);
-    let second = Row::from_elements(alloc, field, &[c, d])?;
-    let mut matrix = Matrix::empty(alloc, field, 2);
-    matrix.push_row(first).map_err(|_| Refusal::Memory)?;
-    assert_eq!(rt; matrix.rows(), 1);
-    matrix.push_row(second).map_err(|_| Refusal::Memory)?;
-    Ok(matrix)
+    call: &str,
+    line: &str,
+) -> Result<bool, Refusal> {
+    match call {
+        "shape" => describes(rt, alloc, line),
+        "get" => gets(rt, alloc, line),
+        "row" => gives_row(rt, alloc, line),
+        "same" => compares(rt, alloc, line),
+        "identity" => makes_identity(rt, alloc, line),
+        "zero" => makes_zero(rt, alloc, line),
+        "copy" => copies(rt, alloc, line),
+        "block" => takes_block(rt, alloc, line),
+        "mul" => multiplies(rt, alloc, line),
+        "add" => adds(rt, alloc, line),
+        "transpose" => transposes(rt, alloc, line),
+        "vec_mul" => maps_vector(rt, alloc, line),
+        _ => panic!(rt; "no such call: {call}"),
+    }
 }
 
 #[test]
-fn multiplies_over_two_elements(rt: HostRuntime) -> Result<(), Refusal> {
-    let field = Field::new(2).expect(&rt, "the field of two elements");
-    let left = two_by_two(&rt, rt.alloc(), field, [[1, 1], [0, 1]])?;
-    let right = two_by_two(&rt, rt.alloc(), field, [[1, 0], [1, 1]])?;
-    let product = left.mul(rt.alloc(), &right)?;
-    let expected = two_by_two(&rt, rt.alloc(), field, [[0, 1], [1, 1]])?;
-    assert!(rt; product.same(&expected));
-    assert!(rt; !product.same(&right));
-    Ok(())
+fn matrices_have_entries(rt: HostRuntime) -> Result<(), Refusal> {
+    each_call(&rt, rt.alloc(), Topic::Matrices, ENTRIES)
 }
 
 #[test]
-fn makes_the_identity_zero_and_copies(rt: HostRuntime) -> Result<(), Refusal> {
-    let field = Field::new(2).expect(&rt, "the field of two elements");
-    let identity = Matrix::identity(rt.alloc(), field, 2)?;
-    let pushed = two_by_two(&rt, rt.alloc(), field, [[1, 0], [0, 1]])?;
-    assert!(rt; identity.same(&pushed));
-    assert!(rt; identity.copy(rt.alloc())?.same(&pushed));
-    let zero = two_by_two(&rt, rt.alloc(), field, [[0, 0], [0, 0]])?;
-    assert!(rt; Matrix::zero(rt.alloc(), field, 2, 2)?.same(&zero));
-    Ok(())
+fn the_identity_zero_copies_and_blocks_are_made(rt: HostRuntime) -> Result<(), Refusal> {
+    each_call(&rt, rt.alloc(), Topic::Matrices, MADE)
 }
 
 #[test]
-fn takes_blocks(rt: HostRuntime) -> Result<(), Refusal> {
-    let field = Field::new(2).expect(&rt, "the field of two elements");
-    let matrix = two_by_two(&rt, rt.alloc(), field, [[0, 1], [1, 1]])?;
-    assert!(rt; matrix.rows() == 2 && matrix.cols() == 2);
-    let block = matrix.block(rt.alloc(), 1, 1, 0, 2)?;
-    assert!(rt; block.rows() == 1);
-    let second = Row::from_elements(rt.alloc(), field, &[1, 1])?;
-    assert!(rt; block.row(0).same(&second));
-    Ok(())
-}
-
-#[test]
-fn multiplies_a_vector_over_two_elements(rt: HostRuntime) -> Result<(), Refusal> {
-    let field = Field::new(2).expect(&rt, "the field of two elements");
-    let matrix = two_by_two(&rt, rt.alloc(), field, [[0, 1], [1, 1]])?;
-    let field = *matrix.field();
-    assert!(rt; matrix.rows() == 2 && field.is_element(1));
-    let vector = Row::from_elements(rt.alloc(), field, &[1, 1])?;
-    let expected = Row::from_elements(rt.alloc(), field, &[1, 0])?;
-    assert!(rt; matrix.vec_mul(rt.alloc(), &vector)?.same(&expected));
-    Ok(())
-}
-
-#[test]
-fn adds_and_transposes_over_three_elements(rt: HostRuntime) -> Result<(), Refusal> {
-    let field = Field::new(3).expect(&rt, "the field of three elements");
-    let matrix = two_by_two(&rt, rt.alloc(), field, [[1, 2], [0, 1]])?;
-    let sum = two_by_two(&rt, rt.alloc(), field, [[2, 1], [0, 2]])?;
-    let transpose = two_by_two(&rt, rt.alloc(), field, [[1, 0], [2, 1]])?;
-    assert!(rt; matrix.add(rt.alloc(), &matrix)?.same(&sum));
-    assert!(rt; matrix.transpose(rt.alloc())?.same(&transpose));
-    Ok(())
+fn matrices_have_sums_products_and_transposes(rt: HostRuntime) -> Result<(), Refusal> {
+    each_call(&rt, rt.alloc(), Topic::Matrices, ARITHMETIC)
 }

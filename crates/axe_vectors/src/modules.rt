@@ -1,98 +1,104 @@
 //! Modules of matrices: which matrices make one, and what it then tells.
-use crate::values::{assert_same, matrix_of, module_of, module_with, three_points};
-use axe_field::Field;
-use axe_matrix::{MAX_COLUMNS, MAX_ROWS, Matrix, Refusal};
-use axe_spin::{MAX_GENERATORS, Module};
+use crate::tables::{Topic, each_call, four_fields, three_fields, two_fields};
+use crate::values::{
+    is_fault, is_module, matrix_of, module_of, module_with, number_of, small_number_of,
+};
+use axe_matrix::Refusal;
+use axe_spin::Module;
 use std::alloc::Global;
 use std::process::Abort;
 
-/// The matrix of zeros over the field of an order, with so many rows and columns.
-fn zeros(rt: &impl Abort, alloc: Global, shape: (u8, usize, usize)) -> Result<Matrix, Refusal> {
-    let (order, rows, columns) = shape;
-    let field = Field::new(order).expect(rt, "the field");
-    assert!(rt; rows <= MAX_ROWS && 1 <= columns && columns <= MAX_COLUMNS);
-    Matrix::zero(alloc, field, rows, columns)
+/// `new`: matrices, and why they make no module.
+const REFUSED: &str = "\
+new | 2: 0x3 | the matrix has no rows
+new | 2: 2x3 | the matrix is not square
+new | 2: 3x2 | the matrix is not square
+new | 2: 2x2, 2: 0x2 | the matrix has no rows
+new | 2: 2x2, 2: 2x3 | the matrix is not square
+new | 2: 2x2, 3: 2x2 | the operands are over different fields
+new | 2: 2x2, 2: 3x3 | the shapes of the operands do not fit
+new | 2: 2x2, 3: 0x3 | the matrix has no rows
+new | 2: 2x2, 3: 2x3 | the matrix is not square
+new | 2: 2x2, 3: 3x3 | the operands are over different fields
+new | 2: 1x2, 2: 0x2 | the matrix is not square
+new | 2: 2x2, 2: 3x3, 2: 0x2 | the shapes of the operands do not fit
+new | 2: 2x2, 3: 2x2, 2: 1x2 | the operands are over different fields
+";
+
+/// - `shape`: a module, and the order of the field, the dimension and the number of generators that it and its copy have;
+/// - `generator`: a module, an index, and the generator there;
+/// - `copy`: a module, and its copy.
+const MODULES: &str = "\
+# As many generators as there may be.
+shape | 9: 0, 9: 0, 9: 0, 9: 0, 9: 0, 9: 0, 9: 0, 9: 0, 9: 0, 9: 0, 9: 0, 9: 0, 9: 0, 9: 0, 9: 0, 9: 0 | 9 | 1 | 16
+shape | 2: 010/100/001, 2: 010/001/100 | 2 | 3 | 2
+copy | 2: 010/100/001, 2: 010/001/100 | 2: 010/100/001, 2: 010/001/100
+generator | 2: 010/100/001, 2: 010/001/100 | 0 | 2: 010/100/001
+generator | 2: 010/100/001, 2: 010/001/100 | 1 | 2: 010/001/100
+";
+
+fn is_refused(rt: &impl Abort, alloc: Global, line: &str) -> Result<bool, Refusal> {
+    let (matrices, refusal) = two_fields(rt, line);
+    match module_with(rt, alloc, matrices) {
+        Ok(_) => Ok(false),
+        Err(refused) => Ok(is_fault(alloc, &refused, refusal)?),
+    }
 }
 
-/// The answer to matrices of zeros that are to be generators: the order of the field, the rows and the columns of each.
-fn module_of_zeros(
+/// Whether a module has this shape: the order of its field, its dimension, and the number of its generators.
+fn has_shape(module: &Module, shape: (u8, usize, usize)) -> bool {
+    let (order, dimension, generators) = shape;
+    module.field().order() == order && module.dim() == dimension && module.gens() == generators
+}
+
+fn describes(rt: &impl Abort, alloc: Global, line: &str) -> Result<bool, Refusal> {
+    let (module, order, dimension, generators) = four_fields(rt, line);
+    let shape = (
+        small_number_of(rt, order),
+        number_of(rt, dimension),
+        number_of(rt, generators),
+    );
+    let module = module_of(rt, alloc, module)?;
+    Ok(has_shape(&module, shape) && has_shape(&module.copy(alloc)?, shape))
+}
+
+fn gives_generator(rt: &impl Abort, alloc: Global, line: &str) -> Result<bool, Refusal> {
+    let (module, index, wanted) = three_fields(rt, line);
+    let module = module_of(rt, alloc, module)?;
+    let wanted = matrix_of(rt, alloc, wanted)?;
+    let index = number_of(rt, index);
+    assert!(rt; index < module.gens());
+    Ok(module.generator(index).same(&wanted))
+}
+
+fn copies(rt: &impl Abort, alloc: Global, line: &str) -> Result<bool, Refusal> {
+    let (module, wanted) = two_fields(rt, line);
+    let module = module_of(rt, alloc, module)?;
+    is_module(rt, alloc, module.copy(alloc), wanted)
+}
+
+/// Whether a call answers what its line says.
+pub(crate) fn answers(
     rt: &impl Abort,
     alloc: Global,
-    shapes: &[(u8, usize, usize)],
-) -> Result<Module, Refusal> {
-    let mut matrices = Vec::new(alloc);
-    for shape in shapes {
-        let matrix = zeros(rt, alloc, *shape)?;
-        matrices.push(matrix).map_err(|_| Refusal::Memory)?;
-    }
-    module_with(rt, matrices)
-}
-
-#[test]
-fn matrices_that_are_no_generators_are_refused(rt: HostRuntime) {
-    // the order of the field, the rows and the columns of each matrix, and why they make no module
-    let cases: [(&[(u8, usize, usize)], Refusal); 13] = [
-        (&[(2, 0, 3)], Refusal::NoRows),
-        (&[(2, 2, 3)], Refusal::NotSquare),
-        (&[(2, 3, 2)], Refusal::NotSquare),
-        (&[(2, 2, 2), (2, 0, 2)], Refusal::NoRows),
-        (&[(2, 2, 2), (2, 2, 3)], Refusal::NotSquare),
-        (&[(2, 2, 2), (3, 2, 2)], Refusal::FieldsDiffer),
-        (&[(2, 2, 2), (2, 3, 3)], Refusal::ShapesDiffer),
-        (&[(2, 2, 2), (3, 0, 3)], Refusal::NoRows),
-        (&[(2, 2, 2), (3, 2, 3)], Refusal::NotSquare),
-        (&[(2, 2, 2), (3, 3, 3)], Refusal::FieldsDiffer),
-        (&[(2, 1, 2), (2, 0, 2)], Refusal::NotSquare),
-        (&[(2, 2, 2), (2, 3, 3), (2, 0, 2)], Refusal::ShapesDiffer),
-        (&[(2, 2, 2), (3, 2, 2), (2, 1, 2)], Refusal::FieldsDiffer),
-    ];
-    for (shapes, refusal) in cases {
-        let module = module_of_zeros(&rt, rt.alloc(), shapes);
-        assert_eq!(rt; module.err(), Some(refusal), "{shapes:?}");
+    call: &str,
+    line: &str,
+) -> Result<bool, Refusal> {
+    match call {
+        "new" => is_refused(rt, alloc, line),
+        "shape" => describes(rt, alloc, line),
+        "copy" => copies(rt, alloc, line),
+        "generator" => gives_generator(rt, alloc, line),
+        _ => panic!(rt; "no such call: {call}"),
     }
 }
 
 #[test]
-fn as_many_generators_as_there_may_be_make_a_module(rt: HostRuntime) -> Result<(), Refusal> {
-    let module = module_of_zeros(&rt, rt.alloc(), &[(9, 1, 1); MAX_GENERATORS])?;
-    assert_eq!(rt; module.gens(), 16);
-    assert_eq!(rt; module.dim(), 1);
-    assert_eq!(rt; module.field().order(), 9);
-    Ok(())
+fn matrices_that_are_no_generators_are_refused(rt: HostRuntime) -> Result<(), Refusal> {
+    each_call(&rt, rt.alloc(), Topic::Modules, REFUSED)
 }
 
 #[test]
-fn a_module_tells_its_generators(rt: HostRuntime) -> Result<(), Refusal> {
-    let alloc = rt.alloc();
-    let generators: [&[&[u8]]; 2] = [
-        &[&[0, 1, 0], &[1, 0, 0], &[0, 0, 1]],
-        &[&[0, 1, 0], &[0, 0, 1], &[1, 0, 0]],
-    ];
-    let module = module_of(&rt, alloc, 2, &generators)?;
-    assert_eq!(rt; module.field().order(), 2);
-    assert_eq!(rt; module.dim(), 3);
-    assert_eq!(rt; module.gens(), 2);
-    for (index, rows) in generators.into_iter().enumerate() {
-        let generator = matrix_of(&rt, alloc, (2, 3), rows)?;
-        assert!(rt; index < module.gens());
-        assert!(rt;
-            module.generator(index).same(&generator),
-            "generator {index}"
-        );
-    }
-    Ok(())
-}
-
-#[test]
-fn a_module_is_copied(rt: HostRuntime) -> Result<(), Refusal> {
-    let alloc = rt.alloc();
-    let module = three_points(&rt, alloc)?;
-    let copy = module.copy(alloc)?;
-    assert_eq!(rt; copy.field().order(), 2);
-    assert_eq!(rt; (copy.dim(), copy.gens()), (3, 2));
-    assert_same(&rt, &copy, &module);
-    let round = matrix_of(&rt, alloc, (2, 3), &[&[0, 1, 0], &[0, 0, 1], &[1, 0, 0]])?;
-    assert!(rt; copy.generator(1).same(&round));
-    assert!(rt; !copy.generator(0).same(&round));
-    Ok(())
+fn modules_and_their_copies_tell_their_generators(rt: HostRuntime) -> Result<(), Refusal> {
+    each_call(&rt, rt.alloc(), Topic::Modules, MODULES)
 }
