@@ -1,0 +1,89 @@
+//! A folder that is watched.
+use axe_folder::{Folder, FolderFault, MemFolder};
+use std::alloc::Global;
+use std::process::Abort;
+
+/// The most bytes of a file that is looked at.
+const LIMIT: usize = 1000;
+
+/// A folder, the files that it is to have, and the names of all files that it was given or is to have. So a file that it is
+/// not to have is seen.
+#[derive(Drop)]
+pub(crate) struct Watched<F: Folder + Drop> {
+    alloc: Global,
+    folder: F,
+    wanted: MemFolder,
+    names: Vec<String>,
+}
+
+impl<F: Folder + Drop> Folder for Watched<F> {
+    ghost use Rattle.std.specs.Prelude.{false};
+    ghost use Rattle.axe_folder.specs.Files.{no_files};
+
+    ghost tells = { false };
+
+    ghost files = { λ _. no_files };
+
+    ghost failures = { λ _. 0 };
+
+    fn get(&mut self, name: &str, limit: usize) -> Result<Vec<u8>, FolderFault> {
+        self.folder.get(name, limit)
+    }
+
+    fn put(&mut self, name: &str, bytes: &[u8]) -> Result<(), FolderFault> {
+        self.watch(name)?;
+        self.folder.put(name, bytes)
+    }
+
+    fn remove(&mut self, name: &str) -> Result<(), FolderFault> {
+        self.folder.remove(name)
+    }
+}
+
+impl<F: Folder + Drop> Watched<F> {
+    /// This folder, which is to have no files.
+    pub(crate) fn new(alloc: Global, folder: F) -> Self {
+        Self {
+            alloc,
+            folder,
+            wanted: MemFolder::new(alloc),
+            names: Vec::new(alloc),
+        }
+    }
+
+    /// From now on the file is to have these bytes.
+    pub(crate) fn want(&mut self, name: &str, bytes: &[u8]) -> Result<(), FolderFault> {
+        self.watch(name)?;
+        self.wanted.put(name, bytes)
+    }
+
+    /// From now on there is to be no such file.
+    pub(crate) fn want_none(&mut self, name: &str) -> Result<(), FolderFault> {
+        self.watch(name)?;
+        self.wanted.remove(name)
+    }
+
+    /// Takes the name into the list.
+    fn watch(&mut self, name: &str) -> Result<(), FolderFault> {
+        let name = String::from_str(self.alloc, name)?;
+        self.names.push(name)?;
+        Ok(())
+    }
+
+    /// Asserts that each file is as wanted, and that there is no other.
+    pub(crate) fn assert_as_wanted(&mut self, rt: &impl Abort) {
+        for name in &self.names {
+            let wanted = self.wanted.bytes(name.as_str());
+            assert_file(rt, &mut self.folder, name.as_str(), wanted);
+        }
+    }
+}
+
+/// Asserts that the file has these bytes or, where there are none, that there is no such file.
+fn assert_file<F: Folder>(rt: &impl Abort, folder: &mut F, name: &str, wanted: Option<&[u8]>) {
+    let is_wanted = match folder.get(name, LIMIT) {
+        Ok(bytes) => wanted == Some(bytes.as_slice()),
+        Err(fault) => fault == FolderFault::Missing && wanted.is_none(),
+    };
+    assert!(rt; is_wanted, "the file {name}");
+}
