@@ -7,9 +7,8 @@ ghost use Rattle.axe_row.specs.Refusals.{Answers};
 ghost use Rattle.axe_matrix.specs.Matrices.{IsMatrix};
 ghost use Rattle.axe_action.specs.Actions.{IsExtendedMatrix};
 
-use crate::rows::{append, unit_vector};
 use crate::subspaces::span_of;
-use axe_matrix::{Matrix, Refusal};
+use axe_matrix::{Matrix, Refusal, Row};
 use std::alloc::Global;
 
 /// Independent rows, extended to a basis of all vectors of their length: these rows, then the unit vectors of the columns
@@ -23,8 +22,8 @@ pub fn extend_basis(alloc: Global, rows: &Matrix) -> Result<Matrix, Refusal>
     let mut extended = rows.copy(alloc)?;
     for column in 0..rows.cols() {
         if !span.is_pivot(column) {
-            let unit = unit_vector(alloc, *rows.field(), rows.cols(), column)?;
-            append(&mut extended, unit)?;
+            let unit = Row::unit(alloc, *rows.field(), rows.cols(), column)?;
+            extended.append(unit)?;
         }
     }
     Ok(extended)

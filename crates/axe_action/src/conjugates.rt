@@ -6,7 +6,7 @@ ghost use Rattle.axe_matrix.specs.Matrices.{IsMatrix, matrix_product};
 ghost use Rattle.axe_spin.specs.Modules.{IsModule, unless_refused};
 ghost use Rattle.axe_action.specs.Actions.{conjugate_refusal, AnswersConjugate};
 
-use crate::rows::push;
+use crate::lists::push;
 use axe_echelon::inverse;
 use axe_matrix::{Matrix, Refusal};
 use axe_spin::Module;

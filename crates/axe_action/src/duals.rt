@@ -6,7 +6,7 @@ ghost use Rattle.axe_matrix.specs.Matrices.{IsMatrix};
 ghost use Rattle.axe_spin.specs.Modules.{IsModule};
 ghost use Rattle.axe_action.specs.Actions.{dual_module, IsAnnihilatorMatrix};
 
-use crate::rows::push;
+use crate::lists::push;
 use axe_echelon::null_space;
 use axe_matrix::{Matrix, Refusal};
 use axe_spin::Module;

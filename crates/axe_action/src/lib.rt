@@ -4,8 +4,8 @@
 mod bases;
 mod conjugates;
 mod duals;
+mod lists;
 mod quotients;
-mod rows;
 mod subspaces;
 
 pub use bases::extend_basis;

@@ -9,7 +9,7 @@ ghost use Rattle.axe_action.specs.Actions.{rows_refusal, AnswersQuotientAction, 
 ghost use Rattle.axe_action.specs.Coordinates.{IsSpanOfRows, HasImagesIn};
 ghost use Rattle.axe_action.specs.FreeColumns.{IsFreeColumn, AreFreeColumns, IsRowModulo, HasRowsModulo};
 
-use crate::rows::{append, push};
+use crate::lists::push;
 use crate::subspaces::{check_rows, span_of};
 use axe_echelon::Echelon;
 use axe_matrix::{Matrix, Refusal, Row};
@@ -138,7 +138,7 @@ fn generator_modulo(
     let mut action = Matrix::empty(alloc, *span.field(), columns.len());
     for column in columns {
         let row = row_modulo(alloc, generator.row(*column), span, columns)?;
-        append(&mut action, row)?;
+        action.append(row)?;
     }
     Ok(action)
 }

@@ -9,7 +9,7 @@ ghost use Rattle.axe_spin.specs.Modules.{IsModule, unless_refused};
 ghost use Rattle.axe_action.specs.Actions.{rows_refusal, sub_action_refusal, AnswersSubAction, IsInvariantIn, IsActionOnSpan, IsBasisAction};
 ghost use Rattle.axe_action.specs.Coordinates.{IsSpanOfRows, HasImagesIn, HasActionRows};
 
-use crate::rows::{append, push};
+use crate::lists::push;
 use axe_echelon::Echelon;
 use axe_matrix::{Matrix, Refusal};
 use axe_spin::{Module, has_only_zeros};
@@ -116,7 +116,7 @@ fn generator_action(
         let Some(coefficients) = span.coordinates(alloc, &image)? else {
             return Err(Refusal::NotInvariant);
         };
-        append(&mut action, coefficients)?;
+        action.append(coefficients)?;
     }
     Ok(action)
 }

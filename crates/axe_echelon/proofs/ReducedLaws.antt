@@ -1,8 +1,7 @@
 -- The reduced basis of the rows' span, made from the representatives of unit vectors.
-use Rattle.std.specs.Prelude.{◌≡◌, ◌≢◌, ℕ, zero, suc, ◌+◌, ◌<◌, ◌≤◌, List, [], ◌∷◌, ◌++◌, length, get_or, set, replicate, cond, eqb}
+use Rattle.std.specs.Prelude.{◌≡◌, ◌≢◌, ℕ, suc, ◌+◌, ◌<◌, ◌≤◌, List, [], ◌∷◌, ◌++◌, length, get_or, set}
 use Rattle.std.proofs.Common.{get_or-set_other, get_or-set_same}
-use Rattle.std.proofs.lemmas.Bool.{eq-eqb, ne_eqb}
-use Rattle.std.proofs.lemmas.List.{length-set, length-append, get_or_append_left, get_or-append-add, ext_get_or}
+use Rattle.std.proofs.lemmas.List.{length-set, length-append, get_or_append_left, get_or-append-add}
 use Rattle.axe_algebra.specs.NumberField.{NumberField}
 use Rattle.axe_algebra.specs.Field.{Field}
 use Rattle.axe_algebra.specs.Vectors.{Vector, unit_vector, subtract, scale}
@@ -12,7 +11,7 @@ use Rattle.axe_algebra.proofs.FieldLaws.{zero-add, neg-zero, neg-mul, one-mul}
 use Rattle.axe_algebra.proofs.ProductLaws.{unit_at, unit_off}
 use Rattle.axe_algebra.proofs.Spanning.{span_same, span_length}
 use Rattle.axe_algebra.proofs.ElementNumbers.{element_neg, element_one}
-use Rattle.axe_algebra.proofs.ListEntries.{listed_length, listed_at, rows_length}
+use Rattle.axe_algebra.proofs.ListEntries.{rows_length}
 use Rattle.axe_algebra.proofs.ListVectors.{vector_of_unit_row, vector_of_scaled}
 use Rattle.axe_field.specs.Order.{Order, IsElement}
 use Rattle.axe_field.specs.Arithmetic.{field_neg}
@@ -24,32 +23,10 @@ use Rattle.axe_matrix.specs.Matrices.{MatrixValue}
 use Rattle.axe_echelon.specs.Echelons.{EchelonValue, IsEchelon, IsReducedMatrix}
 use Rattle.axe_echelon.specs.Steps.{IsPivotRow}
 use Rattle.axe_echelon.proofs.FormLaws.{below_or_at}
-use Rattle.axe_echelon.proofs.StepLaws.{over_of_row, below_of_element, negative_of, get_or_copies}
+use Rattle.axe_echelon.proofs.StepLaws.{over_of_row, below_of_element, negative_of}
 use mathlib.Core.Path.{refl, sym, ◌∙◌, ap, ap₂, subst, fun_ext}
 use native.Mathlib.Omega.{arith}
 use native.Mathlib.Decide.{ℕ_discrete, dec_lt}
-
--- a list of zeros with a 1 at i
-abbrev pub zero_entries : ℕ → List ℕ
-zero_entries n = replicate n 0
-
-zero_entries-length : (n : ℕ) → length (zero_entries n) ≡ n
-zero_entries-length zero = refl
-zero_entries-length (suc n) = ap suc (zero_entries-length n)
-
-pub unit_row-set : (n i : ℕ) → i < n → set (zero_entries n) i 1 ≡ unit_row n i
-unit_row-set n i inside = ext_get_or 0 (set (zero_entries n) i 1) (unit_row n i)
-    (length-set (zero_entries n) i 1 ∙ zero_entries-length n ∙ sym (listed_length n (λ j. cond (eqb i j) 1 0)))
-    (λ j below. at j (omega (arith, below, length-set (zero_entries n) i 1, zero_entries-length n)) (ℕ_discrete i j))
-  where
-    at : (j : ℕ) → j < n → Dec (i ≡ j) → get_or (set (zero_entries n) i 1) j 0 ≡ get_or (unit_row n i) j 0
-    at j below (yes e) =
-        ap (λ k. get_or (set (zero_entries n) i 1) k 0) (sym e)
-        ∙ get_or-set_same (zero_entries n) i 1 0 (omega (arith, zero_entries-length n))
-        ∙ sym (listed_at n (λ j. cond (eqb i j) 1 0) j 0 below ∙ ap (λ b. cond b 1 0) (eq-eqb i j e))
-    at j below (no other) =
-        get_or-set_other (zero_entries n) i j 1 0 (λ e. other (sym e)) ∙ get_or_copies 0 n j
-        ∙ sym (listed_at n (λ j. cond (eqb i j) 1 0) j 0 below ∙ ap (λ b. cond b 1 0) (ne_eqb i j other))
 
 module _ (e : EchelonValue) (h : IsEchelon e) where
   abbrev K : NumberField

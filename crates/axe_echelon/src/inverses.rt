@@ -5,10 +5,10 @@ ghost use Rattle.axe_algebra.specs.Lists.{unit_row};
 ghost use Rattle.axe_row.specs.Refusals.{Answers};
 ghost use Rattle.axe_row.specs.declared.Refusal.TheVariants.{NotSquare};
 ghost use Rattle.axe_matrix.specs.Matrices.{IsMatrix};
-ghost use Rattle.axe_echelon.specs.Echelons.{IsEchelon, AreCoordinates, IsInverseMatrix, InverseRefused};
+ghost use Rattle.axe_echelon.specs.Echelons.{AreCoordinates, IsInverseMatrix, InverseRefused};
 ghost use Rattle.axe_echelon.specs.Inserted.{HasAllRows, HasUnitCoordinates, RowsRefused};
 
-use super::{Echelon, append, unit_vector};
+use super::Echelon;
 use axe_matrix::{Matrix, Refusal, Row};
 use std::alloc::Global;
 
@@ -46,7 +46,7 @@ fn unit_coordinates(alloc: Global, rows: &Echelon, index: usize) -> Result<Row, 
     requires within { index < rows.now.cols }
     ensures { Answers None (AreCoordinates rows.now (unit_row rows.now.cols index)) result }
 {
-    let unit = unit_vector(alloc, *rows.field(), rows.cols(), index)?;
+    let unit = Row::unit(alloc, *rows.field(), rows.cols(), index)?;
     match rows.coordinates(alloc, &unit)? {
         Some(coordinates) => Ok(coordinates),
         None => unreachable!(),
@@ -62,7 +62,7 @@ fn all_unit_coordinates(alloc: Global, rows: &Echelon) -> Result<Matrix, Refusal
     let mut all = Matrix::empty(alloc, *rows.field(), rows.cols());
     for index in 0..rows.cols() {
         let row = unit_coordinates(alloc, rows, index)?;
-        append(&mut all, row)?;
+        all.append(row)?;
     }
     Ok(all)
 }

@@ -3,7 +3,7 @@
 #![tactic(auto)]
 
 ghost use Rattle.std.specs.Prelude.{◌≡◌, ◌<◌, ◌≤◌, ◌↔◌, ◌++◌, ◌∷◌, [], length, replicate, slice_index, IsTrue, None, IfOk, OnErr, MatchOption};
-ghost use Rattle.axe_algebra.specs.Lists.{listed, unit_row, IsPivot, IsRepresentative, IsSpanned};
+ghost use Rattle.axe_algebra.specs.Lists.{listed, IsPivot, IsRepresentative, IsSpanned};
 ghost use Rattle.axe_field.specs.Arithmetic.{field_neg};
 ghost use Rattle.axe_field.specs.NumberFields.{number_field};
 ghost use Rattle.axe_row.specs.Refusals.{Answers};
@@ -16,7 +16,7 @@ mod inverses;
 mod null_spaces;
 
 use axe_field::Field;
-use axe_matrix::{MAX_COLUMNS, MAX_ROWS, Matrix, Refusal, Row};
+use axe_matrix::{MAX_COLUMNS, Matrix, Refusal, Row};
 pub use inverses::inverse;
 pub use null_spaces::null_space;
 use std::alloc::Global;
@@ -214,7 +214,7 @@ impl Echelon {
         for column in 0..self.cols() {
             if self.is_pivot(column) {
                 let row = self.pivot_row(alloc, column)?;
-                append(&mut reduced, row)?;
+                reduced.append(row)?;
             }
         }
         Ok(reduced)
@@ -227,7 +227,7 @@ impl Echelon {
         ensures { Answers None (IsPivotRow self.now pivot) result }
     {
         let field = *self.field();
-        let mut row = unit_vector(alloc, field, self.cols(), pivot)?;
+        let mut row = Row::unit(alloc, field, self.cols(), pivot)?;
         self.reduce(&mut row);
         row.scale(field.neg(1));
         row.set(pivot, 1);
@@ -264,26 +264,4 @@ fn negated_start(alloc: Global, row: &Row, len: usize) -> Result<Row, Refusal>
         start.set(index, field.neg(row.get(index)));
     }
     Ok(start)
-}
-
-/// The unit vector of a length: 1 at an index, 0 elsewhere.
-fn unit_vector(alloc: Global, field: Field, len: usize, index: usize) -> Result<Row, Refusal>
-    requires { index < len }
-    ensures unit { Answers None (λ row. row ≡ record { order = field; entries = unit_row len index }) result }
-    ensures well_formed { Answers None IsRow result }
-{
-    let mut row = Row::zero(alloc, field, len)?;
-    row.set(index, 1);
-    Ok(row)
-}
-
-/// Appends a row to a matrix; for want of memory the row is dropped, and the matrix is unchanged.
-fn append(matrix: &mut Matrix, row: Row) -> Result<(), Refusal>
-    requires field { row.order ≡ matrix.old.order }
-    requires fits { length row.entries ≡ matrix.old.cols }
-    requires room { length matrix.old.rows < MAX_ROWS }
-    ensures appended { Answers None (λ _. matrix.new ≡ record matrix.old { rows = matrix.old.rows ++ row.entries ∷ [] }) result }
-    ensures well_formed { IsMatrix matrix.new }
-{
-    matrix.push_row(row).map_err(|_| Refusal::Memory)
 }

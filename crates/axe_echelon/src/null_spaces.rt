@@ -8,7 +8,7 @@ ghost use Rattle.axe_matrix.specs.Matrices.{IsMatrix};
 ghost use Rattle.axe_echelon.specs.Echelons.{null_space_refusal, IsNullSpaceMatrix};
 ghost use Rattle.axe_echelon.specs.Inserted.{IsRelation};
 
-use super::{Echelon, append, unit_vector};
+use super::Echelon;
 use axe_matrix::{Matrix, Refusal, Row};
 use std::alloc::Global;
 
@@ -35,10 +35,10 @@ fn null_space_of_rows(alloc: Global, matrix: &Matrix) -> Result<Matrix, Refusal>
     let mut units = Matrix::empty(alloc, field, matrix.rows());
     let mut null = Echelon::new(alloc, field, matrix.rows());
     for index in 0..matrix.rows() {
-        let unit = unit_vector(alloc, field, matrix.rows(), index)?;
+        let unit = Row::unit(alloc, field, matrix.rows(), index)?;
         let row = matrix.row(index).copy(alloc)?;
         if image.insert(row)? {
-            append(&mut units, unit)?;
+            units.append(unit)?;
         } else {
             let vector = null_vector(alloc, &image, &units, matrix.row(index), unit)?;
             null.insert(vector)?;

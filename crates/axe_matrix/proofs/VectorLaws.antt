@@ -1,9 +1,8 @@
 -- Row vectors that the calls of matrices make: unit vectors, sums of rows, and the first terms of a vector times a matrix.
-use Rattle.std.proofs.Common.{◌≡◌, ◌≢◌, ℕ, ◌+◌, ◌<◌, List, [], length, get_or, set, replicate, cond, eqb, inl, inr, refl, sym, ap, ◌∙◌, arith, add-one, get_or-set_other, get_or-set_same}
-use Rattle.std.proofs.lemmas.Bool.{cases_eq, eq-eqb, ne_eqb}
-use Rattle.std.proofs.lemmas.List.{ext_get_or, get_or-replicate, length-replicate, length-set}
+use Rattle.std.proofs.Common.{◌≡◌, ℕ, ◌+◌, ◌<◌, List, [], length, get_or, replicate, refl, sym, ap, ◌∙◌, arith, add-one}
+use Rattle.std.proofs.lemmas.List.{ext_get_or, get_or-replicate, length-replicate}
 use Rattle.std.proofs.lemmas.List.FromFn.{length-map-range_with_len, get_or-map-range_with_len}
-use Rattle.axe_algebra.specs.Lists.{entry, listed, number_sum, combination_entry, combination, unit_row}
+use Rattle.axe_algebra.specs.Lists.{entry, listed, number_sum, combination_entry, combination}
 use Rattle.axe_algebra.specs.NumberField.{NumberField}
 use Rattle.axe_row.specs.Operations.{sum_with_multiple}
 use Rattle.axe_row.proofs.OperationLaws.{length-sum_with_multiple, get_or-sum_with_multiple}
@@ -24,26 +23,6 @@ is_listed n f xs long same =
 -- a list of one number n times
 pub replicate-listed : (n a : ℕ) → replicate n a ≡ listed n (λ j. a)
 replicate-listed n a = is_listed n (λ j. a) (replicate n a) (length-replicate n a) (λ j below. get_or-replicate n j a 0 below)
-
--- the same with another number at i
-pub set-listed : (n i a b : ℕ) → i < n → set (replicate n b) i a ≡ listed n (λ j. cond (eqb i j) a b)
-set-listed n i a b inside =
-    is_listed n (λ j. cond (eqb i j) a b) (set (replicate n b) i a) (length-set (replicate n b) i a ∙ length-replicate n b) at
-  where
-    at : (j : ℕ) → j < n → get_or (set (replicate n b) i a) j 0 ≡ cond (eqb i j) a b
-    at j below =
-        elim (cases_eq i j) [
-          | inl e ↦
-              let within : j < length (replicate n b) = omega (arith, length-replicate n b) in
-              rw (e, eq-eqb j j refl) (get_or-set_same (replicate n b) j a 0 within)
-          | inr other ↦
-              let elsewhere : j ≢ i = omega arith in
-              rw (ne_eqb i j other) (get_or-set_other (replicate n b) i j a 0 elsewhere ∙ get_or-replicate n j b 0 below)
-        ]
-
--- a list of zeros with a 1 at i
-pub unit_row-set : (n i : ℕ) → i < n → set (replicate n 0) i 1 ≡ unit_row n i
-unit_row-set n i inside = set-listed n i 1 0 inside
 
 -- a vector plus 1 times another is their sum, entry by entry
 pub sum_with_one : (K : NumberField) (n : ℕ) (a b : List ℕ) → length a ≡ n → ((j : ℕ) → get_or b j 0 < K.order) → sum_with_multiple K a 1 b ≡ listed n (λ j. K.add (get_or a j 0) (get_or b j 0))

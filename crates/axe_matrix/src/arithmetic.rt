@@ -1,6 +1,6 @@
 //! Sums and transposes of matrices.
 
-ghost use Rattle.std.specs.Prelude.{◌≡◌, ◌<◌, length, None, IfOk};
+ghost use Rattle.std.specs.Prelude.{◌≡◌, ◌<◌, None, IfOk};
 ghost use Rattle.axe_row.specs.Refusals.{Answers};
 ghost use Rattle.axe_matrix.specs.Matrices.{IsMatrix, column_of, sum_refusal, sum_of_matrices, transpose_refusal, transposed_matrix};
 

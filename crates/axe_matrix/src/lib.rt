@@ -1,9 +1,9 @@
 //! Matrices over a small finite field: lists of rows of one length.
 #![tactic(auto)]
 
-ghost use Rattle.std.specs.Prelude.{◌≡◌, ◌<◌, ◌≤◌, ◌↔◌, ◌++◌, ◌∷◌, [], length, slice_index, IsTrue, None, IfOk, OnOk, OnErr, IfErr};
+ghost use Rattle.std.specs.Prelude.{◌≡◌, ◌<◌, ◌≤◌, ◌↔◌, ◌++◌, ◌∷◌, [], length, IsTrue, None, IfOk, OnOk, OnErr, IfErr};
 ghost use Rattle.axe_algebra.specs.Lists.{entry};
-ghost use Rattle.axe_field.specs.Order.{order_number, IsElement};
+ghost use Rattle.axe_field.specs.Order.{IsElement};
 ghost use Rattle.axe_row.specs.Rows.{IsRow};
 ghost use Rattle.axe_row.specs.Refusals.{Answers};
 ghost use Rattle.axe_matrix.specs.Matrices.{IsMatrix, row_of, product_refusal, matrix_product, vector_product};
@@ -76,7 +76,7 @@ impl Matrix {
     }
 
     /// Appends a row as [`Matrix::push_row`] does; for want of memory the row is dropped, and the matrix is unchanged.
-    fn append(&mut self, row: Row) -> Result<(), Refusal>
+    pub fn append(&mut self, row: Row) -> Result<(), Refusal>
         requires field { row.order ≡ self.old.order }
         requires fits { length row.entries ≡ self.old.cols }
         requires room { length self.old.rows < MAX_ROWS }

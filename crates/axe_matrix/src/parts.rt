@@ -1,7 +1,6 @@
 //! The zero matrix, the identity matrix, copies and blocks.
 
 ghost use Rattle.std.specs.Prelude.{◌≡◌, ◌+◌, ◌<◌, ◌≤◌, length, None, IfOk};
-ghost use Rattle.axe_algebra.specs.Lists.{unit_row};
 ghost use Rattle.axe_row.specs.Refusals.{Answers};
 ghost use Rattle.axe_matrix.specs.Matrices.{IsMatrix, part_of, zero_matrix, identity_matrix, matrix_block};
 
@@ -36,7 +35,7 @@ impl Matrix {
     {
         let mut matrix = Matrix::empty(alloc, field, rows);
         for index in 0..rows {
-            let row = unit_vector(alloc, field, rows, index)?;
+            let row = Row::unit(alloc, field, rows, index)?;
             matrix.append(row)?;
         }
         Ok(matrix)
@@ -77,16 +76,6 @@ impl Matrix {
         }
         Ok(block)
     }
-}
-
-/// The unit vector of a length: 1 at an index, 0 elsewhere.
-fn unit_vector(alloc: Global, field: Field, len: usize, index: usize) -> Result<Row, Refusal>
-    requires { index < len }
-    ensures { Answers None (λ row. row ≡ record { order = field; entries = unit_row len index }) result }
-{
-    let mut row = Row::zero(alloc, field, len)?;
-    row.set(index, 1);
-    Ok(row)
 }
 
 /// The part of a row that has `len` entries from an index on.

@@ -2,8 +2,9 @@
 #![tactic(auto)]
 
 ghost use Rattle.std.specs.Prelude.{◌≡◌, ◌<◌, ◌↔◌, None, IsTrue, length, replicate, slice_index, slice_set, All, MatchOption};
+ghost use Rattle.axe_algebra.specs.Lists.{unit_row};
 ghost use Rattle.axe_field.specs.NumberFields.{number_field};
-ghost use Rattle.axe_field.specs.Order.{Order, order_number, IsElement};
+ghost use Rattle.axe_field.specs.Order.{IsElement};
 ghost use Rattle.axe_row.specs.Operations.{dot_product, row_with_multiple, multiple_row, IsZeroVector, IsFirstNonzero};
 ghost use Rattle.axe_row.specs.Rows.{RowValue, IsRow};
 ghost use Rattle.axe_row.specs.Refusals.{Answers};
@@ -85,6 +86,17 @@ impl Row {
     {
         let elements = vec![in alloc; 0; len]?;
         Ok(Row { field, elements })
+    }
+
+    /// The unit vector of a length: 1 at an index, counted from 0, and 0 elsewhere.
+    pub fn unit(alloc: Global, field: Field, len: usize, index: usize) -> Result<Row, Refusal>
+        requires { index < len }
+        ensures unit { Answers None (λ row. row ≡ record { order = field; entries = unit_row len index }) result }
+        ensures well_formed { Answers None IsRow result }
+    {
+        let mut row = Row::zero(alloc, field, len)?;
+        row.set(index, 1);
+        Ok(row)
     }
 
     /// The row of these entries, each of which is the number of an element of the field.

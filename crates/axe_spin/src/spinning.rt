@@ -2,9 +2,8 @@
 
 ghost use Rattle.std.specs.Prelude.{◌≡◌, ◌+◌, ◌<◌, length, None};
 ghost use Rattle.axe_row.specs.Refusals.{Answers};
-ghost use Rattle.axe_matrix.specs.declared.TheConstants.{MAX_ROWS};
 ghost use Rattle.axe_matrix.specs.Matrices.{IsMatrix};
-ghost use Rattle.axe_spin.specs.Spun.{with_row, IsSpanOf, IsOffered, IsSpunMatrix, SpinsOn};
+ghost use Rattle.axe_spin.specs.Spun.{IsSpanOf, IsOffered, IsSpunMatrix, SpinsOn};
 
 use crate::module::Module;
 use axe_echelon::Echelon;
@@ -28,20 +27,9 @@ pub(crate) fn offer(
 {
     let copy = row.copy(alloc)?;
     if span.insert(copy)? {
-        append(rows, row)?;
+        rows.append(row)?;
     }
     Ok(())
-}
-
-/// Appends a row to a matrix; for want of memory the row is dropped, and the matrix is unchanged.
-fn append(matrix: &mut Matrix, row: Row) -> Result<(), Refusal>
-    requires field { row.order ≡ matrix.old.order }
-    requires fits { length row.entries ≡ matrix.old.cols }
-    requires room { length matrix.old.rows < MAX_ROWS }
-    ensures appended { Answers None (λ _. matrix.new ≡ with_row matrix.old row.entries) result }
-    ensures well_formed { IsMatrix matrix.new }
-{
-    matrix.push_row(row).map_err(|_| Refusal::Memory)
 }
 
 /// Spins independent rows in a module: takes the rows in turn, and for each the generators in order; an image that is not

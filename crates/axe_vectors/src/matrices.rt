@@ -26,11 +26,14 @@ same | 2: 010/100/001 | 2: 010/001/100 | no
 
 /// - `identity`: the order of a field, how many rows, and the identity;
 /// - `zero`: the order of a field, how many rows and columns, and the matrix of zeros;
+/// - `append`: a matrix, a row, and the matrix with the row below its own;
 /// - `copy`: a matrix, and its copy;
 /// - `block`: a matrix, rows and columns, and the block of these.
 const MADE: &str = "\
 identity | 2 | 2 | 2: 10/01
 zero | 2 | 2 | 2 | 2: 00/00
+append | 3: 12 | 3: 01 | 3: 12/01
+append | 3: 0x2 | 3: 21 | 3: 21
 copy | 2: 10/01 | 2: 10/01
 block | 2: 01/11 | 1..2 | 0..2 | 2: 11
 ";
@@ -103,6 +106,16 @@ fn makes_zero(rt: &impl Abort, alloc: Global, line: &str) -> Result<bool, Refusa
     is_matrix(rt, alloc, zero, wanted)
 }
 
+fn appends(rt: &impl Abort, alloc: Global, line: &str) -> Result<bool, Refusal> {
+    let (matrix, row, wanted) = three_fields(rt, line);
+    let mut matrix = matrix_of(rt, alloc, matrix)?;
+    let row = row_of(rt, alloc, row)?;
+    assert_shape(rt, &row, matrix.field(), matrix.cols());
+    assert!(rt; matrix.rows() < MAX_ROWS);
+    matrix.append(row)?;
+    Ok(matrix.same(&matrix_of(rt, alloc, wanted)?))
+}
+
 fn copies(rt: &impl Abort, alloc: Global, line: &str) -> Result<bool, Refusal> {
     let (matrix, wanted) = two_fields(rt, line);
     let matrix = matrix_of(rt, alloc, matrix)?;
@@ -162,6 +175,7 @@ pub(crate) fn answers(
         "same" => compares(rt, alloc, line),
         "identity" => makes_identity(rt, alloc, line),
         "zero" => makes_zero(rt, alloc, line),
+        "append" => appends(rt, alloc, line),
         "copy" => copies(rt, alloc, line),
         "block" => takes_block(rt, alloc, line),
         "mul" => multiplies(rt, alloc, line),

@@ -9,6 +9,7 @@ use std::alloc::Global;
 use std::process::Abort;
 
 /// - `zero`: the order of a field, a length, and the row of zeros;
+/// - `unit`: the order of a field, a length, an index, and the row that is 1 there and else 0;
 /// - `set`: a row, an index, an element, and the row with the element there;
 /// - `get`: a row, an index, and the element there;
 /// - `copy`: a row, and its copy;
@@ -16,6 +17,8 @@ use std::process::Abort;
 /// - `is_zero`: a row, and whether it is zero.
 const ENTRIES: &str = "\
 zero | 7 | 2 | 7: 00
+unit | 9 | 3 | 1 | 9: 010
+unit | 2 | 1 | 0 | 2: 1
 set | 7: 00 | 1 | 3 | 7: 03
 get | 7: 05 | 0 | 0
 get | 7: 05 | 1 | 5
@@ -41,6 +44,15 @@ fn makes_zero(rt: &impl Abort, alloc: Global, line: &str) -> Result<bool, Refusa
     let (order, length, wanted) = three_fields(rt, line);
     let zero = Row::zero(alloc, field_of(rt, order), number_of(rt, length));
     is_row_answer(rt, alloc, zero, wanted)
+}
+
+fn makes_unit(rt: &impl Abort, alloc: Global, line: &str) -> Result<bool, Refusal> {
+    let (order, length, index, wanted) = four_fields(rt, line);
+    let length = number_of(rt, length);
+    let index = number_of(rt, index);
+    assert!(rt; index < length);
+    let unit = Row::unit(alloc, field_of(rt, order), length, index);
+    is_row_answer(rt, alloc, unit, wanted)
 }
 
 fn sets(rt: &impl Abort, alloc: Global, line: &str) -> Result<bool, Refusal> {
@@ -120,6 +132,7 @@ pub(crate) fn answers(
 ) -> Result<bool, Refusal> {
     match call {
         "zero" => makes_zero(rt, alloc, line),
+        "unit" => makes_unit(rt, alloc, line),
         "set" => sets(rt, alloc, line),
         "get" => gets(rt, alloc, line),
         "first_nonzero" => finds_first_nonzero(rt, alloc, line),

@@ -29,7 +29,7 @@ loop-column-preserved c =
       | then-not-is_pivot+in_ok-unit+in_ok-append w ↦
           let unit : w.in_ok-unit.unit.entries ≡ unit_row c.args.rows.now.cols c.loop-column.column =
           ap (λ (r : RowValue). r.entries) w.in_ok-unit.ensures.unit ∙ ap (λ n. unit_row n c.loop-column.column) w.cols.ensures.count in
-          rw w.extended-is (extended_more c.args.rows.now c.loop-column.column c.loop-column.extended w.append.new.matrix w.in_ok-unit.unit.entries
+          rw w.extended-is (extended_more c.args.rows.now c.loop-column.column c.loop-column.extended w.append.new.self w.in_ok-unit.unit.entries
           c.loop-column.invariant
           (no_pivot_of_span c.args.rows.now c.in_ok-span.span c.loop-column.column c.is_pivot.result (all_rows c.args.rows.now c.in_ok-span.span c.requires.independent c.in_ok-span.ensures.span) c.is_pivot.ensures
           w.if-not-is_pivot.true)

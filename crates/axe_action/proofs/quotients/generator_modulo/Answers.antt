@@ -16,7 +16,7 @@ row_modulo-requires-clause-within c = free_within c.args.span.now c.args.columns
 
 pub loop-column-preserved : goal.loop-column-preserved
 loop-column-preserved c =
-    modulo_more c.args.span.now c.args.columns.now c.args.generator.now.rows c.loop-column.column-index c.loop-column.action c.append.new.matrix c.in_ok-row.row
+    modulo_more c.args.span.now c.args.columns.now c.args.generator.now.rows c.loop-column.column-index c.loop-column.action c.append.new.self c.in_ok-row.row
     c.loop-column.invariant
     (subst (λ (r : RowValue). IsRowModulo c.args.span.now c.args.columns.now r.entries c.in_ok-row.row.entries) c.row.ensures.value c.in_ok-row.ensures.modulo)
     c.in_ok-append.ensures.appended c.append.ensures.well_formed

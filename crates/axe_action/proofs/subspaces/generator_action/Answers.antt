@@ -38,7 +38,7 @@ loop-index-preserved c =
     ∙ ap (λ (r : RowValue). combination (number_field c.args.generator.now.order) c.args.generator.now.cols r.entries c.args.generator.now.rows) c.row.ensures.value in
     let are : AreCoordinates c.args.span.now c.in_ok-image.image.entries c.in-Some.coefficients =
     rw c.in-Some.is at c.in_ok-coefficients.ensures.coefficients in
-    action_rows_more c.args.generator.now c.args.rows.now.rows c.loop-index.index c.loop-index.action c.append.new.matrix c.in-Some.coefficients
+    action_rows_more c.args.generator.now c.args.rows.now.rows c.loop-index.index c.loop-index.action c.append.new.self c.in-Some.coefficients
     c.loop-index.invariant
     (action_row_of c.args.generator.now c.args.rows.now.rows c.loop-index.index c.args.span.now c.in_ok-image.image c.in-Some.coefficients c.requires.span image are)
     c.in_ok-append.ensures.appended c.append.ensures.well_formed

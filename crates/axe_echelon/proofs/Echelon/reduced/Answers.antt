@@ -13,7 +13,7 @@ pivot_row-requires-clause-pivot c = c.is_pivot.ensures.0 c.if-is_pivot.true
 pub loop-column-preserved : goal.loop-column-preserved
 loop-column-preserved c = elim c.if-is_pivot.branch [
   | then-is_pivot+in_ok-row+in_ok-append w ↦ record {
-    so_far = rw w.reduced-is (reduced_more c.args.self.now c.loop-column.column c.loop-column.reduced w.append.new.matrix w.in_ok-row.row c.loop-column.invariant.so_far
+    so_far = rw w.reduced-is (reduced_more c.args.self.now c.loop-column.column c.loop-column.reduced w.append.new.self w.in_ok-row.row c.loop-column.invariant.so_far
         (c.is_pivot.ensures.0 w.if-is_pivot.true) w.in_ok-row.ensures w.in_ok-append.ensures.appended);
     well_formed = rw w.reduced-is w.append.ensures.well_formed;
   }

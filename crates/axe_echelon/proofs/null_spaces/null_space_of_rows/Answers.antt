@@ -84,7 +84,7 @@ loop-index-preserved c =
     elim c.if-branch.branch [
       | then-branch+in_ok-append w ↦
           rw (w.units-is, w.null-is) (null_so_far_new c.args.matrix.now c.loop-index.index c.loop-index.image c.insert.new.self c.loop-index.units
-          w.append.new.matrix c.loop-index.null c.in_ok-row.row c.in_ok-unit.unit c.loop-index.invariant below row unit
+          w.append.new.self c.loop-index.null c.in_ok-row.row c.in_ok-unit.unit c.loop-index.invariant below row unit
           (c.in_ok-insert.ensures.inserted ∙ ap (λ b. with_row_where b c.loop-index.image c.in_ok-row.row.entries) w.if-branch.true)
           c.insert.ensures.well_formed w.in_ok-append.ensures.appended w.append.ensures.well_formed)
       | else-branch+in_ok-vector+in_ok-insert-2 w ↦

@@ -10,11 +10,11 @@ loop-index-init c = IsPartialMatrix-none _ _ _ _ _ _ c.empty-matrix.ensures.no_r
 
 pub append-requires-clause-fits : goal.append-requires-clause-fits
 append-requires-clause-fits c =
-    ap (λ (row : RowValue). length row.entries) c.in_ok-row.ensures ∙ length-listed _ _ ∙ sym c.loop-index.invariant.columns
+    ap (λ (row : RowValue). length row.entries) c.in_ok-row.ensures.unit ∙ length-listed _ _ ∙ sym c.loop-index.invariant.columns
 
 pub loop-index-preserved : goal.loop-index-preserved
 loop-index-preserved c =
-    IsPartialMatrix-more _ _ _ _ _ _ _ c.loop-index.invariant c.in_ok-append.ensures.appended c.append.ensures.well_formed (ap (λ (r : RowValue). r.entries) c.in_ok-row.ensures)
+    IsPartialMatrix-more _ _ _ _ _ _ _ c.loop-index.invariant c.in_ok-append.ensures.appended c.append.ensures.well_formed (ap (λ (r : RowValue). r.entries) c.in_ok-row.ensures.unit)
 
 pub returns-clause-identity : goal.returns-clause-identity
 returns-clause-identity c =

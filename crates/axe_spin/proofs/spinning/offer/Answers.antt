@@ -9,7 +9,7 @@ append-requires-clause-room c =
 
 pub returns-in_ok-append-clause-offered : goal.returns-in_ok-append-clause-offered
 returns-in_ok-append-clause-offered c =
-    let offered = offered_new c.args.span.now c.args.rows.now c.append.new.matrix c.in_ok-copy.copy.entries c.in_ok-insert.field-0 c.requires.span
+    let offered = offered_new c.args.span.now c.args.rows.now c.append.new.self c.in_ok-copy.copy.entries c.in_ok-insert.field-0 c.requires.span
     c.in_ok-insert.ensures.exactly.0 c.if-branch.true (rw c.in_ok-copy.ensures.copied c.in_ok-append.ensures.appended) in
     rw c.in_ok-copy.ensures.copied at offered
 
@@ -22,7 +22,7 @@ returns-else-branch-clause-offered c =
 
 pub returns-in_ok-append-clause-span : goal.returns-in_ok-append-clause-span
 returns-in_ok-append-clause-span c =
-    span_of_new c.args.span.now c.insert.new.self c.args.rows.now c.append.new.matrix c.in_ok-copy.copy.entries c.in_ok-insert.field-0 c.requires.span
+    span_of_new c.args.span.now c.insert.new.self c.args.rows.now c.append.new.self c.in_ok-copy.copy.entries c.in_ok-insert.field-0 c.requires.span
     c.in_ok-insert.ensures.inserted c.if-branch.true (rw c.in_ok-copy.ensures.copied c.in_ok-append.ensures.appended)
 
 pub returns-in_err-copy-clause-offered : goal.returns-in_err-copy-clause-offered

@@ -1,11 +1,11 @@
 use Rattle.std.proofs.Common.{set, ap, ◌∙◌}
 use Rattle.axe_row.specs.Rows.{RowValue}
 use Rattle.axe_row.proofs.RowLaws.{same_row}
-use Rattle.axe_matrix.proofs.VectorLaws.{unit_row-set}
-use Rattle.axe_matrix.proofs.parts.unit_vector.Goals as goal
+use Rattle.axe_row.proofs.UnitRows.{unit_row-set}
+use Rattle.axe_row.proofs.Row.unit.Goals as goal
 
-pub returns : goal.returns
-returns c =
+pub returns-clause-unit : goal.returns-clause-unit
+returns-clause-unit c =
     let zeros = c.in_ok-row.ensures.zeros in
     let made = c.set.ensures.replaced in
     same_row _ _ (ap (λ (r : RowValue). r.order) made ∙ ap (λ (r : RowValue). r.order) zeros)
