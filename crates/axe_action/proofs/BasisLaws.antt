@@ -6,7 +6,8 @@ use Rattle.axe_algebra.specs.Field.{Field}
 use Rattle.axe_algebra.specs.Reduced.{IsAscendingListOf}
 use Rattle.axe_algebra.specs.Actions.{IsFree}
 use Rattle.axe_algebra.specs.Bridge.{field_of, matrix_of}
-use Rattle.axe_algebra.specs.Lists.{unit_row, IsMatrixOver, IsIndependent, IsPivot}
+use Rattle.axe_algebra.specs.Lists.{unit_row, IsMatrixOver}
+use Rattle.axe_algebra.specs.SpansOfLists.{IsIndependent, IsPivot}
 use Rattle.axe_algebra.proofs.FreeColumns.{pivot_or_not, free_columns_count}
 use Rattle.axe_algebra.proofs.ListEntries.{rows_length}
 use Rattle.axe_field.specs.NumberFields.{number_field}

@@ -4,12 +4,13 @@ use Rattle.std.specs.Result.{IsErrAnd}
 use Rattle.std.proofs.lemmas.Bool.{eq-eqb, eqb-true}
 use Rattle.std.proofs.lemmas.List.{length-map}
 use Rattle.axe_algebra.specs.NumberField.{NumberField}
-use Rattle.axe_algebra.specs.Lists.{product, IsSquareOver, IsInverse, IsConjugate}
+use Rattle.axe_algebra.specs.Lists.{IsSquareOver}
+use Rattle.axe_algebra.specs.ListArithmetic.{product, IsInverse, IsConjugate}
 use Rattle.axe_field.specs.Order.{Order, order_number}
 use Rattle.axe_field.specs.NumberFields.{number_field}
 use Rattle.axe_row.specs.Refusals.{Answers}
-use Rattle.axe_row.specs.declared.Refusal.{Refusal}
-use Rattle.axe_row.specs.declared.Refusal.TheVariants.{FieldsDiffer, ShapesDiffer, NotSquare, Singular, NotInvariant, WholeSpace, ZeroSeed, NoRows, ZeroSpace, Memory}
+use Rattle.axe_row.specs.declared.refusals.Refusal.{Refusal}
+use Rattle.axe_row.specs.declared.refusals.Refusal.TheVariants.{FieldsDiffer, ShapesDiffer, NotSquare, Singular, NotInvariant, WholeSpace, ZeroSeed, NoRows, ZeroSpace, Memory}
 use Rattle.axe_matrix.specs.Matrices.{MatrixValue, IsMatrix, product_refusal, matrix_product}
 use Rattle.axe_matrix.proofs.MatrixLaws.{same_order}
 use Rattle.axe_matrix.proofs.ProductLaws.{length-product, product_refusal-none}

@@ -8,7 +8,9 @@ use Rattle.axe_algebra.specs.Vectors.{Vector, Matrix, zero_vector, transposed, t
 use Rattle.axe_algebra.specs.Spans
 use Rattle.axe_algebra.specs.Irreducible
 use Rattle.axe_algebra.specs.Bridge.{field_of, matrix_of}
-use Rattle.axe_algebra.specs.Lists.{entry, transpose, identity, transposed_generators, IsMatrixOver, IsAnnihilatorBasis, IsNullSpaceBasis}
+use Rattle.axe_algebra.specs.Lists.{entry, IsMatrixOver}
+use Rattle.axe_algebra.specs.ListArithmetic.{transpose, identity, transposed_generators}
+use Rattle.axe_algebra.specs.SpansOfLists.{IsAnnihilatorBasis, IsNullSpaceBasis}
 use Rattle.axe_algebra.proofs.ProductLaws.{times-at, times_identity, dot-at, dot_comm}
 use Rattle.axe_algebra.proofs.Spanning.{span_length, same_refl}
 use Rattle.axe_algebra.proofs.Annihilators.{dot-zero}
@@ -18,7 +20,7 @@ use Rattle.axe_algebra.proofs.ListReduced.{IsReducedRows, reduced_basis_of_rows}
 use Rattle.axe_field.specs.Order.{Order}
 use Rattle.axe_field.specs.NumberFields.{number_field}
 use Rattle.axe_row.specs.Refusals.{Answers}
-use Rattle.axe_row.specs.declared.Refusal.{Refusal}
+use Rattle.axe_row.specs.declared.refusals.Refusal.{Refusal}
 use Rattle.axe_matrix.specs.Matrices.{MatrixValue, IsMatrix, identity_matrix, transposed_matrix, transpose_refusal}
 use Rattle.axe_matrix.proofs.TransposeLaws.{transpose_refusal-none}
 use Rattle.axe_echelon.specs.Echelons.{null_space_refusal, IsNullSpaceMatrix}

@@ -6,7 +6,9 @@ use Rattle.std.proofs.lemmas.List.{length-append, length-map, length-set, get_or
 use Rattle.std.proofs.lemmas.List.Elements.{All-from_get_or, All-map, All-weaker}
 use Rattle.axe_algebra.specs.NumberField.{NumberField}
 use Rattle.axe_algebra.specs.Bridge.{matrix_of}
-use Rattle.axe_algebra.specs.Lists.{IsSquareOver, IsPivot, IsRepresentative, IsQuotientAction}
+use Rattle.axe_algebra.specs.Lists.{IsSquareOver}
+use Rattle.axe_algebra.specs.SpansOfLists.{IsPivot, IsRepresentative}
+use Rattle.axe_algebra.specs.ModulesOfLists.{IsQuotientAction}
 use Rattle.axe_algebra.proofs.FreeColumns.{free_columns_count}
 use Rattle.axe_algebra.proofs.ListEntries.{rows_length}
 use Rattle.axe_algebra.proofs.ListQuotients.{IsRowOfQuotient, quotient_action_by_rows}
@@ -14,7 +16,7 @@ use Rattle.axe_field.specs.NumberFields.{number_field, gf}
 use Rattle.axe_row.specs.Rows.{RowValue, IsRow}
 use Rattle.axe_row.proofs.RowLaws.{same_row}
 use Rattle.axe_row.specs.Refusals.{Answers}
-use Rattle.axe_row.specs.declared.Refusal.{Refusal}
+use Rattle.axe_row.specs.declared.refusals.Refusal.{Refusal}
 use Rattle.axe_matrix.specs.Matrices.{MatrixValue, IsMatrix}
 use Rattle.axe_echelon.specs.Echelons.{EchelonValue, IsEchelon}
 use Rattle.axe_echelon.proofs.FormLaws.{below_or_at}

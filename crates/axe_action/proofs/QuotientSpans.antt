@@ -8,7 +8,8 @@ use Rattle.axe_algebra.specs.Spans
 use Rattle.axe_algebra.specs.Modules.{Module}
 use Rattle.axe_algebra.specs.Actions
 use Rattle.axe_algebra.specs.Bridge.{field_of, vector_of, matrix_of, module_of}
-use Rattle.axe_algebra.specs.Lists.{IsVectorOver, IsMatrixOver, IsSpanned, IsRepresentative, HaveSameSpan, IsIndependent, SpansEverything}
+use Rattle.axe_algebra.specs.Lists.{IsVectorOver, IsMatrixOver}
+use Rattle.axe_algebra.specs.SpansOfLists.{IsSpanned, IsRepresentative, HaveSameSpan, IsIndependent, SpansEverything}
 use Rattle.axe_algebra.proofs.FieldLaws.{zero-add, neg-zero, neg-neg, neg-sum_of_two}
 use Rattle.axe_algebra.proofs.ProductLaws.{unit_is_matrix}
 use Rattle.axe_algebra.proofs.Spanning.{span_same, span_subtract, span_within}
@@ -24,8 +25,8 @@ use Rattle.axe_field.specs.NumberFields.{number_field, gf}
 use Rattle.axe_row.specs.Rows.{RowValue, IsRow}
 use Rattle.axe_row.specs.Operations.{IsZeroVector}
 use Rattle.axe_row.specs.Refusals.{Answers}
-use Rattle.axe_row.specs.declared.Refusal.{Refusal}
-use Rattle.axe_row.specs.declared.Refusal.TheVariants.{FieldsDiffer, ShapesDiffer, NotInvariant, WholeSpace}
+use Rattle.axe_row.specs.declared.refusals.Refusal.{Refusal}
+use Rattle.axe_row.specs.declared.refusals.Refusal.TheVariants.{FieldsDiffer, ShapesDiffer, NotInvariant, WholeSpace}
 use Rattle.axe_matrix.specs.Matrices.{MatrixValue, IsMatrix}
 use Rattle.axe_matrix.proofs.MatrixLaws.{same_order}
 use Rattle.axe_echelon.specs.Echelons.{EchelonValue, IsEchelon}

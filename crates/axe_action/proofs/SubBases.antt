@@ -7,15 +7,16 @@ use Rattle.axe_algebra.specs.Vectors.{Matrix}
 use Rattle.axe_algebra.specs.Spans
 use Rattle.axe_algebra.specs.Modules.{Module, IsInvariant}
 use Rattle.axe_algebra.specs.Bridge.{matrix_of, module_of}
-use Rattle.axe_algebra.specs.Lists.{IsMatrixOver, IsIndependent, IsReducedBasis, HaveSameSpan}
+use Rattle.axe_algebra.specs.Lists.{IsMatrixOver}
+use Rattle.axe_algebra.specs.SpansOfLists.{IsIndependent, IsReducedBasis, HaveSameSpan}
 use Rattle.axe_algebra.proofs.Spanning.{span_within, same_sym, same_trans}
 use Rattle.axe_algebra.proofs.Generated.{invariant_span_is_set}
 use Rattle.axe_algebra.proofs.ReducedBases.{reduced_spans, reduced_independent, reduced_of_same_span}
 use Rattle.axe_algebra.proofs.ListEntries.{rows_length}
 use Rattle.axe_field.specs.Order.{order_number}
 use Rattle.axe_field.specs.NumberFields.{number_field, gf}
-use Rattle.axe_row.specs.declared.Refusal.{Refusal}
-use Rattle.axe_row.specs.declared.Refusal.TheVariants.{FieldsDiffer, ShapesDiffer, ZeroSpace}
+use Rattle.axe_row.specs.declared.refusals.Refusal.{Refusal}
+use Rattle.axe_row.specs.declared.refusals.Refusal.TheVariants.{FieldsDiffer, ShapesDiffer, ZeroSpace}
 use Rattle.axe_matrix.specs.Matrices.{MatrixValue, IsMatrix}
 use Rattle.axe_matrix.proofs.MatrixLaws.{same_order}
 use Rattle.axe_echelon.specs.Echelons.{EchelonValue, IsReducedMatrix}

@@ -2,12 +2,14 @@
 use Rattle.std.specs.Prelude.{◌≡◌, ℕ, ◌+◌, ◌<◌, ◌≤◌, List, [], ◌∷◌, ◌++◌, length, get_or, None, Result}
 use Rattle.std.proofs.lemmas.List.{length-append, get_or_append_left, get_or-append-add}
 use Rattle.axe_algebra.specs.NumberField.{NumberField}
-use Rattle.axe_algebra.specs.Lists.{IsMatrixOver, IsSquareOver, IsIndependent, IsSpanned, IsSubAction}
+use Rattle.axe_algebra.specs.Lists.{IsMatrixOver, IsSquareOver}
+use Rattle.axe_algebra.specs.SpansOfLists.{IsIndependent, IsSpanned}
+use Rattle.axe_algebra.specs.ModulesOfLists.{IsSubAction}
 use Rattle.axe_algebra.proofs.ListSpans.{spanned_by_coefficients}
 use Rattle.axe_algebra.proofs.ListModules.{invariant_by_images, images_of_invariant, sub_action_by_rows}
 use Rattle.axe_field.specs.NumberFields.{number_field}
 use Rattle.axe_row.specs.Rows.{RowValue}
-use Rattle.axe_row.specs.declared.Refusal.{Refusal}
+use Rattle.axe_row.specs.declared.refusals.Refusal.{Refusal}
 use Rattle.axe_matrix.specs.Matrices.{MatrixValue, IsMatrix}
 use Rattle.axe_echelon.specs.Echelons.{EchelonValue, IsEchelon, AreCoordinates}
 use Rattle.axe_echelon.proofs.FormLaws.{below_or_at}

@@ -9,7 +9,8 @@ use Rattle.std.proofs.lemmas.List.Elements.{All-from_get_or, All-weaker}
 use Rattle.axe_algebra.specs.NumberField.{NumberField}
 use Rattle.axe_algebra.specs.Spans
 use Rattle.axe_algebra.specs.Bridge.{field_of, vector_of, matrix_of}
-use Rattle.axe_algebra.specs.Lists.{IsMatrixOver, IsIndependent, IsSpanned, HaveSameSpan}
+use Rattle.axe_algebra.specs.Lists.{IsMatrixOver}
+use Rattle.axe_algebra.specs.SpansOfLists.{IsIndependent, IsSpanned, HaveSameSpan}
 use Rattle.axe_algebra.proofs.ProductLaws.{times_none}
 use Rattle.axe_algebra.proofs.ListEntries.{row_over}
 use Rattle.axe_algebra.proofs.ListSpans.{appended_spans, appended_row_spanned, row_spanned}

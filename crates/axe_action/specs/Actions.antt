@@ -1,10 +1,13 @@
 -- Actions of a module on invariant spaces and modulo them, duals, annihilators, extended bases and conjugates.
 use Rattle.std.specs.Prelude.{◌≡◌, ℕ, ◌<◌, ◌==◌, ◌&&◌, not, List, [], length, get_or, ⊤, Option, Some, None, Result, Ok, Err, if◌then◌else◌}
-use Rattle.axe_algebra.specs.Lists.{IsMatrixOver, IsReducedBasis, IsInvariant, IsSubAction, IsQuotientAction, SpansEverything, IsAnnihilatorBasis, IsExtendedBasis, IsConjugate, transposed_generators}
+use Rattle.axe_algebra.specs.Lists.{IsMatrixOver}
+use Rattle.axe_algebra.specs.ListArithmetic.{IsConjugate, transposed_generators}
+use Rattle.axe_algebra.specs.SpansOfLists.{IsReducedBasis, SpansEverything, IsAnnihilatorBasis, IsExtendedBasis}
+use Rattle.axe_algebra.specs.ModulesOfLists.{IsInvariant, IsSubAction, IsQuotientAction}
 use Rattle.axe_field.specs.Order.{order_number}
 use Rattle.axe_field.specs.NumberFields.{number_field}
-use Rattle.axe_row.specs.declared.Refusal.{Refusal}
-use Rattle.axe_row.specs.declared.Refusal.TheVariants.{FieldsDiffer, ShapesDiffer, NotSquare, Singular, NotInvariant, WholeSpace, ZeroSeed, NoRows, ZeroSpace, Memory}
+use Rattle.axe_row.specs.declared.refusals.Refusal.{Refusal}
+use Rattle.axe_row.specs.declared.refusals.Refusal.TheVariants.{FieldsDiffer, ShapesDiffer, NotSquare, Singular, NotInvariant, WholeSpace, ZeroSeed, NoRows, ZeroSpace, Memory}
 use Rattle.axe_matrix.specs.Matrices.{MatrixValue}
 use Rattle.axe_echelon.specs.Echelons.{IsInvertible}
 use Rattle.axe_spin.specs.Modules.{ModuleValue}

@@ -3,7 +3,8 @@ use Rattle.std.specs.Prelude.{◌≡◌, ℕ, ◌<◌, List, [], length, get_or}
 use Rattle.axe_algebra.specs.Bridge.{matrix_of}
 use Rattle.axe_algebra.specs.Reduced.{IsAscendingListOf}
 use Rattle.axe_algebra.specs.Actions.{IsFree}
-use Rattle.axe_algebra.specs.Lists.{IsVectorOver, IsRepresentative}
+use Rattle.axe_algebra.specs.Lists.{IsVectorOver}
+use Rattle.axe_algebra.specs.SpansOfLists.{IsRepresentative}
 use Rattle.axe_field.specs.NumberFields.{number_field, gf}
 use Rattle.axe_matrix.specs.Matrices.{MatrixValue, IsMatrix}
 use Rattle.axe_echelon.specs.Echelons.{EchelonValue}

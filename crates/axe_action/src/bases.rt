@@ -1,7 +1,7 @@
 //! Bases of the whole space.
 
 ghost use Rattle.std.specs.Prelude.{None, IfOk};
-ghost use Rattle.axe_algebra.specs.Lists.{IsIndependent};
+ghost use Rattle.axe_algebra.specs.SpansOfLists.{IsIndependent};
 ghost use Rattle.axe_field.specs.NumberFields.{number_field};
 ghost use Rattle.axe_row.specs.Refusals.{Answers};
 ghost use Rattle.axe_matrix.specs.Matrices.{IsMatrix};

@@ -4,7 +4,8 @@ use Rattle.axe_algebra.specs.NumberField.{NumberField}
 use Rattle.axe_algebra.specs.Field.{Field}
 use Rattle.axe_algebra.specs.Vectors.{sum}
 use Rattle.axe_algebra.specs.Bridge.{ElementOf, same_element, zero_of, one_of, field_of, element_by, element}
-use Rattle.axe_algebra.specs.Lists.{number_sum, AreElements}
+use Rattle.axe_algebra.specs.Lists.{AreElements}
+use Rattle.axe_algebra.specs.ListArithmetic.{number_sum}
 use Rattle.std.proofs.lemmas.List.{get_or_past}
 use mathlib.Core.Path.{refl, sym, ◌∙◌, ap, ap₂}
 use native.Mathlib.Omega.{arith}

@@ -6,7 +6,8 @@ use Rattle.axe_algebra.specs.Vectors.{Matrix, times}
 use Rattle.axe_algebra.specs.Spans
 use Rattle.axe_algebra.specs.Actions.{unit_vectors}
 use Rattle.axe_algebra.specs.Bridge.{field_of, vector_of, matrix_of}
-use Rattle.axe_algebra.specs.Lists.{unit_row, IsMatrixOver, IsIndependent, SpansEverything, IsExtendedBasis}
+use Rattle.axe_algebra.specs.Lists.{unit_row, IsMatrixOver}
+use Rattle.axe_algebra.specs.SpansOfLists.{IsIndependent, SpansEverything, IsExtendedBasis}
 use Rattle.axe_algebra.proofs.ProductLaws.{times_same}
 use Rattle.axe_algebra.proofs.Spaces.{stacked, stacked_first, stacked_second}
 use Rattle.axe_algebra.proofs.Exchange.{span_of_same_rows}

@@ -6,7 +6,10 @@ use Rattle.axe_algebra.specs.Field.{Field}
 use Rattle.axe_algebra.specs.Vectors.{Vector, Matrix, unit_matrix, times}
 use Rattle.axe_algebra.specs.Modules.{Module, InGenerated, IsRowTimesProduct, path_product}
 use Rattle.axe_algebra.specs.Bridge.{field_of, vector_of, matrix_of, module_of}
-use Rattle.axe_algebra.specs.Lists.{combination, IsVectorOver, IsMatrixOver, IsSquareOver, IsSpanned, IsIndependent, HaveSameSpan, IsReducedBasis, IsInvariant, IsGenerated, Generates, IsGeneratedBasis, GeneratesEverything}
+use Rattle.axe_algebra.specs.Lists.{IsVectorOver, IsMatrixOver, IsSquareOver}
+use Rattle.axe_algebra.specs.ListArithmetic.{combination}
+use Rattle.axe_algebra.specs.SpansOfLists.{IsSpanned, IsIndependent, HaveSameSpan, IsReducedBasis}
+use Rattle.axe_algebra.specs.ModulesOfLists.{IsInvariant, IsGenerated, Generates, IsGeneratedBasis, GeneratesEverything}
 use Rattle.axe_algebra.proofs.ProductLaws.{unit_is_matrix}
 use Rattle.axe_algebra.proofs.Spanning.{span_within}
 use Rattle.axe_algebra.proofs.Exchange.{exchange}

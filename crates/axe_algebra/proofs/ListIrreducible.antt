@@ -8,7 +8,11 @@ use Rattle.axe_algebra.specs.Spans
 use Rattle.axe_algebra.specs.Modules.{Module, VectorGeneratesAll}
 use Rattle.axe_algebra.specs.Words.{Word, word_value}
 use Rattle.axe_algebra.specs.Bridge.{field_of, vector_of, matrix_of, module_of, word_of}
-use Rattle.axe_algebra.specs.Lists.{entry, listed, transpose, transposed_generators, entries_of, IsVectorOver, IsMatrixOver, IsSquareOver, IsIndependent, IsNullVector, IsInvariant, GeneratesEverything, IsIrreducible, IsWordOver, IsWordValue}
+use Rattle.axe_algebra.specs.Lists.{entry, listed, entries_of, IsVectorOver, IsMatrixOver, IsSquareOver}
+use Rattle.axe_algebra.specs.ListArithmetic.{transpose, transposed_generators}
+use Rattle.axe_algebra.specs.SpansOfLists.{IsIndependent, IsNullVector}
+use Rattle.axe_algebra.specs.ModulesOfLists.{IsInvariant, GeneratesEverything, IsIrreducible}
+use Rattle.axe_algebra.specs.WordsOfLists.{IsWordOver, IsWordValue}
 use Rattle.axe_algebra.proofs.ProductLaws.{unit_is_matrix, unit_at, times_unit}
 use Rattle.axe_algebra.proofs.Exchange.{exchange}
 use Rattle.axe_algebra.proofs.NortonCriterion.{norton}

@@ -5,7 +5,8 @@ use Rattle.axe_algebra.specs.Field.{Field}
 use Rattle.axe_algebra.specs.Vectors.{Matrix, unit_matrix, multiply}
 use Rattle.axe_algebra.specs.Spans
 use Rattle.axe_algebra.specs.Bridge.{field_of, matrix_of}
-use Rattle.axe_algebra.specs.Lists.{product, identity, rows_of, IsMatrixOver, IsSquareOver, IsInverse}
+use Rattle.axe_algebra.specs.Lists.{rows_of, IsMatrixOver, IsSquareOver}
+use Rattle.axe_algebra.specs.ListArithmetic.{product, identity, IsInverse}
 use Rattle.axe_algebra.specs.ListTheorems.{InverseOfListsIsInverse}
 use Rattle.axe_algebra.proofs.ProductLaws.{multiply_assoc, multiply_identity, identity_multiply}
 use Rattle.axe_algebra.proofs.SquareMatrices.{two_sided, left_two_sided}

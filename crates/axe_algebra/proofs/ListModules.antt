@@ -7,7 +7,10 @@ use Rattle.axe_algebra.specs.Vectors.{transposed, times}
 use Rattle.axe_algebra.specs.Spans
 use Rattle.axe_algebra.specs.Modules.{IsModule, image, transposed_module}
 use Rattle.axe_algebra.specs.Bridge.{field_of, vector_of, matrix_of, module_of}
-use Rattle.axe_algebra.specs.Lists.{product, combination, transpose, IsVectorOver, IsMatrixOver, IsSquareOver, IsInverse, IsSpanned, IsInvariant, IsSubAction, IsIsomorphism, transposed_generators}
+use Rattle.axe_algebra.specs.Lists.{IsVectorOver, IsMatrixOver, IsSquareOver}
+use Rattle.axe_algebra.specs.ListArithmetic.{product, combination, transpose, IsInverse, transposed_generators}
+use Rattle.axe_algebra.specs.SpansOfLists.{IsSpanned}
+use Rattle.axe_algebra.specs.ModulesOfLists.{IsInvariant, IsSubAction, IsIsomorphism}
 use Rattle.axe_algebra.proofs.ListEntries.{square_shape, row_over, row_past, same_vector}
 use Rattle.axe_algebra.proofs.ListProducts.{vector_of_combination, combination_over, matrix_of_transpose}
 use Rattle.axe_algebra.proofs.ListLaws.{matrix_of_product_of, inverse_of_lists}

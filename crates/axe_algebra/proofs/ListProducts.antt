@@ -4,7 +4,8 @@ use Rattle.axe_algebra.specs.NumberField.{NumberField}
 use Rattle.axe_algebra.specs.Field.{Field}
 use Rattle.axe_algebra.specs.Vectors.{Vector, IsMatrix, unit_vector, unit_matrix, add_matrices, transposed, sum, times, multiply}
 use Rattle.axe_algebra.specs.Bridge.{field_of, element, vector_of, matrix_of}
-use Rattle.axe_algebra.specs.Lists.{entry, number_sum, product_entry, product, matrix_sum, transpose, identity, combination_entry, combination, IsVectorOver, IsMatrixOver}
+use Rattle.axe_algebra.specs.Lists.{entry, IsVectorOver, IsMatrixOver}
+use Rattle.axe_algebra.specs.ListArithmetic.{number_sum, product_entry, product, matrix_sum, transpose, identity, combination_entry, combination}
 use Rattle.axe_algebra.proofs.FieldLaws.{zero-add}
 use Rattle.axe_algebra.proofs.Sums.{sum_same}
 use Rattle.axe_algebra.proofs.ProductLaws.{times-at, times_length, multiply_is_matrix, transposed_is_matrix, unit_is_matrix, identity_row, unit_at, unit_off}

@@ -9,7 +9,9 @@ use Rattle.axe_algebra.specs.Reduced.{IsAscendingListOf}
 use Rattle.axe_algebra.specs.Modules.{Module, image}
 use Rattle.axe_algebra.specs.Actions.{IsFree, unit_vectors}
 use Rattle.axe_algebra.specs.Bridge.{field_of, element, vector_of, matrix_of, module_of}
-use Rattle.axe_algebra.specs.Lists.{entry, IsVectorOver, IsMatrixOver, IsSquareOver, IsRepresentative, IsQuotientAction}
+use Rattle.axe_algebra.specs.Lists.{entry, IsVectorOver, IsMatrixOver, IsSquareOver}
+use Rattle.axe_algebra.specs.SpansOfLists.{IsRepresentative}
+use Rattle.axe_algebra.specs.ModulesOfLists.{IsQuotientAction}
 use Rattle.axe_algebra.proofs.ProductLaws.{times_unit, times_same}
 use Rattle.axe_algebra.proofs.Spanning.{span_same}
 use Rattle.axe_algebra.proofs.FreeColumns.{by_free_columns}

@@ -6,7 +6,8 @@ use Rattle.axe_algebra.specs.Vectors.{Vector, Matrix, HasRowsOfLength}
 use Rattle.axe_algebra.specs.Spans
 use Rattle.axe_algebra.specs.Reduced
 use Rattle.axe_algebra.specs.Bridge.{field_of, element, vector_of, matrix_of}
-use Rattle.axe_algebra.specs.Lists.{entry, rows_of, IsVectorOver, IsMatrixOver, HaveSameSpan, IsReducedBasis, IsRepresentative}
+use Rattle.axe_algebra.specs.Lists.{entry, rows_of, IsVectorOver, IsMatrixOver}
+use Rattle.axe_algebra.specs.SpansOfLists.{HaveSameSpan, IsReducedBasis, IsRepresentative}
 use Rattle.axe_algebra.proofs.ReducedBases.{basis_of_list, reduced_basis, reduced_size_is_unique, reduced_is_unique, space_size_is_unique, space_rows_are_unique, representative_is_unique}
 use Rattle.axe_algebra.proofs.ElementNumbers.{element_zero, element_one}
 use Rattle.axe_algebra.proofs.ListEntries.{table_length, row_over, rows_length, same_vector, rows_over, vector_of_entries, table_row}

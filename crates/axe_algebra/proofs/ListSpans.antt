@@ -5,7 +5,9 @@ use Rattle.axe_algebra.specs.Field.{Field}
 use Rattle.axe_algebra.specs.Vectors.{Vector, times}
 use Rattle.axe_algebra.specs.Spans
 use Rattle.axe_algebra.specs.Bridge.{field_of, vector_of, matrix_of}
-use Rattle.axe_algebra.specs.Lists.{combination, entries_of, IsVectorOver, IsMatrixOver, IsSpanned, IsIndependent, HaveSameSpan, SpansEverything}
+use Rattle.axe_algebra.specs.Lists.{entries_of, IsVectorOver, IsMatrixOver}
+use Rattle.axe_algebra.specs.ListArithmetic.{combination}
+use Rattle.axe_algebra.specs.SpansOfLists.{IsSpanned, IsIndependent, HaveSameSpan, SpansEverything}
 use Rattle.axe_algebra.specs.ListTheorems.{IsCombination, SpannedIsCombination}
 use Rattle.axe_algebra.proofs.ProductLaws.{times_same}
 use Rattle.axe_algebra.proofs.Spanning.{span_row, span_same, unique_coefficients}

@@ -8,7 +8,10 @@ use Rattle.axe_algebra.specs.Spans
 use Rattle.axe_algebra.specs.Modules.{image}
 use Rattle.axe_algebra.specs.Standard.{Precedes, InSpanUpTo}
 use Rattle.axe_algebra.specs.Bridge.{field_of, vector_of, matrix_of, module_of}
-use Rattle.axe_algebra.specs.Lists.{combination, IsMatrixOver, IsSquareOver, IsSpanned, IsIndependent, IsStandardBasis}
+use Rattle.axe_algebra.specs.Lists.{IsMatrixOver, IsSquareOver}
+use Rattle.axe_algebra.specs.ListArithmetic.{combination}
+use Rattle.axe_algebra.specs.SpansOfLists.{IsSpanned, IsIndependent}
+use Rattle.axe_algebra.specs.ModulesOfLists.{IsStandardBasis}
 use Rattle.axe_algebra.proofs.ProductLaws.{times_longer}
 use Rattle.axe_algebra.proofs.Exchange.{cut, cut_length, times_cut, span_of_same_rows}
 use Rattle.axe_algebra.proofs.StandardBases.{standard_basis_size_is_unique, standard_basis_is_unique}

@@ -5,7 +5,9 @@ use Rattle.axe_algebra.specs.Field.{Field}
 use Rattle.axe_algebra.specs.Vectors.{Vector, zero_vector, unit_vector, add_vectors, subtract, scale}
 use Rattle.axe_algebra.specs.Spans
 use Rattle.axe_algebra.specs.Bridge.{field_of, element, vector_of, matrix_of}
-use Rattle.axe_algebra.specs.Lists.{listed, unit_row, combination, IsVectorOver, IsMatrixOver, IsSpanned, HaveSameSpan, IsNullVector, IsReducedBasis, IsRepresentative}
+use Rattle.axe_algebra.specs.Lists.{listed, unit_row, IsVectorOver, IsMatrixOver}
+use Rattle.axe_algebra.specs.ListArithmetic.{combination}
+use Rattle.axe_algebra.specs.SpansOfLists.{IsSpanned, HaveSameSpan, IsNullVector, IsReducedBasis, IsRepresentative}
 use Rattle.axe_algebra.proofs.FieldLaws.{mul-zero, neg-sum_of_two}
 use Rattle.axe_algebra.proofs.ProductLaws.{unit_length}
 use Rattle.axe_algebra.proofs.Spanning.{span_zero, span_same, span_add, span_subtract, span_scale, span_within, same_refl, same_sym, same_trans}

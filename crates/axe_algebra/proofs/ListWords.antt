@@ -7,7 +7,9 @@ use Rattle.axe_algebra.specs.Vectors.{Matrix, IsMatrix, add_matrices, scale, mul
 use Rattle.axe_algebra.specs.Modules.{Module, IsModule, AreGenerators, path_product}
 use Rattle.axe_algebra.specs.Words.{Word, IsWordOf, word_value}
 use Rattle.axe_algebra.specs.Bridge.{field_of, element, matrix_of, module_of, word_of}
-use Rattle.axe_algebra.specs.Lists.{entry, table, product, identity, IsSquareOver, IsWordOver, IsWordValue}
+use Rattle.axe_algebra.specs.Lists.{entry, table, IsSquareOver}
+use Rattle.axe_algebra.specs.ListArithmetic.{product, identity}
+use Rattle.axe_algebra.specs.WordsOfLists.{IsWordOver, IsWordValue}
 use Rattle.axe_algebra.proofs.FieldLaws.{mul-zero}
 use Rattle.axe_algebra.proofs.ProductLaws.{multiply_assoc, multiply_identity, identity_multiply}
 use Rattle.axe_algebra.proofs.ElementNumbers.{element_zero, element_add, element_mul}

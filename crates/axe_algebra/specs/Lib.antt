@@ -11,6 +11,11 @@ pub mod Words
 pub mod Blocks
 pub mod Bridge
 pub mod Lists
+pub mod ListArithmetic
+pub mod SpansOfLists
+pub mod ModulesOfLists
+pub mod WordsOfLists
+pub mod BlocksOfLists
 pub mod Theorems
 pub mod ListTheorems
 pub mod ModuleTheorems

@@ -4,7 +4,9 @@ use Rattle.axe_algebra.specs.NumberField.{NumberField}
 use Rattle.axe_algebra.specs.Vectors.{unit_matrix, add_matrices, transposed, multiply}
 use Rattle.axe_algebra.specs.Spans
 use Rattle.axe_algebra.specs.Bridge.{field_of, matrix_of}
-use Rattle.axe_algebra.specs.Lists.{product, matrix_sum, transpose, identity, combination, IsVectorOver, IsMatrixOver, IsSquareOver, IsInverse, IsSpanned, IsReducedBasis}
+use Rattle.axe_algebra.specs.Lists.{IsVectorOver, IsMatrixOver, IsSquareOver}
+use Rattle.axe_algebra.specs.ListArithmetic.{product, matrix_sum, transpose, identity, combination, IsInverse}
+use Rattle.axe_algebra.specs.SpansOfLists.{IsSpanned, IsReducedBasis}
 
 -- the product of two lists is the product of their matrices
 abbrev pub ProductOfListsIsProduct : NumberField → Type 0

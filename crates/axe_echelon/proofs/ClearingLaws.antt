@@ -5,7 +5,8 @@ use Rattle.std.proofs.lemmas.List.{length-replicate}
 use Rattle.axe_algebra.specs.NumberField.{NumberField}
 use Rattle.axe_algebra.specs.Vectors.{Vector, HasLength, zero_vector, add_vectors, scale, times}
 use Rattle.axe_algebra.specs.Bridge.{element, vector_of, matrix_of}
-use Rattle.axe_algebra.specs.Lists.{IsVectorOver, IsSpanned, IsRepresentative}
+use Rattle.axe_algebra.specs.Lists.{IsVectorOver}
+use Rattle.axe_algebra.specs.SpansOfLists.{IsSpanned, IsRepresentative}
 use Rattle.axe_algebra.proofs.ProductLaws.{times_zero}
 use Rattle.axe_algebra.proofs.ElementNumbers.{element_neg, element_zero, entry-below}
 use Rattle.axe_algebra.proofs.ListVectors.{vector_of_added, IsInCoset, coset_of_itself, added_in_coset}

@@ -7,7 +7,9 @@ use Rattle.axe_algebra.specs.NumberField.{NumberField}
 use Rattle.axe_algebra.specs.Field.{Field}
 use Rattle.axe_algebra.specs.Vectors.{Vector, Matrix, zero_vector, add_vectors, subtract, scale, times}
 use Rattle.axe_algebra.specs.Bridge.{field_of, element, vector_of, matrix_of}
-use Rattle.axe_algebra.specs.Lists.{listed, combination, IsVectorOver, IsSpanned}
+use Rattle.axe_algebra.specs.Lists.{listed, IsVectorOver}
+use Rattle.axe_algebra.specs.ListArithmetic.{combination}
+use Rattle.axe_algebra.specs.SpansOfLists.{IsSpanned}
 use Rattle.axe_algebra.proofs.FieldLaws.{zero-add, neg_is, one-mul, mul-zero}
 use Rattle.axe_algebra.proofs.ProductLaws.{times_same, times-subtract, times_zero, times_more, times-scale}
 use Rattle.axe_algebra.proofs.Spanning.{span_same, span_add}

@@ -7,7 +7,9 @@ use Rattle.axe_algebra.specs.Field.{Field}
 use Rattle.axe_algebra.specs.Vectors.{Vector, Matrix}
 use Rattle.axe_algebra.specs.Spans
 use Rattle.axe_algebra.specs.Bridge.{vector_of, matrix_of}
-use Rattle.axe_algebra.specs.Lists.{unit_row, combination, product, identity, IsVectorOver, IsMatrixOver, IsSquareOver, IsIndependent, IsSpanned}
+use Rattle.axe_algebra.specs.Lists.{unit_row, IsVectorOver, IsMatrixOver, IsSquareOver}
+use Rattle.axe_algebra.specs.ListArithmetic.{combination, product, identity}
+use Rattle.axe_algebra.specs.SpansOfLists.{IsIndependent, IsSpanned}
 use Rattle.axe_algebra.proofs.ProductLaws.{times_same, times_longer}
 use Rattle.axe_algebra.proofs.Exchange.{cut, cut_below, cut_length, times_cut, with_row, with_row_at, with_row_before, independent_not_spanned}
 use Rattle.axe_algebra.proofs.SquareMatrices.{rows_of_invertible}
@@ -19,8 +21,8 @@ use Rattle.axe_field.specs.Order.{Order}
 use Rattle.axe_field.specs.NumberFields.{number_field, gf}
 use Rattle.axe_row.specs.Rows.{RowValue}
 use Rattle.axe_row.specs.Refusals.{Answers}
-use Rattle.axe_row.specs.declared.Refusal.{Refusal}
-use Rattle.axe_row.specs.declared.Refusal.TheVariants.{FieldsDiffer, ShapesDiffer, NotSquare, Singular, NotInvariant, WholeSpace, ZeroSeed, NoRows, ZeroSpace, Memory}
+use Rattle.axe_row.specs.declared.refusals.Refusal.{Refusal}
+use Rattle.axe_row.specs.declared.refusals.Refusal.TheVariants.{FieldsDiffer, ShapesDiffer, NotSquare, Singular, NotInvariant, WholeSpace, ZeroSeed, NoRows, ZeroSpace, Memory}
 use Rattle.axe_matrix.specs.Matrices.{MatrixValue, IsMatrix}
 use Rattle.axe_matrix.proofs.ProductLaws.{get_or-product}
 use Rattle.axe_echelon.specs.Echelons.{EchelonValue, IsEchelon, AreCoordinates, IsInverseMatrix, IsInvertible, InverseRefused}

@@ -5,7 +5,9 @@ use Rattle.axe_algebra.specs.NumberField.{NumberField}
 use Rattle.axe_algebra.specs.Vectors.{Vector, unit_vector, add_vectors, scale, times}
 use Rattle.axe_algebra.specs.Spans
 use Rattle.axe_algebra.specs.Bridge.{element, vector_of, matrix_of}
-use Rattle.axe_algebra.specs.Lists.{unit_row, combination, IsVectorOver, IsMatrixOver, IsSpanned, IsIndependent, IsReducedBasis}
+use Rattle.axe_algebra.specs.Lists.{unit_row, IsVectorOver, IsMatrixOver}
+use Rattle.axe_algebra.specs.ListArithmetic.{combination}
+use Rattle.axe_algebra.specs.SpansOfLists.{IsSpanned, IsIndependent, IsReducedBasis}
 use Rattle.axe_algebra.proofs.ElementNumbers.{element_neg, element_one}
 use Rattle.axe_algebra.proofs.ListEntries.{rows_length, vector_length}
 use Rattle.axe_algebra.proofs.ListProducts.{vector_of_combination, combination_over}
@@ -15,7 +17,7 @@ use Rattle.axe_field.specs.Order.{Order, IsElement}
 use Rattle.axe_field.specs.Arithmetic.{field_neg}
 use Rattle.axe_field.specs.NumberFields.{number_field, gf}
 use Rattle.axe_row.specs.Refusals.{Answers}
-use Rattle.axe_row.specs.declared.Refusal.{Refusal}
+use Rattle.axe_row.specs.declared.refusals.Refusal.{Refusal}
 use Rattle.axe_row.specs.Rows.{RowValue, IsRow}
 use Rattle.axe_row.specs.Operations.{sum_with_multiple, row_with_multiple}
 use Rattle.axe_row.proofs.OperationLaws.{get_or-sum_with_multiple}

@@ -3,7 +3,7 @@ use Rattle.std.specs.Prelude.{◌≡◌, ℕ, zero, suc, ◌<◌, List, [], ◌�
 use Rattle.std.proofs.lemmas.List.{length-map, map-append, length-set, take_all, get_or_default, get_or-set_same, get_or-set_other}
 use Rattle.std.proofs.lemmas.List.Elements.{Contains-get_or, Contains-append_left, Contains-push, Contains-push_cases}
 use Rattle.axe_algebra.specs.Bridge.{matrix_of}
-use Rattle.axe_algebra.specs.Lists.{IsPivot}
+use Rattle.axe_algebra.specs.SpansOfLists.{IsPivot}
 use Rattle.axe_field.specs.Order.{Order}
 use Rattle.axe_field.specs.NumberFields.{number_field, gf}
 use Rattle.axe_echelon.specs.Steps.{inserted_rows, echelon_rows, coefficient_rows, pivots, AreSteps, AreTabledSteps}

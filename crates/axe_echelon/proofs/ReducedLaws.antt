@@ -6,7 +6,8 @@ use Rattle.axe_algebra.specs.NumberField.{NumberField}
 use Rattle.axe_algebra.specs.Field.{Field}
 use Rattle.axe_algebra.specs.Vectors.{Vector, unit_vector, subtract, scale}
 use Rattle.axe_algebra.specs.Bridge.{element, vector_of, matrix_of}
-use Rattle.axe_algebra.specs.Lists.{unit_row, IsPivot, IsRepresentative}
+use Rattle.axe_algebra.specs.Lists.{unit_row}
+use Rattle.axe_algebra.specs.SpansOfLists.{IsPivot, IsRepresentative}
 use Rattle.axe_algebra.proofs.FieldLaws.{zero-add, neg-zero, neg-mul, one-mul}
 use Rattle.axe_algebra.proofs.ProductLaws.{unit_at, unit_off}
 use Rattle.axe_algebra.proofs.Spanning.{span_same, span_length}

@@ -1,11 +1,13 @@
 -- Echelon forms as callers see them: independent rows in the order in which they came.
 use Rattle.std.specs.Prelude.{◌≡◌, ℕ, ◌≤◌, ◌==◌, List, [], ◌∷◌, ◌++◌, length, Bool, Option, Some, None, if◌then◌else◌}
-use Rattle.axe_algebra.specs.Lists.{IsMatrixOver, IsIndependent, IsNullSpaceBasis, IsSquareOver, IsInverse, combination, IsVectorOver, IsReducedBasis}
+use Rattle.axe_algebra.specs.Lists.{IsMatrixOver, IsSquareOver, IsVectorOver}
+use Rattle.axe_algebra.specs.ListArithmetic.{IsInverse, combination}
+use Rattle.axe_algebra.specs.SpansOfLists.{IsIndependent, IsNullSpaceBasis, IsReducedBasis}
 use Rattle.axe_field.specs.Order.{Order}
 use Rattle.axe_field.specs.NumberFields.{number_field}
 use Rattle.axe_row.specs.Rows.{RowValue}
-use Rattle.axe_row.specs.declared.Refusal.{Refusal}
-use Rattle.axe_row.specs.declared.Refusal.TheVariants.{FieldsDiffer, ShapesDiffer, NotSquare, Singular, NotInvariant, WholeSpace, ZeroSeed, NoRows, ZeroSpace, Memory}
+use Rattle.axe_row.specs.declared.refusals.Refusal.{Refusal}
+use Rattle.axe_row.specs.declared.refusals.Refusal.TheVariants.{FieldsDiffer, ShapesDiffer, NotSquare, Singular, NotInvariant, WholeSpace, ZeroSeed, NoRows, ZeroSpace, Memory}
 use Rattle.axe_matrix.specs.declared.TheConstants.{MAX_COLUMNS}
 use Rattle.axe_matrix.specs.Matrices.{MatrixValue}
 

@@ -2,11 +2,12 @@
 use Rattle.std.specs.Prelude.{◌≡◌, ℕ, ◌<◌, List, [], length, get_or}
 use Rattle.axe_algebra.specs.Vectors.{add_vectors, scale, times}
 use Rattle.axe_algebra.specs.Bridge.{vector_of, matrix_of}
-use Rattle.axe_algebra.specs.Lists.{IsIndependent, IsVectorOver, unit_row}
+use Rattle.axe_algebra.specs.Lists.{IsVectorOver, unit_row}
+use Rattle.axe_algebra.specs.SpansOfLists.{IsIndependent}
 use Rattle.axe_field.specs.NumberFields.{number_field, gf}
 use Rattle.axe_row.specs.Rows.{RowValue}
-use Rattle.axe_row.specs.declared.Refusal.{Refusal}
-use Rattle.axe_row.specs.declared.Refusal.TheVariants.{FieldsDiffer, ShapesDiffer, NotSquare, Singular, NotInvariant, WholeSpace, ZeroSeed, NoRows, ZeroSpace, Memory}
+use Rattle.axe_row.specs.declared.refusals.Refusal.{Refusal}
+use Rattle.axe_row.specs.declared.refusals.Refusal.TheVariants.{FieldsDiffer, ShapesDiffer, NotSquare, Singular, NotInvariant, WholeSpace, ZeroSeed, NoRows, ZeroSpace, Memory}
 use Rattle.axe_matrix.specs.Matrices.{MatrixValue}
 use Rattle.axe_echelon.specs.Echelons.{EchelonValue, IsEchelon, AreCoordinates}
 

@@ -3,7 +3,7 @@
 ghost use Rattle.std.specs.Prelude.{◌≡◌, ◌≢◌, ◌<◌, length, None, IfOk, MatchResult};
 ghost use Rattle.axe_algebra.specs.Lists.{unit_row};
 ghost use Rattle.axe_row.specs.Refusals.{Answers};
-ghost use Rattle.axe_row.specs.declared.Refusal.TheVariants.{NotSquare};
+ghost use Rattle.axe_row.specs.declared.refusals.Refusal.TheVariants.{NotSquare};
 ghost use Rattle.axe_matrix.specs.Matrices.{IsMatrix};
 ghost use Rattle.axe_echelon.specs.Echelons.{AreCoordinates, IsInverseMatrix, InverseRefused};
 ghost use Rattle.axe_echelon.specs.Inserted.{HasAllRows, HasUnitCoordinates, RowsRefused};

@@ -1,7 +1,7 @@
 //! Null spaces of matrices.
 
 ghost use Rattle.std.specs.Prelude.{◌≡◌, ◌<◌, ◌≤◌, length, None, IfOk};
-ghost use Rattle.axe_algebra.specs.Lists.{IsSpanned};
+ghost use Rattle.axe_algebra.specs.SpansOfLists.{IsSpanned};
 ghost use Rattle.axe_field.specs.NumberFields.{number_field};
 ghost use Rattle.axe_row.specs.Refusals.{Answers};
 ghost use Rattle.axe_matrix.specs.Matrices.{IsMatrix};

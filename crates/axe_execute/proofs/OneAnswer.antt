@@ -1,6 +1,6 @@
 -- Meanings with at most one answer.
 use Rattle.std.proofs.Common.{◌≡◌, refl, sym, ◌∙◌, ap, subst, Option, Some, None, Result, Ok, Err, IfOk}
-use Rattle.axe_row.specs.declared.Refusal.{Refusal}
+use Rattle.axe_row.specs.declared.refusals.Refusal.{Refusal}
 use Rattle.axe_execute.specs.Meaning.{Problem}
 use Rattle.axe_execute.specs.Relations.{Meaning, AtMostOne, Is, Has, HasOrRefuses, UnlessRefused, After, ◌>>=◌}
 

@@ -2,12 +2,12 @@
 use Rattle.std.proofs.Common.{◌≡◌, refl, sym, ℕ, zero, suc, ◌≤◌, List, length, Bool, true, false, ◌==◌, if◌then◌else◌, Some, None, Ok, Err, ◌⊎◌, inl, inr, arith}
 use Rattle.std.proofs.lemmas.Bool.{eqb-true, true≢false}
 use Rattle.std.proofs.lemmas.Option.{none-some}
-use Rattle.axe_row.specs.declared.Refusal.TheVariants.{NotSquare, Singular, NoRows}
+use Rattle.axe_row.specs.declared.refusals.Refusal.TheVariants.{NotSquare, Singular, NoRows}
 use Rattle.axe_matrix.specs.Matrices.{MatrixValue, IsMatrix}
 use Rattle.axe_echelon.specs.Echelons.{null_space_refusal, IsNullSpaceMatrix, inverse_refusal, IsInverseMatrix, IsInvertible}
 use Rattle.axe_folder.specs.Files.{Files}
-use Rattle.axe_words.specs.declared.command.Command.{Command}
-use Rattle.axe_words.specs.declared.command.Command.TheVariants.{Zcv, Zpr, Zmu, Zad, Ztr, Ziv, Znu, Zsp, Zqt}
+use Rattle.axe_arguments.specs.declared.command.Command.{Command}
+use Rattle.axe_arguments.specs.declared.command.Command.TheVariants.{Zcv, Zpr, Zmu, Zad, Ztr, Ziv, Znu, Zsp, Zqt}
 use Rattle.axe_execute.specs.Meaning.{Refuses, put_packed}
 use Rattle.axe_execute.specs.Relations.{Answered, AtMostOne, Is, Has, HasOrRefuses, ◌>>=◌, InverseOf, NullSpaceOf, InversePlan, NullSpacePlan, Means}
 use Rattle.axe_execute.proofs.PlanParts.{matrix_then_one, matrix_then_some, put_one, put_some}

@@ -6,7 +6,9 @@ use Rattle.axe_algebra.specs.NumberField.{NumberField}
 use Rattle.axe_algebra.specs.Vectors.{HasRowsOfLength}
 use Rattle.axe_algebra.specs.Modules.{Module, InGenerated, IsModule}
 use Rattle.axe_algebra.specs.Bridge.{field_of, matrix_of, module_of}
-use Rattle.axe_algebra.specs.Lists.{IsMatrixOver, IsSquareOver, IsIndependent, IsQuotientAction}
+use Rattle.axe_algebra.specs.Lists.{IsMatrixOver, IsSquareOver}
+use Rattle.axe_algebra.specs.SpansOfLists.{IsIndependent}
+use Rattle.axe_algebra.specs.ModulesOfLists.{IsQuotientAction}
 use Rattle.axe_algebra.proofs.SubActions.{sub_action_is_unique}
 use Rattle.axe_algebra.proofs.Quotients.{quotient_size_is_unique, quotient_action_is_unique}
 use Rattle.axe_algebra.proofs.ListEntries.{rows_length, same_matrix}

@@ -1,7 +1,7 @@
 -- Answers of operations that refuse some operands: what they say of a meaning.
 use Rattle.std.proofs.Common.{◌≡◌, sym, ap, [], Option, Some, None, Ok, Err, ◌⊎◌, inl, inr}
-use Rattle.axe_row.specs.declared.Refusal.{Refusal}
-use Rattle.axe_row.specs.declared.Refusal.TheVariants.{FieldsDiffer, ShapesDiffer, NotSquare, Singular, NotInvariant, WholeSpace, ZeroSeed, NoRows, ZeroSpace, Memory}
+use Rattle.axe_row.specs.declared.refusals.Refusal.{Refusal}
+use Rattle.axe_row.specs.declared.refusals.Refusal.TheVariants.{FieldsDiffer, ShapesDiffer, NotSquare, Singular, NotInvariant, WholeSpace, ZeroSeed, NoRows, ZeroSpace, Memory}
 use Rattle.axe_row.specs.Refusals.{Answers}
 use Rattle.axe_execute.specs.Faults.{refusal_fault}
 use Rattle.axe_execute.specs.Meaning.{Refuses, unless_refused}

@@ -1,6 +1,6 @@
 -- Meanings with an answer.
 use Rattle.std.proofs.Common.{◌≡◌, refl, Option, Some, None, Result, Ok, Err, IfOk}
-use Rattle.axe_row.specs.declared.Refusal.{Refusal}
+use Rattle.axe_row.specs.declared.refusals.Refusal.{Refusal}
 use Rattle.axe_execute.specs.Meaning.{Problem, Refuses}
 use Rattle.axe_execute.specs.Relations.{Meaning, Answered, UnlessRefused, ◌>>=◌}
 

@@ -8,6 +8,8 @@ use Rattle.axe_algebra.specs.Reduced.{IsReducedBasis, IsReducedBasisOf}
 use Rattle.axe_algebra.specs.NortonTheorems.{SpansNullSpace}
 use Rattle.axe_algebra.specs.Bridge.{field_of, vector_of, matrix_of}
 use Rattle.axe_algebra.specs.Lists
+use Rattle.axe_algebra.specs.ListArithmetic
+use Rattle.axe_algebra.specs.SpansOfLists
 use Rattle.axe_algebra.proofs.Elimination.{eliminate}
 use Rattle.axe_algebra.proofs.Exchange.{span_of_same_rows}
 use Rattle.axe_algebra.proofs.SquareMatrices.{zero_null_space_of_inverse, null_vector_or_inverse}
@@ -54,7 +56,7 @@ module _ (K : NumberField) where
       back x null =
           subst (λ k. InSpan F k (matrix_of K rows) x) (sym count) (span_of_same_rows F r b (matrix_of K rows) x same (spans.back x null))
 
-      from : (basis : List (List ℕ)) × Lists.IsMatrixOver K n basis × Lists.IsReducedBasis K rows basis →
+      from : (basis : List (List ℕ)) × Lists.IsMatrixOver K n basis × SpansOfLists.IsReducedBasis K rows basis →
           (basis : List (List ℕ)) × Lists.IsMatrixOver K n basis × IsReducedBasisOf F (IsNullVector F n a) (length basis) (matrix_of K basis)
       from (basis, of_basis, reduced) = (
         basis,
@@ -138,7 +140,7 @@ inverse_or_none m well square = cases (null_vector_or_inverse F m.cols A (square
     of_m : Lists.IsSquareOver K m.cols m.rows
     of_m = record { length_is = square; matrix = matrix_over m well }
 
-    some : (b : List (List ℕ)) × Lists.IsSquareOver K m.cols b × Lists.IsInverse K m.cols m.rows b → HasInverse m
+    some : (b : List (List ℕ)) × Lists.IsSquareOver K m.cols b × ListArithmetic.IsInverse K m.cols m.rows b → HasInverse m
     some (b, of_b, inverts) = (
       record { order = m.order; cols = m.cols; rows = b },
       record { field = refl; columns = refl; square = of_b; inverts = inverts },

@@ -11,7 +11,10 @@ use Rattle.axe_algebra.specs.Modules.{Module, image}
 use Rattle.axe_algebra.specs.Actions
 use Rattle.axe_algebra.specs.Actions.{unit_vectors}
 use Rattle.axe_algebra.specs.Bridge.{field_of, matrix_of, module_of}
-use Rattle.axe_algebra.specs.Lists.{combination, listed, rows_of, IsVectorOver, IsMatrixOver, IsSquareOver, IsSpanned, IsInvariant, IsGeneratedBasis, IsStandardBasis}
+use Rattle.axe_algebra.specs.Lists.{listed, rows_of, IsVectorOver, IsMatrixOver, IsSquareOver}
+use Rattle.axe_algebra.specs.ListArithmetic.{combination}
+use Rattle.axe_algebra.specs.SpansOfLists.{IsSpanned}
+use Rattle.axe_algebra.specs.ModulesOfLists.{IsInvariant, IsGeneratedBasis, IsStandardBasis}
 use Rattle.axe_algebra.proofs.ReducedBases.{reduced_independent}
 use Rattle.axe_algebra.proofs.SubActions.{sub_action_exists}
 use Rattle.axe_algebra.proofs.Quotients.{quotient_action_exists}
@@ -21,7 +24,7 @@ use Rattle.axe_algebra.proofs.ListSpans.{spanned_or_not, independent_rows_are_fe
 use Rattle.axe_algebra.proofs.ListModules.{module_shape, image_over, invariant_by_images, images_of_invariant}
 use Rattle.axe_field.specs.NumberFields.{number_field}
 use Rattle.axe_row.specs.Operations.{IsZeroVector}
-use Rattle.axe_row.specs.declared.Refusal.TheVariants.{WholeSpace, NotInvariant}
+use Rattle.axe_row.specs.declared.refusals.Refusal.TheVariants.{WholeSpace, NotInvariant}
 use Rattle.axe_matrix.specs.Matrices.{MatrixValue, IsMatrix}
 use Rattle.axe_spin.specs.Modules.{ModuleValue}
 use Rattle.axe_spin.specs.Spinning.{has_only_zeros}

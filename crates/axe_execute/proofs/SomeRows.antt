@@ -11,7 +11,10 @@ use Rattle.axe_algebra.specs.Modules.{Module, InGenerated, image}
 use Rattle.axe_algebra.specs.Standard.{InSpanUpTo}
 use Rattle.axe_algebra.specs.Standard
 use Rattle.axe_algebra.specs.Bridge.{field_of, vector_of, matrix_of, module_of}
-use Rattle.axe_algebra.specs.Lists.{combination, rows_of, IsVectorOver, IsMatrixOver, IsSquareOver, IsSpanned, IsInvariant, IsGenerated, Generates, IsReducedBasis, IsGeneratedBasis, IsStandardBasis}
+use Rattle.axe_algebra.specs.Lists.{rows_of, IsVectorOver, IsMatrixOver, IsSquareOver}
+use Rattle.axe_algebra.specs.ListArithmetic.{combination}
+use Rattle.axe_algebra.specs.SpansOfLists.{IsSpanned, IsReducedBasis}
+use Rattle.axe_algebra.specs.ModulesOfLists.{IsInvariant, IsGenerated, Generates, IsGeneratedBasis, IsStandardBasis}
 use Rattle.axe_algebra.proofs.ProductLaws.{times_same}
 use Rattle.axe_algebra.proofs.Spanning.{span_row, span_zero, span_same, span_within}
 use Rattle.axe_algebra.proofs.Elimination.{is_zero_or_leads}

@@ -10,7 +10,8 @@ use Rattle.axe_algebra.specs.NumberField.{NumberField}
 use Rattle.axe_algebra.specs.Field.{Field}
 use Rattle.axe_algebra.specs.Vectors.{Vector, zero_vector}
 use Rattle.axe_algebra.specs.Bridge.{field_of, vector_of, matrix_of, module_of, element}
-use Rattle.axe_algebra.specs.Lists.{IsVectorOver, IsMatrixOver, IsIndependent, IsSpanned}
+use Rattle.axe_algebra.specs.Lists.{IsVectorOver, IsMatrixOver}
+use Rattle.axe_algebra.specs.SpansOfLists.{IsIndependent, IsSpanned}
 use Rattle.axe_algebra.proofs.ProductLaws.{times_zero_rows}
 use Rattle.axe_algebra.proofs.ElementNumbers.{element_zero, same_number, zero-below}
 use Rattle.axe_algebra.proofs.ListEntries.{row_over}
@@ -20,8 +21,8 @@ use Rattle.axe_algebra.proofs.ListGenerated.{seed_row_generated, generated_is_in
 use Rattle.axe_field.specs.Order.{order_number}
 use Rattle.axe_matrix.proofs.MatrixLaws.{same_order}
 use Rattle.axe_field.specs.NumberFields.{number_field}
-use Rattle.axe_row.specs.declared.Refusal.{Refusal}
-use Rattle.axe_row.specs.declared.Refusal.TheVariants.{FieldsDiffer, ShapesDiffer, ZeroSeed}
+use Rattle.axe_row.specs.declared.refusals.Refusal.{Refusal}
+use Rattle.axe_row.specs.declared.refusals.Refusal.TheVariants.{FieldsDiffer, ShapesDiffer, ZeroSeed}
 use Rattle.axe_row.specs.Operations.{IsZeroVector}
 use Rattle.axe_row.specs.Refusals.{Answers}
 use Rattle.axe_matrix.specs.Matrices.{MatrixValue, IsMatrix}

@@ -2,7 +2,7 @@
 use Rattle.std.specs.Prelude.{◌≡◌, ◌⊎◌, ℕ, ◌+◌, List, [], ◌∷◌, ◌++◌, length, map, decimal, Option, Some, None, Result, Ok, Err}
 use Rattle.std.specs.List.{range_with_len}
 use Rattle.axe_algebra.specs.Lists.{listed}
-use Rattle.axe_row.specs.declared.Refusal.{Refusal}
+use Rattle.axe_row.specs.declared.refusals.Refusal.{Refusal}
 use Rattle.axe_matrix.specs.Matrices.{MatrixValue, product_refusal, matrix_product, sum_refusal, sum_of_matrices, transpose_refusal, transposed_matrix}
 use Rattle.axe_spin.specs.Modules.{ModuleValue, generator_of, module_of_matrices}
 use Rattle.axe_file.specs.declared.fault.FileFault.{FileFault}
@@ -13,8 +13,8 @@ use Rattle.axe_file.specs.TextWriting.{text_of}
 use Rattle.axe_folder.specs.declared.fault.FolderFault.{FolderFault}
 use Rattle.axe_folder.specs.Files.{Files, file_at, with_file, without_file}
 use Rattle.axe_folder.specs.Outcomes.{fetched}
-use Rattle.axe_words.specs.declared.command.Command.{Command}
-use Rattle.axe_words.specs.declared.command.Command.TheVariants.{Zcv, Zpr, Zmu, Zad, Ztr, Ziv, Znu, Zsp, Zqt}
+use Rattle.axe_arguments.specs.declared.command.Command.{Command}
+use Rattle.axe_arguments.specs.declared.command.Command.TheVariants.{Zcv, Zpr, Zmu, Zad, Ztr, Ziv, Znu, Zsp, Zqt}
 
 -- one change to the files of a folder: a name is given these bytes, or its file is taken away
 pub data Step : Type 0 where

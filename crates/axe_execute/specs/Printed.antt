@@ -1,7 +1,7 @@
 -- The status, the number and the printed line of a fault.
 use Rattle.std.specs.Prelude.{ℕ, List, [], ◌++◌, Option, Some, None, codes, decimal, string_bytes}
-use Rattle.axe_row.specs.declared.Refusal.{Refusal}
-use Rattle.axe_row.specs.declared.Refusal.TheVariants as refusal
+use Rattle.axe_row.specs.declared.refusals.Refusal.{Refusal}
+use Rattle.axe_row.specs.declared.refusals.Refusal.TheVariants as refusal
 use Rattle.axe_file.specs.declared.fault.FileFault.{FileFault}
 use Rattle.axe_file.specs.declared.fault.FileFault.TheVariants as file
 use Rattle.axe_folder.specs.declared.fault.FolderFault.{FolderFault}

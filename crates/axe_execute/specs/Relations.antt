@@ -1,10 +1,11 @@
 -- What commands mean whose results are pinned by relations, as a null space and an inverse are; and what each command
 -- means.
 use Rattle.std.specs.Prelude.{◌≡◌, ◌⊎◌, ℕ, ◌<◌, List, [], ◌∷◌, length, slice_index_or, All, Bool, true, false, Option, Some, None, Result, Ok, Err}
-use Rattle.axe_algebra.specs.Lists.{IsSquareOver, IsIndependent}
+use Rattle.axe_algebra.specs.Lists.{IsSquareOver}
+use Rattle.axe_algebra.specs.SpansOfLists.{IsIndependent}
 use Rattle.axe_field.specs.NumberFields.{number_field}
-use Rattle.axe_row.specs.declared.Refusal.{Refusal}
-use Rattle.axe_row.specs.declared.Refusal.TheVariants.{Singular, NotInvariant, WholeSpace}
+use Rattle.axe_row.specs.declared.refusals.Refusal.{Refusal}
+use Rattle.axe_row.specs.declared.refusals.Refusal.TheVariants.{Singular, NotInvariant, WholeSpace}
 use Rattle.axe_row.specs.Operations.{IsZeroVector}
 use Rattle.axe_matrix.specs.Matrices.{MatrixValue, IsMatrix, row_of}
 use Rattle.axe_echelon.specs.Echelons.{null_space_refusal, IsNullSpaceMatrix, inverse_refusal, IsInverseMatrix}
@@ -13,8 +14,8 @@ use Rattle.axe_spin.specs.Spinning.{has_only_zeros, seed_refusal, IsGeneratedMat
 use Rattle.axe_action.specs.Actions.{rows_refusal, SpansModule, IsInvariantIn, IsBasisAction, IsActionModulo}
 use Rattle.axe_file.specs.Packed.{packed}
 use Rattle.axe_folder.specs.Files.{Files}
-use Rattle.axe_words.specs.declared.command.Command.{Command}
-use Rattle.axe_words.specs.declared.command.Command.TheVariants.{Zcv, Zpr, Zmu, Zad, Ztr, Ziv, Znu, Zsp, Zqt}
+use Rattle.axe_arguments.specs.declared.command.Command.{Command}
+use Rattle.axe_arguments.specs.declared.command.Command.TheVariants.{Zcv, Zpr, Zmu, Zad, Ztr, Ziv, Znu, Zsp, Zqt}
 use Rattle.axe_execute.specs.Meaning.{Problem, Refuses, Put, Plan, matrix_in, matrices_in, numbered_names, seeded_module, checked_module, put_packed, put_generators, conversion_plan, printing_plan, product_plan, sum_plan, transpose_plan}
 
 -- which answers are right, each a value or the first problem that stands

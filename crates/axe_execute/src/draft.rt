@@ -9,7 +9,7 @@ use axe_file::{write_packed, write_text};
 use axe_folder::Folder;
 use axe_matrix::Matrix;
 use axe_spin::Module;
-use axe_words::Name;
+use axe_arguments::Name;
 use std::alloc::Global;
 
 /// One change to the files of a folder.

@@ -8,7 +8,7 @@ use crate::draft::{Draft, make_all};
 use crate::fault::Fault;
 use crate::planning::draft_of;
 use axe_folder::Folder;
-use axe_words::Command;
+use axe_arguments::Command;
 use std::alloc::Global;
 
 /// What a command shows when it ends well.

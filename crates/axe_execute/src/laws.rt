@@ -1,7 +1,7 @@
 //! What holds of the meanings of commands.
 
 ghost use Rattle.axe_folder.specs.Files.{Files};
-ghost use Rattle.axe_words.specs.declared.command.Command.{Command};
+ghost use Rattle.axe_arguments.specs.declared.command.Command.{Command};
 ghost use Rattle.axe_execute.specs.Relations.{Answered, AtMostOne, Means};
 
 /// A command has exactly one meaning: on the files of a folder it has one plan, or one problem stands against it.

@@ -15,7 +15,7 @@ use crate::spinning::SeededModule;
 use axe_echelon::{inverse, null_space};
 use axe_folder::Folder;
 use axe_matrix::Matrix;
-use axe_words::{Command, Name};
+use axe_arguments::{Command, Name};
 use std::alloc::Global;
 
 /// The draft of a command.

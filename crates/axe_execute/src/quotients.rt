@@ -14,7 +14,7 @@ use axe_action::quotient_action;
 use axe_folder::Folder;
 use axe_matrix::Matrix;
 use axe_spin::Module;
-use axe_words::{GeneratorCount, Name};
+use axe_arguments::{GeneratorCount, Name};
 use std::alloc::Global;
 
 /// The draft of `zqt`: the quotient of a module by the space that rows span.

@@ -9,7 +9,7 @@ use crate::fault::Fault;
 use axe_file::{PACKED_LIMIT, TEXT_LIMIT, read_packed, read_text};
 use axe_folder::Folder;
 use axe_matrix::Matrix;
-use axe_words::Name;
+use axe_arguments::Name;
 use std::alloc::Global;
 
 /// The matrix of the packed file that a command names.

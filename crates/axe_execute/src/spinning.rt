@@ -19,7 +19,7 @@ use axe_folder::Folder;
 use axe_matrix::Matrix;
 use axe_row::Refusal;
 use axe_spin::{Module, generate, standard_basis};
-use axe_words::{GeneratorCount, Name};
+use axe_arguments::{GeneratorCount, Name};
 use std::alloc::Global;
 
 /// A module, and a matrix whose rows are to be spun in it.

@@ -4,12 +4,13 @@ use Rattle.std.specs.List.{All}
 use Rattle.std.proofs.lemmas.Bool.{eq-eqb, ne_eqb}
 use Rattle.std.proofs.lemmas.List.Elements.{All-from_get_or}
 use Rattle.std.proofs.lemmas.List.FromFn.{length-map-range_with_len, get_or-map-range_with_len}
-use Rattle.axe_algebra.specs.Lists.{entry, listed, number_sum, product_entry, product, combination_entry, combination}
+use Rattle.axe_algebra.specs.Lists.{entry, listed}
+use Rattle.axe_algebra.specs.ListArithmetic.{number_sum, product_entry, product, combination_entry, combination}
 use Rattle.axe_algebra.specs.NumberField.{NumberField}
 use Rattle.axe_field.specs.Order.{order_number, IsElement}
 use Rattle.axe_field.specs.Arithmetic.{field_mul}
 use Rattle.axe_field.specs.NumberFields.{number_field}
-use Rattle.axe_row.specs.declared.Refusal.TheVariants.{FieldsDiffer, ShapesDiffer}
+use Rattle.axe_row.specs.declared.refusals.Refusal.TheVariants.{FieldsDiffer, ShapesDiffer}
 use Rattle.axe_matrix.specs.declared.TheConstants.{MAX_ROWS}
 use Rattle.axe_matrix.proofs.MatrixLaws.{entry-IsElement, same_matrix}
 use Rattle.axe_matrix.specs.Matrices.{MatrixValue, IsMatrix, row_of, product_refusal, matrix_product, vector_product}

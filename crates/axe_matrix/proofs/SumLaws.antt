@@ -1,7 +1,8 @@
 -- Sums of matrices over the seven fields.
 use Rattle.std.proofs.Common.{◌≡◌, ℕ, ◌<◌, List, length, None, refl}
 use Rattle.std.proofs.lemmas.Bool.{eq-eqb}
-use Rattle.axe_algebra.specs.Lists.{entry, listed, matrix_sum}
+use Rattle.axe_algebra.specs.Lists.{entry, listed}
+use Rattle.axe_algebra.specs.ListArithmetic.{matrix_sum}
 use Rattle.axe_field.specs.Order.{order_number}
 use Rattle.axe_field.specs.NumberFields.{number_field}
 use Rattle.axe_row.specs.Operations.{sum_with_multiple}

@@ -1,7 +1,8 @@
 -- Transposes and identities of matrices by their rows.
 use Rattle.std.proofs.Common.{◌≡◌, ◌≢◌, ℕ, length, None, refl}
 use Rattle.std.proofs.lemmas.Bool.{ne_eqb}
-use Rattle.axe_algebra.specs.Lists.{entry, listed, transpose, identity, unit_row}
+use Rattle.axe_algebra.specs.Lists.{entry, listed, unit_row}
+use Rattle.axe_algebra.specs.ListArithmetic.{transpose, identity}
 use Rattle.axe_field.specs.Order.{Order}
 use Rattle.axe_matrix.specs.Matrices.{MatrixValue, transpose_refusal, transposed_matrix, identity_matrix}
 

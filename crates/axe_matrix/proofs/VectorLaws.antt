@@ -2,7 +2,8 @@
 use Rattle.std.proofs.Common.{◌≡◌, ℕ, ◌+◌, ◌<◌, List, [], length, get_or, replicate, refl, sym, ap, ◌∙◌, arith, add-one}
 use Rattle.std.proofs.lemmas.List.{ext_get_or, get_or-replicate, length-replicate}
 use Rattle.std.proofs.lemmas.List.FromFn.{length-map-range_with_len, get_or-map-range_with_len}
-use Rattle.axe_algebra.specs.Lists.{entry, listed, number_sum, combination_entry, combination}
+use Rattle.axe_algebra.specs.Lists.{entry, listed}
+use Rattle.axe_algebra.specs.ListArithmetic.{number_sum, combination_entry, combination}
 use Rattle.axe_algebra.specs.NumberField.{NumberField}
 use Rattle.axe_row.specs.Operations.{sum_with_multiple}
 use Rattle.axe_row.proofs.OperationLaws.{length-sum_with_multiple, get_or-sum_with_multiple}

@@ -1,11 +1,12 @@
 -- Matrices over one of the seven fields.
 use Rattle.std.specs.Prelude.{◌≡◌, ℕ, ◌+◌, ◌≤◌, ◌==◌, ◌&&◌, not, List, [], length, slice_index, slice_index_or, All, Option, Some, None, if◌then◌else◌}
-use Rattle.axe_algebra.specs.Lists.{entry, listed, table, combination, product, matrix_sum, transpose, identity}
+use Rattle.axe_algebra.specs.Lists.{entry, listed, table}
+use Rattle.axe_algebra.specs.ListArithmetic.{combination, product, matrix_sum, transpose, identity}
 use Rattle.axe_field.specs.Order.{Order, order_number, IsElement}
 use Rattle.axe_field.specs.NumberFields.{number_field}
 use Rattle.axe_row.specs.Rows.{RowValue}
-use Rattle.axe_row.specs.declared.Refusal.{Refusal}
-use Rattle.axe_row.specs.declared.Refusal.TheVariants.{FieldsDiffer, ShapesDiffer, NoRows}
+use Rattle.axe_row.specs.declared.refusals.Refusal.{Refusal}
+use Rattle.axe_row.specs.declared.refusals.Refusal.TheVariants.{FieldsDiffer, ShapesDiffer, NoRows}
 use Rattle.axe_matrix.specs.declared.TheConstants.{MAX_ROWS, MAX_COLUMNS}
 
 -- a matrix: the order of its field, how many columns it has, and the list of its rows, each the list of its entries'

@@ -5,14 +5,14 @@
 #![tactic(auto)]
 
 ghost use Rattle.std.specs.Prelude.{◌≡◌, true, IfOk, IfSome};
-ghost use Rattle.axe_words.specs.Names.{is_name};
-ghost use Rattle.axe_words.specs.Commands.{HasNames};
+ghost use Rattle.axe_arguments.specs.Names.{is_name};
+ghost use Rattle.axe_arguments.specs.Commands.{HasNames};
 
 mod help;
 mod lines;
 mod program;
 
-use axe_words::{Command, GeneratorCount, Name, NameFault};
+use axe_arguments::{Command, GeneratorCount, Name, NameFault};
 use clap::ArgMatches;
 use clap::error::ErrorKind;
 use std::alloc::{AllocError, Global};

@@ -1,7 +1,7 @@
 //! The command lines as `clap` reads them.
 use crate::help;
 use crate::lines::{CommandLine, Word, WordKind, command_lines};
-use axe_words::MAX_GENERATORS;
+use axe_arguments::MAX_GENERATORS;
 use clap::builder::ValueParser;
 use clap::{Arg, ArgAction, Command};
 use std::alloc::{AllocError, Global};

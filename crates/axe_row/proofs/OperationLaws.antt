@@ -2,7 +2,7 @@
 use Rattle.std.proofs.Common.{◌≡◌, ◌≢◌, ℕ, ◌+◌, ◌<◌, ◌≤◌, List, length, get_or, set, refl, ap, ◌∙◌, arith, add-one, get_or-set_other, get_or-set_same, below_more}
 use Rattle.std.proofs.lemmas.List.{ext_get_or, length-set}
 use Rattle.std.proofs.lemmas.List.FromFn.{length-map-range_with_len, get_or-map-range_with_len}
-use Rattle.axe_algebra.specs.Lists.{number_sum}
+use Rattle.axe_algebra.specs.ListArithmetic.{number_sum}
 use Rattle.axe_algebra.specs.NumberField.{NumberField}
 use Rattle.axe_field.specs.Order.{Order}
 use Rattle.axe_field.specs.Arithmetic.{field_add, field_mul}

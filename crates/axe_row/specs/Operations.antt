@@ -1,6 +1,7 @@
 -- Sums, multiples and dot products of row vectors, and their nonzero entries.
 use Rattle.std.specs.Prelude.{◌≡◌, ◌≢◌, ℕ, ◌<◌, List, length, slice_index, All}
-use Rattle.axe_algebra.specs.Lists.{listed, number_sum}
+use Rattle.axe_algebra.specs.Lists.{listed}
+use Rattle.axe_algebra.specs.ListArithmetic.{number_sum}
 use Rattle.axe_algebra.specs.NumberField.{NumberField}
 use Rattle.axe_field.specs.NumberFields.{number_field}
 use Rattle.axe_row.specs.Rows.{RowValue}

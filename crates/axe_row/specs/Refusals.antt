@@ -1,7 +1,7 @@
 -- How a call that may refuse its operands answers.
 use Rattle.std.specs.Prelude.{◌≡◌, Option, Some, None, Result, Ok, Err}
-use Rattle.axe_row.specs.declared.Refusal.{Refusal}
-use Rattle.axe_row.specs.declared.Refusal.TheVariants.{Memory}
+use Rattle.axe_row.specs.declared.refusals.Refusal.{Refusal}
+use Rattle.axe_row.specs.declared.refusals.Refusal.TheVariants.{Memory}
 
 -- the answer of a call: where the operands are refused it is exactly that refusal, whatever the memory; otherwise it is a
 -- value with the property P, or Memory

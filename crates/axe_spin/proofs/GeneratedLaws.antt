@@ -8,7 +8,9 @@ use Rattle.std.proofs.lemmas.List.Sums.{AllPass-from_list_all, list_all-from_All
 use Rattle.axe_algebra.specs.NumberField.{NumberField}
 use Rattle.axe_algebra.specs.Field.{Field}
 use Rattle.axe_algebra.specs.Bridge.{field_of, vector_of, matrix_of}
-use Rattle.axe_algebra.specs.Lists.{IsMatrixOver, IsIndependent, IsSpanned, IsReducedBasis, IsInvariant, IsGenerated, Generates}
+use Rattle.axe_algebra.specs.Lists.{IsMatrixOver}
+use Rattle.axe_algebra.specs.SpansOfLists.{IsIndependent, IsSpanned, IsReducedBasis}
+use Rattle.axe_algebra.specs.ModulesOfLists.{IsInvariant, IsGenerated, Generates}
 use Rattle.axe_algebra.proofs.Spanning.{span_row, span_same, span_within}
 use Rattle.axe_algebra.proofs.Exchange.{span_longer}
 use Rattle.axe_algebra.proofs.ListEntries.{row_over}

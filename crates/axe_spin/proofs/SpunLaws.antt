@@ -4,7 +4,9 @@ use Rattle.std.proofs.Common.{add-one}
 use Rattle.std.proofs.lemmas.Bool.{eq-eqb, ne_eqb}
 use Rattle.std.proofs.lemmas.List.{get_or_append_left, get_or_push, length_push, take-append-le, take_all}
 use Rattle.std.proofs.lemmas.List.Elements.{All-push}
-use Rattle.axe_algebra.specs.Lists.{combination, IsVectorOver, IsMatrixOver, IsIndependent, IsSpanned}
+use Rattle.axe_algebra.specs.Lists.{IsVectorOver, IsMatrixOver}
+use Rattle.axe_algebra.specs.ListArithmetic.{combination}
+use Rattle.axe_algebra.specs.SpansOfLists.{IsIndependent, IsSpanned}
 use Rattle.axe_algebra.specs.Standard.{Precedes}
 use Rattle.axe_algebra.proofs.ListEntries.{row_over}
 use Rattle.axe_algebra.proofs.ListProducts.{combination_over}

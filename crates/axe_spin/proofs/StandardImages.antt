@@ -8,8 +8,10 @@ use Rattle.axe_algebra.specs.Modules.{Module, IsModule}
 use Rattle.axe_algebra.specs.Actions.{IsSubAction}
 use Rattle.axe_algebra.specs.Standard.{IsStandardBasis}
 use Rattle.axe_algebra.specs.Bridge.{field_of, element, vector_of, matrix_of, module_of}
-use Rattle.axe_algebra.specs.Lists as lists
-use Rattle.axe_algebra.specs.Lists.{combination, product, IsVectorOver, IsMatrixOver, IsSquareOver, IsIsomorphism}
+use Rattle.axe_algebra.specs.ModulesOfLists as lists
+use Rattle.axe_algebra.specs.Lists.{IsVectorOver, IsMatrixOver, IsSquareOver}
+use Rattle.axe_algebra.specs.ListArithmetic.{combination, product}
+use Rattle.axe_algebra.specs.ModulesOfLists.{IsIsomorphism}
 use Rattle.axe_algebra.proofs.FieldLaws.{mul-zero, one-mul, inv-mul, inv_nonzero}
 use Rattle.axe_algebra.proofs.SubActions.{sub_action_of_same_rows}
 use Rattle.axe_algebra.proofs.StandardBases.{standard_basis_size_is_unique, standard_basis_is_unique}

@@ -5,7 +5,9 @@ use Rattle.axe_algebra.specs.NumberField.{NumberField}
 use Rattle.axe_algebra.specs.Field.{Field}
 use Rattle.axe_algebra.specs.Vectors.{Vector}
 use Rattle.axe_algebra.specs.Bridge.{field_of, matrix_of}
-use Rattle.axe_algebra.specs.Lists.{IsVectorOver, IsSpanned, IsStandardBasis}
+use Rattle.axe_algebra.specs.Lists.{IsVectorOver}
+use Rattle.axe_algebra.specs.SpansOfLists.{IsSpanned}
+use Rattle.axe_algebra.specs.ModulesOfLists.{IsStandardBasis}
 use Rattle.axe_algebra.proofs.ProductLaws.{times_none}
 use Rattle.axe_algebra.proofs.ElementNumbers.{element_zero, same_number, zero-below}
 use Rattle.axe_algebra.proofs.ListStandard.{standard_basis_by_search}

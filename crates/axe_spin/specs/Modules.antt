@@ -3,8 +3,8 @@ use Rattle.std.specs.Prelude.{ℕ, ◌≤◌, ◌==◌, not, List, [], ◌∷◌
 use Rattle.axe_algebra.specs.Lists.{IsModuleOver}
 use Rattle.axe_field.specs.Order.{Order, order_number}
 use Rattle.axe_field.specs.NumberFields.{number_field}
-use Rattle.axe_row.specs.declared.Refusal.{Refusal}
-use Rattle.axe_row.specs.declared.Refusal.TheVariants.{FieldsDiffer, ShapesDiffer, NotSquare, NoRows}
+use Rattle.axe_row.specs.declared.refusals.Refusal.{Refusal}
+use Rattle.axe_row.specs.declared.refusals.Refusal.TheVariants.{FieldsDiffer, ShapesDiffer, NotSquare, NoRows}
 use Rattle.axe_matrix.specs.declared.TheConstants.{MAX_COLUMNS}
 use Rattle.axe_matrix.specs.Matrices.{MatrixValue}
 use Rattle.axe_spin.specs.declared.TheConstants.{MAX_GENERATORS}

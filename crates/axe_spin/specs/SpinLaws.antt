@@ -1,6 +1,7 @@
 -- What the law functions on standard bases promise, of matrices over the seven fields (Parker 1984; Holt and Rees 1994).
 use Rattle.std.specs.Prelude.{◌≡◌, ◌≢◌, ℕ, ◌↔◌, List, length}
-use Rattle.axe_algebra.specs.Lists.{IsSquareOver, IsSubAction, IsIsomorphism}
+use Rattle.axe_algebra.specs.Lists.{IsSquareOver}
+use Rattle.axe_algebra.specs.ModulesOfLists.{IsSubAction, IsIsomorphism}
 use Rattle.axe_field.specs.Order.{IsElement}
 use Rattle.axe_field.specs.NumberFields.{number_field}
 use Rattle.axe_row.specs.Rows.{RowValue, IsRow}

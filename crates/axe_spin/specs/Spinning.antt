@@ -1,12 +1,13 @@
 -- What spinning rows in a module gives: the space that they generate, and standard bases.
 use Rattle.std.specs.Prelude.{◌≡◌, ℕ, ◌<◌, ◌==◌, Bool, not, Option, Some, None, List, [], length, get_or, if◌then◌else◌}
 use Rattle.std.specs.List.{list_all}
-use Rattle.axe_algebra.specs.Lists.{IsIndependent, IsSpanned, IsGeneratedBasis, IsStandardBasis}
+use Rattle.axe_algebra.specs.SpansOfLists.{IsIndependent, IsSpanned}
+use Rattle.axe_algebra.specs.ModulesOfLists.{IsGeneratedBasis, IsStandardBasis}
 use Rattle.axe_field.specs.Order.{order_number}
 use Rattle.axe_field.specs.NumberFields.{number_field}
 use Rattle.axe_row.specs.Rows.{RowValue}
-use Rattle.axe_row.specs.declared.Refusal.{Refusal}
-use Rattle.axe_row.specs.declared.Refusal.TheVariants.{FieldsDiffer, ShapesDiffer, ZeroSeed}
+use Rattle.axe_row.specs.declared.refusals.Refusal.{Refusal}
+use Rattle.axe_row.specs.declared.refusals.Refusal.TheVariants.{FieldsDiffer, ShapesDiffer, ZeroSeed}
 use Rattle.axe_matrix.specs.Matrices.{MatrixValue}
 use Rattle.axe_spin.specs.Modules.{ModuleValue}
 

@@ -1,6 +1,8 @@
 -- Rows that are being spun: the first ones, then images of earlier ones under generators.
 use Rattle.std.specs.Prelude.{◌≡◌, ℕ, ◌<◌, ◌≤◌, ◌⊎◌, List, [], ◌∷◌, ◌++◌, length, take, get_or}
-use Rattle.axe_algebra.specs.Lists.{combination, IsMatrixOver, IsIndependent, IsSpanned}
+use Rattle.axe_algebra.specs.Lists.{IsMatrixOver}
+use Rattle.axe_algebra.specs.ListArithmetic.{combination}
+use Rattle.axe_algebra.specs.SpansOfLists.{IsIndependent, IsSpanned}
 use Rattle.axe_algebra.specs.Standard.{Precedes}
 use Rattle.axe_field.specs.NumberFields.{number_field}
 use Rattle.axe_matrix.specs.Matrices.{MatrixValue}

@@ -1,5 +1,5 @@
 use Rattle.std.proofs.Common.{[], get_or}
-use Rattle.axe_algebra.specs.Lists.{IsConjugate}
+use Rattle.axe_algebra.specs.ListArithmetic.{IsConjugate}
 use Rattle.axe_field.specs.NumberFields.{number_field}
 use Rattle.axe_action.proofs.GeneratorLists.{AreNewGenerators}
 use Rattle.axe_action.proofs.conjugates.conjugate.Given as goal

@@ -1,5 +1,5 @@
 use Rattle.std.proofs.Common.{[], get_or, ◌≡◌}
-use Rattle.axe_algebra.specs.Lists.{transpose}
+use Rattle.axe_algebra.specs.ListArithmetic.{transpose}
 use Rattle.axe_action.proofs.GeneratorLists.{AreNewGenerators}
 use Rattle.axe_action.proofs.duals.dual.Given as goal
 

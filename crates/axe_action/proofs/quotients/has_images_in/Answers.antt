@@ -1,6 +1,6 @@
 use Rattle.std.proofs.Common.{◌≡◌, ◌<◌, length, ap, sym, ◌∙◌, arith, below_more}
 use Rattle.axe_echelon.proofs.Exits.{no_memory}
-use Rattle.axe_algebra.specs.Lists.{combination}
+use Rattle.axe_algebra.specs.ListArithmetic.{combination}
 use Rattle.axe_field.specs.NumberFields.{number_field}
 use Rattle.axe_row.specs.Rows.{RowValue}
 use Rattle.axe_matrix.proofs.ProductLaws.{length-combination}

@@ -1,5 +1,5 @@
 use Rattle.std.proofs.Common.{ℕ, ◌<◌}
-use Rattle.axe_algebra.specs.Lists.{IsSpanned}
+use Rattle.axe_algebra.specs.SpansOfLists.{IsSpanned}
 use Rattle.axe_field.specs.NumberFields.{number_field}
 use Rattle.axe_action.specs.Coordinates.{image_of_row}
 use Rattle.axe_action.proofs.quotients.has_images_in.Given as goal

@@ -1,6 +1,7 @@
 use Rattle.std.proofs.Common.{◌≡◌, ◌<◌, ◌≤◌, length, ap, sym, ◌∙◌, subst, arith, None, refl}
 use Rattle.axe_action.proofs.SubAnswers.{no_memory_for_action}
-use Rattle.axe_algebra.specs.Lists.{combination, IsSpanned}
+use Rattle.axe_algebra.specs.ListArithmetic.{combination}
+use Rattle.axe_algebra.specs.SpansOfLists.{IsSpanned}
 use Rattle.axe_algebra.proofs.ListSpans.{independent_rows_are_few}
 use Rattle.axe_field.specs.NumberFields.{number_field}
 use Rattle.axe_row.specs.Rows.{RowValue}

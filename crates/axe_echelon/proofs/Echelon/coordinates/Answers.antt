@@ -1,5 +1,5 @@
 use Rattle.std.proofs.Common.{arith, rules, IsTrue}
-use Rattle.axe_algebra.specs.Lists.{IsSpanned}
+use Rattle.axe_algebra.specs.SpansOfLists.{IsSpanned}
 use Rattle.axe_field.specs.NumberFields.{number_field}
 use Rattle.axe_row.specs.Rows.{IsRow}
 use Rattle.axe_row.specs.Operations.{IsZeroVector}

@@ -1,8 +1,8 @@
 use Rattle.std.proofs.Common.{◌≡◌, ◌≢◌, ◌++◌, ◌∷◌, [], length, ap, sym, ◌∙◌, arith, refl, true≢false}
 use Rattle.std.proofs.lemmas.Result.{IfOk-from_err}
-use Rattle.axe_algebra.specs.Lists.{IsSpanned}
+use Rattle.axe_algebra.specs.SpansOfLists.{IsSpanned}
 use Rattle.axe_field.specs.NumberFields.{number_field}
-use Rattle.axe_row.specs.declared.Refusal.TheVariants.{Memory}
+use Rattle.axe_row.specs.declared.refusals.Refusal.TheVariants.{Memory}
 use Rattle.axe_echelon.specs.Steps.{IsNextStep, echelon_of, AreTabledSteps}
 use Rattle.axe_echelon.proofs.Exits.{no_memory, in_any_case}
 use Rattle.axe_echelon.proofs.EliminationLaws.{full_echelon_spans, room_of_echelon}

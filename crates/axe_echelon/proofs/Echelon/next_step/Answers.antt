@@ -1,6 +1,6 @@
 use Rattle.std.proofs.Common.{arith}
 use Rattle.axe_echelon.proofs.Exits.{no_memory}
-use Rattle.axe_algebra.specs.Lists.{IsSpanned}
+use Rattle.axe_algebra.specs.SpansOfLists.{IsSpanned}
 use Rattle.axe_field.specs.NumberFields.{number_field}
 use Rattle.axe_row.specs.Rows.{IsRow}
 use Rattle.axe_echelon.proofs.EliminationLaws.{spanned_if_nothing_left, next_step_of}

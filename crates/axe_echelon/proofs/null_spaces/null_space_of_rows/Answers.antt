@@ -1,5 +1,6 @@
 use Rattle.std.proofs.Common.{ℕ, List, Bool, false, ◌≡◌, ◌<◌, length, get_or, [], ap, sym, ◌∙◌, arith}
-use Rattle.axe_algebra.specs.Lists.{unit_row, IsSpanned}
+use Rattle.axe_algebra.specs.Lists.{unit_row}
+use Rattle.axe_algebra.specs.SpansOfLists.{IsSpanned}
 use Rattle.axe_algebra.proofs.ListEntries.{listed_length}
 use Rattle.axe_field.specs.NumberFields.{number_field}
 use Rattle.axe_row.specs.Rows.{RowValue}

@@ -1,0 +1,46 @@
+//! How many generators a module has.
+ghost use Rattle.std.specs.Prelude.{◌≡◌, MatchOption};
+ghost use Rattle.axe_arguments.specs.Counts.{IsGeneratorCount};
+
+use crate::MAX_GENERATORS;
+use std::marker::Model;
+
+/// How many generators a module has: 1 to [`MAX_GENERATORS`]. Contracts see it as its number.
+#[derive(Debug, Clone, Copy)]
+pub struct GeneratorCount {
+    number: u8,
+}
+
+impl Model for GeneratorCount {
+    ghost use Rattle.std.specs.Prelude.{ℕ};
+    ghost use Rattle.axe_arguments.specs.Counts.{IsGeneratorCount};
+
+    ghost Value = { ℕ };
+
+    ghost view = { λ count. count.number };
+
+    ghost invariant = { λ count. IsGeneratorCount count.number };
+
+    ghost inverse = { λ number. record { number = number } };
+}
+
+impl GeneratorCount {
+    /// The count with this number, or `None` where the number is 0 or more than [`MAX_GENERATORS`].
+    pub fn new(number: u8) -> Option<GeneratorCount>
+        ensures { MatchOption result (¬ (IsGeneratorCount number)) (λ count. count ≡ number) }
+    {
+        if matches!(number, 1..=MAX_GENERATORS) {
+            Some(GeneratorCount { number })
+        } else {
+            None
+        }
+    }
+
+    /// The number, 1 to [`MAX_GENERATORS`].
+    pub fn get(self) -> u8
+        ensures number { result ≡ self }
+        ensures range { IsGeneratorCount result }
+    {
+        self.number
+    }
+}

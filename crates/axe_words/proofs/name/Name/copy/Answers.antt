@@ -1,6 +1,0 @@
-use Rattle.std.proofs.Common.{rules}
-use Rattle.axe_words.proofs.name.Name.copy.Goals as goal
-
--- the copy has the bytes of the name
-pub returns : goal.returns
-returns c = search rules
