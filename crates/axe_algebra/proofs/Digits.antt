@@ -4,7 +4,7 @@ use Rattle.std.specs.List.{All}
 use Rattle.std.proofs.lemmas.List.Elements.{All-nil, All-cons, All-head, All-tail}
 use Rattle.std.proofs.lemmas.Nat.{div-mul-add, mul-add-lt, div_below}
 use native.Mathlib.Nat.{mul-add-div_right, mul-add-mod_self_right, one-le-pow, pow-zero, mod-lt, mod-eq_of_lt, pow-suc, mul_assoc, mul_comm, div-add-mod'}
-use Rattle.axe_algebra.specs.Digits.{digits}
+use Rattle.axe_algebra.specs.Digits.{digits, number_with_digits}
 use mathlib.Core.Path.{refl, sym, ◌∙◌, ap, ap₂, subst}
 use native.Mathlib.Omega.{arith}
 
@@ -43,26 +43,21 @@ digits_cons q m d y below small =
     (ap (λ n. n % q) (div-mul-add d (q ^ m) y small) ∙ mod-eq_of_lt below)
     (digits_of_sum q m d y (omega arith))
 
--- the number that has these digits
-unfoldable pub number_of : ℕ → List ℕ → ℕ
-number_of q [] = 0
-number_of q (d ∷ ds) = d * q ^ length ds + number_of q ds
+pub number_with_digits-below : (q : ℕ) (ds : List ℕ) → All (λ digit. digit < q) ds → number_with_digits q ds < q ^ length ds
+unfolding number_with_digits
+number_with_digits-below q [] all = subst (λ n. 0 < n) (sym (pow-zero q)) (omega arith)
+number_with_digits-below q (d ∷ ds) all =
+    let rest : number_with_digits q ds < q ^ length ds = number_with_digits-below q ds (All-tail (λ (digit : ℕ). digit < q) d ds all) in
+    let whole : d * q ^ length ds + number_with_digits q ds < q ^ length ds * q =
+          mul-add-lt d (q ^ length ds) (number_with_digits q ds) q (All-head (λ (digit : ℕ). digit < q) d ds all) rest in
+    subst (λ n. d * q ^ length ds + number_with_digits q ds < n) (sym (pow-suc q (length ds))) whole
 
-pub number_of-below : (q : ℕ) (ds : List ℕ) → All (λ digit. digit < q) ds → number_of q ds < q ^ length ds
-unfolding number_of
-number_of-below q [] all = subst (λ n. 0 < n) (sym (pow-zero q)) (omega arith)
-number_of-below q (d ∷ ds) all =
-    let rest : number_of q ds < q ^ length ds = number_of-below q ds (All-tail (λ (digit : ℕ). digit < q) d ds all) in
-    let whole : d * q ^ length ds + number_of q ds < q ^ length ds * q =
-          mul-add-lt d (q ^ length ds) (number_of q ds) q (All-head (λ (digit : ℕ). digit < q) d ds all) rest in
-    subst (λ n. d * q ^ length ds + number_of q ds < n) (sym (pow-suc q (length ds))) whole
-
-pub digits_of_number : (q : ℕ) (ds : List ℕ) → All (λ digit. digit < q) ds → digits q (length ds) (number_of q ds) ≡ ds
-unfolding number_of digits
-digits_of_number q [] all = refl
-digits_of_number q (d ∷ ds) all =
-    digits_cons q (length ds) d (number_of q ds) (All-head (λ (digit : ℕ). digit < q) d ds all) (number_of-below q ds others)
-    ∙ ap (λ (rest : List ℕ). d ∷ rest) (digits_of_number q ds others)
+pub digits_of_their_number : (q : ℕ) (ds : List ℕ) → All (λ digit. digit < q) ds → digits q (length ds) (number_with_digits q ds) ≡ ds
+unfolding number_with_digits digits
+digits_of_their_number q [] all = refl
+digits_of_their_number q (d ∷ ds) all =
+    digits_cons q (length ds) d (number_with_digits q ds) (All-head (λ (digit : ℕ). digit < q) d ds all) (number_with_digits-below q ds others)
+    ∙ ap (λ (rest : List ℕ). d ∷ rest) (digits_of_their_number q ds others)
   where
     others : All (λ digit. digit < q) ds
     others = All-tail (λ (digit : ℕ). digit < q) d ds all
@@ -75,17 +70,17 @@ leading_digit q m x positive small = (
   div-add-mod' x (q ^ m),
 )
 
-pub number_of_digits : (q m x : ℕ) → 0 < q → x < q ^ m → number_of q (digits q m x) ≡ x
-unfolding number_of digits
-number_of_digits q zero x positive small = omega (arith, pow-zero q)
-number_of_digits q (suc m) x positive small =
+pub number_of_its_digits : (q m x : ℕ) → 0 < q → x < q ^ m → number_with_digits q (digits q m x) ≡ x
+unfolding number_with_digits digits
+number_of_its_digits q zero x positive small = omega (arith, pow-zero q)
+number_of_its_digits q (suc m) x positive small =
     let parts = leading_digit q m x positive small in
-    ap (λ n. number_of q (digits q (suc m) n)) (sym parts.2)
-    ∙ ap (number_of q) (digits_cons q m (x / q ^ m) (x % q ^ m) parts.0 parts.1)
-    ∙ ap₂ (λ (a b : ℕ). x / q ^ m * q ^ a + b) (digits_length q m (x % q ^ m)) (number_of_digits q m (x % q ^ m) positive parts.1)
+    ap (λ n. number_with_digits q (digits q (suc m) n)) (sym parts.2)
+    ∙ ap (number_with_digits q) (digits_cons q m (x / q ^ m) (x % q ^ m) parts.0 parts.1)
+    ∙ ap₂ (λ (a b : ℕ). x / q ^ m * q ^ a + b) (digits_length q m (x % q ^ m)) (number_of_its_digits q m (x % q ^ m) positive parts.1)
     ∙ parts.2
 
 -- two numbers below q^m with the same digits are the same
 pub digits_are_injective : (q m x y : ℕ) → 0 < q → x < q ^ m → y < q ^ m → digits q m x ≡ digits q m y → x ≡ y
 digits_are_injective q m x y positive x_small y_small same =
-    sym (number_of_digits q m x positive x_small) ∙ ap (number_of q) same ∙ number_of_digits q m y positive y_small
+    sym (number_of_its_digits q m x positive x_small) ∙ ap (number_with_digits q) same ∙ number_of_its_digits q m y positive y_small

@@ -46,3 +46,4 @@ pub mod ListExtended
 pub mod SectionChains
 pub mod Digits
 pub mod PointFilters
+pub mod PointLists
