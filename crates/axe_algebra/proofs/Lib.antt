@@ -47,3 +47,4 @@ pub mod SectionChains
 pub mod Digits
 pub mod PointFilters
 pub mod PointLists
+pub mod PointMembers
