@@ -48,3 +48,4 @@ pub mod Digits
 pub mod PointFilters
 pub mod PointLists
 pub mod PointMembers
+pub mod PointSpans
