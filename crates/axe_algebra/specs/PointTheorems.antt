@@ -50,6 +50,10 @@ CoordinatesAscend = (q m i j : ℕ) → 2 ≤ q → i < j → j < length (point_
 abbrev pub CoordinatesAreCounted : Type 0
 CoordinatesAreCounted = (q m : ℕ) → 2 ≤ q → length (point_coordinates q m) * (q - 1) + 1 ≡ q ^ m
 
+-- a space of a larger dimension has no fewer
+abbrev pub CoordinatesGrow : Type 0
+CoordinatesGrow = (q m n : ℕ) → 2 ≤ q → m ≤ n → length (point_coordinates q m) ≤ length (point_coordinates q n)
+
 -- ---- points
 
 -- v is a vector of length n of the basis' span, other than zero
