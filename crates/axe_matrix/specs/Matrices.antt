@@ -7,7 +7,7 @@ use Rattle.axe_field.specs.NumberFields.{number_field}
 use Rattle.axe_row.specs.Rows.{RowValue}
 use Rattle.axe_row.specs.declared.refusals.Refusal.{Refusal}
 use Rattle.axe_row.specs.declared.refusals.Refusal.TheVariants.{FieldsDiffer, ShapesDiffer, NoRows}
-use Rattle.axe_matrix.specs.declared.TheConstants.{MAX_ROWS, MAX_COLUMNS}
+use Rattle.axe_matrix.specs.Limits.{most_rows, most_columns}
 
 -- a matrix: the order of its field, how many columns it has, and the list of its rows, each the list of its entries'
 -- numbers (any linear algebra text)
@@ -20,8 +20,8 @@ pub record MatrixValue : Type 0 where
 -- is an element of the field
 pub record IsMatrix (m : MatrixValue) : Type 0 where
   pub some_column : 1 ≤ m.cols
-  pub columns_fit : m.cols ≤ MAX_COLUMNS
-  pub rows_fit : length m.rows ≤ MAX_ROWS
+  pub columns_fit : m.cols ≤ most_columns
+  pub rows_fit : length m.rows ≤ most_rows
   pub row_lengths : All (λ row. length row ≡ m.cols) m.rows
   pub elements : All (All (IsElement m.order)) m.rows
 
