@@ -4,7 +4,7 @@ use Rattle.std.specs.List.{concat}
 use Rattle.std.specs.Int.Digits.{number_from_digits}
 use Rattle.axe_field.specs.Order.{Order, order_number}
 use Rattle.axe_matrix.specs.Matrices.{MatrixValue, IsMatrix}
-use Rattle.axe_matrix.specs.declared.TheConstants.{MAX_ROWS, MAX_COLUMNS}
+use Rattle.axe_matrix.specs.Limits.{most_rows, most_columns}
 use Rattle.axe_file.specs.declared.fault.FileFault.{FileFault}
 use Rattle.axe_file.specs.declared.fault.FileFault.TheVariants.{BadField, BadRows, BadCols, BadHeader, BadMode, BadDigit, TooFewDigits, TrailingText}
 
@@ -138,9 +138,9 @@ pub record HasBadHeader (bytes : List ℕ) (k : ℕ) : Type 0 where
 pub record IsAllowed (bytes : List ℕ) (h : Headed bytes) (o : Order) : Type 0 where
   pub mode : h.mode ≡ 1
   pub order : order_number o ≡ h.order
-  pub rows : h.rows ≤ MAX_ROWS
+  pub rows : h.rows ≤ most_rows
   pub some_column : 1 ≤ h.columns
-  pub columns : h.columns ≤ MAX_COLUMNS
+  pub columns : h.columns ≤ most_columns
 
 -- each byte is white space or the digit of an element
 abbrev pub AreDigits : ℕ → List ℕ → Type 0
@@ -162,9 +162,9 @@ abbrev pub IsTextFault : List ℕ → FileFault → Type 0
 IsTextFault bytes (BadHeader k) = HasBadHeader bytes k
 IsTextFault bytes BadMode = (h : Headed bytes) × (h.mode ≢ 1)
 IsTextFault bytes BadField = (h : Headed bytes) × (h.mode ≡ 1) × ((o : Order) → order_number o ≢ h.order)
-IsTextFault bytes BadRows = (h : Headed bytes) × (o : Order) × (h.mode ≡ 1) × (order_number o ≡ h.order) × (MAX_ROWS < h.rows)
+IsTextFault bytes BadRows = (h : Headed bytes) × (o : Order) × (h.mode ≡ 1) × (order_number o ≡ h.order) × (most_rows < h.rows)
 IsTextFault bytes BadCols =
-    (h : Headed bytes) × (o : Order) × (h.mode ≡ 1) × (order_number o ≡ h.order) × (h.rows ≤ MAX_ROWS) × ((h.columns ≡ 0) ⊎ (MAX_COLUMNS < h.columns))
+    (h : Headed bytes) × (o : Order) × (h.mode ≡ 1) × (order_number o ≡ h.order) × (h.rows ≤ most_rows) × ((h.columns ≡ 0) ⊎ (most_columns < h.columns))
 IsTextFault bytes (BadDigit k) =
     (h : Headed bytes) × (o : Order) × (count : ℕ) × (byte : ℕ) × IsAllowed bytes h o × StandsAfter bytes h k count byte × (count < h.rows * h.columns) × (IsTrue (is_element_digit h.order byte) → ⊥)
 IsTextFault bytes TooFewDigits =

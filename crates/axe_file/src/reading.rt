@@ -4,7 +4,7 @@ ghost use Rattle.std.specs.Prelude.{◌≡◌, ◌+◌, ◌<◌, ◌≤◌, [], 
 ghost use Rattle.std.specs.List.{flat_map, range_with_len};
 ghost use Rattle.std.specs.Int.{w32, from_le_bytes};
 ghost use Rattle.axe_matrix.specs.Matrices.{MatrixValue, IsMatrix};
-ghost use Rattle.axe_matrix.specs.declared.TheConstants.{MAX_ROWS};
+ghost use Rattle.axe_matrix.specs.Limits.{most_rows};
 ghost use Rattle.axe_file.specs.Marks.{bytes_per_row, row_marks};
 ghost use Rattle.axe_file.specs.Packed.{packed, packed_fault, unpacked, header_faults, data_faults, byte_faults, header_rows, data_length};
 ghost use Rattle.axe_file.specs.Headers.{Says};
@@ -23,7 +23,7 @@ use std::alloc::Global;
 struct Header {
     rows: usize,
     layout: Layout,
-    ghost rows_fit: { rows ≤ MAX_ROWS },
+    ghost rows_fit: { rows ≤ most_rows },
 }
 
 /// The matrix that the bytes spell in the packed form. The answer is the first fault of the bytes, whatever the memory;

@@ -2,7 +2,7 @@
 
 ghost use Rattle.std.specs.Prelude.{◌≡◌, ℕ, ◌+◌, ◌-◌, ◌*◌, ◌<◌, ◌≤◌, None, Some, length, drop, map, filter, ◌++◌, All, IsTrue, IfOk, IfErr, MatchResult, ◌⊎◌};
 ghost use Rattle.axe_field.specs.Order.{order_number};
-ghost use Rattle.axe_matrix.specs.declared.TheConstants.{MAX_ROWS, MAX_COLUMNS};
+ghost use Rattle.axe_matrix.specs.Limits.{most_rows, most_columns};
 ghost use Rattle.axe_matrix.specs.Matrices.{MatrixValue, IsMatrix};
 ghost use Rattle.axe_file.specs.Answers.{Answers};
 ghost use Rattle.axe_file.specs.TextGrammar.{is_dark, digit_value, is_element_digit, IsTextOf, IsTextFault};
@@ -106,9 +106,9 @@ fn matrix_of_digits(
     bytes: &[u8],
     start: usize,
 ) -> Result<Matrix, FileFault>
-    requires rows_fit { rows ≤ MAX_ROWS }
+    requires rows_fit { rows ≤ most_rows }
     requires some_column { 1 ≤ columns }
-    requires columns_fit { columns ≤ MAX_COLUMNS }
+    requires columns_fit { columns ≤ most_columns }
     requires within { start ≤ length bytes.now }
     requires elements { All (λ byte. IsTrue (is_element_digit (order_number field) byte)) (filter is_dark (drop start bytes.now)) }
     requires enough { rows * columns ≤ length (filter is_dark (drop start bytes.now)) }

@@ -2,7 +2,7 @@
 
 ghost use Rattle.std.specs.Prelude.{◌≡◌, ◌≤◌, ◌++◌, length, All, IfOk, OnOk, IfErr};
 ghost use Rattle.axe_field.specs.Order.{IsElement};
-ghost use Rattle.axe_matrix.specs.declared.TheConstants.{MAX_ROWS, MAX_COLUMNS};
+ghost use Rattle.axe_matrix.specs.Limits.{most_rows, most_columns};
 ghost use Rattle.axe_file.specs.Packed.{packed, packed_header, packed_row};
 ghost use Rattle.axe_file.specs.declared.fault.FileFault.TheVariants.{Memory};
 
@@ -28,7 +28,7 @@ pub fn write_packed(alloc: Global, matrix: &Matrix) -> Result<Vec<u8>, FileFault
 
 /// Appends the header of a matrix.
 fn put_header(bytes: &mut Vec<u8>, layout: &Layout, rows: usize) -> Result<(), AllocError>
-    requires { rows ≤ MAX_ROWS }
+    requires { rows ≤ most_rows }
     ensures { OnOk result (bytes.new.items ≡ bytes.old.items ++ packed_header layout.now.field rows layout.now.columns) }
 {
     bytes.extend_from_slice(&MAGIC)?;
