@@ -14,7 +14,8 @@ use Rattle.axe_file.specs.declared.fault.FileFault.TheVariants.{ShortHeader, Bad
 
 -- ---- the spelling of a matrix
 
--- the header: the magic bytes, the order, three zeros, and the numbers of rows and columns, each as 4 bytes, low byte first
+-- the header: the magic bytes, the order, three zeros, and the numbers of rows and columns, each as 4 bytes, low byte
+-- first
 unfoldable pub packed_header : Order → ℕ → ℕ → List ℕ
 packed_header o rows columns =
     codes "AXP1" ++ (order_number o ∷ 0 ∷ 0 ∷ 0 ∷ []) ++ to_le_bytes w32 rows ++ to_le_bytes w32 columns

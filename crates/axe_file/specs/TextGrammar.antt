@@ -46,7 +46,8 @@ pub record IsNumeral (bytes : List ℕ) : Type 0 where
 unfoldable pub numeral_value : List ℕ → ℕ
 numeral_value bytes = number_from_digits 10 (map digit_value bytes)
 
--- what a header is made of: white space, perhaps none; white space, at least one byte; a word, letter by letter; a numeral
+-- what a header is made of: white space, perhaps none; white space, at least one byte; a word, letter by letter; a
+-- numeral
 pub data Part : Type 0 where
   Space : Part
   Gap : Part
@@ -100,8 +101,8 @@ pub record Headed (bytes : List ℕ) : Type 0 where
 
 -- ---- texts
 
--- the bytes are a text of the matrix: a header of mode 1 that names its field and its shape, then white space or the end;
--- and what comes after the header other than white space is the digits of the entries, row after row
+-- the bytes are a text of the matrix: a header of mode 1 that names its field and its shape, then white space or the
+-- end; and what comes after the header other than white space is the digits of the entries, row after row
 pub record IsTextOf (bytes : List ℕ) (m : MatrixValue) : Type 0 where
   pub begins : Headed bytes
   pub mode : begins.mode ≡ 1
@@ -126,8 +127,8 @@ pub record IsBeginning (bytes : List ℕ) : Type 0 where
   pub is_header : IsHeader header mode order rows columns
   pub is_space : IsTrue (is_white white)
 
--- no whole header, and k is the least offset such that the first k + 1 bytes are no beginning of a header that is followed
--- by white space; where the input ends before that, k is its length
+-- no whole header, and k is the least offset such that the first k + 1 bytes are no beginning of a header that is
+-- followed by white space; where the input ends before that, k is its length
 pub record HasBadHeader (bytes : List ℕ) (k : ℕ) : Type 0 where
   pub no_header : Headed bytes → ⊥
   pub within : k ≤ length bytes
@@ -146,7 +147,7 @@ pub record IsAllowed (bytes : List ℕ) (h : Headed bytes) (o : Order) : Type 0 
 abbrev pub AreDigits : ℕ → List ℕ → Type 0
 AreDigits order bytes = All (λ byte. IsTrue (is_white byte || is_element_digit order byte)) bytes
 
--- after an allowed header, k is the offset of a byte before which stand white space and digits of elements, so many of
+-- after a header, k is the offset of a byte before which stand white space and digits of elements, so many of
 -- these, and the byte is no white space
 pub record StandsAfter (bytes : List ℕ) (h : Headed bytes) (k count byte : ℕ) : Type 0 where
   pub before : List ℕ

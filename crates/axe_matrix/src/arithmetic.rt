@@ -12,7 +12,8 @@ impl Matrix {
     /// The sum of this matrix and another, entry by entry. Two matrices over different fields are refused as
     /// FieldsDiffer, and else two of different shapes as ShapesDiffer.
     pub fn add(&self, alloc: Global, other: &Matrix) -> Result<Matrix, Refusal>
-        ensures sum { Answers (sum_refusal self.now other.now) (λ sum. sum ≡ sum_of_matrices self.now other.now) result }
+        ensures sum { Answers (sum_refusal self.now other.now)
+            (λ sum. sum ≡ sum_of_matrices self.now other.now) result }
         ensures well_formed { IfOk result IsMatrix }
     {
         if self.field() != other.field() {
@@ -30,8 +31,8 @@ impl Matrix {
         Ok(sum)
     }
 
-    /// The transpose: its entry i, j is entry j, i of this matrix. A matrix without rows is refused as NoRows, since its
-    /// transpose had no columns.
+    /// The transpose: its entry i, j is entry j, i of this matrix. A matrix without rows is refused as NoRows, since
+    /// its transpose had no columns.
     pub fn transpose(&self, alloc: Global) -> Result<Matrix, Refusal>
         ensures transpose { Answers (transpose_refusal self.now)
             (λ transpose. transpose ≡ transposed_matrix self.now) result }

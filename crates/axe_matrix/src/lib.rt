@@ -78,6 +78,7 @@ impl Matrix {
         ensures same_columns { self.new.cols ≡ self.old.cols }
         ensures well_formed { IsMatrix self.new }
     {
+        // `len` is called for what it ensures beside the length: that the row's entries are elements of its field.
         prove!(row.len() == self.cols);
         self.rows.push(row).map_err(|failed| failed.value)
     }
@@ -95,9 +96,9 @@ impl Matrix {
         self.push_row(row).map_err(|_| Refusal::Memory)
     }
 
-    /// The product of this matrix and another: its entry i, j is the sum over t of entry i, t of this matrix times entry
-    /// t, j of the other. Two matrices over different fields are refused as FieldsDiffer, and else two of which the
-    /// first has not as many columns as the second has rows as ShapesDiffer.
+    /// The product of this matrix and another: its entry i, j is the sum over t of entry i, t of this matrix times
+    /// entry t, j of the other. Two matrices over different fields are refused as FieldsDiffer, and else two of which
+    /// the first has not as many columns as the second has rows as ShapesDiffer.
     pub fn mul(&self, alloc: Global, other: &Matrix) -> Result<Matrix, Refusal>
         ensures product { Answers (product_refusal self.now other.now)
             (λ product. product ≡ matrix_product self.now other.now) result }
