@@ -65,7 +65,8 @@ IsPart Numeral bytes values = IsNumeral bytes × (values ≡ numeral_value bytes
 abbrev pub AreParts : List Part → List ℕ → List ℕ → Type 0
 AreParts [] bytes values = (bytes ≡ []) × (values ≡ [])
 AreParts (part ∷ parts) bytes values =
-    (first : List ℕ) × (rest : List ℕ) × (own : List ℕ) × (others : List ℕ) × (bytes ≡ first ++ rest) × (values ≡ own ++ others) × IsPart part first own × AreParts parts rest others
+    (first : List ℕ) × (rest : List ℕ) × (own : List ℕ) × (others : List ℕ) × (bytes ≡ first ++ rest)
+    × (values ≡ own ++ others) × IsPart part first own × AreParts parts rest others
 
 -- a header of four numerals: MODE Q ROWS COLS
 unfoldable pub plain_form : List Part
@@ -163,13 +164,18 @@ abbrev pub IsTextFault : List ℕ → FileFault → Type 0
 IsTextFault bytes (BadHeader k) = HasBadHeader bytes k
 IsTextFault bytes BadMode = (h : Headed bytes) × (h.mode ≢ 1)
 IsTextFault bytes BadField = (h : Headed bytes) × (h.mode ≡ 1) × ((o : Order) → order_number o ≢ h.order)
-IsTextFault bytes BadRows = (h : Headed bytes) × (o : Order) × (h.mode ≡ 1) × (order_number o ≡ h.order) × (most_rows < h.rows)
+IsTextFault bytes BadRows = (h : Headed bytes) × (o : Order) × (h.mode ≡ 1) × (order_number o ≡ h.order)
+    × (most_rows < h.rows)
 IsTextFault bytes BadCols =
-    (h : Headed bytes) × (o : Order) × (h.mode ≡ 1) × (order_number o ≡ h.order) × (h.rows ≤ most_rows) × ((h.columns ≡ 0) ⊎ (most_columns < h.columns))
+    (h : Headed bytes) × (o : Order) × (h.mode ≡ 1) × (order_number o ≡ h.order) × (h.rows ≤ most_rows)
+    × ((h.columns ≡ 0) ⊎ (most_columns < h.columns))
 IsTextFault bytes (BadDigit k) =
-    (h : Headed bytes) × (o : Order) × (count : ℕ) × (byte : ℕ) × IsAllowed bytes h o × StandsAfter bytes h k count byte × (count < h.rows * h.columns) × (IsTrue (is_element_digit h.order byte) → ⊥)
+    (h : Headed bytes) × (o : Order) × (count : ℕ) × (byte : ℕ) × IsAllowed bytes h o
+    × StandsAfter bytes h k count byte × (count < h.rows * h.columns) × (IsTrue (is_element_digit h.order byte) → ⊥)
 IsTextFault bytes TooFewDigits =
-    (h : Headed bytes) × (o : Order) × IsAllowed bytes h o × AreDigits h.order h.rest × (length (filter is_dark h.rest) < h.rows * h.columns)
+    (h : Headed bytes) × (o : Order) × IsAllowed bytes h o × AreDigits h.order h.rest
+    × (length (filter is_dark h.rest) < h.rows * h.columns)
 IsTextFault bytes (TrailingText k) =
-    (h : Headed bytes) × (o : Order) × (byte : ℕ) × IsAllowed bytes h o × StandsAfter bytes h k (h.rows * h.columns) byte
+    (h : Headed bytes) × (o : Order) × (byte : ℕ) × IsAllowed bytes h o
+    × StandsAfter bytes h k (h.rows * h.columns) byte
 IsTextFault bytes _ = ⊥

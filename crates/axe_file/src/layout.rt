@@ -81,7 +81,8 @@ impl Layout {
         requires elements { All (IsElement self.now.field) row.now.entries }
         requires columns { length row.now.entries ≡ self.now.columns }
         requires place { place < bytes_per_row self.now.field self.now.columns }
-        ensures { result ≡ byte_with_marks self.now.field (λ j. slice_index row.now.entries (place * marks_per_byte self.now.field + j)) }
+        ensures { result ≡ byte_with_marks self.now.field
+            (λ j. slice_index row.now.entries (place * marks_per_byte self.now.field + j)) }
     {
         let order = self.field.order();
         let mut byte = 0;

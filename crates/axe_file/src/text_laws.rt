@@ -11,7 +11,8 @@ ghost use Rattle.axe_file.specs.Limits.{most_text_bytes};
 /// Reading from left to right finds the first fault of bytes, and none exactly where they are a text of a matrix.
 pub fn text_faults_are_first()
     ensures fault { (bytes : List ℕ) (fault : FileFault) → text_fault bytes ≡ Some fault → IsTextFault bytes fault }
-    ensures only_fault { (bytes : List ℕ) (fault : FileFault) → IsTextFault bytes fault → text_fault bytes ≡ Some fault }
+    ensures only_fault { (bytes : List ℕ) (fault : FileFault) → IsTextFault bytes fault →
+        text_fault bytes ≡ Some fault }
     ensures text { (bytes : List ℕ) → text_fault bytes ≡ None → IsTextOf bytes (text_matrix bytes) }
     ensures faultless { (bytes : List ℕ) (m : MatrixValue) → IsTextOf bytes m → text_fault bytes ≡ None }
 {}

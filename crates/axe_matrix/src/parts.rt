@@ -84,6 +84,7 @@ fn part_of_row(alloc: Global, row: &Row, start: usize, len: usize) -> Result<Row
     requires { start + len ≤ length row.now.entries }
     ensures { Answers None (λ part. part ≡ part_of row.now start len) result }
 {
+    // `len` is called for what it ensures: that the row has no more entries than an index counts.
     prove!(len <= row.len());
     let mut part = Row::zero(alloc, *row.field(), len)?;
     for index in 0..len {
