@@ -6,7 +6,8 @@ use Rattle.axe_algebra.specs.Spans.{InSpan}
 use Rattle.axe_algebra.specs.Reduced.{IsPivot, IsAscendingListOf}
 use Rattle.axe_algebra.specs.Modules.{Module, image}
 
--- A is the sub action on k independent rows b: b_t g = sum over s of A[t][s] b_s, for each generator g
+-- A is a sub action on the k rows of b: b_t g = sum over s of A[t][s] b_s, for each generator g. Where the rows are
+-- independent there is at most one; that they are is not said here
 pub record IsSubAction (F : Field) (M : Module F) (k : ℕ) (b : Matrix F) (A : Module F) : Type 0 where
   pub dimension : A.dimension ≡ k
   pub count : A.count ≡ M.count

@@ -36,7 +36,7 @@ combination_entry K v b n j = number_sum K (λ t. K.mul (get_or v t 0) (entry b 
 unfoldable pub combination : NumberField → ℕ → List ℕ → List (List ℕ) → List ℕ
 combination K columns v b = listed columns (combination_entry K v b (length b))
 
--- b is the inverse of the square matrix a of n rows: a b = b a = 1
+-- a b = b a = 1, the identity of n rows: where both are square of n rows, b is the inverse of a
 pub record IsInverse (K : NumberField) (n : ℕ) (a b : List (List ℕ)) : Type 0 where
   pub right : product K n a b ≡ identity n
   pub left : product K n b a ≡ identity n

@@ -1,3 +1,4 @@
+pub mod Limits
 pub mod Commands
 pub mod Counts
 pub mod Names

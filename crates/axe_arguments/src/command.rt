@@ -2,8 +2,8 @@
 use crate::count::GeneratorCount;
 use crate::name::Name;
 
-/// One command of `axe` with its files. Files lie in the working directory, and are packed matrices where nothing else is
-/// said.
+/// One command of `axe` with its files. Files lie in the working directory, and are packed matrices where nothing
+/// else is said.
 #[derive(Debug, Drop)]
 pub enum Command {
     /// `zcv IN OUT`: converts the text of a matrix to its packed form.
@@ -59,13 +59,13 @@ pub enum Command {
         /// The file that the reduced basis of the null space is written to, which may be the matrix's own.
         out: Name,
     },
-    /// `zsp [-g N] [-b] [-a ACT] NAME SEED OUT`: spins vectors in a module. The module's generators are the files NAME.1 to
-    /// NAME.N.
+    /// `zsp [-g N] [-b] [-a ACT] NAME SEED OUT`: spins vectors in a module. The module's generators are the files
+    /// NAME.1 to NAME.N.
     Zsp {
         /// How many generators there are.
         generators: GeneratorCount,
-        /// Whether the standard basis of the first vector other than zero is asked for, in the place of the reduced basis
-        /// of the space that all vectors generate.
+        /// Whether the standard basis of the first vector other than zero is asked for, in the place of the reduced
+        /// basis of the space that all vectors generate.
         standard: bool,
         /// The name before the numbers of the files that the action on these rows is written to, where it is asked for.
         action: Option<Name>,
@@ -76,8 +76,8 @@ pub enum Command {
         /// The file that the rows are written to.
         out: Name,
     },
-    /// `zqt [-g N] SUB NAME OUTNAME`: gives the action of a module modulo an invariant space. The module's generators are the
-    /// files NAME.1 to NAME.N.
+    /// `zqt [-g N] SUB NAME OUTNAME`: gives the action of a module modulo an invariant space. The module's generators
+    /// are the files NAME.1 to NAME.N.
     Zqt {
         /// How many generators there are.
         generators: GeneratorCount,

@@ -2,6 +2,7 @@
 ghost use Rattle.std.specs.Prelude.{◌≡◌, ◌↔◌, true, false, IfOk};
 ghost use Rattle.axe_arguments.specs.Names.{is_sign, is_name_byte, is_name};
 
+use crate::MAX_NAME_BYTES;
 use std::alloc::{AllocError, Global};
 use std::marker::Model;
 use thiserror::Error;
@@ -30,8 +31,9 @@ impl From<AllocError> for NameFault {
 
 /// The name of a file in the working directory.
 ///
-/// It has 1 to 100 bytes, each an ASCII letter or digit or one of `.`, `_`, `-` and `+`, and it begins with a letter or
-/// a digit. So a name is never a path, and never looks like an option. Contracts see a name as its bytes.
+/// It has 1 to [`MAX_NAME_BYTES`] bytes, each an ASCII letter or digit or one of `.`, `_`, `-` and `+`, and it begins
+/// with a letter or a digit. So a name is never a path, and never looks like an option. Contracts see a name as its
+/// bytes.
 #[derive(Debug, Drop)]
 pub struct Name {
     text: String,
@@ -81,24 +83,24 @@ impl Name {
     }
 }
 
-// Whether the text keeps the rule of names.
+/// Whether the text keeps the rule of names.
 fn is_name(text: &str) -> bool
     ensures { result ≡ is_name text.now }
 {
     let bytes = text.as_bytes();
-    matches!(bytes.len(), 1..=100)
+    matches!(bytes.len(), 1..=MAX_NAME_BYTES)
         && !is_sign(bytes[0])
         && bytes.iter().all(|&byte| is_name_byte(byte))
 }
 
-// Whether a name may contain the byte.
+/// Whether a name may contain the byte.
 fn is_name_byte(byte: u8) -> bool
     ensures { result ≡ is_name_byte byte }
 {
     byte.is_ascii_alphanumeric() || is_sign(byte)
 }
 
-// Whether the byte is a sign, which a name may contain but not begin with.
+/// Whether the byte is a sign, which a name may contain but not begin with.
 fn is_sign(byte: u8) -> bool
     ensures { result ≡ is_sign byte }
 {

@@ -6,4 +6,4 @@
 
 pub use axe_execute::{Fault, Shown, execute, line, status};
 pub use axe_parse::{ParseFault, parse};
-pub use axe_arguments::{Command, Name, NameFault};
+pub use axe_arguments::{Command, GeneratorCount, Name, NameFault};

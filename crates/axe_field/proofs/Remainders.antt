@@ -1,5 +1,5 @@
 -- The product of two elements is the remainder of the product of their polynomials: the quotients are computed.
-use Rattle.std.proofs.Common.{◌≡◌, ℕ, Bool, true, eqb, List, [], ◌∷◌, refl, slice_index_or}
+use Rattle.std.proofs.Common.{◌≡◌, ℕ, ◌<◌, Bool, true, eqb, List, [], ◌∷◌, length, refl, arith, slice_index_or}
 use Rattle.std.proofs.lemmas.Bool.{eqb-true}
 use Rattle.axe_field.specs.Order.{Order, Two, Three, Four, Five, Seven, Eight, Nine, prime_of, degree_of, conway, IsElement}
 use Rattle.axe_field.specs.Arithmetic.{coefficients, number_of, polynomial_sum, polynomial_multiple, polynomial_negative, polynomial_product, without_leading, polynomial_remainder, polynomial_of, field_mul, IsRemainder}
@@ -33,8 +33,20 @@ divides-all Seven = refl
 divides-all Eight = refl
 divides-all Nine = refl
 
+-- an element's polynomial has fewer coefficients than the Conway polynomial
+polynomial_is_short : (o : Order) (a : ℕ) → length (polynomial_of o a) < length (conway o)
+unfolding coefficients polynomial_of
+polynomial_is_short Two a = omega arith
+polynomial_is_short Three a = omega arith
+polynomial_is_short Four a = omega arith
+polynomial_is_short Five a = omega arith
+polynomial_is_short Seven a = omega arith
+polynomial_is_short Eight a = omega arith
+polynomial_is_short Nine a = omega arith
+
 pub product_is_remainder : (o : Order) (a b : ℕ) → IsElement o a → IsElement o b →
     IsRemainder (prime_of o) (polynomial_product (prime_of o) (polynomial_of o a) (polynomial_of o b)) (conway o)
     (polynomial_of o (field_mul o a b))
 unfolding divides product_of
-product_is_remainder o a b ha hb = (quotient_of o a b, eqb-true _ _ (from_two divides o (divides-all o) a b ha hb))
+product_is_remainder o a b ha hb =
+    (polynomial_is_short o (field_mul o a b), (quotient_of o a b, eqb-true _ _ (from_two divides o (divides-all o) a b ha hb)))

@@ -1,7 +1,8 @@
 -- The arithmetic of a finite field on the numbers of its elements. An element of the field of order p^n is a polynomial
 -- of degree below n over the integers modulo p; the operations are those of polynomials modulo the Conway polynomial. A
 -- polynomial is the list of its coefficients, the constant one first, and an element's number has them as its digits.
-use Rattle.std.specs.Prelude.{◌≡◌, ℕ, zero, suc, ◌+◌, ◌-◌, ◌*◌, ◌/◌, ◌%◌, ◌==◌, List, [], ◌∷◌, map, take, find, unwrap_or, slice_index}
+use Rattle.std.specs.Prelude.{◌≡◌, ℕ, zero, suc, ◌+◌, ◌-◌, ◌*◌, ◌/◌, ◌%◌, ◌<◌, ◌==◌}
+use Rattle.std.specs.Prelude.{List, [], ◌∷◌, length, map, take, find, unwrap_or, slice_index}
 use Rattle.std.specs.List.{range_with_len}
 use Rattle.axe_field.specs.Order.{Order, order_number, prime_of, degree_of, conway}
 
@@ -68,8 +69,9 @@ field_mul o a b =
 unfoldable pub field_inv : Order → ℕ → ℕ
 field_inv o a = unwrap_or (find (λ b. field_mul o a b == 1) (range_with_len 0 (order_number o))) 0
 
--- r is a remainder of f by m: f is a multiple of m plus r (polynomials are compared by their numbers, since a list may
--- end with zeros)
+-- r is the remainder of f by m: it has fewer coefficients than m, so that its degree is below m's where m's last one is
+-- not 0, and f is a multiple of m plus r (polynomials are compared by their numbers, since a list may end with zeros)
 abbrev pub IsRemainder : ℕ → List ℕ → List ℕ → List ℕ → Type 0
 IsRemainder p f m r =
-    (g : List ℕ) × (number_of p f ≡ number_of p (polynomial_sum p (polynomial_product p g m) r))
+    (length r < length m)
+    × ((g : List ℕ) × (number_of p f ≡ number_of p (polynomial_sum p (polynomial_product p g m) r)))

@@ -4,7 +4,7 @@ use Rattle.std.specs.Prelude.{slice_get, IfOk, IfErr}
 use Rattle.std.specs.List.{flat_map, find, range_with_len}
 use Rattle.std.proofs.lemmas.Bool.{cases_eq, lt-ltb, le-ltb, le-leb, lt-leb, ne_eqb, eq-eqb, or_left, or_right, not_from_false}
 use Rattle.axe_field.specs.Order.{Order, Two, Three, Four, Five, Seven, Eight, Nine, order_number}
-use Rattle.axe_matrix.specs.declared.TheConstants.{MAX_ROWS, MAX_COLUMNS}
+use Rattle.axe_matrix.specs.Limits.{most_rows, most_columns}
 use Rattle.axe_matrix.specs.Matrices.{MatrixValue, IsMatrix}
 use Rattle.axe_file.specs.Marks.{byte_limit}
 use Rattle.axe_file.specs.Packed.{order_with_number, header_order, header_rows, header_columns, data_length, has_other_magic, has_reserved, has_padding, byte_faults, header_faults, data_faults, packed_fault, packed, unpacked}
@@ -55,25 +55,25 @@ bad_reserved bytes o h magic number reserved =
     rw (long, magic, named_order bytes o number, reserved) refl
 
 pub bad_rows : (bytes : List ℕ) (o : Order) → 16 ≤ length bytes → has_other_magic bytes ≡ false → order_number o ≡ get_or bytes 4 0 → has_reserved bytes ≡ false
-    → MAX_ROWS < header_rows bytes → First (header_faults bytes) BadRows
+    → most_rows < header_rows bytes → First (header_faults bytes) BadRows
 unfolding header_faults
 bad_rows bytes o h magic number reserved rows =
     let long : ltb (length bytes) 16 ≡ false = le-ltb _ _ h in
-    let many : ltb MAX_ROWS (header_rows bytes) ≡ true = lt-ltb _ _ rows in
+    let many : ltb most_rows (header_rows bytes) ≡ true = lt-ltb _ _ rows in
     rw (long, magic, named_order bytes o number, reserved, many) refl
 
 pub bad_columns : (bytes : List ℕ) (o : Order) → 16 ≤ length bytes → has_other_magic bytes ≡ false → order_number o ≡ get_or bytes 4 0 → has_reserved bytes ≡ false
-    → header_rows bytes ≤ MAX_ROWS → (eqb (header_columns bytes) 0 || ltb MAX_COLUMNS (header_columns bytes)) ≡ true → First (header_faults bytes) BadCols
+    → header_rows bytes ≤ most_rows → (eqb (header_columns bytes) 0 || ltb most_columns (header_columns bytes)) ≡ true → First (header_faults bytes) BadCols
 unfolding header_faults
 bad_columns bytes o h magic number reserved rows columns =
     let long : ltb (length bytes) 16 ≡ false = le-ltb _ _ h in
-    let few : ltb MAX_ROWS (header_rows bytes) ≡ false = le-ltb _ _ rows in
+    let few : ltb most_rows (header_rows bytes) ≡ false = le-ltb _ _ rows in
     rw (long, magic, named_order bytes o number, reserved, few, columns) refl
 
-pub no_columns : (bytes : List ℕ) → header_columns bytes ≡ 0 → (eqb (header_columns bytes) 0 || ltb MAX_COLUMNS (header_columns bytes)) ≡ true
+pub no_columns : (bytes : List ℕ) → header_columns bytes ≡ 0 → (eqb (header_columns bytes) 0 || ltb most_columns (header_columns bytes)) ≡ true
 no_columns bytes e = or_left _ _ (eq-eqb _ _ e)
 
-pub many_columns : (bytes : List ℕ) → MAX_COLUMNS < header_columns bytes → (eqb (header_columns bytes) 0 || ltb MAX_COLUMNS (header_columns bytes)) ≡ true
+pub many_columns : (bytes : List ℕ) → most_columns < header_columns bytes → (eqb (header_columns bytes) 0 || ltb most_columns (header_columns bytes)) ≡ true
 many_columns bytes e = or_right _ _ (lt-ltb _ _ e)
 
 nonzero : (n : ℕ) → (n ≡ 0 → ⊥) → not (eqb n 0) ≡ true

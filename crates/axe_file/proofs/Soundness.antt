@@ -3,7 +3,7 @@ use Rattle.std.proofs.Common.{◌≡◌, ℕ, ◌+◌, ◌<◌, ◌≤◌, false
 use Rattle.std.specs.Prelude.{is_none}
 use Rattle.std.specs.List.{flat_map, range_with_len}
 use Rattle.std.proofs.lemmas.Bool.{ltb-false, le-ltb, leb-false, lt-leb, eqb-false, ne_eqb}
-use Rattle.axe_matrix.specs.declared.TheConstants.{MAX_ROWS, MAX_COLUMNS}
+use Rattle.axe_matrix.specs.Limits.{most_rows, most_columns}
 use Rattle.axe_file.specs.Marks.{byte_limit}
 use Rattle.axe_file.specs.Packed.{order_with_number, header_order, header_rows, header_columns, data_length, has_other_magic, has_reserved, has_padding, byte_faults, header_faults, data_faults, packed_fault, fault_where}
 use Rattle.axe_file.specs.declared.fault.FileFault.TheVariants.{ShortHeader, BadMagic, BadField, BadReserved, BadRows, BadCols, Truncated, BadByte, BadPadding, TrailingBytes}
@@ -15,9 +15,9 @@ pub record IsHeader (bytes : List ℕ) : Type 0 where
   pub magic : has_other_magic bytes ≡ false
   pub field : is_none (order_with_number (get_or bytes 4 0)) ≡ false
   pub reserved : has_reserved bytes ≡ false
-  pub rows_fit : header_rows bytes ≤ MAX_ROWS
+  pub rows_fit : header_rows bytes ≤ most_rows
   pub some_column : 1 ≤ header_columns bytes
-  pub columns_fit : header_columns bytes ≤ MAX_COLUMNS
+  pub columns_fit : header_columns bytes ≤ most_columns
 
 -- the rules of a byte of the data
 pub record IsSoundAt (bytes : List ℕ) (p : ℕ) : Type 0 where
@@ -34,16 +34,16 @@ unfolding header_faults
 sound_header bytes e =
     let parts = six_parts (fault_where (ltb (length bytes) 16) ShortHeader) (fault_where (has_other_magic bytes) BadMagic)
     (fault_where (is_none (order_with_number (get_or bytes 4 0))) BadField) (fault_where (has_reserved bytes) BadReserved)
-    (fault_where (ltb MAX_ROWS (header_rows bytes)) BadRows)
-    (fault_where (eqb (header_columns bytes) 0 || ltb MAX_COLUMNS (header_columns bytes)) BadCols) e in
-    let columns = or_false (eqb (header_columns bytes) 0) (ltb MAX_COLUMNS (header_columns bytes)) (not_found _ BadCols parts.5) in
+    (fault_where (ltb most_rows (header_rows bytes)) BadRows)
+    (fault_where (eqb (header_columns bytes) 0 || ltb most_columns (header_columns bytes)) BadCols) e in
+    let columns = or_false (eqb (header_columns bytes) 0) (ltb most_columns (header_columns bytes)) (not_found _ BadCols parts.5) in
     let nonzero = eqb-false (header_columns bytes) 0 columns.0 in
     record {
       long = ltb-false _ _ (not_found (ltb (length bytes) 16) ShortHeader parts.0);
       magic = not_found (has_other_magic bytes) BadMagic parts.1;
       field = not_found (is_none (order_with_number (get_or bytes 4 0))) BadField parts.2;
       reserved = not_found (has_reserved bytes) BadReserved parts.3;
-      rows_fit = ltb-false _ _ (not_found (ltb MAX_ROWS (header_rows bytes)) BadRows parts.4);
+      rows_fit = ltb-false _ _ (not_found (ltb most_rows (header_rows bytes)) BadRows parts.4);
       some_column = omega arith;
       columns_fit = ltb-false _ _ columns.1;
     }
@@ -52,9 +52,9 @@ pub header_is_sound : (bytes : List ℕ) → IsHeader bytes → header_faults by
 unfolding header_faults
 header_is_sound bytes h =
     let long : ltb (length bytes) 16 ≡ false = le-ltb _ _ h.long in
-    let rows : ltb MAX_ROWS (header_rows bytes) ≡ false = le-ltb _ _ h.rows_fit in
+    let rows : ltb most_rows (header_rows bytes) ≡ false = le-ltb _ _ h.rows_fit in
     let some : eqb (header_columns bytes) 0 ≡ false = ne_eqb _ _ (λ e. omega (arith, h.some_column)) in
-    let columns : ltb MAX_COLUMNS (header_columns bytes) ≡ false = le-ltb _ _ h.columns_fit in
+    let columns : ltb most_columns (header_columns bytes) ≡ false = le-ltb _ _ h.columns_fit in
     rw (long, h.magic, h.field, h.reserved, rows, some, columns) refl
 
 pub sound_byte : (bytes : List ℕ) (p : ℕ) → byte_faults bytes p ≡ [] → IsSoundAt bytes p

@@ -8,6 +8,7 @@ use Rattle.std.proofs.lemmas.List.{get_or_past}
 use Rattle.std.proofs.lemmas.Nat.{div-add-mod', div_below, mul-le}
 use Rattle.axe_field.specs.Order.{Order, order_number}
 use Rattle.axe_matrix.specs.Matrices.{MatrixValue, IsMatrix}
+use Rattle.axe_file.specs.Limits.{most_packed_bytes}
 use Rattle.axe_file.specs.Marks.{marks_per_byte, byte_limit, byte_with_marks, mark_of, has_unused_mark, bytes_per_row}
 use Rattle.axe_file.specs.Packed.{packed, packed_row, unpacked, order_with_number, header_order, header_columns, row_width, data_length, has_padding, packed_fault}
 use Rattle.axe_file.proofs.Bytes.{byte_below, mark_of_byte, row_is_short, element_at}
@@ -100,7 +101,7 @@ packed_faultless m h =
 
 -- ---- the limit, and matrices with one spelling
 
-pub packed_within : (m : MatrixValue) → IsMatrix m → length (packed m) ≤ 4194304
+pub packed_within : (m : MatrixValue) → IsMatrix m → length (packed m) ≤ most_packed_bytes
 packed_within m h =
     let w = bytes_per_row m.order m.cols in
     let short = row_is_short m.order m.cols in

@@ -12,6 +12,7 @@ use Rattle.std.proofs.lemmas.List.{length-map, map-append, length_push}
 use Rattle.std.proofs.lemmas.List.Elements.{All-nil, All-cons, All-head, All-tail, All-take, All-drop, All-append, filter-append}
 use Rattle.axe_field.specs.Order.{order_number}
 use Rattle.axe_matrix.specs.Matrices.{MatrixValue, IsMatrix}
+use Rattle.axe_file.specs.Limits.{most_text_bytes}
 use Rattle.axe_file.specs.TextGrammar.{is_white, is_dark, is_digit, digit_value, digit_code, IsNumeral, numeral_value, IsPart, AreParts, Space, Gap, named_form, IsTextOf}
 use Rattle.axe_file.specs.TextWriting.{text_header, text_line, text_row, text_of}
 use Rattle.axe_file.proofs.TextDigits.{dark_after_white}
@@ -268,7 +269,7 @@ header_length : (a b c : List ℕ) → length a ≤ 9 → length b ≤ 9 → len
 header_length a b c la lb lc =
     omega (arith, length-append a (codes " rows=" ++ (b ++ (codes " cols=" ++ (c ++ [])))), length-append b (codes " cols=" ++ (c ++ [])), length-append c [])
 
-pub written_text_fits : (m : MatrixValue) → IsMatrix m → length (text_of m) ≤ 16777216
+pub written_text_fits : (m : MatrixValue) → IsMatrix m → length (text_of m) ≤ most_text_bytes
 unfolding header_of
 written_text_fits m h =
     let header : length (header_of (order_number m.order) (length m.rows) m.cols) ≤ 100 =

@@ -1,3 +1,4 @@
+pub mod Limits
 pub mod Marks
 pub mod Packed
 pub mod Headers

@@ -7,14 +7,15 @@ use Rattle.std.specs.Int.{w32, to_le_bytes, from_le_bytes}
 use Rattle.axe_algebra.specs.Lists.{listed, table}
 use Rattle.axe_field.specs.Order.{Order, Two, Three, Four, Five, Seven, Eight, Nine, order_number}
 use Rattle.axe_matrix.specs.Matrices.{MatrixValue}
-use Rattle.axe_matrix.specs.declared.TheConstants.{MAX_ROWS, MAX_COLUMNS}
+use Rattle.axe_matrix.specs.Limits.{most_rows, most_columns}
 use Rattle.axe_file.specs.Marks.{marks_per_byte, byte_limit, byte_with_marks, mark_of, has_unused_mark, bytes_per_row}
 use Rattle.axe_file.specs.declared.fault.FileFault.{FileFault}
 use Rattle.axe_file.specs.declared.fault.FileFault.TheVariants.{ShortHeader, BadMagic, BadField, BadReserved, BadRows, BadCols, Truncated, BadByte, BadPadding, TrailingBytes}
 
 -- ---- the spelling of a matrix
 
--- the header: the magic bytes, the order, three zeros, and the numbers of rows and columns, each as 4 bytes, low byte first
+-- the header: the magic bytes, the order, three zeros, and the numbers of rows and columns, each as 4 bytes, low byte
+-- first
 unfoldable pub packed_header : Order → ℕ → ℕ → List ℕ
 packed_header o rows columns =
     codes "AXP1" ++ (order_number o ∷ 0 ∷ 0 ∷ 0 ∷ []) ++ to_le_bytes w32 rows ++ to_le_bytes w32 columns
@@ -102,8 +103,8 @@ header_faults bytes =
     ++ fault_where (has_other_magic bytes) BadMagic
     ++ fault_where (is_none (order_with_number (slice_index bytes 4))) BadField
     ++ fault_where (has_reserved bytes) BadReserved
-    ++ fault_where (nat_lt MAX_ROWS (header_rows bytes)) BadRows
-    ++ fault_where (header_columns bytes == 0 || nat_lt MAX_COLUMNS (header_columns bytes)) BadCols
+    ++ fault_where (nat_lt most_rows (header_rows bytes)) BadRows
+    ++ fault_where (header_columns bytes == 0 || nat_lt most_columns (header_columns bytes)) BadCols
 
 -- what is wrong with the data: too few bytes, then the bytes in ascending order, then a byte after the last row
 unfoldable pub data_faults : List ℕ → List FileFault

@@ -4,7 +4,7 @@ use Rattle.std.specs.List.{concat}
 use Rattle.std.specs.Int.Digits.{number_from_digits}
 use Rattle.axe_field.specs.Order.{Order, order_number}
 use Rattle.axe_matrix.specs.Matrices.{MatrixValue, IsMatrix}
-use Rattle.axe_matrix.specs.declared.TheConstants.{MAX_ROWS, MAX_COLUMNS}
+use Rattle.axe_matrix.specs.Limits.{most_rows, most_columns}
 use Rattle.axe_file.specs.declared.fault.FileFault.{FileFault}
 use Rattle.axe_file.specs.declared.fault.FileFault.TheVariants.{BadField, BadRows, BadCols, BadHeader, BadMode, BadDigit, TooFewDigits, TrailingText}
 
@@ -46,7 +46,8 @@ pub record IsNumeral (bytes : List ℕ) : Type 0 where
 unfoldable pub numeral_value : List ℕ → ℕ
 numeral_value bytes = number_from_digits 10 (map digit_value bytes)
 
--- what a header is made of: white space, perhaps none; white space, at least one byte; a word, letter by letter; a numeral
+-- what a header is made of: white space, perhaps none; white space, at least one byte; a word, letter by letter; a
+-- numeral
 pub data Part : Type 0 where
   Space : Part
   Gap : Part
@@ -64,7 +65,8 @@ IsPart Numeral bytes values = IsNumeral bytes × (values ≡ numeral_value bytes
 abbrev pub AreParts : List Part → List ℕ → List ℕ → Type 0
 AreParts [] bytes values = (bytes ≡ []) × (values ≡ [])
 AreParts (part ∷ parts) bytes values =
-    (first : List ℕ) × (rest : List ℕ) × (own : List ℕ) × (others : List ℕ) × (bytes ≡ first ++ rest) × (values ≡ own ++ others) × IsPart part first own × AreParts parts rest others
+    (first : List ℕ) × (rest : List ℕ) × (own : List ℕ) × (others : List ℕ) × (bytes ≡ first ++ rest)
+    × (values ≡ own ++ others) × IsPart part first own × AreParts parts rest others
 
 -- a header of four numerals: MODE Q ROWS COLS
 unfoldable pub plain_form : List Part
@@ -100,8 +102,8 @@ pub record Headed (bytes : List ℕ) : Type 0 where
 
 -- ---- texts
 
--- the bytes are a text of the matrix: a header of mode 1 that names its field and its shape, then white space or the end;
--- and what comes after the header other than white space is the digits of the entries, row after row
+-- the bytes are a text of the matrix: a header of mode 1 that names its field and its shape, then white space or the
+-- end; and what comes after the header other than white space is the digits of the entries, row after row
 pub record IsTextOf (bytes : List ℕ) (m : MatrixValue) : Type 0 where
   pub begins : Headed bytes
   pub mode : begins.mode ≡ 1
@@ -126,8 +128,8 @@ pub record IsBeginning (bytes : List ℕ) : Type 0 where
   pub is_header : IsHeader header mode order rows columns
   pub is_space : IsTrue (is_white white)
 
--- no whole header, and k is the least offset such that the first k + 1 bytes are no beginning of a header that is followed
--- by white space; where the input ends before that, k is its length
+-- no whole header, and k is the least offset such that the first k + 1 bytes are no beginning of a header that is
+-- followed by white space; where the input ends before that, k is its length
 pub record HasBadHeader (bytes : List ℕ) (k : ℕ) : Type 0 where
   pub no_header : Headed bytes → ⊥
   pub within : k ≤ length bytes
@@ -138,15 +140,15 @@ pub record HasBadHeader (bytes : List ℕ) (k : ℕ) : Type 0 where
 pub record IsAllowed (bytes : List ℕ) (h : Headed bytes) (o : Order) : Type 0 where
   pub mode : h.mode ≡ 1
   pub order : order_number o ≡ h.order
-  pub rows : h.rows ≤ MAX_ROWS
+  pub rows : h.rows ≤ most_rows
   pub some_column : 1 ≤ h.columns
-  pub columns : h.columns ≤ MAX_COLUMNS
+  pub columns : h.columns ≤ most_columns
 
 -- each byte is white space or the digit of an element
 abbrev pub AreDigits : ℕ → List ℕ → Type 0
 AreDigits order bytes = All (λ byte. IsTrue (is_white byte || is_element_digit order byte)) bytes
 
--- after an allowed header, k is the offset of a byte before which stand white space and digits of elements, so many of
+-- after a header, k is the offset of a byte before which stand white space and digits of elements, so many of
 -- these, and the byte is no white space
 pub record StandsAfter (bytes : List ℕ) (h : Headed bytes) (k count byte : ℕ) : Type 0 where
   pub before : List ℕ
@@ -162,13 +164,18 @@ abbrev pub IsTextFault : List ℕ → FileFault → Type 0
 IsTextFault bytes (BadHeader k) = HasBadHeader bytes k
 IsTextFault bytes BadMode = (h : Headed bytes) × (h.mode ≢ 1)
 IsTextFault bytes BadField = (h : Headed bytes) × (h.mode ≡ 1) × ((o : Order) → order_number o ≢ h.order)
-IsTextFault bytes BadRows = (h : Headed bytes) × (o : Order) × (h.mode ≡ 1) × (order_number o ≡ h.order) × (MAX_ROWS < h.rows)
+IsTextFault bytes BadRows = (h : Headed bytes) × (o : Order) × (h.mode ≡ 1) × (order_number o ≡ h.order)
+    × (most_rows < h.rows)
 IsTextFault bytes BadCols =
-    (h : Headed bytes) × (o : Order) × (h.mode ≡ 1) × (order_number o ≡ h.order) × (h.rows ≤ MAX_ROWS) × ((h.columns ≡ 0) ⊎ (MAX_COLUMNS < h.columns))
+    (h : Headed bytes) × (o : Order) × (h.mode ≡ 1) × (order_number o ≡ h.order) × (h.rows ≤ most_rows)
+    × ((h.columns ≡ 0) ⊎ (most_columns < h.columns))
 IsTextFault bytes (BadDigit k) =
-    (h : Headed bytes) × (o : Order) × (count : ℕ) × (byte : ℕ) × IsAllowed bytes h o × StandsAfter bytes h k count byte × (count < h.rows * h.columns) × (IsTrue (is_element_digit h.order byte) → ⊥)
+    (h : Headed bytes) × (o : Order) × (count : ℕ) × (byte : ℕ) × IsAllowed bytes h o
+    × StandsAfter bytes h k count byte × (count < h.rows * h.columns) × (IsTrue (is_element_digit h.order byte) → ⊥)
 IsTextFault bytes TooFewDigits =
-    (h : Headed bytes) × (o : Order) × IsAllowed bytes h o × AreDigits h.order h.rest × (length (filter is_dark h.rest) < h.rows * h.columns)
+    (h : Headed bytes) × (o : Order) × IsAllowed bytes h o × AreDigits h.order h.rest
+    × (length (filter is_dark h.rest) < h.rows * h.columns)
 IsTextFault bytes (TrailingText k) =
-    (h : Headed bytes) × (o : Order) × (byte : ℕ) × IsAllowed bytes h o × StandsAfter bytes h k (h.rows * h.columns) byte
+    (h : Headed bytes) × (o : Order) × (byte : ℕ) × IsAllowed bytes h o
+    × StandsAfter bytes h k (h.rows * h.columns) byte
 IsTextFault bytes _ = ⊥

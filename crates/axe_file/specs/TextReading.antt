@@ -3,7 +3,7 @@ use Rattle.std.specs.Prelude.{◌≡◌, ℕ, zero, suc, ◌+◌, ◌-◌, ◌*�
 use Rattle.std.specs.Option.{unwrap_or}
 use Rattle.axe_field.specs.Order.{Two}
 use Rattle.axe_matrix.specs.Matrices.{MatrixValue}
-use Rattle.axe_matrix.specs.declared.TheConstants.{MAX_ROWS, MAX_COLUMNS}
+use Rattle.axe_matrix.specs.Limits.{most_rows, most_columns}
 use Rattle.axe_file.specs.Packed.{order_with_number}
 use Rattle.axe_file.specs.TextGrammar.{is_white, is_dark, is_digit, digit_value, is_element_digit, is_apart, Part, Space, Gap, Word, Numeral, plain_form, named_form}
 use Rattle.axe_file.specs.declared.fault.FileFault.{FileFault}
@@ -80,8 +80,8 @@ unfoldable pub header_fault : List ℕ → Option FileFault
 header_fault values =
     if not (slice_index values 0 == 1) then Some BadMode
     else (if is_none (order_with_number (slice_index values 1)) then Some BadField
-    else (if nat_lt MAX_ROWS (slice_index values 2) then Some BadRows
-    else (if slice_index values 3 == 0 || nat_lt MAX_COLUMNS (slice_index values 3) then Some BadCols else None)))
+    else (if nat_lt most_rows (slice_index values 2) then Some BadRows
+    else (if slice_index values 3 == 0 || nat_lt most_columns (slice_index values 3) then Some BadCols else None)))
 
 -- ---- the digits
 

@@ -10,7 +10,8 @@ use Rattle.axe_file.specs.TextGrammar.{digit_code}
 -- the header with names, its numbers without leading zeros, ended by a line feed
 unfoldable pub text_header : MatrixValue → List ℕ
 text_header m =
-    codes "matrix field=" ++ decimal (order_number m.order) ++ codes " rows=" ++ decimal (length m.rows) ++ codes " cols=" ++ decimal m.cols ++ 10 ∷ []
+    codes "matrix field=" ++ decimal (order_number m.order) ++ codes " rows=" ++ decimal (length m.rows)
+    ++ codes " cols=" ++ decimal m.cols ++ 10 ∷ []
 
 -- line i of a row: the digits of the entries from place 80 i on, at most 80 of them, ended by a line feed
 unfoldable pub text_line : List ℕ → ℕ → List ℕ

@@ -36,7 +36,8 @@ pub enum FileFault {
     /// Bytes stand after the last row.
     #[error("TrailingBytes")]
     TrailingBytes,
-    /// The bytes up to and including the one at this offset begin no header, or the text ends here before its header does.
+    /// The bytes up to and including the one at this offset begin no header, or the text ends here before its header
+    /// does.
     #[error("BadHeader at {0}")]
     BadHeader(usize),
     /// The header is of a mode other than 1.

@@ -1,4 +1,4 @@
-//! What holds of the packed form.
+//! What holds of the limits of files, and of the packed form.
 
 ghost use Rattle.std.specs.Prelude.{◌≡◌, ℕ, ◌^◌, ◌<◌, ◌≤◌, None, List, length};
 ghost use Rattle.std.specs.List.{All};
@@ -6,7 +6,15 @@ ghost use Rattle.axe_field.specs.Order.{Order, order_number};
 ghost use Rattle.axe_matrix.specs.Matrices.{MatrixValue, IsMatrix};
 ghost use Rattle.axe_file.specs.Marks.{marks_per_byte};
 ghost use Rattle.axe_file.specs.Packed.{packed, packed_fault, unpacked};
-ghost use Rattle.axe_file.specs.declared.TheConstants.{PACKED_LIMIT};
+ghost use Rattle.axe_file.specs.Limits.{most_packed_bytes, most_text_bytes};
+
+use crate::{PACKED_LIMIT, TEXT_LIMIT};
+
+/// The limits of the code are those of the definitions.
+pub fn limits_are_named()
+    ensures packed { PACKED_LIMIT ≡ most_packed_bytes }
+    ensures text { TEXT_LIMIT ≡ most_text_bytes }
+{}
 
 /// A byte has room for so many marks, and for no more.
 pub fn marks_per_byte_is_greatest()
@@ -16,7 +24,7 @@ pub fn marks_per_byte_is_greatest()
 
 /// The spelling of a matrix keeps the limit of packed files.
 pub fn spellings_keep_the_limit()
-    ensures { (m : MatrixValue) → IsMatrix m → length (packed m) ≤ PACKED_LIMIT }
+    ensures { (m : MatrixValue) → IsMatrix m → length (packed m) ≤ most_packed_bytes }
 {}
 
 /// Matrices with one spelling are one matrix.
@@ -33,5 +41,6 @@ pub fn spellings_are_read()
 /// Bytes without fault are the spelling of a matrix.
 pub fn faultless_bytes_are_spellings()
     ensures matrix { (bytes : List ℕ) → packed_fault bytes ≡ None → IsMatrix (unpacked bytes) }
-    ensures spelling { (bytes : List ℕ) → All (λ byte. byte < 256) bytes → packed_fault bytes ≡ None → bytes ≡ packed (unpacked bytes) }
+    ensures spelling { (bytes : List ℕ) → All (λ byte. byte < 256) bytes → packed_fault bytes ≡ None →
+        bytes ≡ packed (unpacked bytes) }
 {}

@@ -2,7 +2,7 @@
 
 ghost use Rattle.std.specs.Prelude.{◌≡◌, ◌+◌, ◌*◌, ◌<◌, ◌≤◌, length, slice_index, All};
 ghost use Rattle.axe_field.specs.Order.{order_number, IsElement};
-ghost use Rattle.axe_matrix.specs.declared.TheConstants.{MAX_COLUMNS};
+ghost use Rattle.axe_matrix.specs.Limits.{most_columns};
 ghost use Rattle.axe_file.specs.Marks.{marks_per_byte, byte_limit, byte_with_marks, mark_of, has_unused_mark, bytes_per_row};
 
 use axe_field::Field;
@@ -27,7 +27,7 @@ pub(crate) struct Layout {
     pub(crate) limit: u16,
     /// How many bytes a row takes.
     pub(crate) width: usize,
-    ghost columns_fit: { columns ≤ MAX_COLUMNS },
+    ghost columns_fit: { columns ≤ most_columns },
     ghost marks_is: { marks ≡ marks_per_byte field },
     ghost limit_is: { limit ≡ byte_limit field },
     ghost width_is: { width ≡ bytes_per_row field columns },
@@ -36,7 +36,7 @@ pub(crate) struct Layout {
 impl Layout {
     /// The layout of rows of so many columns.
     pub(crate) fn new(field: Field, columns: usize) -> Layout
-        requires { columns ≤ MAX_COLUMNS }
+        requires { columns ≤ most_columns }
         ensures field { result.field ≡ field }
         ensures columns { result.columns ≡ columns }
     {
@@ -81,7 +81,8 @@ impl Layout {
         requires elements { All (IsElement self.now.field) row.now.entries }
         requires columns { length row.now.entries ≡ self.now.columns }
         requires place { place < bytes_per_row self.now.field self.now.columns }
-        ensures { result ≡ byte_with_marks self.now.field (λ j. slice_index row.now.entries (place * marks_per_byte self.now.field + j)) }
+        ensures { result ≡ byte_with_marks self.now.field
+            (λ j. slice_index row.now.entries (place * marks_per_byte self.now.field + j)) }
     {
         let order = self.field.order();
         let mut byte = 0;

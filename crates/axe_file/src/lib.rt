@@ -14,8 +14,8 @@ mod writing;
 
 pub use fault::FileFault;
 pub use laws::{
-    faultless_bytes_are_spellings, marks_per_byte_is_greatest, spellings_are_apart,
-    spellings_are_read, spellings_keep_the_limit,
+    faultless_bytes_are_spellings, limits_are_named, marks_per_byte_is_greatest,
+    spellings_are_apart, spellings_are_read, spellings_keep_the_limit,
 };
 pub use reading::read_packed;
 pub use text_laws::{

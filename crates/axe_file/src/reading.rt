@@ -4,7 +4,7 @@ ghost use Rattle.std.specs.Prelude.{◌≡◌, ◌+◌, ◌<◌, ◌≤◌, [], 
 ghost use Rattle.std.specs.List.{flat_map, range_with_len};
 ghost use Rattle.std.specs.Int.{w32, from_le_bytes};
 ghost use Rattle.axe_matrix.specs.Matrices.{MatrixValue, IsMatrix};
-ghost use Rattle.axe_matrix.specs.declared.TheConstants.{MAX_ROWS};
+ghost use Rattle.axe_matrix.specs.Limits.{most_rows};
 ghost use Rattle.axe_file.specs.Marks.{bytes_per_row, row_marks};
 ghost use Rattle.axe_file.specs.Packed.{packed, packed_fault, unpacked, header_faults, data_faults, byte_faults, header_rows, data_length};
 ghost use Rattle.axe_file.specs.Headers.{Says};
@@ -23,7 +23,7 @@ use std::alloc::Global;
 struct Header {
     rows: usize,
     layout: Layout,
-    ghost rows_fit: { rows ≤ MAX_ROWS },
+    ghost rows_fit: { rows ≤ most_rows },
 }
 
 /// The matrix that the bytes spell in the packed form. The answer is the first fault of the bytes, whatever the memory;
@@ -108,7 +108,8 @@ fn check_bytes(layout: &Layout, bytes: &[u8], count: usize) -> Result<(), FileFa
     requires count { count ≡ data_length bytes.now }
     requires long { 16 + count ≤ length bytes.now }
     ensures faultless { OnOk result (flat_map (byte_faults bytes.now) (range_with_len 0 count) ≡ []) }
-    ensures fault { IfErr result (λ fault. slice_get (flat_map (byte_faults bytes.now) (range_with_len 0 count)) 0 ≡ Some fault) }
+    ensures fault { IfErr result (λ fault.
+        slice_get (flat_map (byte_faults bytes.now) (range_with_len 0 count)) 0 ≡ Some fault) }
 {
     for place in 0..count {
         check_byte(layout, bytes, place)?;
@@ -156,7 +157,10 @@ fn matrix_of(alloc: Global, header: &Header, bytes: &[u8]) -> Result<Matrix, Fil
 /// The row that some bytes hold.
 fn row_of(alloc: Global, layout: &Layout, bytes: &[u8]) -> Result<Row, FileFault>
     requires { length bytes.now ≡ bytes_per_row layout.now.field layout.now.columns }
-    ensures value { IfOk result (λ row. row ≡ record { order = layout.now.field; entries = row_marks layout.now.field layout.now.columns bytes.now }) }
+    ensures value { IfOk result (λ row. row ≡ record {
+      order = layout.now.field;
+      entries = row_marks layout.now.field layout.now.columns bytes.now;
+    }) }
     ensures memory { IfErr result (λ fault. fault ≡ Memory) }
 {
     let marks = marks_of(alloc, layout, bytes)?;

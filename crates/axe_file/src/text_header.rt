@@ -54,7 +54,8 @@ pub(crate) fn skip_space(bytes: &[u8], start: usize) -> usize
 fn skip_gap(bytes: &[u8], start: usize) -> Result<usize, FileFault>
     requires { start ≤ length bytes.now }
     ensures within { IfOk result (λ end. end ≤ length bytes.now) }
-    ensures read { (next : List ℕ → ℕ → Reading) → GoesOn result (read_gap next (drop start bytes.now) start) (λ end. next (drop end bytes.now) end) }
+    ensures read { (next : List ℕ → ℕ → Reading) → GoesOn result (read_gap next (drop start bytes.now) start)
+        (λ end. next (drop end bytes.now) end) }
 {
     if start < bytes.len() && is_white(bytes[start]) {
         Ok(skip_space(bytes, start + 1))
@@ -67,7 +68,8 @@ fn skip_gap(bytes: &[u8], start: usize) -> Result<usize, FileFault>
 fn skip_word(bytes: &[u8], start: usize, word: &[u8]) -> Result<usize, FileFault>
     requires { start ≤ length bytes.now }
     ensures within { IfOk result (λ end. end ≤ length bytes.now) }
-    ensures read { (next : List ℕ → ℕ → Reading) → GoesOn result (read_word word.now next (drop start bytes.now) start) (λ end. next (drop end bytes.now) end) }
+    ensures read { (next : List ℕ → ℕ → Reading) →
+        GoesOn result (read_word word.now next (drop start bytes.now) start) (λ end. next (drop end bytes.now) end) }
 {
     for (index, letter) in word.iter().enumerate() {
         let at = start + index;
@@ -83,7 +85,8 @@ fn more_digits(bytes: &[u8], start: usize, first: u32) -> (u32, usize)
     requires within { start ≤ length bytes.now }
     requires digit { first < 10 }
     ensures within { result.1 ≤ length bytes.now }
-    ensures read { (next : ℕ → List ℕ → ℕ → Reading) → read_digits 8 first next (drop start bytes.now) start ≡ next result.0 (drop result.1 bytes.now) result.1 }
+    ensures read { (next : ℕ → List ℕ → ℕ → Reading) → read_digits 8 first next (drop start bytes.now) start
+        ≡ next result.0 (drop result.1 bytes.now) result.1 }
 {
     let mut value = first;
     let end = start + (bytes.len() - start).min(8);
@@ -100,7 +103,8 @@ fn more_digits(bytes: &[u8], start: usize, first: u32) -> (u32, usize)
 fn numeral(bytes: &[u8], start: usize) -> Result<(u32, usize), FileFault>
     requires { start ≤ length bytes.now }
     ensures within { IfOk result (λ found. found.1 ≤ length bytes.now) }
-    ensures read { (next : ℕ → List ℕ → ℕ → Reading) → GoesOn result (read_numeral next (drop start bytes.now) start) (λ found. next found.0 (drop found.1 bytes.now) found.1) }
+    ensures read { (next : ℕ → List ℕ → ℕ → Reading) → GoesOn result (read_numeral next (drop start bytes.now) start)
+        (λ found. next found.0 (drop found.1 bytes.now) found.1) }
 {
     if start < bytes.len() && is_digit(bytes[start]) {
         Ok(more_digits(bytes, start + 1, u32::from(bytes[start] - b'0')))
@@ -113,7 +117,9 @@ fn numeral(bytes: &[u8], start: usize) -> Result<(u32, usize), FileFault>
 fn setting(bytes: &[u8], start: usize, name: &[u8]) -> Result<(u32, usize), FileFault>
     requires { start ≤ length bytes.now }
     ensures within { IfOk result (λ found. found.1 ≤ length bytes.now) }
-    ensures read { (next : ℕ → List ℕ → ℕ → Reading) → GoesOn result (read_gap (read_word name.now (read_numeral next)) (drop start bytes.now) start) (λ found. next found.0 (drop found.1 bytes.now) found.1) }
+    ensures read { (next : ℕ → List ℕ → ℕ → Reading) →
+        GoesOn result (read_gap (read_word name.now (read_numeral next)) (drop start bytes.now) start)
+        (λ found. next found.0 (drop found.1 bytes.now) found.1) }
 {
     let at = skip_gap(bytes, start)?;
     let at = skip_word(bytes, at, name)?;
@@ -123,7 +129,8 @@ fn setting(bytes: &[u8], start: usize, name: &[u8]) -> Result<(u32, usize), File
 /// Asks that white space or the end comes at an offset, where a header ends.
 fn end_header(bytes: &[u8], at: usize) -> Result<(), FileFault>
     requires { at ≤ length bytes.now }
-    ensures { MatchResult result (λ _. read_parts [] (drop at bytes.now) at ≡ Ok (record { values = []; end = at })) (λ fault. (fault ≡ BadHeader at) × (read_parts [] (drop at bytes.now) at ≡ Err at)) }
+    ensures { MatchResult result (λ _. read_parts [] (drop at bytes.now) at ≡ Ok (record { values = []; end = at }))
+        (λ fault. (fault ≡ BadHeader at) × (read_parts [] (drop at bytes.now) at ≡ Err at)) }
 {
     if at < bytes.len() && !is_white(bytes[at]) {
         Err(FileFault::BadHeader(at))
@@ -136,7 +143,10 @@ fn end_header(bytes: &[u8], at: usize) -> Result<(), FileFault>
 fn plain_header(bytes: &[u8], start: usize) -> Result<TextHeader, FileFault>
     requires { start ≤ length bytes.now }
     ensures within { IfOk result (λ header. header.end ≤ length bytes.now) }
-    ensures read { GoesOn result (read_parts plain_form (drop start bytes.now) start) (λ header. Ok (record { values = header.mode ∷ header.order ∷ header.rows ∷ header.columns ∷ []; end = header.end })) }
+    ensures read { GoesOn result (read_parts plain_form (drop start bytes.now) start) (λ header. Ok (record {
+      values = header.mode ∷ header.order ∷ header.rows ∷ header.columns ∷ [];
+      end = header.end;
+    })) }
 {
     let (mode, at) = numeral(bytes, start)?;
     let (order, at) = setting(bytes, at, b"")?;
@@ -157,7 +167,10 @@ fn named_header(bytes: &[u8], start: usize) -> Result<TextHeader, FileFault>
     requires { start ≤ length bytes.now }
     ensures within { IfOk result (λ header. header.end ≤ length bytes.now) }
     ensures mode { IfOk result (λ header. header.mode ≡ 1) }
-    ensures read { GoesOn result (read_parts named_form (drop start bytes.now) start) (λ header. Ok (record { values = header.order ∷ header.rows ∷ header.columns ∷ []; end = header.end })) }
+    ensures read { GoesOn result (read_parts named_form (drop start bytes.now) start) (λ header. Ok (record {
+      values = header.order ∷ header.rows ∷ header.columns ∷ [];
+      end = header.end;
+    })) }
 {
     let at = skip_word(bytes, start, b"matrix")?;
     let (order, at) = setting(bytes, at, b"field=")?;
@@ -176,7 +189,10 @@ fn named_header(bytes: &[u8], start: usize) -> Result<TextHeader, FileFault>
 /// The header of a text, in one form or the other.
 pub(crate) fn header_of(bytes: &[u8]) -> Result<TextHeader, FileFault>
     ensures within { IfOk result (λ header. header.end ≤ length bytes.now) }
-    ensures read { GoesOn result (read_header bytes.now) (λ header. Ok (record { values = header.mode ∷ header.order ∷ header.rows ∷ header.columns ∷ []; end = header.end })) }
+    ensures read { GoesOn result (read_header bytes.now) (λ header. Ok (record {
+      values = header.mode ∷ header.order ∷ header.rows ∷ header.columns ∷ [];
+      end = header.end;
+    })) }
 {
     let start = skip_space(bytes, 0);
     if start < bytes.len() && bytes[start] == b'm' {
@@ -199,7 +215,10 @@ fn field_with_order(order: u32) -> Option<Field>
 
 /// The field that a header names, where its numbers are allowed.
 pub(crate) fn field_of(header: TextHeader) -> Result<Field, FileFault>
-    ensures { MatchResult result (λ o. (header_fault (header.mode ∷ header.order ∷ header.rows ∷ header.columns ∷ []) ≡ None) × (order_with_number header.order ≡ Some o)) (λ fault. header_fault (header.mode ∷ header.order ∷ header.rows ∷ header.columns ∷ []) ≡ Some fault) }
+    ensures { MatchResult result
+        (λ o. (header_fault (header.mode ∷ header.order ∷ header.rows ∷ header.columns ∷ []) ≡ None)
+        × (order_with_number header.order ≡ Some o))
+        (λ fault. header_fault (header.mode ∷ header.order ∷ header.rows ∷ header.columns ∷ []) ≡ Some fault) }
 {
     if header.mode != 1 {
         return Err(FileFault::BadMode);

@@ -2,7 +2,7 @@
 
 ghost use Rattle.std.specs.Prelude.{◌≡◌, ℕ, ◌+◌, ◌-◌, ◌*◌, ◌<◌, ◌≤◌, None, Some, length, drop, map, filter, ◌++◌, All, IsTrue, IfOk, IfErr, MatchResult, ◌⊎◌};
 ghost use Rattle.axe_field.specs.Order.{order_number};
-ghost use Rattle.axe_matrix.specs.declared.TheConstants.{MAX_ROWS, MAX_COLUMNS};
+ghost use Rattle.axe_matrix.specs.Limits.{most_rows, most_columns};
 ghost use Rattle.axe_matrix.specs.Matrices.{MatrixValue, IsMatrix};
 ghost use Rattle.axe_file.specs.Answers.{Answers};
 ghost use Rattle.axe_file.specs.TextGrammar.{is_dark, digit_value, is_element_digit, IsTextOf, IsTextFault};
@@ -20,7 +20,8 @@ use std::alloc::Global;
 pub fn read_text(alloc: Global, bytes: &[u8]) -> Result<Matrix, FileFault>
     ensures fault { Answers (text_fault bytes.now) (λ m. m ≡ text_matrix bytes.now) result }
     ensures text { IfOk result (λ m. IsTextOf bytes.now m) }
-    ensures first_fault { IfErr result (λ fault. IsTextFault bytes.now fault ⊎ ((fault ≡ Memory) × (m : MatrixValue) × IsTextOf bytes.now m)) }
+    ensures first_fault { IfErr result (λ fault. IsTextFault bytes.now fault
+        ⊎ ((fault ≡ Memory) × (m : MatrixValue) × IsTextOf bytes.now m)) }
     ensures only { (a : MatrixValue) → IsTextOf bytes.now a → Answers None (λ m. m ≡ a) result }
     ensures matrix { IfOk result (λ m. IsMatrix m) }
 {
@@ -44,7 +45,8 @@ fn is_element_digit(order: u8, byte: u8) -> bool
 fn check_digits(bytes: &[u8], start: usize, order: u8, wanted: usize) -> Result<(), FileFault>
     requires within { start ≤ length bytes.now }
     requires order { order ≤ 9 }
-    ensures { MatchResult result (λ _. digits_fault order wanted (drop start bytes.now) start ≡ None) (λ fault. digits_fault order wanted (drop start bytes.now) start ≡ Some fault) }
+    ensures { MatchResult result (λ _. digits_fault order wanted (drop start bytes.now) start ≡ None)
+        (λ fault. digits_fault order wanted (drop start bytes.now) start ≡ Some fault) }
 {
     let mut left = wanted;
     for at in start..bytes.len() {
@@ -75,13 +77,17 @@ fn next_row(
     start: usize,
 ) -> Result<(Row, usize), FileFault>
     requires within { start ≤ length bytes.now }
-    requires elements { All (λ byte. IsTrue (is_element_digit (order_number field) byte)) (filter is_dark (drop start bytes.now)) }
+    requires elements { All (λ byte. IsTrue (is_element_digit (order_number field) byte))
+        (filter is_dark (drop start bytes.now)) }
     requires enough { columns ≤ length (filter is_dark (drop start bytes.now)) }
     ensures within { IfOk result (λ found. found.1 ≤ length bytes.now) }
     ensures field { IfOk result (λ found. found.0.order ≡ field) }
     ensures columns { IfOk result (λ found. length found.0.entries ≡ columns) }
-    ensures digits { IfOk result (λ found. found.0.entries ++ map digit_value (filter is_dark (drop found.1 bytes.now)) ≡ map digit_value (filter is_dark (drop start bytes.now))) }
-    ensures elements_left { IfOk result (λ found. All (λ byte. IsTrue (is_element_digit (order_number field) byte)) (filter is_dark (drop found.1 bytes.now))) }
+    ensures digits { IfOk result (λ found.
+        found.0.entries ++ map digit_value (filter is_dark (drop found.1 bytes.now))
+        ≡ map digit_value (filter is_dark (drop start bytes.now))) }
+    ensures elements_left { IfOk result (λ found. All (λ byte. IsTrue (is_element_digit (order_number field) byte))
+        (filter is_dark (drop found.1 bytes.now))) }
     ensures memory { IfErr result (λ fault. fault ≡ Memory) }
 {
     let Ok(mut row) = Row::zero(alloc, field, columns) else {
@@ -90,6 +96,7 @@ fn next_row(
     let mut end = start;
     for column in 0..columns {
         let at = skip_space(bytes, end);
+        // The digits were counted before: there is one more, so the white space ends before the bytes do.
         prove!(at < bytes.len());
         row.set(column, bytes[at] - b'0');
         end = at + 1;
@@ -106,13 +113,18 @@ fn matrix_of_digits(
     bytes: &[u8],
     start: usize,
 ) -> Result<Matrix, FileFault>
-    requires rows_fit { rows ≤ MAX_ROWS }
+    requires rows_fit { rows ≤ most_rows }
     requires some_column { 1 ≤ columns }
-    requires columns_fit { columns ≤ MAX_COLUMNS }
+    requires columns_fit { columns ≤ most_columns }
     requires within { start ≤ length bytes.now }
-    requires elements { All (λ byte. IsTrue (is_element_digit (order_number field) byte)) (filter is_dark (drop start bytes.now)) }
+    requires elements { All (λ byte. IsTrue (is_element_digit (order_number field) byte))
+        (filter is_dark (drop start bytes.now)) }
     requires enough { rows * columns ≤ length (filter is_dark (drop start bytes.now)) }
-    ensures matrix { IfOk result (λ m. m ≡ record { order = field; cols = columns; rows = in_rows rows columns (map digit_value (filter is_dark (drop start bytes.now))) }) }
+    ensures matrix { IfOk result (λ m. m ≡ record {
+      order = field;
+      cols = columns;
+      rows = in_rows rows columns (map digit_value (filter is_dark (drop start bytes.now)));
+    }) }
     ensures memory { IfErr result (λ fault. fault ≡ Memory) }
 {
     let mut matrix = Matrix::empty(alloc, field, columns);

@@ -2,7 +2,7 @@
 
 ghost use Rattle.std.specs.Prelude.{◌≡◌, ◌≤◌, ◌++◌, length, All, IfOk, OnOk, IfErr};
 ghost use Rattle.axe_field.specs.Order.{IsElement};
-ghost use Rattle.axe_matrix.specs.declared.TheConstants.{MAX_ROWS, MAX_COLUMNS};
+ghost use Rattle.axe_matrix.specs.Limits.{most_rows, most_columns};
 ghost use Rattle.axe_file.specs.Packed.{packed, packed_header, packed_row};
 ghost use Rattle.axe_file.specs.declared.fault.FileFault.TheVariants.{Memory};
 
@@ -28,8 +28,9 @@ pub fn write_packed(alloc: Global, matrix: &Matrix) -> Result<Vec<u8>, FileFault
 
 /// Appends the header of a matrix.
 fn put_header(bytes: &mut Vec<u8>, layout: &Layout, rows: usize) -> Result<(), AllocError>
-    requires { rows ≤ MAX_ROWS }
-    ensures { OnOk result (bytes.new.items ≡ bytes.old.items ++ packed_header layout.now.field rows layout.now.columns) }
+    requires { rows ≤ most_rows }
+    ensures { OnOk result (bytes.new.items ≡ bytes.old.items
+        ++ packed_header layout.now.field rows layout.now.columns) }
 {
     bytes.extend_from_slice(&MAGIC)?;
     bytes.extend_from_slice(&[layout.field.order(), 0, 0, 0])?;
@@ -43,7 +44,8 @@ fn put_row(bytes: &mut Vec<u8>, layout: &Layout, row: &Row) -> Result<(), AllocE
     requires field { row.now.order ≡ layout.now.field }
     requires elements { All (IsElement layout.now.field) row.now.entries }
     requires columns { length row.now.entries ≡ layout.now.columns }
-    ensures { OnOk result (bytes.new.items ≡ bytes.old.items ++ packed_row layout.now.field layout.now.columns row.now.entries) }
+    ensures { OnOk result (bytes.new.items ≡ bytes.old.items
+        ++ packed_row layout.now.field layout.now.columns row.now.entries) }
 {
     for place in 0..layout.width {
         bytes.push(layout.byte_of(row, place))?;

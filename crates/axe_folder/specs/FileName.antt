@@ -7,7 +7,8 @@ use Rattle.std.specs.Path.{slash, with_separator}
 abbrev pub is_separator : ℕ → Bool
 is_separator byte = byte == slash || byte == 0
 
--- a name that stands for a file in the directory itself: not empty, not the directory or the one above it, and in one part
+-- a name that stands for a file in the directory itself: not empty, not the directory or the one above it, and in one
+-- part
 abbrev pub is_plain_name : List ℕ → Bool
 is_plain_name name = not (bytes_eq name [] || bytes_eq name (codes ".") || bytes_eq name (codes "..") || list_any is_separator name)
 

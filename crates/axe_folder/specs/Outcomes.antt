@@ -37,12 +37,14 @@ Puts (Err TooLong) old name bytes new = ⊥
 Puts (Err Device) old name bytes new = KeepsOthers old name new × IsTorn (file_at old name) bytes (file_at new name)
 Puts (Err Memory) old name bytes new = new ≡ old
 
--- `remove` answers Ok, Device or Memory: the name has no file; it may have lost it, and every other name is as before; no change
+-- `remove` answers Ok, Device or Memory: the name has no file; it may have lost it, and every other name is as
+-- before; no change
 abbrev pub Removes : Result (Unit {0}) FolderFault → Files → List ℕ → Files → Type 0
 Removes (Ok done) old name new = new ≡ without_file old name
 Removes (Err Missing) old name new = ⊥
 Removes (Err TooLong) old name new = ⊥
-Removes (Err Device) old name new = KeepsOthers old name new × ((file_at new name ≡ file_at old name) ⊎ (file_at new name ≡ None))
+Removes (Err Device) old name new = KeepsOthers old name new
+    × ((file_at new name ≡ file_at old name) ⊎ (file_at new name ≡ None))
 Removes (Err Memory) old name new = new ≡ old
 
 -- the most that a count of failures shows, the largest 64-bit number

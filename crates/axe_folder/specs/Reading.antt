@@ -16,7 +16,8 @@ ReadsWithin (Err Memory) source limit = ⊤
 abbrev pub ConsumesAtMost : Option (List ℕ) → Option (List ℕ) → ℕ → Type 0
 ConsumesAtMost old new most = (taken : List ℕ) × (Consumes old new taken × (length taken ≤ most))
 
--- one turn: the piece stands after the bytes before it, true where the source has ended; or with it the limit is passed
+-- one turn: the piece stands after the bytes before it, true only where the source has ended; TooLong only where
+-- the limit is passed with it; Device or Memory
 abbrev pub PieceOutcome : Result Bool FolderFault → List ℕ → List ℕ → List ℕ → Option (List ℕ) → ℕ → Type 0
 PieceOutcome (Ok ended) before after piece rest limit = (after ≡ before ++ piece) × (length after ≤ limit) × (IsTrue ended → IsAtEnd rest)
 PieceOutcome (Err Missing) before after piece rest limit = ⊥

@@ -83,7 +83,7 @@ impl Folder for MemFolder {
 
     fn remove(&mut self, name: &str) -> Result<(), FolderFault>
         ensures removes { Removes result self.old name.now self.new }
-        ensures no_device { result ≢ Err FolderFault.Device }
+        ensures never_fails { result ≡ Ok tt }
     {
         self.shelf.remove(name);
         Ok(())

@@ -1,14 +1,14 @@
 -- What holds of matrices as values: when they are equal, what their rows and entries are, and which are well formed.
-use Rattle.std.proofs.Common.{◌≡◌, ℕ, ◌<◌, ◌≤◌, List, [], ◌∷◌, ◌++◌, length, get_or, cond, eqb, inl, inr, refl, sym, ap, ◌∙◌, arith, length-append}
+use Rattle.std.proofs.Common.{◌≡◌, ℕ, ◌<◌, ◌≤◌, List, [], ◌∷◌, ◌++◌, length, get_or, false, not, cond, eqb, inl, inr, refl, sym, ap, ◌∙◌, arith, length-append}
 use Rattle.std.specs.List.{All}
-use Rattle.std.proofs.lemmas.Bool.{cases_lt}
+use Rattle.std.proofs.lemmas.Bool.{cases_lt, eqb-true, not-false}
 use Rattle.std.proofs.lemmas.List.{ext_get_or, get_or_past}
 use Rattle.std.proofs.lemmas.List.Elements.{All-nil, All-push, All-get_or}
 use Rattle.axe_algebra.specs.Lists.{entry}
 use Rattle.axe_field.specs.Order.{Order, Two, Three, Four, Five, Seven, Eight, Nine, order_number, IsElement}
 use Rattle.axe_row.proofs.RowLaws.{zero-IsElement}
 use Rattle.axe_row.specs.Rows.{IsRow}
-use Rattle.axe_matrix.specs.declared.TheConstants.{MAX_ROWS, MAX_COLUMNS}
+use Rattle.axe_matrix.specs.Limits.{most_rows, most_columns}
 use Rattle.axe_matrix.specs.Matrices.{MatrixValue, IsMatrix, row_of}
 
 -- orders with one number are equal
@@ -31,12 +31,16 @@ same_order a b e = sym (order_with-order_number a) ∙ ap order_with e ∙ order
 pub same_fields : (o p f g : Order) (m n : ℕ) → f ≡ o → m ≡ order_number f → m ≡ n → n ≡ order_number g → g ≡ p → o ≡ p
 same_fields o p f g m n fo mf mn ng gp = sym fo ∙ same_order f g (sym mf ∙ mn ∙ ng) ∙ gp
 
+-- fields that were compared, and not found to differ, are the same
+pub one_field : (o p f g : Order) → f ≡ o → false ≡ not (eqb (order_number f) (order_number g)) → g ≡ p → o ≡ p
+one_field o p f g fo tested gp = sym fo ∙ same_order f g (eqb-true _ _ (not-false _ (sym tested))) ∙ gp
+
 -- matrices with equal parts are equal
 pub same_matrix : (a b : MatrixValue) → a.order ≡ b.order → a.cols ≡ b.cols → a.rows ≡ b.rows → a ≡ b
 same_matrix a b e f g = λ i. record { order = e i; cols = f i; rows = g i }
 
 -- a matrix without rows
-pub IsMatrix-empty : (o : Order) (n : ℕ) → 1 ≤ n → n ≤ MAX_COLUMNS → IsMatrix (record { order = o; cols = n; rows = [] })
+pub IsMatrix-empty : (o : Order) (n : ℕ) → 1 ≤ n → n ≤ most_columns → IsMatrix (record { order = o; cols = n; rows = [] })
 IsMatrix-empty o n low high = record {
   some_column = low;
   columns_fit = high;
@@ -46,7 +50,7 @@ IsMatrix-empty o n low high = record {
 }
 
 -- a matrix with one more row
-pub IsMatrix-push : (m : MatrixValue) (row : List ℕ) → IsMatrix m → length row ≡ m.cols → length m.rows < MAX_ROWS → All (IsElement m.order) row → IsMatrix (record m { rows = m.rows ++ row ∷ [] })
+pub IsMatrix-push : (m : MatrixValue) (row : List ℕ) → IsMatrix m → length row ≡ m.cols → length m.rows < most_rows → All (IsElement m.order) row → IsMatrix (record m { rows = m.rows ++ row ∷ [] })
 IsMatrix-push m row h long room elements = record {
   some_column = h.some_column;
   columns_fit = h.columns_fit;

@@ -11,7 +11,7 @@ use Rattle.axe_field.specs.Order.{order_number, IsElement}
 use Rattle.axe_field.specs.Arithmetic.{field_mul}
 use Rattle.axe_field.specs.NumberFields.{number_field}
 use Rattle.axe_row.specs.declared.refusals.Refusal.TheVariants.{FieldsDiffer, ShapesDiffer}
-use Rattle.axe_matrix.specs.declared.TheConstants.{MAX_ROWS}
+use Rattle.axe_matrix.specs.Limits.{most_rows}
 use Rattle.axe_matrix.proofs.MatrixLaws.{entry-IsElement, same_matrix}
 use Rattle.axe_matrix.specs.Matrices.{MatrixValue, IsMatrix, row_of, product_refusal, matrix_product, vector_product}
 
@@ -77,7 +77,7 @@ IsMatrix-product a b ha hb fields =
     record {
       some_column = hb.some_column;
       columns_fit = hb.columns_fit;
-      rows_fit = let fit : length a.rows ≤ MAX_ROWS = ha.rows_fit in omega (arith, count);
+      rows_fit = let fit : length a.rows ≤ most_rows = ha.rows_fit in omega (arith, count);
       row_lengths = All-from_get_or (λ row. length row ≡ b.cols) (matrix_product a b).rows [] long;
       elements = All-from_get_or (All (IsElement a.order)) (matrix_product a b).rows [] (λ i below.
           All-from_get_or (IsElement a.order) (get_or (matrix_product a b).rows i []) 0 (λ j within.

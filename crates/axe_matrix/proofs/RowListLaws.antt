@@ -5,7 +5,7 @@ use Rattle.std.proofs.lemmas.List.{get_or-map, length-map, map-append}
 use Rattle.std.proofs.lemmas.List.Elements.{All-push}
 use Rattle.axe_field.specs.Order.{Order, IsElement}
 use Rattle.axe_row.specs.Rows.{RowValue, IsRow}
-use Rattle.axe_matrix.specs.declared.TheConstants.{MAX_ROWS}
+use Rattle.axe_matrix.specs.Limits.{most_rows}
 use Rattle.axe_matrix.specs.RowLists.{matrix_from_rows, MakeMatrix}
 use Rattle.axe_matrix.proofs.MatrixLaws.{IsMatrix-push}
 
@@ -17,7 +17,7 @@ All-from_entries P rows h k d below =
     rw e at (h k [] in_list)
 
 -- with one more row
-pub MakeMatrix-push : (o : Order) (n : ℕ) (rows : List RowValue) (row : RowValue) → MakeMatrix o n rows → IsRow row → row.order ≡ o → length row.entries ≡ n → length (map (λ (row : RowValue). row.entries) rows) < MAX_ROWS → MakeMatrix o n (rows ++ row ∷ [])
+pub MakeMatrix-push : (o : Order) (n : ℕ) (rows : List RowValue) (row : RowValue) → MakeMatrix o n rows → IsRow row → row.order ≡ o → length row.entries ≡ n → length (map (λ (row : RowValue). row.entries) rows) < most_rows → MakeMatrix o n (rows ++ row ∷ [])
 MakeMatrix-push o n rows row h r field fits room = record {
   one_field = All-push (λ x. x.order ≡ o) rows row h.one_field field;
   matrix =

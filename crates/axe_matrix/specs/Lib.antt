@@ -1,2 +1,3 @@
+pub mod Limits
 pub mod Matrices
 pub mod RowLists

@@ -7,7 +7,7 @@ use Rattle.axe_field.specs.NumberFields.{number_field}
 use Rattle.axe_row.specs.Rows.{RowValue}
 use Rattle.axe_row.specs.declared.refusals.Refusal.{Refusal}
 use Rattle.axe_row.specs.declared.refusals.Refusal.TheVariants.{FieldsDiffer, ShapesDiffer, NoRows}
-use Rattle.axe_matrix.specs.declared.TheConstants.{MAX_ROWS, MAX_COLUMNS}
+use Rattle.axe_matrix.specs.Limits.{most_rows, most_columns}
 
 -- a matrix: the order of its field, how many columns it has, and the list of its rows, each the list of its entries'
 -- numbers (any linear algebra text)
@@ -16,12 +16,12 @@ pub record MatrixValue : Type 0 where
   pub cols : ℕ
   pub rows : List (List ℕ)
 
--- there is a column, no more rows and columns than the limits allow, each row has an entry in each column, and each entry
--- is an element of the field
+-- there is a column, no more rows and columns than the limits allow, each row has an entry in each column, and each
+-- entry is an element of the field
 pub record IsMatrix (m : MatrixValue) : Type 0 where
   pub some_column : 1 ≤ m.cols
-  pub columns_fit : m.cols ≤ MAX_COLUMNS
-  pub rows_fit : length m.rows ≤ MAX_ROWS
+  pub columns_fit : m.cols ≤ most_columns
+  pub rows_fit : length m.rows ≤ most_rows
   pub row_lengths : All (λ row. length row ≡ m.cols) m.rows
   pub elements : All (All (IsElement m.order)) m.rows
 
@@ -44,10 +44,11 @@ product_refusal a b =
     if not (order_number a.order == order_number b.order) then Some FieldsDiffer
     else (if not (a.cols == length b.rows) then Some ShapesDiffer else None)
 
--- the product of two matrices: entry i, j is the sum over t of entry i, t of the first times entry t, j of the second (any
--- linear algebra text)
+-- the product of two matrices: entry i, j is the sum over t of entry i, t of the first times entry t, j of the second
+-- (any linear algebra text)
 abbrev pub matrix_product : MatrixValue → MatrixValue → MatrixValue
-matrix_product a b = record { order = a.order; cols = b.cols; rows = product (number_field a.order) b.cols a.rows b.rows }
+matrix_product a b =
+    record { order = a.order; cols = b.cols; rows = product (number_field a.order) b.cols a.rows b.rows }
 
 -- a row vector times a matrix: entry j is the sum over t of entry t of the vector times entry t, j of the matrix (any
 -- linear algebra text)
@@ -62,8 +63,8 @@ zero_matrix order rows cols = record { order = order; cols = cols; rows = table 
 abbrev pub identity_matrix : Order → ℕ → MatrixValue
 identity_matrix order n = record { order = order; cols = n; rows = identity n }
 
--- the block of a matrix that has so many rows from a row on, and so many columns from a column on: its entry i, j is the
--- matrix's entry row + i, column + j
+-- the block of a matrix that has so many rows from a row on, and so many columns from a column on: its entry i, j is
+-- the matrix's entry row + i, column + j
 abbrev pub matrix_block : MatrixValue → ℕ → ℕ → ℕ → ℕ → MatrixValue
 matrix_block m row rows column cols =
     record { order = m.order; cols = cols; rows = table rows cols (λ i j. entry m.rows (row + i) (column + j)) }
@@ -76,7 +77,8 @@ sum_refusal a b =
 
 -- the sum of two matrices, entry by entry (any linear algebra text)
 abbrev pub sum_of_matrices : MatrixValue → MatrixValue → MatrixValue
-sum_of_matrices a b = record { order = a.order; cols = a.cols; rows = matrix_sum (number_field a.order) a.cols a.rows b.rows }
+sum_of_matrices a b =
+    record { order = a.order; cols = a.cols; rows = matrix_sum (number_field a.order) a.cols a.rows b.rows }
 
 -- why a matrix has no transpose: without rows the transpose had no columns
 abbrev pub transpose_refusal : MatrixValue → Option Refusal

@@ -2,7 +2,8 @@
 
 ghost use Rattle.std.specs.Prelude.{◌≡◌, ◌<◌, None, IfOk};
 ghost use Rattle.axe_row.specs.Refusals.{Answers};
-ghost use Rattle.axe_matrix.specs.Matrices.{IsMatrix, column_of, sum_refusal, sum_of_matrices, transpose_refusal, transposed_matrix};
+ghost use Rattle.axe_matrix.specs.Matrices.{IsMatrix, column_of};
+ghost use Rattle.axe_matrix.specs.Matrices.{sum_refusal, sum_of_matrices, transpose_refusal, transposed_matrix};
 
 use super::{Matrix, Refusal, Row};
 use std::alloc::Global;
@@ -11,10 +12,11 @@ impl Matrix {
     /// The sum of this matrix and another, entry by entry. Two matrices over different fields are refused as
     /// FieldsDiffer, and else two of different shapes as ShapesDiffer.
     pub fn add(&self, alloc: Global, other: &Matrix) -> Result<Matrix, Refusal>
-        ensures sum { Answers (sum_refusal self.now other.now) (λ sum. sum ≡ sum_of_matrices self.now other.now) result }
+        ensures sum { Answers (sum_refusal self.now other.now)
+            (λ sum. sum ≡ sum_of_matrices self.now other.now) result }
         ensures well_formed { IfOk result IsMatrix }
     {
-        if self.field().order() != other.field().order() {
+        if self.field() != other.field() {
             return Err(Refusal::FieldsDiffer);
         }
         if self.rows() != other.rows() || self.cols() != other.cols() {
@@ -29,10 +31,11 @@ impl Matrix {
         Ok(sum)
     }
 
-    /// The transpose: its entry i, j is entry j, i of this matrix. A matrix without rows is refused as NoRows, since its
-    /// transpose had no columns.
+    /// The transpose: its entry i, j is entry j, i of this matrix. A matrix without rows is refused as NoRows, since
+    /// its transpose had no columns.
     pub fn transpose(&self, alloc: Global) -> Result<Matrix, Refusal>
-        ensures transpose { Answers (transpose_refusal self.now) (λ transpose. transpose ≡ transposed_matrix self.now) result }
+        ensures transpose { Answers (transpose_refusal self.now)
+            (λ transpose. transpose ≡ transposed_matrix self.now) result }
         ensures well_formed { IfOk result IsMatrix }
     {
         if self.rows() == 0 {

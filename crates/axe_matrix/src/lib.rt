@@ -6,6 +6,7 @@ ghost use Rattle.axe_algebra.specs.Lists.{entry};
 ghost use Rattle.axe_field.specs.Order.{IsElement};
 ghost use Rattle.axe_row.specs.Rows.{IsRow};
 ghost use Rattle.axe_row.specs.Refusals.{Answers};
+ghost use Rattle.axe_matrix.specs.Limits.{most_rows, most_columns};
 ghost use Rattle.axe_matrix.specs.Matrices.{IsMatrix, row_of, product_refusal, matrix_product, vector_product};
 
 mod arithmetic;
@@ -21,6 +22,12 @@ pub const MAX_ROWS: usize = 2_048;
 
 /// The most columns that a matrix has. It has at least one.
 pub const MAX_COLUMNS: usize = 2_048;
+
+/// The limits of the code are those of the definitions.
+pub fn limits_are_named()
+    ensures rows { MAX_ROWS ≡ most_rows }
+    ensures columns { MAX_COLUMNS ≡ most_columns }
+{}
 
 /// A matrix over one of the seven fields: up to [`MAX_ROWS`] rows, perhaps none, and 1 to [`MAX_COLUMNS`] columns.
 /// Rows and columns are counted from 0.
@@ -47,7 +54,7 @@ impl Matrix {
     /// The matrix without rows. It takes no memory until a row is pushed.
     pub fn empty(alloc: Global, field: Field, cols: usize) -> Matrix
         requires some_column { 1 ≤ cols }
-        requires columns_fit { cols ≤ MAX_COLUMNS }
+        requires columns_fit { cols ≤ most_columns }
         ensures no_rows { result ≡ record { order = field; cols = cols; rows = [] } }
         ensures well_formed { IsMatrix result }
     {
@@ -63,7 +70,7 @@ impl Matrix {
     pub fn push_row(&mut self, row: Row) -> Result<(), Row>
         requires field { row.order ≡ self.old.order }
         requires fits { length row.entries ≡ self.old.cols }
-        requires room { length self.old.rows < MAX_ROWS }
+        requires room { length self.old.rows < most_rows }
         ensures appended { OnOk result (self.new ≡ record self.old { rows = self.old.rows ++ row.entries ∷ [] }) }
         ensures handed_back { IfErr result (λ refused. refused ≡ row) }
         ensures unchanged { OnErr result (self.new ≡ self.old) }
@@ -71,6 +78,7 @@ impl Matrix {
         ensures same_columns { self.new.cols ≡ self.old.cols }
         ensures well_formed { IsMatrix self.new }
     {
+        // `len` is called for what it ensures beside the length: that the row's entries are elements of its field.
         prove!(row.len() == self.cols);
         self.rows.push(row).map_err(|failed| failed.value)
     }
@@ -79,22 +87,24 @@ impl Matrix {
     pub fn append(&mut self, row: Row) -> Result<(), Refusal>
         requires field { row.order ≡ self.old.order }
         requires fits { length row.entries ≡ self.old.cols }
-        requires room { length self.old.rows < MAX_ROWS }
-        ensures appended { Answers None (λ _. self.new ≡ record self.old { rows = self.old.rows ++ row.entries ∷ [] }) result }
+        requires room { length self.old.rows < most_rows }
+        ensures appended { Answers None
+            (λ _. self.new ≡ record self.old { rows = self.old.rows ++ row.entries ∷ [] }) result }
+        ensures unchanged { OnErr result (self.new ≡ self.old) }
         ensures well_formed { IsMatrix self.new }
     {
         self.push_row(row).map_err(|_| Refusal::Memory)
     }
 
-    /// The product of this matrix and another: its entry i, j is the sum over t of entry i, t of this matrix times entry
-    /// t, j of the other. Two matrices over different fields are refused as FieldsDiffer, and else two of which the
-    /// first has not as many columns as the second has rows as ShapesDiffer.
+    /// The product of this matrix and another: its entry i, j is the sum over t of entry i, t of this matrix times
+    /// entry t, j of the other. Two matrices over different fields are refused as FieldsDiffer, and else two of which
+    /// the first has not as many columns as the second has rows as ShapesDiffer.
     pub fn mul(&self, alloc: Global, other: &Matrix) -> Result<Matrix, Refusal>
         ensures product { Answers (product_refusal self.now other.now)
             (λ product. product ≡ matrix_product self.now other.now) result }
         ensures well_formed { IfOk result IsMatrix }
     {
-        if self.field().order() != other.field().order() {
+        if self.field() != other.field() {
             return Err(Refusal::FieldsDiffer);
         }
         if self.cols() != other.rows() {
@@ -175,7 +185,7 @@ impl Matrix {
     {
         if self.cols() != other.cols()
             || self.rows() != other.rows()
-            || self.field().order() != other.field().order()
+            || self.field() != other.field()
         {
             return false;
         }

@@ -2,18 +2,19 @@
 
 ghost use Rattle.std.specs.Prelude.{◌≡◌, ◌+◌, ◌<◌, ◌≤◌, length, None, IfOk};
 ghost use Rattle.axe_row.specs.Refusals.{Answers};
+ghost use Rattle.axe_matrix.specs.Limits.{most_rows, most_columns};
 ghost use Rattle.axe_matrix.specs.Matrices.{IsMatrix, part_of, zero_matrix, identity_matrix, matrix_block};
 
-use super::{MAX_COLUMNS, MAX_ROWS, Matrix, Refusal, Row};
+use super::{Matrix, Refusal, Row};
 use axe_field::Field;
 use std::alloc::Global;
 
 impl Matrix {
     /// The matrix of zeros of a shape.
     pub fn zero(alloc: Global, field: Field, rows: usize, cols: usize) -> Result<Matrix, Refusal>
-        requires rows_fit { rows ≤ MAX_ROWS }
+        requires rows_fit { rows ≤ most_rows }
         requires some_column { 1 ≤ cols }
-        requires columns_fit { cols ≤ MAX_COLUMNS }
+        requires columns_fit { cols ≤ most_columns }
         ensures zeros { Answers None (λ matrix. matrix ≡ zero_matrix field rows cols) result }
         ensures well_formed { IfOk result IsMatrix }
     {
@@ -28,8 +29,8 @@ impl Matrix {
     /// The identity matrix of so many rows.
     pub fn identity(alloc: Global, field: Field, rows: usize) -> Result<Matrix, Refusal>
         requires some_row { 1 ≤ rows }
-        requires rows_fit { rows ≤ MAX_ROWS }
-        requires columns_fit { rows ≤ MAX_COLUMNS }
+        requires rows_fit { rows ≤ most_rows }
+        requires columns_fit { rows ≤ most_columns }
         ensures identity { Answers None (λ matrix. matrix ≡ identity_matrix field rows) result }
         ensures well_formed { IfOk result IsMatrix }
     {
@@ -83,6 +84,7 @@ fn part_of_row(alloc: Global, row: &Row, start: usize, len: usize) -> Result<Row
     requires { start + len ≤ length row.now.entries }
     ensures { Answers None (λ part. part ≡ part_of row.now start len) result }
 {
+    // `len` is called for what it ensures: that the row has no more entries than an index counts.
     prove!(len <= row.len());
     let mut part = Row::zero(alloc, *row.field(), len)?;
     for index in 0..len {

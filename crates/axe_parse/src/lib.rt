@@ -56,7 +56,7 @@ pub fn parse(alloc: Global, words: &[String]) -> Result<Command, ParseFault>
     }
 }
 
-// The command that `clap` found.
+/// The command that `clap` found.
 fn command_in(alloc: Global, matches: &ArgMatches<'_>) -> Result<Command, ParseFault>
     ensures { IfOk result HasNames }
 {
@@ -66,7 +66,7 @@ fn command_in(alloc: Global, matches: &ArgMatches<'_>) -> Result<Command, ParseF
     }
 }
 
-// The command with this name and these files.
+/// The command with this name and these files.
 fn command_of(alloc: Global, command: &str, found: &ArgMatches<'_>) -> Result<Command, ParseFault>
     ensures { IfOk result HasNames }
 {
@@ -84,7 +84,7 @@ fn command_of(alloc: Global, command: &str, found: &ArgMatches<'_>) -> Result<Co
     }
 }
 
-// The command `zcv IN OUT`.
+/// The command `zcv IN OUT`.
 fn zcv_of(alloc: Global, found: &ArgMatches<'_>) -> Result<Command, ParseFault>
     ensures { IfOk result HasNames }
 {
@@ -92,7 +92,7 @@ fn zcv_of(alloc: Global, found: &ArgMatches<'_>) -> Result<Command, ParseFault>
     Ok(Command::Zcv { input, out })
 }
 
-// The command `zpr IN [OUT]`.
+/// The command `zpr IN [OUT]`.
 fn zpr_of(alloc: Global, found: &ArgMatches<'_>) -> Result<Command, ParseFault>
     ensures { IfOk result HasNames }
 {
@@ -102,7 +102,7 @@ fn zpr_of(alloc: Global, found: &ArgMatches<'_>) -> Result<Command, ParseFault>
     })
 }
 
-// The command `zmu A B OUT`.
+/// The command `zmu A B OUT`.
 fn zmu_of(alloc: Global, found: &ArgMatches<'_>) -> Result<Command, ParseFault>
     ensures { IfOk result HasNames }
 {
@@ -110,7 +110,7 @@ fn zmu_of(alloc: Global, found: &ArgMatches<'_>) -> Result<Command, ParseFault>
     Ok(Command::Zmu { left, right, out })
 }
 
-// The command `zad A B OUT`.
+/// The command `zad A B OUT`.
 fn zad_of(alloc: Global, found: &ArgMatches<'_>) -> Result<Command, ParseFault>
     ensures { IfOk result HasNames }
 {
@@ -118,7 +118,7 @@ fn zad_of(alloc: Global, found: &ArgMatches<'_>) -> Result<Command, ParseFault>
     Ok(Command::Zad { left, right, out })
 }
 
-// The command `ztr A OUT`.
+/// The command `ztr A OUT`.
 fn ztr_of(alloc: Global, found: &ArgMatches<'_>) -> Result<Command, ParseFault>
     ensures { IfOk result HasNames }
 {
@@ -126,7 +126,7 @@ fn ztr_of(alloc: Global, found: &ArgMatches<'_>) -> Result<Command, ParseFault>
     Ok(Command::Ztr { input, out })
 }
 
-// The command `ziv A OUT`.
+/// The command `ziv A OUT`.
 fn ziv_of(alloc: Global, found: &ArgMatches<'_>) -> Result<Command, ParseFault>
     ensures { IfOk result HasNames }
 {
@@ -134,7 +134,7 @@ fn ziv_of(alloc: Global, found: &ArgMatches<'_>) -> Result<Command, ParseFault>
     Ok(Command::Ziv { input, out })
 }
 
-// The command `znu A OUT`.
+/// The command `znu A OUT`.
 fn znu_of(alloc: Global, found: &ArgMatches<'_>) -> Result<Command, ParseFault>
     ensures { IfOk result HasNames }
 {
@@ -142,7 +142,7 @@ fn znu_of(alloc: Global, found: &ArgMatches<'_>) -> Result<Command, ParseFault>
     Ok(Command::Znu { input, out })
 }
 
-// The command `zsp [-g N] [-b] [-a ACT] NAME SEED OUT`.
+/// The command `zsp [-g N] [-b] [-a ACT] NAME SEED OUT`.
 fn zsp_of(alloc: Global, found: &ArgMatches<'_>) -> Result<Command, ParseFault>
     ensures { IfOk result HasNames }
 {
@@ -159,7 +159,7 @@ fn zsp_of(alloc: Global, found: &ArgMatches<'_>) -> Result<Command, ParseFault>
     })
 }
 
-// The command `zqt [-g N] SUB NAME OUTNAME`.
+/// The command `zqt [-g N] SUB NAME OUTNAME`.
 fn zqt_of(alloc: Global, found: &ArgMatches<'_>) -> Result<Command, ParseFault>
     ensures { IfOk result HasNames }
 {
@@ -179,7 +179,7 @@ fn zqt_of(alloc: Global, found: &ArgMatches<'_>) -> Result<Command, ParseFault>
     })
 }
 
-// The number of a module's generators. A number that is missing, or is not 1 to 16, has been refused by `clap` already.
+/// The number of a module's generators. A number that is missing, or is not 1 to 16, has been refused by `clap` already.
 fn generators_of(alloc: Global, found: &ArgMatches<'_>) -> Result<GeneratorCount, ParseFault> {
     let number = found.get_one::<u8>(lines::GENERATORS).unwrap_or(0);
     match GeneratorCount::new(number) {
@@ -188,7 +188,7 @@ fn generators_of(alloc: Global, found: &ArgMatches<'_>) -> Result<GeneratorCount
     }
 }
 
-// What `clap` answers in the place of a command.
+/// What `clap` answers in the place of a command.
 fn fault_of(alloc: Global, error: &clap::Error) -> Result<ParseFault, AllocError> {
     let text = error.to_string(alloc)?;
     Ok(match error.kind() {
@@ -198,7 +198,7 @@ fn fault_of(alloc: Global, error: &clap::Error) -> Result<ParseFault, AllocError
     })
 }
 
-// The names of two files that have to be given.
+/// The names of two files that have to be given.
 fn two_names_of(
     alloc: Global,
     found: &ArgMatches<'_>,
@@ -211,7 +211,7 @@ fn two_names_of(
     Ok((first, name_of(alloc, found, second)?))
 }
 
-// The names of three files that have to be given.
+/// The names of three files that have to be given.
 fn three_names_of(
     alloc: Global,
     found: &ArgMatches<'_>,
@@ -226,15 +226,15 @@ fn three_names_of(
     Ok((first, second, name_of(alloc, found, third)?))
 }
 
-// The name of a file that has to be given. A word that is missing, which `clap` has refused already, counts as the empty
-// word, which is no name.
+/// The name of a file that has to be given. A word that is missing, which `clap` has refused already, counts as the
+/// empty word, which is no name.
 fn name_of(alloc: Global, found: &ArgMatches<'_>, file: &str) -> Result<Name, ParseFault>
     ensures { IfOk result (λ name. is_name name ≡ true) }
 {
     name_from(alloc, found.get_str(file).unwrap_or(""))
 }
 
-// The name of a file that may be left out.
+/// The name of a file that may be left out.
 fn optional_name_of(
     alloc: Global,
     found: &ArgMatches<'_>,
@@ -248,7 +248,7 @@ fn optional_name_of(
     }
 }
 
-// The name of a file from the word that stands for it.
+/// The name of a file from the word that stands for it.
 fn name_from(alloc: Global, word: &str) -> Result<Name, ParseFault>
     ensures { IfOk result (λ name. is_name name ≡ true) }
 {
@@ -259,11 +259,12 @@ fn name_from(alloc: Global, word: &str) -> Result<Name, ParseFault>
     }
 }
 
-// The answer where no command has the name that was given, which `clap` has refused already.
+/// The answer where no command has the name that was given, which `clap` has refused already.
 fn no_command(alloc: Global) -> Result<ParseFault, AllocError> {
     usage(alloc, "axe: no such command\n")
 }
 
+/// The fault of words that are no command line, with this text.
 fn usage(alloc: Global, text: &str) -> Result<ParseFault, AllocError> {
     Ok(ParseFault::Usage(String::from_str(alloc, text)?))
 }

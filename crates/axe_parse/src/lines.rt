@@ -105,7 +105,7 @@ pub(crate) fn command_lines() -> [&'static CommandLine; 9] {
     ]
 }
 
-// `zcv IN OUT`.
+/// `zcv IN OUT`.
 static ZCV_LINE: CommandLine = CommandLine {
     name: ZCV,
     about: help::ZCV_ABOUT,
@@ -124,7 +124,7 @@ static ZCV_LINE: CommandLine = CommandLine {
     ],
 };
 
-// `zpr IN [OUT]`.
+/// `zpr IN [OUT]`.
 static ZPR_LINE: CommandLine = CommandLine {
     name: ZPR,
     about: help::ZPR_ABOUT,
@@ -143,7 +143,7 @@ static ZPR_LINE: CommandLine = CommandLine {
     ],
 };
 
-// `zmu A B OUT`.
+/// `zmu A B OUT`.
 static ZMU_LINE: CommandLine = CommandLine {
     name: ZMU,
     about: help::ZMU_ABOUT,
@@ -167,7 +167,7 @@ static ZMU_LINE: CommandLine = CommandLine {
     ],
 };
 
-// `zad A B OUT`.
+/// `zad A B OUT`.
 static ZAD_LINE: CommandLine = CommandLine {
     name: ZAD,
     about: help::ZAD_ABOUT,
@@ -191,7 +191,7 @@ static ZAD_LINE: CommandLine = CommandLine {
     ],
 };
 
-// `ztr A OUT`.
+/// `ztr A OUT`.
 static ZTR_LINE: CommandLine = CommandLine {
     name: ZTR,
     about: help::ZTR_ABOUT,
@@ -210,7 +210,7 @@ static ZTR_LINE: CommandLine = CommandLine {
     ],
 };
 
-// `ziv A OUT`.
+/// `ziv A OUT`.
 static ZIV_LINE: CommandLine = CommandLine {
     name: ZIV,
     about: help::ZIV_ABOUT,
@@ -229,7 +229,7 @@ static ZIV_LINE: CommandLine = CommandLine {
     ],
 };
 
-// `znu A OUT`.
+/// `znu A OUT`.
 static ZNU_LINE: CommandLine = CommandLine {
     name: ZNU,
     about: help::ZNU_ABOUT,
@@ -248,7 +248,7 @@ static ZNU_LINE: CommandLine = CommandLine {
     ],
 };
 
-// `zsp [-g N] [-b] [-a ACT] NAME SEED OUT`.
+/// `zsp [-g N] [-b] [-a ACT] NAME SEED OUT`.
 static ZSP_LINE: CommandLine = CommandLine {
     name: ZSP,
     about: help::ZSP_ABOUT,
@@ -287,7 +287,7 @@ static ZSP_LINE: CommandLine = CommandLine {
     ],
 };
 
-// `zqt [-g N] SUB NAME OUTNAME`.
+/// `zqt [-g N] SUB NAME OUTNAME`.
 static ZQT_LINE: CommandLine = CommandLine {
     name: ZQT,
     about: help::ZQT_ABOUT,

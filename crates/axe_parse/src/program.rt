@@ -16,7 +16,7 @@ pub(crate) fn program<'a>(alloc: Global) -> Result<Command<'a>, AllocError> {
     Ok(program)
 }
 
-// The program before it has any command.
+/// The program before it has any command.
 fn without_commands<'a>(alloc: Global) -> Result<Command<'a>, AllocError> {
     with_help(Command::new(alloc, "axe"), help::ABOUT, help::LONG_ABOUT)
         .no_binary_name(true)
@@ -26,7 +26,7 @@ fn without_commands<'a>(alloc: Global) -> Result<Command<'a>, AllocError> {
         .bin_name("axe")
 }
 
-// The command of a command line.
+/// The command of a command line.
 fn command<'a>(alloc: Global, line: &CommandLine) -> Result<Command<'a>, AllocError> {
     let mut command = with_help(Command::new(alloc, line.name), line.about, line.long_about);
     for word in line.words {
@@ -35,7 +35,7 @@ fn command<'a>(alloc: Global, line: &CommandLine) -> Result<Command<'a>, AllocEr
     Ok(command)
 }
 
-// Adds what help says in a line and at length, and of files and exit statuses.
+/// Adds what help says in a line and at length, and of files and exit statuses.
 fn with_help<'a>(command: Command<'a>, about: &'a str, long_about: &'a str) -> Command<'a> {
     command
         .about(about)
@@ -43,7 +43,7 @@ fn with_help<'a>(command: Command<'a>, about: &'a str, long_about: &'a str) -> C
         .after_long_help(help::FILES_AND_STATUSES)
 }
 
-// The argument that a word of a command line is.
+/// The argument that a word of a command line is.
 fn argument<'a>(alloc: Global, word: &Word) -> Arg<'a> {
     let argument = Arg::new(alloc, word.name).help(word.help);
     match word.kind {
@@ -55,7 +55,7 @@ fn argument<'a>(alloc: Global, word: &Word) -> Arg<'a> {
     }
 }
 
-// Has an argument be a number of generators, which is 2 where none is given.
+/// Has an argument be a number of generators, which is 2 where none is given.
 fn count<'a>(argument: Arg<'a>) -> Arg<'a> {
     argument
         .value_parser(ValueParser::Unsigned(1, u64::from(MAX_GENERATORS)))

@@ -1,3 +1,4 @@
+pub mod Limits
 pub mod Modules
 pub mod Generators
 pub mod Spinning

@@ -5,9 +5,9 @@ use Rattle.axe_field.specs.Order.{Order, order_number}
 use Rattle.axe_field.specs.NumberFields.{number_field}
 use Rattle.axe_row.specs.declared.refusals.Refusal.{Refusal}
 use Rattle.axe_row.specs.declared.refusals.Refusal.TheVariants.{FieldsDiffer, ShapesDiffer, NotSquare, NoRows}
-use Rattle.axe_matrix.specs.declared.TheConstants.{MAX_COLUMNS}
+use Rattle.axe_matrix.specs.Limits.{most_columns}
 use Rattle.axe_matrix.specs.Matrices.{MatrixValue}
-use Rattle.axe_spin.specs.declared.TheConstants.{MAX_GENERATORS}
+use Rattle.axe_spin.specs.Limits.{most_generators}
 
 -- a module: the order of its field, its dimension, and its generators, each the list of its rows (Parker 1984)
 pub record ModuleValue : Type 0 where
@@ -19,9 +19,9 @@ pub record ModuleValue : Type 0 where
 -- columns than the limits allow
 pub record IsModule (m : ModuleValue) : Type 0 where
   pub over : IsModuleOver (number_field m.order) m.dim m.generators
-  pub dim_fits : m.dim ≤ MAX_COLUMNS
+  pub dim_fits : m.dim ≤ most_columns
   pub some_generator : 1 ≤ length m.generators
-  pub generators_fit : length m.generators ≤ MAX_GENERATORS
+  pub generators_fit : length m.generators ≤ most_generators
 
 -- generator i of a module, counted from 0, as a matrix
 abbrev pub generator_of : ModuleValue → ℕ → MatrixValue

@@ -3,12 +3,14 @@
 
 mod generated;
 mod laws;
+mod limits;
 mod module;
 mod spinning;
 mod standard;
 
 pub use generated::{generate, has_only_zeros};
 pub use laws::{isomorphism_carries_standard_basis, multiple_has_the_same_standard_matrices};
+pub use limits::limits_are_named;
 pub use module::Module;
 pub use standard::standard_basis;
 

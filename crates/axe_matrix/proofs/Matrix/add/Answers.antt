@@ -4,7 +4,7 @@ use Rattle.axe_field.specs.Order.{order_number}
 use Rattle.axe_row.specs.Operations.{row_with_multiple}
 use Rattle.axe_row.specs.Rows.{RowValue}
 use Rattle.axe_matrix.specs.Matrices.{row_of}
-use Rattle.axe_matrix.proofs.MatrixLaws.{same_fields}
+use Rattle.axe_matrix.proofs.MatrixLaws.{one_field}
 use Rattle.axe_matrix.proofs.SumLaws.{sum_refusal-none, sum_row-is, sum_of_matrices-rows}
 use Rattle.axe_matrix.proofs.PartialMatrices.{IsPartialMatrix-none, IsPartialMatrix-more, IsPartialMatrix-all}
 use Rattle.axe_matrix.proofs.Matrix.add.Goals as goal
@@ -15,13 +15,13 @@ loop-index-init c = IsPartialMatrix-none _ _ _ _ _ _ c.empty-sum.ensures.no_rows
 pub returns-in_err-append-clause-sum : goal.returns-in_err-append-clause-sum
 returns-in_err-append-clause-sum c =
     let p = err_from_is_err_and c.from_residual-in_err-append.result c.from_residual-in_err-append.ensures.1 in
-    let fields = same_fields _ _ _ _ _ _ c.field.ensures.order c.order.ensures.value c.if-order.false c.order-2.ensures.value c.field-2.ensures.order in
+    let fields = one_field _ _ _ _ c.field.ensures.order c.if-ne.ensures c.field-2.ensures.order in
     let none = sum_refusal-none c.args.self.now c.args.other.now (ap order_number fields) (sym c.rows.ensures.count ∙ c.if-rows.false ∙ c.rows-2.ensures.count) (sym c.cols.ensures.count ∙ c.if-cols.false ∙ c.cols-else-rows.ensures.count) in
     rw (p.1, none) (p.2 ∙ c.in_err-append.ensures.appended)
 
 pub loop-index-preserved : goal.loop-index-preserved
 loop-index-preserved c =
-    let fields = same_fields _ _ _ _ _ _ c.field.ensures.order c.order.ensures.value c.if-order.false c.order-2.ensures.value c.field-2.ensures.order in
+    let fields = one_field _ _ _ _ c.field.ensures.order c.if-ne.ensures c.field-2.ensures.order in
     let below : c.loop-index.index < length c.args.self.now.rows = omega (arith, c.loop-index-test.true, c.rows-index-end.ensures.count) in
     let left : c.in_ok-row.row ≡ row_of c.args.self.now c.loop-index.index = c.in_ok-row.ensures.copied ∙ c.row.ensures.value in
     let right = c.row-in-loop-index.ensures.value in
@@ -33,7 +33,7 @@ loop-index-preserved c =
 
 pub returns-clause-sum : goal.returns-clause-sum
 returns-clause-sum c =
-    let fields = same_fields _ _ _ _ _ _ c.field.ensures.order c.order.ensures.value c.if-order.false c.order-2.ensures.value c.field-2.ensures.order in
+    let fields = one_field _ _ _ _ c.field.ensures.order c.if-ne.ensures c.field-2.ensures.order in
     let none = sum_refusal-none c.args.self.now c.args.other.now (ap order_number fields) (sym c.rows.ensures.count ∙ c.if-rows.false ∙ c.rows-2.ensures.count) (sym c.cols.ensures.count ∙ c.if-cols.false ∙ c.cols-else-rows.ensures.count) in
     let all : c.loop-index.index ≡ length c.args.self.now.rows = omega (arith, c.rows-index-end.ensures.count, c.loop-index-test.false, c.loop-index.auto.index-end) in
     rw none (IsPartialMatrix-all _ _ _ _ _ _ c.loop-index.invariant all ∙ sum_of_matrices-rows _ _)

@@ -3,7 +3,7 @@ use Rattle.std.proofs.lemmas.Result.{err_from_is_err_and}
 use Rattle.axe_field.specs.Order.{order_number}
 use Rattle.axe_row.specs.Rows.{RowValue}
 use Rattle.axe_matrix.specs.Matrices.{vector_product}
-use Rattle.axe_matrix.proofs.MatrixLaws.{same_fields}
+use Rattle.axe_matrix.proofs.MatrixLaws.{one_field}
 use Rattle.axe_matrix.proofs.ProductLaws.{product_refusal-none, length-combination, matrix_product-rows}
 use Rattle.axe_matrix.proofs.PartialMatrices.{IsPartialMatrix-none, IsPartialMatrix-more, IsPartialMatrix-all}
 use Rattle.axe_matrix.proofs.Matrix.mul.Goals as goal
@@ -18,7 +18,7 @@ append-requires-clause-fits c =
 pub returns-in_err-append-clause-product : goal.returns-in_err-append-clause-product
 returns-in_err-append-clause-product c =
     let p = err_from_is_err_and c.from_residual-in_err-append.result c.from_residual-in_err-append.ensures.1 in
-    let fields = same_fields _ _ _ _ _ _ c.field.ensures.order c.order.ensures.value c.if-order.false c.order-2.ensures.value c.field-2.ensures.order in
+    let fields = one_field _ _ _ _ c.field.ensures.order c.if-ne.ensures c.field-2.ensures.order in
     let none = product_refusal-none c.args.self.now c.args.other.now (ap order_number fields) (sym c.cols.ensures.count ∙ c.if-cols-rows.false ∙ c.rows.ensures.count) in
     rw (p.1, none) (p.2 ∙ c.in_err-append.ensures.appended)
 
@@ -29,7 +29,7 @@ loop-index-preserved c =
 
 pub returns-clause-product : goal.returns-clause-product
 returns-clause-product c =
-    let fields = same_fields _ _ _ _ _ _ c.field.ensures.order c.order.ensures.value c.if-order.false c.order-2.ensures.value c.field-2.ensures.order in
+    let fields = one_field _ _ _ _ c.field.ensures.order c.if-ne.ensures c.field-2.ensures.order in
     let none = product_refusal-none c.args.self.now c.args.other.now (ap order_number fields) (sym c.cols.ensures.count ∙ c.if-cols-rows.false ∙ c.rows.ensures.count) in
     let all : c.loop-index.index ≡ length c.args.self.now.rows = omega (arith, c.rows-index-end.ensures.count, c.loop-index-test.false, c.loop-index.auto.index-end) in
     rw none (IsPartialMatrix-all _ _ _ _ _ _ c.loop-index.invariant all ∙ matrix_product-rows c.args.self.now c.args.other.now fields)
