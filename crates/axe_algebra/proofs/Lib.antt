@@ -44,3 +44,5 @@ pub mod Sections
 pub mod Leading
 pub mod ListExtended
 pub mod SectionChains
+pub mod ListExistence
+pub mod ListInvariance
