@@ -46,6 +46,15 @@ same_refusal one other e = cc
 pub no_value : {S : Type 0} (value : S) (refusal : Refusal) → ¬ (Err refusal ≡ Ok value)
 no_value value refusal e = cc
 
+pub refused_at_once : {S T : Type 0} (why : Option Refusal) (value : S) (P : T → Type 0) (result : Result T Refusal) (refusal : Refusal) →
+    Err refusal ≡ unless_refused why value → IsErrAnd result (λ r. r ≡ refusal) → Answers why P result
+refused_at_once (Some other) value P result refusal e h = handed_on result refusal h ∙ ap Err (same_refusal refusal other e)
+refused_at_once None value P result refusal e h = absurd (no_value value refusal e)
+
+-- the answer of a callee that is asked where the operands are not refused
+pub answers_early : {T : Type 0} (why : Option Refusal) (P : T → Type 0) (result : Result T Refusal) → why ≡ None → Answers None P result → Answers why P result
+answers_early why P result none h = subst (λ w. Answers w P result) (sym none) h
+
 -- ---- answers with refusals that come late
 
 -- the refusal of a callee that tells why the operands are refused

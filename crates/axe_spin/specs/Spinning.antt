@@ -49,6 +49,10 @@ pub record IsFirstNonzeroRow (m : MatrixValue) (i : ℕ) : Type 0 where
   pub nonzero : ¬ (IsZeroVector (slice_index_or m.rows i []))
   pub zeros_before : (j : ℕ) → j < i → IsZeroVector (slice_index_or m.rows j [])
 
+-- the row is the first row of the matrix that is not zero
+abbrev pub HasFirstNonzeroRow : MatrixValue → RowValue → Type 0
+HasFirstNonzeroRow m row = (i : ℕ) × IsFirstNonzeroRow m i × (row ≡ row_of m i)
+
 -- the matrix has as its rows what spinning a seed in a module gives: the reduced basis of the space that the seed's rows
 -- generate, or where `standard` says so, the standard basis of the seed's first row that is not zero (Parker 1984)
 abbrev pub HasSpunRows : Bool → ModuleValue → MatrixValue → MatrixValue → Type 0

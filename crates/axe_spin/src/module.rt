@@ -94,7 +94,8 @@ impl Module {
     /// Refuses a matrix whose rows are no vectors of the module: one over another field as FieldsDiffer, and else one with
     /// another number of columns than the dimension as ShapesDiffer. It takes no memory.
     pub fn check_rows(&self, rows: &Matrix) -> Result<(), Refusal>
-        ensures { result ≡ unless_refused (rows_refusal self.now rows.now) tt }
+        ensures refusal { result ≡ unless_refused (rows_refusal self.now rows.now) tt }
+        ensures rows_well_formed { IsMatrix rows.now }
     {
         if rows.field().order() != self.field().order() {
             return Err(Refusal::FieldsDiffer);
