@@ -8,7 +8,7 @@ use Rattle.axe_algebra.specs.Lists.{IsSquareOver}
 use Rattle.axe_algebra.specs.ListArithmetic.{product, IsInverse, IsConjugate}
 use Rattle.axe_field.specs.Order.{Order, order_number}
 use Rattle.axe_field.specs.NumberFields.{number_field}
-use Rattle.axe_row.specs.Refusals.{Answers}
+use Rattle.axe_row.specs.Refusals.{Answers, unless_refused}
 use Rattle.axe_row.specs.declared.refusals.Refusal.{Refusal}
 use Rattle.axe_row.specs.declared.refusals.Refusal.TheVariants.{FieldsDiffer, ShapesDiffer, NotSquare, Singular, NotInvariant, WholeSpace, ZeroSeed, NoRows, ZeroSpace, Memory}
 use Rattle.axe_matrix.specs.Matrices.{MatrixValue, IsMatrix, product_refusal, matrix_product}
@@ -16,7 +16,7 @@ use Rattle.axe_matrix.proofs.MatrixLaws.{same_order}
 use Rattle.axe_matrix.proofs.ProductLaws.{length-product, product_refusal-none}
 use Rattle.axe_echelon.specs.Echelons.{IsInverseMatrix, InverseRefused}
 use Rattle.axe_echelon.proofs.Exits.{handed_on}
-use Rattle.axe_spin.specs.Modules.{ModuleValue, generator_of, unless_refused, rows_of_each}
+use Rattle.axe_spin.specs.Modules.{ModuleValue, generator_of, rows_of_each}
 use Rattle.axe_spin.specs.Generators.{IsGeneratorMatrix}
 use Rattle.axe_action.specs.Actions.{conjugate_refusal, AnswersConjugate, IsConjugateModule}
 use Rattle.axe_action.proofs.GeneratorLists.{AreNewGenerators}

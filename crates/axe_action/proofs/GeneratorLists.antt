@@ -8,7 +8,8 @@ use Rattle.axe_field.specs.Order.{Order, order_number}
 use Rattle.axe_row.specs.declared.refusals.Refusal.{Refusal}
 use Rattle.axe_matrix.specs.Matrices.{MatrixValue}
 use Rattle.axe_spin.specs.declared.TheConstants.{MAX_GENERATORS}
-use Rattle.axe_spin.specs.Modules.{ModuleValue, IsModule, generator_refusal, generators_refusal, first_of, unless_refused, rows_of_each, module_of_matrices}
+use Rattle.axe_row.specs.Refusals.{first_of, unless_refused}
+use Rattle.axe_spin.specs.Modules.{ModuleValue, IsModule, generator_refusal, generators_refusal, rows_of_each, module_of_matrices}
 use Rattle.axe_spin.specs.Generators.{IsGeneratorMatrix}
 use mathlib.Core.Path.{refl, sym, ◌∙◌, ap, subst}
 use native.Mathlib.Omega.{arith}

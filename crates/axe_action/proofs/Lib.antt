@@ -1,5 +1,4 @@
 pub mod GeneratorLists
-pub mod SubSpans
 pub mod SubAnswers
 pub mod SubRows
 pub mod SubBases
@@ -8,3 +7,5 @@ pub mod QuotientRows
 pub mod DualLaws
 pub mod BasisLaws
 pub mod ConjugateLaws
+pub mod OneAction
+pub mod SomeAction

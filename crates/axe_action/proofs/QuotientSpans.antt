@@ -35,7 +35,7 @@ use Rattle.axe_echelon.proofs.StepLaws.{over_of_row}
 use Rattle.axe_echelon.proofs.InverseLaws.{matrix_over}
 use Rattle.axe_spin.specs.Modules.{ModuleValue, IsModule, generator_of}
 use Rattle.axe_action.specs.Actions.{rows_refusal, AnswersQuotientAction, IsInvariantIn, SpansModule, IsActionModulo}
-use Rattle.axe_action.specs.Coordinates.{IsSpanOfRows, image_of_row, HasImagesIn}
+use Rattle.axe_action.specs.Coordinates.{IsSpanOfRows, row_times, HasImagesIn}
 use mathlib.Core.Path.{refl, sym, ◌∙◌, ap, subst, fun_ext}
 use native.Mathlib.Omega.{arith}
 
@@ -72,22 +72,22 @@ zero_of_spanned K n rows v x over over_x is spanned =
 
 -- whether the image of a row is in the span, by its representative
 pub image_within : (g : MatrixValue) (rows : List (List ℕ)) (t : ℕ) (e : EchelonValue) (image rest : RowValue) (zero : Bool) → e.order ≡ g.order →
-    image.entries ≡ image_of_row g rows t → IsRepresentative (number_field e.order) e.rows image.entries rest.entries →
-    (IsTrue zero ↔ IsZeroVector rest.entries) → zero ≡ true → IsSpanned (number_field g.order) e.rows (image_of_row g rows t)
+    image.entries ≡ row_times g rows t → IsRepresentative (number_field e.order) e.rows image.entries rest.entries →
+    (IsTrue zero ↔ IsZeroVector rest.entries) → zero ≡ true → IsSpanned (number_field g.order) e.rows (row_times g rows t)
 image_within g rows t e image rest zero field image_is represents exactly is =
-    subst (λ o. IsSpanned (number_field o) e.rows (image_of_row g rows t)) field
+    subst (λ o. IsSpanned (number_field o) e.rows (row_times g rows t)) field
     (subst (IsSpanned (number_field e.order) e.rows) image_is
     (spanned_by_zero (number_field e.order) e.rows image.entries rest.entries represents (exactly.0 is)))
 
 pub image_without : (g : MatrixValue) (rows : List (List ℕ)) (t : ℕ) (e : EchelonValue) (image rest : RowValue) (zero : Bool) → e.order ≡ g.order →
-    image.entries ≡ image_of_row g rows t → IsRepresentative (number_field e.order) e.rows image.entries rest.entries →
+    image.entries ≡ row_times g rows t → IsRepresentative (number_field e.order) e.rows image.entries rest.entries →
     (IsTrue zero ↔ IsZeroVector rest.entries) → zero ≡ false → t < length rows → IsEchelon e → rest.order ≡ e.order → length rest.entries ≡ e.cols →
     IsRow rest → ¬ (HasImagesIn g rows e.rows)
 image_without g rows t e image rest zero field image_is represents exactly is below h rest_field long is_row = λ images.
     different zero is (exactly.1 (zero_of_spanned (number_field e.order) e.cols e.rows image.entries rest.entries h.over
     (over_of_row e.order e.cols rest rest_field is_row long) represents
     (subst (IsSpanned (number_field e.order) e.rows) (sym image_is)
-    (subst (λ o. IsSpanned (number_field o) e.rows (image_of_row g rows t)) (sym field) (images t below)))))
+    (subst (λ o. IsSpanned (number_field o) e.rows (row_times g rows t)) (sym field) (images t below)))))
   where
     different : (b : Bool) → b ≡ false → b ≡ true → ⊥
     different b first second = cc
@@ -164,30 +164,6 @@ quotient_of_same_span F M k v r w m Q same action = record {
 
     free_back : (j : ℕ) → Actions.IsFree F M.dimension r w j → Actions.IsFree F M.dimension k v j
     free_back j free = record { below = free.below; no_pivot = λ pivot. free.no_pivot (pivot_of_same_span F k v r w j same.forth pivot) }
-
--- rows that are vectors of the module
-pub record AreVectors (m : ModuleValue) (rows : MatrixValue) : Type 0 where
-  pub field : rows.order ≡ m.order
-  pub columns : rows.cols ≡ m.dim
-
-pub vectors_of : (m : ModuleValue) (rows : MatrixValue) → rows_refusal m rows ≡ None → AreVectors m rows
-vectors_of m rows none =
-    let tests = passed (order_number rows.order == order_number m.order) (rows.cols == m.dim) none in
-    record {
-      field = same_order rows.order m.order (eqb-true (order_number rows.order) (order_number m.order) tests.0);
-      columns = eqb-true rows.cols m.dim tests.1;
-    }
-  where
-    passed : (a b : Bool) → (if not a then Some FieldsDiffer else (if not b then Some ShapesDiffer else None)) ≡ None → (a ≡ true) × (b ≡ true)
-    passed true true e = (refl, refl)
-    passed true false e = cc
-    passed false b e = cc
-
-pub vectors_over : (m : ModuleValue) (rows : MatrixValue) → rows.order ≡ m.order → rows.cols ≡ m.dim → IsMatrix rows →
-    IsMatrixOver (number_field m.order) m.dim rows.rows
-vectors_over m rows field columns h =
-    subst (λ n. IsMatrixOver (number_field m.order) n rows.rows) columns
-    (subst (λ o. IsMatrixOver (number_field o) rows.cols rows.rows) field (matrix_over rows h))
 
 -- the span of such rows, in the module's field
 pub record IsSpanIn (m : ModuleValue) (rows : MatrixValue) (e : EchelonValue) : Type 0 where

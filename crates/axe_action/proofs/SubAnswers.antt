@@ -1,11 +1,10 @@
 -- Answers for an action on a span, carried from one question to another.
 use Rattle.std.specs.Prelude.{◌≡◌, Option, Some, None, Result, Ok, Err}
 use Rattle.std.specs.Result.{IsErrAnd}
-use Rattle.axe_row.specs.Refusals.{Answers}
+use Rattle.axe_row.specs.Refusals.{Answers, unless_refused}
 use Rattle.axe_row.specs.declared.refusals.Refusal.{Refusal}
 use Rattle.axe_row.specs.declared.refusals.Refusal.TheVariants.{FieldsDiffer, ShapesDiffer, NotSquare, Singular, NotInvariant, WholeSpace, ZeroSeed, NoRows, ZeroSpace, Memory}
 use Rattle.axe_echelon.proofs.Exits.{handed_on}
-use Rattle.axe_spin.specs.Modules.{unless_refused}
 use Rattle.axe_action.specs.Actions.{AnswersSubAction, AnswersQuotientAction}
 use mathlib.Core.Path.{refl, sym, subst, ap, ◌∙◌}
 

@@ -21,7 +21,8 @@ use Rattle.axe_matrix.specs.Matrices.{MatrixValue, IsMatrix}
 use Rattle.axe_matrix.proofs.MatrixLaws.{same_order}
 use Rattle.axe_echelon.specs.Echelons.{EchelonValue, IsReducedMatrix}
 use Rattle.axe_echelon.proofs.InverseLaws.{matrix_over}
-use Rattle.axe_spin.specs.Modules.{ModuleValue, unless_refused}
+use Rattle.axe_row.specs.Refusals.{unless_refused}
+use Rattle.axe_spin.specs.Modules.{ModuleValue}
 use Rattle.axe_spin.specs.Spinning.{has_only_zeros}
 use Rattle.axe_action.specs.Actions.{rows_refusal, sub_action_refusal, AnswersSubAction, IsInvariantIn, IsBasisAction, IsActionOnSpan}
 use Rattle.axe_action.specs.Coordinates.{IsSpanOfRows}

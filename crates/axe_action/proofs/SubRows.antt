@@ -17,7 +17,7 @@ use Rattle.axe_spin.specs.Modules.{ModuleValue, IsModule, generator_of, rows_of_
 use Rattle.axe_spin.specs.Generators.{IsGeneratorMatrix}
 use Rattle.axe_spin.proofs.ModuleLaws.{square_over}
 use Rattle.axe_action.specs.Actions.{AnswersSubAction, IsInvariantIn, IsBasisAction}
-use Rattle.axe_action.specs.Coordinates.{IsSpanOfRows, image_of_row, HasImagesIn, IsActionRow, HasActionRows}
+use Rattle.axe_action.specs.Coordinates.{IsSpanOfRows, row_times, HasImagesIn, IsActionRow, HasActionRows}
 use Rattle.axe_action.proofs.GeneratorLists.{AreNewGenerators, module_of_made}
 use Rattle.std.specs.List.{All}
 use Rattle.std.proofs.lemmas.List.{length-map}
@@ -43,14 +43,14 @@ form_over g rows e is h = let formed : IsEchelon (form_of g rows) = subst IsEche
 
 -- the coefficients of an image
 pub action_row_of : (g : MatrixValue) (rows : List (List ℕ)) (t : ℕ) (e : EchelonValue) (image coefficients : RowValue) → e ≡ form_of g rows →
-    image.entries ≡ image_of_row g rows t → AreCoordinates e image.entries coefficients → IsActionRow g rows t coefficients.entries
+    image.entries ≡ row_times g rows t → AreCoordinates e image.entries coefficients → IsActionRow g rows t coefficients.entries
 action_row_of g rows t e image coefficients is image_is are =
     let here : AreCoordinates (form_of g rows) image.entries coefficients = subst (λ x. AreCoordinates x image.entries coefficients) is are in
     record { over = here.over; combine = sym image_is ∙ here.combine }
 
 -- an image outside the span
 pub image_outside : (g : MatrixValue) (rows : List (List ℕ)) (t : ℕ) (e : EchelonValue) (image : RowValue) → e ≡ form_of g rows →
-    image.entries ≡ image_of_row g rows t → t < length rows → ¬ (IsSpanned (number_field e.order) e.rows image.entries) → ¬ (HasImagesIn g rows rows)
+    image.entries ≡ row_times g rows t → t < length rows → ¬ (IsSpanned (number_field e.order) e.rows image.entries) → ¬ (HasImagesIn g rows rows)
 image_outside g rows t e image is image_is below outside = λ images.
     outside (subst (λ (x : EchelonValue). IsSpanned (number_field x.order) x.rows image.entries) (sym is)
     (subst (IsSpanned (number_field g.order) rows) (sym image_is) (images t below)))
@@ -86,7 +86,7 @@ pub action_images : (g : MatrixValue) (rows : List (List ℕ)) (i : ℕ) (action
     IsMatrixOver (number_field g.order) g.cols rows → length rows ≤ i → HasImagesIn g rows rows
 action_images g rows i action all over whole t below =
     let row : IsActionRow g rows t (get_or action.rows t []) = all.each t (omega arith) in
-    spanned_by_coefficients (number_field g.order) g.cols rows (image_of_row g rows t) (get_or action.rows t []) over row.over row.combine
+    spanned_by_coefficients (number_field g.order) g.cols rows (row_times g rows t) (get_or action.rows t []) over row.over row.combine
 
 -- the matrix is the action of generator j
 abbrev pub IsActionOf : ModuleValue → List (List ℕ) → ℕ → List (List ℕ) → Type 0
@@ -126,7 +126,7 @@ action_made m rows matrices result h over are is =
     invariant : IsInvariantIn m rows
     invariant = invariant_by_images K m.dim m.generators rows.rows h.over.square over (λ t i inside below.
         let row : IsActionRow (generator_of m i) rows.rows t (get_or (get_or (rows_of_each matrices) i []) t []) = are.made i below t inside in
-        spanned_by_coefficients K m.dim rows.rows (image_of_row (generator_of m i) rows.rows t) (get_or (get_or (rows_of_each matrices) i []) t []) over row.over row.combine)
+        spanned_by_coefficients K m.dim rows.rows (row_times (generator_of m i) rows.rows t) (get_or (get_or (rows_of_each matrices) i []) t []) over row.over row.combine)
 
     acts : IsSubAction K m.dim m.generators rows.rows (rows_of_each matrices)
     acts = sub_action_by_rows K m.dim m.generators rows.rows (rows_of_each matrices) h.over.square over squares count

@@ -2,31 +2,22 @@
 use Rattle.std.specs.Prelude.{◌≡◌, ℕ, ◌<◌, List, [], length, get_or}
 use Rattle.axe_algebra.specs.Lists.{IsVectorOver}
 use Rattle.axe_algebra.specs.ListArithmetic.{combination}
-use Rattle.axe_algebra.specs.SpansOfLists.{IsSpanned, IsIndependent, HaveSameSpan}
+use Rattle.axe_algebra.specs.SpansOfLists.{IsSpanned}
 use Rattle.axe_field.specs.NumberFields.{number_field}
 use Rattle.axe_matrix.specs.Matrices.{MatrixValue, IsMatrix}
-use Rattle.axe_echelon.specs.Echelons.{EchelonValue, IsEchelon}
-
--- the echelon form has the span of the matrix's rows, and all of these rows where they are independent
-pub record IsSpanOfRows (m : MatrixValue) (e : EchelonValue) : Type 0 where
-  pub field : e.order ≡ m.order
-  pub columns : e.cols ≡ m.cols
-  pub same : HaveSameSpan (number_field m.order) m.rows e.rows
-  pub all : IsIndependent (number_field m.order) m.rows → e.rows ≡ m.rows
-  pub well_formed : IsEchelon e
 
 -- row t times the matrix g: its image
-abbrev pub image_of_row : MatrixValue → List (List ℕ) → ℕ → List ℕ
-image_of_row g rows t = combination (number_field g.order) g.cols (get_or rows t []) g.rows
+abbrev pub row_times : MatrixValue → List (List ℕ) → ℕ → List ℕ
+row_times g rows t = combination (number_field g.order) g.cols (get_or rows t []) g.rows
 
 -- the images of the rows are in the span of `spanning`
 abbrev pub HasImagesIn : MatrixValue → List (List ℕ) → List (List ℕ) → Type 0
-HasImagesIn g rows spanning = (t : ℕ) → t < length rows → IsSpanned (number_field g.order) spanning (image_of_row g rows t)
+HasImagesIn g rows spanning = (t : ℕ) → t < length rows → IsSpanned (number_field g.order) spanning (row_times g rows t)
 
 -- the image of row t is the combination of the rows with these coefficients (Parker 1984)
 pub record IsActionRow (g : MatrixValue) (rows : List (List ℕ)) (t : ℕ) (coefficients : List ℕ) : Type 0 where
   pub over : IsVectorOver (number_field g.order) (length rows) coefficients
-  pub combine : image_of_row g rows t ≡ combination (number_field g.order) g.cols coefficients rows
+  pub combine : row_times g rows t ≡ combination (number_field g.order) g.cols coefficients rows
 
 -- the matrix has as its rows the coefficients of the images of the first i rows
 pub record HasActionRows (g : MatrixValue) (rows : List (List ℕ)) (i : ℕ) (action : MatrixValue) : Type 0 where

@@ -1,9 +1,9 @@
 //! Modules over another basis.
 
 ghost use Rattle.std.specs.Prelude.{◌≡◌, length, None, IfOk};
-ghost use Rattle.axe_row.specs.Refusals.{Answers};
+ghost use Rattle.axe_row.specs.Refusals.{Answers, unless_refused};
 ghost use Rattle.axe_matrix.specs.Matrices.{IsMatrix, matrix_product};
-ghost use Rattle.axe_spin.specs.Modules.{IsModule, unless_refused};
+ghost use Rattle.axe_spin.specs.Modules.{IsModule};
 ghost use Rattle.axe_action.specs.Actions.{conjugate_refusal, AnswersConjugate};
 
 use crate::lists::push;

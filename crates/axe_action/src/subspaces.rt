@@ -3,9 +3,9 @@
 ghost use Rattle.std.specs.Prelude.{◌≡◌, ◌≤◌, length, None, IfOk};
 ghost use Rattle.axe_algebra.specs.SpansOfLists.{IsIndependent};
 ghost use Rattle.axe_field.specs.NumberFields.{number_field};
-ghost use Rattle.axe_row.specs.Refusals.{Answers};
+ghost use Rattle.axe_row.specs.Refusals.{Answers, unless_refused};
 ghost use Rattle.axe_matrix.specs.Matrices.{IsMatrix};
-ghost use Rattle.axe_spin.specs.Modules.{IsModule, unless_refused};
+ghost use Rattle.axe_spin.specs.Modules.{IsModule};
 ghost use Rattle.axe_action.specs.Actions.{rows_refusal, sub_action_refusal, AnswersSubAction, IsInvariantIn, IsActionOnSpan, IsBasisAction};
 ghost use Rattle.axe_action.specs.Coordinates.{IsSpanOfRows, HasImagesIn, HasActionRows};
 

@@ -49,3 +49,5 @@ pub mod PointFilters
 pub mod PointLists
 pub mod PointMembers
 pub mod PointSpans
+pub mod ListExistence
+pub mod ListInvariance

@@ -1,5 +1,6 @@
 -- Independent rows taken one by one, and the inverse from the coordinates of the unit vectors.
-use Rattle.std.specs.Prelude.{◌≡◌, ℕ, suc, ◌+◌, ◌<◌, ◌≤◌, List, [], ◌∷◌, ◌++◌, length, get_or, cond, eqb, Bool, true, false, None, Result, Ok, Err, MatchResult}
+use Rattle.std.specs.Prelude.{◌≡◌, ℕ, suc, ◌+◌, ◌<◌, ◌≤◌, List, [], ◌∷◌, ◌++◌, length, get_or, cond, eqb, Bool, true, false, Some, None}
+use Rattle.std.proofs.lemmas.Bool.{eq-eqb, ne_eqb}
 use Rattle.std.proofs.lemmas.List.{length-append, get_or_append_left, get_or-append-add, ext_get_or}
 use Rattle.std.proofs.lemmas.List.Elements.{All-from_get_or}
 use Rattle.axe_algebra.specs.NumberField.{NumberField}
@@ -20,13 +21,11 @@ use Rattle.axe_algebra.proofs.ListSpans.{spanned_or_not}
 use Rattle.axe_field.specs.Order.{Order}
 use Rattle.axe_field.specs.NumberFields.{number_field, gf}
 use Rattle.axe_row.specs.Rows.{RowValue}
-use Rattle.axe_row.specs.Refusals.{Answers}
-use Rattle.axe_row.specs.declared.refusals.Refusal.{Refusal}
-use Rattle.axe_row.specs.declared.refusals.Refusal.TheVariants.{FieldsDiffer, ShapesDiffer, NotSquare, Singular, NotInvariant, WholeSpace, ZeroSeed, NoRows, ZeroSpace, Memory}
+use Rattle.axe_row.specs.declared.refusals.Refusal.TheVariants.{NotSquare}
 use Rattle.axe_matrix.specs.Matrices.{MatrixValue, IsMatrix}
 use Rattle.axe_matrix.proofs.ProductLaws.{get_or-product}
-use Rattle.axe_echelon.specs.Echelons.{EchelonValue, IsEchelon, AreCoordinates, IsInverseMatrix, IsInvertible, InverseRefused}
-use Rattle.axe_echelon.specs.Inserted.{HasAllRows, HasUnitCoordinates, RowsRefused}
+use Rattle.axe_echelon.specs.Echelons.{EchelonValue, IsEchelon, AreCoordinates, inverse_refusal, IsInverseMatrix, IsInvertible}
+use Rattle.axe_echelon.specs.Inserted.{HasAllRows, HasUnitCoordinates}
 use Rattle.axe_echelon.proofs.FormLaws.{below_or_at}
 use mathlib.Core.Path.{refl, sym, ◌∙◌, ap, ap₂, subst}
 use native.Mathlib.Omega.{arith}
@@ -128,6 +127,13 @@ spanned_of_not_new e v new h long exactly not_new = cases (spanned_or_not (numbe
     cases (yes spanned) = spanned
     cases (no outside) = absurd (both (exactly outside) not_new)
 
+-- a matrix is refused as not square, or is square
+pub inverse_refusal-none : (m : MatrixValue) → length m.rows ≡ m.cols → inverse_refusal m ≡ None
+inverse_refusal-none m square = rw (eq-eqb (length m.rows) m.cols square) refl
+
+pub inverse_refusal-some : (m : MatrixValue) → ¬ (length m.rows ≡ m.cols) → inverse_refusal m ≡ Some NotSquare
+inverse_refusal-some m other = rw (ne_eqb (length m.rows) m.cols other) refl
+
 -- an invertible matrix has independent rows
 pub independent_of_invertible : (m : MatrixValue) → IsMatrix m → length m.rows ≡ m.cols → IsInvertible m → IsIndependent (number_field m.order) m.rows
 independent_of_invertible m h square (inverse, is) =
@@ -211,21 +217,3 @@ inverse_whole m e i b h square all so_far whole = record {
         at t below =
             get_or-product K m.cols b.rows m.rows t below ∙ combined t (omega (arith, so_far.count))
             ∙ sym (table_row m.cols m.cols (λ i j. cond (eqb i j) 1 0) t (omega (arith, square_b.length_is)))
-
--- where the rows are refused, so is the inverse
-pub refused_rows : (m : MatrixValue) (refusal : Refusal) → IsMatrix m → length m.rows ≡ m.cols → RowsRefused m refusal → InverseRefused m refusal
-refused_rows m Singular h square dependent = λ invertible. dependent (independent_of_invertible m h square invertible)
-refused_rows m Memory h square refused = refused
-refused_rows m FieldsDiffer h square refused = refused
-refused_rows m ShapesDiffer h square refused = refused
-refused_rows m NotSquare h square refused = refused
-refused_rows m NotInvariant h square refused = refused
-refused_rows m WholeSpace h square refused = refused
-refused_rows m ZeroSeed h square refused = refused
-refused_rows m NoRows h square refused = refused
-refused_rows m ZeroSpace h square refused = refused
-
-pub answered_inverse : (m : MatrixValue) (result : Result MatrixValue Refusal) (P : MatrixValue → Type 0) → Answers None P result →
-    ((b : MatrixValue) → P b → IsInverseMatrix m b) → MatchResult result (IsInverseMatrix m) (InverseRefused m)
-answered_inverse m (Ok b) P h f = f b h
-answered_inverse m (Err refusal) P h f = subst (InverseRefused m) (sym h) tt

@@ -7,5 +7,8 @@ pub mod MoreStepsLaws
 pub mod EliminationLaws
 pub mod ReducedLaws
 pub mod InverseLaws
+pub mod SpanLaws
 pub mod NullLaws
 pub mod NullRowLaws
+pub mod OneMatrix
+pub mod SomeMatrix

@@ -2,12 +2,12 @@
 use Rattle.std.specs.Prelude.{◌≡◌, ℕ, ◌≤◌, ◌==◌, List, [], ◌∷◌, ◌++◌, length, Bool, Option, Some, None, if◌then◌else◌}
 use Rattle.axe_algebra.specs.Lists.{IsMatrixOver, IsSquareOver, IsVectorOver}
 use Rattle.axe_algebra.specs.ListArithmetic.{IsInverse, combination}
-use Rattle.axe_algebra.specs.SpansOfLists.{IsIndependent, IsNullSpaceBasis, IsReducedBasis}
+use Rattle.axe_algebra.specs.SpansOfLists.{IsIndependent, IsNullSpaceBasis, IsReducedBasis, HaveSameSpan}
 use Rattle.axe_field.specs.Order.{Order}
 use Rattle.axe_field.specs.NumberFields.{number_field}
 use Rattle.axe_row.specs.Rows.{RowValue}
 use Rattle.axe_row.specs.declared.refusals.Refusal.{Refusal}
-use Rattle.axe_row.specs.declared.refusals.Refusal.TheVariants.{FieldsDiffer, ShapesDiffer, NotSquare, Singular, NotInvariant, WholeSpace, ZeroSeed, NoRows, ZeroSpace, Memory}
+use Rattle.axe_row.specs.declared.refusals.Refusal.TheVariants.{NotSquare, NoRows}
 use Rattle.axe_matrix.specs.declared.TheConstants.{MAX_COLUMNS}
 use Rattle.axe_matrix.specs.Matrices.{MatrixValue}
 
@@ -27,6 +27,15 @@ pub record IsEchelon (e : EchelonValue) : Type 0 where
 -- one more row, where it is new
 abbrev pub with_row_where : Bool → EchelonValue → List ℕ → EchelonValue
 with_row_where new e row = if new then record { order = e.order; cols = e.cols; rows = e.rows ++ row ∷ [] } else e
+
+-- the echelon form has the span of the matrix's rows, and all of these rows where they are independent, or as many
+pub record IsSpanOfRows (m : MatrixValue) (e : EchelonValue) : Type 0 where
+  pub field : e.order ≡ m.order
+  pub columns : e.cols ≡ m.cols
+  pub same : HaveSameSpan (number_field m.order) m.rows e.rows
+  pub all : IsIndependent (number_field m.order) m.rows → e.rows ≡ m.rows
+  pub as_many : length e.rows ≡ length m.rows → e.rows ≡ m.rows
+  pub well_formed : IsEchelon e
 
 -- these are the coefficients with which the rows combine to v, one for each row in their order
 pub record AreCoordinates (e : EchelonValue) (v : List ℕ) (coordinates : RowValue) : Type 0 where
@@ -64,16 +73,3 @@ pub record IsInverseMatrix (m inverse : MatrixValue) : Type 0 where
 -- the square matrix m has an inverse
 abbrev pub IsInvertible : MatrixValue → Type 0
 IsInvertible m = (inverse : MatrixValue) × IsInverseMatrix m inverse
-
--- why the inverse of a square matrix is not given: it has none, or there was no memory
-abbrev pub InverseRefused : MatrixValue → Refusal → Type 0
-InverseRefused m Singular = ¬ (IsInvertible m)
-InverseRefused m Memory = Unit {0}
-InverseRefused m FieldsDiffer = ⊥
-InverseRefused m ShapesDiffer = ⊥
-InverseRefused m NotSquare = ⊥
-InverseRefused m NotInvariant = ⊥
-InverseRefused m WholeSpace = ⊥
-InverseRefused m ZeroSeed = ⊥
-InverseRefused m NoRows = ⊥
-InverseRefused m ZeroSpace = ⊥

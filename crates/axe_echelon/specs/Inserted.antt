@@ -3,11 +3,8 @@ use Rattle.std.specs.Prelude.{◌≡◌, ℕ, ◌<◌, List, [], length, get_or}
 use Rattle.axe_algebra.specs.Vectors.{add_vectors, scale, times}
 use Rattle.axe_algebra.specs.Bridge.{vector_of, matrix_of}
 use Rattle.axe_algebra.specs.Lists.{IsVectorOver, unit_row}
-use Rattle.axe_algebra.specs.SpansOfLists.{IsIndependent}
 use Rattle.axe_field.specs.NumberFields.{number_field, gf}
 use Rattle.axe_row.specs.Rows.{RowValue}
-use Rattle.axe_row.specs.declared.refusals.Refusal.{Refusal}
-use Rattle.axe_row.specs.declared.refusals.Refusal.TheVariants.{FieldsDiffer, ShapesDiffer, NotSquare, Singular, NotInvariant, WholeSpace, ZeroSeed, NoRows, ZeroSpace, Memory}
 use Rattle.axe_matrix.specs.Matrices.{MatrixValue}
 use Rattle.axe_echelon.specs.Echelons.{EchelonValue, IsEchelon, AreCoordinates}
 
@@ -17,19 +14,6 @@ pub record HasAllRows (m : MatrixValue) (e : EchelonValue) : Type 0 where
   pub columns : e.cols ≡ m.cols
   pub rows : e.rows ≡ m.rows
   pub well_formed : IsEchelon e
-
--- why there is no such form: the rows are not independent, or there was no memory
-abbrev pub RowsRefused : MatrixValue → Refusal → Type 0
-RowsRefused m Singular = ¬ (IsIndependent (number_field m.order) m.rows)
-RowsRefused m Memory = Unit {0}
-RowsRefused m FieldsDiffer = ⊥
-RowsRefused m ShapesDiffer = ⊥
-RowsRefused m NotSquare = ⊥
-RowsRefused m NotInvariant = ⊥
-RowsRefused m WholeSpace = ⊥
-RowsRefused m ZeroSeed = ⊥
-RowsRefused m NoRows = ⊥
-RowsRefused m ZeroSpace = ⊥
 
 -- the first rows of the matrix are the coordinates of the first unit vectors
 pub record HasUnitCoordinates (e : EchelonValue) (i : ℕ) (m : MatrixValue) : Type 0 where

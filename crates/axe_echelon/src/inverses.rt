@@ -1,43 +1,33 @@
 //! Inverses of matrices.
 
-ghost use Rattle.std.specs.Prelude.{◌≡◌, ◌≢◌, ◌<◌, length, None, IfOk, MatchResult};
+ghost use Rattle.std.specs.Prelude.{◌≡◌, ◌<◌, length, None, IfOk};
 ghost use Rattle.axe_algebra.specs.Lists.{unit_row};
-ghost use Rattle.axe_row.specs.Refusals.{Answers};
-ghost use Rattle.axe_row.specs.declared.refusals.Refusal.TheVariants.{NotSquare};
+ghost use Rattle.axe_row.specs.Refusals.{Answers, AnswersOr, RefusedAs};
+ghost use Rattle.axe_row.specs.declared.refusals.Refusal.TheVariants.{Singular};
 ghost use Rattle.axe_matrix.specs.Matrices.{IsMatrix};
-ghost use Rattle.axe_echelon.specs.Echelons.{AreCoordinates, IsInverseMatrix, InverseRefused};
-ghost use Rattle.axe_echelon.specs.Inserted.{HasAllRows, HasUnitCoordinates, RowsRefused};
+ghost use Rattle.axe_echelon.specs.Echelons.{AreCoordinates, inverse_refusal, IsInverseMatrix, IsInvertible};
+ghost use Rattle.axe_echelon.specs.Inserted.{HasUnitCoordinates};
 
-use super::Echelon;
+use super::{Echelon, span_of};
 use axe_matrix::{Matrix, Refusal, Row};
 use std::alloc::Global;
 
 /// The inverse of a matrix: the matrix whose products with it from both sides are the identity. A matrix that is not
 /// square is refused as NotSquare, and a square one that has no inverse as Singular.
 pub fn inverse(alloc: Global, matrix: &Matrix) -> Result<Matrix, Refusal>
-    ensures not_square { length matrix.now.rows ≢ matrix.now.cols → result ≡ Err NotSquare }
-    ensures square { length matrix.now.rows ≡ matrix.now.cols → MatchResult result (IsInverseMatrix matrix.now) (InverseRefused matrix.now) }
+    ensures inverse { AnswersOr (inverse_refusal matrix.now) (IsInverseMatrix matrix.now)
+        (RefusedAs Singular (¬ (IsInvertible matrix.now))) result }
     ensures well_formed { IfOk result IsMatrix }
 {
     if matrix.rows() != matrix.cols() {
         return Err(Refusal::NotSquare);
     }
-    let rows = insert_rows(alloc, matrix)?;
-    all_unit_coordinates(alloc, &rows)
-}
-
-/// The echelon form of all rows of a matrix. Rows that are not independent are refused as Singular.
-fn insert_rows(alloc: Global, matrix: &Matrix) -> Result<Echelon, Refusal>
-    ensures { MatchResult result (HasAllRows matrix.now) (RowsRefused matrix.now) }
-{
-    let mut rows = Echelon::new(alloc, *matrix.field(), matrix.cols());
-    for index in 0..matrix.rows() {
-        let row = matrix.row(index).copy(alloc)?;
-        if !rows.insert(row)? {
-            return Err(Refusal::Singular);
-        }
+    let rows = span_of(alloc, matrix)?;
+    // The rows are independent exactly where each of them was new.
+    if rows.rank() != matrix.rows() {
+        return Err(Refusal::Singular);
     }
-    Ok(rows)
+    all_unit_coordinates(alloc, &rows)
 }
 
 /// The coefficients of a unit vector over the rows of an echelon form that are as many as its columns.

@@ -15,11 +15,13 @@ ghost use Rattle.axe_echelon.specs.Steps.{IsEliminated, IsNextStep, IsPivotRow};
 
 mod inverses;
 mod null_spaces;
+mod spans;
 
 use axe_field::Field;
 use axe_matrix::{MAX_COLUMNS, Matrix, Refusal, Row};
 pub use inverses::inverse;
 pub use null_spaces::null_space;
+pub use spans::span_of;
 use std::alloc::Global;
 use std::marker::Model;
 
@@ -115,7 +117,7 @@ impl Echelon {
         };
         let pivot = step.pivot;
         self.pivots.resize(self.cols, false)?;
-        push_step(&mut self.steps, step)?;
+        self.steps.push(step)?;
         self.pivots[pivot] = true;
         Ok(true)
     }
@@ -241,14 +243,6 @@ impl Echelon {
     {
         self.pivots.get(column).copied().unwrap_or(false)
     }
-}
-
-/// Appends a step to a list; for want of memory the step is dropped, and the list is unchanged.
-fn push_step(steps: &mut Vec<Step>, step: Step) -> Result<(), Refusal>
-    ensures pushed { Answers None (λ _. steps.new.items ≡ steps.old.items ++ step ∷ []) result }
-    ensures unchanged { OnErr result (steps.new.items ≡ steps.old.items) }
-{
-    steps.push(step).map_err(|_| Refusal::Memory)
 }
 
 /// The negatives of the first entries of a row.

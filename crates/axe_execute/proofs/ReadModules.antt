@@ -12,7 +12,8 @@ use Rattle.axe_row.specs.declared.refusals.Refusal.TheVariants.{FieldsDiffer, Sh
 use Rattle.axe_matrix.specs.declared.TheConstants.{MAX_COLUMNS}
 use Rattle.axe_matrix.specs.Matrices.{MatrixValue, IsMatrix}
 use Rattle.axe_matrix.proofs.MatrixLaws.{same_order}
-use Rattle.axe_spin.specs.Modules.{ModuleValue, generator_refusal, first_of, generators_refusal, unless_refused, rows_of_each}
+use Rattle.axe_row.specs.Refusals.{first_of, unless_refused}
+use Rattle.axe_spin.specs.Modules.{ModuleValue, generator_refusal, generators_refusal, rows_of_each}
 use Rattle.axe_folder.specs.Files.{Files}
 use Rattle.axe_execute.specs.Meaning.{Problem, ◌>>=◌, or_refuses, matrix_in, matrices_in, numbered_names, checked_module, seeded_module}
 use Rattle.axe_execute.proofs.Readings.{matrix_in_is_matrix}

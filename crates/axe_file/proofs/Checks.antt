@@ -10,7 +10,7 @@ use Rattle.axe_file.specs.Marks.{byte_limit}
 use Rattle.axe_file.specs.Packed.{order_with_number, header_order, header_rows, header_columns, data_length, has_other_magic, has_reserved, has_padding, byte_faults, header_faults, data_faults, packed_fault, packed, unpacked}
 use Rattle.axe_file.specs.declared.fault.FileFault.{FileFault}
 use Rattle.axe_file.specs.declared.fault.FileFault.TheVariants.{ShortHeader, BadMagic, BadField, BadReserved, BadRows, BadCols, Truncated, BadByte, BadPadding, TrailingBytes, Memory}
-use Rattle.axe_file.specs.Answers.{Answers}
+use Rattle.axe_file.specs.Answers.{AnswersFile}
 use Rattle.axe_file.proofs.Headers.{order_of_number}
 use Rattle.axe_file.proofs.Unpacking.{unpacked_packed}
 use Rattle.axe_file.proofs.Spellings.{packed_faultless}
@@ -187,23 +187,23 @@ no_fault_more faults n before here =
 
 -- ---- what a reader answers
 
-pub answers_fault : {T : Type 0} (o : Option FileFault) (P : T → Type 0) (r : Result T FileFault) (fault : FileFault) → o ≡ Some fault → r ≡ Err fault → Answers o P r
+pub answers_fault : {T : Type 0} (o : Option FileFault) (P : T → Type 0) (r : Result T FileFault) (fault : FileFault) → o ≡ Some fault → r ≡ Err fault → AnswersFile o P r
 answers_fault o P r fault eo er = rw eo er
 
-answers_memory : {T : Type 0} (P : T → Type 0) (r : Result T FileFault) → IfOk r P → IfErr r (λ fault. fault ≡ Memory) → Answers None P r
+answers_memory : {T : Type 0} (P : T → Type 0) (r : Result T FileFault) → IfOk r P → IfErr r (λ fault. fault ≡ Memory) → AnswersFile None P r
 answers_memory P (Ok x) ok err = ok
 answers_memory P (Err fault) ok err = err
 
-pub answers_value : {T : Type 0} (o : Option FileFault) (P : T → Type 0) (r : Result T FileFault) → o ≡ None → IfOk r P → IfErr r (λ fault. fault ≡ Memory) → Answers o P r
+pub answers_value : {T : Type 0} (o : Option FileFault) (P : T → Type 0) (r : Result T FileFault) → o ≡ None → IfOk r P → IfErr r (λ fault. fault ≡ Memory) → AnswersFile o P r
 answers_value o P r eo ok err = rw eo (answers_memory P r ok err)
 
-answers_same : {T : Type 0} (a b : T) (r : Result T FileFault) → a ≡ b → Answers None (λ m. m ≡ a) r → Answers None (λ m. m ≡ b) r
+answers_same : {T : Type 0} (a b : T) (r : Result T FileFault) → a ≡ b → AnswersFile None (λ m. m ≡ a) r → AnswersFile None (λ m. m ≡ b) r
 answers_same a b (Ok x) e h = h ∙ e
 answers_same a b (Err fault) e h = h
 
 -- the answer to the spelling of a matrix
 pub answers_spelling : (bytes : List ℕ) (a : MatrixValue) (r : Result MatrixValue FileFault) → IsMatrix a → bytes ≡ packed a
-    → Answers (packed_fault bytes) (λ m. m ≡ unpacked bytes) r → Answers None (λ m. m ≡ a) r
+    → AnswersFile (packed_fault bytes) (λ m. m ≡ unpacked bytes) r → AnswersFile None (λ m. m ≡ a) r
 answers_spelling bytes a r matrix e answer =
     let faultless : packed_fault bytes ≡ None = ap (λ (xs : List ℕ). packed_fault xs) e ∙ packed_faultless a matrix in
     let same : unpacked bytes ≡ a = ap (λ (xs : List ℕ). unpacked xs) e ∙ unpacked_packed a matrix in

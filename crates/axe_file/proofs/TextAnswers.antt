@@ -4,7 +4,7 @@ use Rattle.std.specs.Prelude.{All}
 use Rattle.std.specs.List.{filter}
 use Rattle.axe_field.specs.Order.{Order}
 use Rattle.axe_matrix.specs.Matrices.{MatrixValue, IsMatrix}
-use Rattle.axe_file.specs.Answers.{Answers}
+use Rattle.axe_file.specs.Answers.{AnswersFile}
 use Rattle.axe_file.specs.TextGrammar.{is_dark, IsTextOf, IsTextFault}
 use Rattle.axe_file.specs.TextReading.{header_fault, digits_fault, text_fault, text_matrix}
 use Rattle.axe_file.specs.declared.fault.FileFault.{FileFault}
@@ -16,9 +16,9 @@ use Rattle.axe_file.proofs.TextTexts.{text_fault_is, faultless_is_text, text_is_
 
 -- the answer of a reader
 abbrev pub IsAnswer : List ℕ → Result MatrixValue FileFault → Type 0
-IsAnswer bytes r = Answers (text_fault bytes) (λ m. m ≡ text_matrix bytes) r
+IsAnswer bytes r = AnswersFile (text_fault bytes) (λ m. m ≡ text_matrix bytes) r
 
-text_by : (bytes : List ℕ) (x : Option FileFault) (r : Result MatrixValue FileFault) → text_fault bytes ≡ x → Answers x (λ m. m ≡ text_matrix bytes) r → IfOk r (λ m. IsTextOf bytes m)
+text_by : (bytes : List ℕ) (x : Option FileFault) (r : Result MatrixValue FileFault) → text_fault bytes ≡ x → AnswersFile x (λ m. m ≡ text_matrix bytes) r → IfOk r (λ m. IsTextOf bytes m)
 text_by bytes (Some f) (Ok m) e a = absurd (cc)
 text_by bytes (Some f) (Err g) e a = tt
 text_by bytes None (Ok m) e a = subst (λ (x : MatrixValue). IsTextOf bytes x) (sym a) (faultless_is_text bytes e)
@@ -27,7 +27,7 @@ text_by bytes None (Err g) e a = tt
 pub text_answered : (bytes : List ℕ) (r : Result MatrixValue FileFault) → IsAnswer bytes r → IfOk r (λ m. IsTextOf bytes m)
 text_answered bytes r a = text_by bytes (text_fault bytes) r refl a
 
-fault_by : (bytes : List ℕ) (x : Option FileFault) (r : Result MatrixValue FileFault) → text_fault bytes ≡ x → Answers x (λ m. m ≡ text_matrix bytes) r
+fault_by : (bytes : List ℕ) (x : Option FileFault) (r : Result MatrixValue FileFault) → text_fault bytes ≡ x → AnswersFile x (λ m. m ≡ text_matrix bytes) r
     → IfErr r (λ fault. IsTextFault bytes fault ⊎ ((fault ≡ Memory) × (m : MatrixValue) × IsTextOf bytes m))
 fault_by bytes (Some f) (Ok m) e a = absurd (cc)
 fault_by bytes (Some f) (Err g) e a =
@@ -45,11 +45,11 @@ matrix_answered bytes (Ok m) a =
     t.matrix
 matrix_answered bytes (Err g) a = tt
 
-pub only_answered : (bytes : List ℕ) (a : MatrixValue) (r : Result MatrixValue FileFault) → IsTextOf bytes a → IsAnswer bytes r → Answers None (λ m. m ≡ a) r
+pub only_answered : (bytes : List ℕ) (a : MatrixValue) (r : Result MatrixValue FileFault) → IsTextOf bytes a → IsAnswer bytes r → AnswersFile None (λ m. m ≡ a) r
 only_answered bytes a (Ok m) t h =
-    let read : m ≡ text_matrix bytes = subst (λ (x : Option FileFault). Answers x (λ y. y ≡ text_matrix bytes) (Ok m)) (text_is_faultless bytes a t) h in
+    let read : m ≡ text_matrix bytes = subst (λ (x : Option FileFault). AnswersFile x (λ y. y ≡ text_matrix bytes) (Ok m)) (text_is_faultless bytes a t) h in
     read ∙ text_is_of_this bytes a t
-only_answered bytes a (Err g) t h = subst (λ (x : Option FileFault). Answers x (λ (y : MatrixValue). y ≡ text_matrix bytes) (Err g)) (text_is_faultless bytes a t) h
+only_answered bytes a (Err g) t h = subst (λ (x : Option FileFault). AnswersFile x (λ (y : MatrixValue). y ≡ text_matrix bytes) (Err g)) (text_is_faultless bytes a t) h
 
 -- ---- after a header without fault
 

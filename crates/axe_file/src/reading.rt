@@ -8,7 +8,7 @@ ghost use Rattle.axe_matrix.specs.Limits.{most_rows};
 ghost use Rattle.axe_file.specs.Marks.{bytes_per_row, row_marks};
 ghost use Rattle.axe_file.specs.Packed.{packed, packed_fault, unpacked, header_faults, data_faults, byte_faults, header_rows, data_length};
 ghost use Rattle.axe_file.specs.Headers.{Says};
-ghost use Rattle.axe_file.specs.Answers.{Answers};
+ghost use Rattle.axe_file.specs.Answers.{AnswersFile};
 ghost use Rattle.axe_file.specs.declared.fault.FileFault.TheVariants.{Memory};
 
 use crate::fault::FileFault;
@@ -29,10 +29,10 @@ struct Header {
 /// The matrix that the bytes spell in the packed form. The answer is the first fault of the bytes, whatever the memory;
 /// where they have none it is the matrix, or [`FileFault::Memory`].
 pub fn read_packed(alloc: Global, bytes: &[u8]) -> Result<Matrix, FileFault>
-    ensures fault { Answers (packed_fault bytes.now) (λ m. m ≡ unpacked bytes.now) result }
+    ensures fault { AnswersFile (packed_fault bytes.now) (λ m. m ≡ unpacked bytes.now) result }
     ensures value { IfOk result (λ m. m ≡ unpacked bytes.now) }
     ensures spelling { IfOk result (λ m. bytes.now ≡ packed m) }
-    ensures only { (a : MatrixValue) → IsMatrix a → bytes.now ≡ packed a → Answers None (λ m. m ≡ a) result }
+    ensures only { (a : MatrixValue) → IsMatrix a → bytes.now ≡ packed a → AnswersFile None (λ m. m ≡ a) result }
     ensures matrix { IfOk result (λ m. IsMatrix m) }
 {
     let header = header_of(bytes)?;

@@ -4,7 +4,7 @@ ghost use Rattle.std.specs.Prelude.{◌≡◌, ℕ, ◌+◌, ◌-◌, ◌*◌, �
 ghost use Rattle.axe_field.specs.Order.{order_number};
 ghost use Rattle.axe_matrix.specs.Limits.{most_rows, most_columns};
 ghost use Rattle.axe_matrix.specs.Matrices.{MatrixValue, IsMatrix};
-ghost use Rattle.axe_file.specs.Answers.{Answers};
+ghost use Rattle.axe_file.specs.Answers.{AnswersFile};
 ghost use Rattle.axe_file.specs.TextGrammar.{is_dark, digit_value, is_element_digit, IsTextOf, IsTextFault};
 ghost use Rattle.axe_file.specs.TextReading.{digits_fault, in_rows, text_fault, text_matrix};
 ghost use Rattle.axe_file.specs.declared.fault.FileFault.TheVariants.{Memory};
@@ -18,11 +18,11 @@ use std::alloc::Global;
 /// The matrix of which the bytes are a text. The answer is the first fault of the bytes, whatever the memory, and where
 /// they have none the matrix or `Memory`.
 pub fn read_text(alloc: Global, bytes: &[u8]) -> Result<Matrix, FileFault>
-    ensures fault { Answers (text_fault bytes.now) (λ m. m ≡ text_matrix bytes.now) result }
+    ensures fault { AnswersFile (text_fault bytes.now) (λ m. m ≡ text_matrix bytes.now) result }
     ensures text { IfOk result (λ m. IsTextOf bytes.now m) }
     ensures first_fault { IfErr result (λ fault. IsTextFault bytes.now fault
         ⊎ ((fault ≡ Memory) × (m : MatrixValue) × IsTextOf bytes.now m)) }
-    ensures only { (a : MatrixValue) → IsTextOf bytes.now a → Answers None (λ m. m ≡ a) result }
+    ensures only { (a : MatrixValue) → IsTextOf bytes.now a → AnswersFile None (λ m. m ≡ a) result }
     ensures matrix { IfOk result (λ m. IsMatrix m) }
 {
     let header = header_of(bytes)?;

@@ -1,10 +1,8 @@
 -- The space that a seed generates, from rows that were spun; the seed's rows taken one by one.
-use Rattle.std.specs.Prelude.{◌≡◌, ℕ, zero, suc, ◌+◌, ◌<◌, ◌≤◌, ◌==◌, List, [], ◌∷◌, ◌++◌, length, get_or, take, Bool, true, false, None}
+use Rattle.std.specs.Prelude.{◌≡◌, ℕ, zero, suc, ◌+◌, ◌<◌, ◌≤◌, ◌==◌, List, [], ◌∷◌, ◌++◌, length, get_or, take, Bool, true, false}
 use Rattle.std.specs.List.{list_all}
-use Rattle.std.proofs.lemmas.Bool.{eq-eqb, eqb-true}
 use Rattle.std.proofs.lemmas.List.{length-append, get_or_append_left, get_or-append-add}
 use Rattle.std.proofs.lemmas.List.Folds.{list_all_at, list_all_more}
-use Rattle.std.proofs.lemmas.List.Sums.{AllPass-from_list_all, list_all-from_AllPass}
 use Rattle.axe_algebra.specs.NumberField.{NumberField}
 use Rattle.axe_algebra.specs.Field.{Field}
 use Rattle.axe_algebra.specs.Bridge.{field_of, vector_of, matrix_of}
@@ -18,7 +16,6 @@ use Rattle.axe_algebra.proofs.ListSpans.{appended_spans, appended_row_spanned, a
 use Rattle.axe_algebra.proofs.ListModules.{invariant_by_images}
 use Rattle.axe_algebra.proofs.ListGenerated.{seed_row_generated, image_generated, generates, generated_basis}
 use Rattle.axe_algebra.proofs.ListStandard.{span_of_taken}
-use Rattle.axe_field.specs.Order.{order_number}
 use Rattle.axe_field.specs.NumberFields.{number_field}
 use Rattle.axe_row.specs.Operations.{IsZeroVector}
 use Rattle.axe_matrix.specs.Matrices.{MatrixValue, IsMatrix}
@@ -26,19 +23,13 @@ use Rattle.axe_echelon.specs.Echelons.{EchelonValue, IsReducedMatrix}
 use Rattle.axe_echelon.proofs.FormLaws.{below_or_at}
 use Rattle.axe_echelon.proofs.InverseLaws.{matrix_over}
 use Rattle.axe_spin.specs.Modules.{ModuleValue, IsModule}
-use Rattle.axe_spin.specs.Spinning.{has_only_zeros, seed_refusal, IsRowBasis, IsGeneratedMatrix}
+use Rattle.axe_spin.specs.Spinning.{has_only_zeros, IsRowBasis, IsGeneratedMatrix}
+use Rattle.axe_spin.proofs.ZeroRows.{zeros_pass, passed_zeros}
 use Rattle.axe_spin.specs.Spun.{IsSpanOf, IsOffered, AreSpun, IsSpunMatrix}
 use mathlib.Core.Logic.{inl, inr}
 use mathlib.Core.Path.{refl, sym, ◌∙◌, ap, subst}
 use native.Mathlib.Omega.{arith}
 use native.Mathlib.Decide.{dec_lt}
-
--- a row passes the test exactly when each of its entries is 0
-zeros_pass : (entries : List ℕ) → IsZeroVector entries → list_all (λ number. number == 0) entries ≡ true
-zeros_pass entries zeros = list_all-from_AllPass (λ number. number == 0) entries (λ i d below. eq-eqb _ _ (zeros i d below))
-
-passed_zeros : (entries : List ℕ) → list_all (λ number. number == 0) entries ≡ true → IsZeroVector entries
-passed_zeros entries pass = λ i d below. eqb-true _ _ (AllPass-from_list_all (λ number. number == 0) entries pass i d below)
 
 -- rows among which one is not zero
 pub some_nonzero : (rows : List (List ℕ)) (i : ℕ) (row : List ℕ) (found : Bool) → i < length rows → row ≡ get_or rows i [] →
@@ -60,11 +51,6 @@ pub only_zeros_more : (rows : List (List ℕ)) (i : ℕ) (row : List ℕ) → i 
 only_zeros_more rows i row below row_is so_far zeros =
     list_all_more (list_all (λ number. number == 0)) rows i [] below
     ∙ rw (so_far, ← row_is) (zeros_pass row zeros)
-
--- a seed over the field, with the dimension's columns and a nonzero row is not refused
-pub seed_refusal-none : (m : ModuleValue) (seed : MatrixValue) → order_number seed.order ≡ order_number m.order → seed.cols ≡ m.dim →
-    has_only_zeros seed.rows ≡ false → seed_refusal m seed ≡ None
-seed_refusal-none m seed fields shapes nonzero = rw (eq-eqb _ _ fields, eq-eqb _ _ shapes, nonzero) refl
 
 -- the first rows of a matrix were offered to no rows
 pub record AreOffered (m : MatrixValue) (i : ℕ) (span : EchelonValue) (rows : MatrixValue) : Type 0 where

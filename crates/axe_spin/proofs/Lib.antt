@@ -1,5 +1,10 @@
 pub mod ModuleLaws
+pub mod ZeroRows
+pub mod SeedLaws
 pub mod SpunLaws
 pub mod GeneratedLaws
 pub mod StandardLaws
 pub mod StandardImages
+pub mod SubmoduleLaws
+pub mod OneSpun
+pub mod SomeSpun

@@ -10,7 +10,8 @@ use Rattle.axe_row.specs.declared.refusals.Refusal.{Refusal}
 use Rattle.axe_matrix.specs.Matrices.{MatrixValue}
 use Rattle.axe_echelon.proofs.InverseLaws.{matrix_over}
 use Rattle.axe_spin.specs.declared.TheConstants.{MAX_GENERATORS}
-use Rattle.axe_spin.specs.Modules.{ModuleValue, generator_refusal, first_of, generators_refusal, unless_refused, rows_of_each, module_of_matrices}
+use Rattle.axe_row.specs.Refusals.{first_of, unless_refused}
+use Rattle.axe_spin.specs.Modules.{ModuleValue, generator_refusal, generators_refusal, rows_of_each, module_of_matrices}
 use Rattle.axe_spin.specs.Generators.{IsGeneratorMatrix, MakeModule}
 
 -- what refuses the value, where there is none

@@ -1,11 +1,14 @@
 -- Modules: square matrices of one dimension over one field.
-use Rattle.std.specs.Prelude.{ℕ, ◌≤◌, ◌==◌, not, List, [], ◌∷◌, length, map, slice_index_or, Option, Some, None, Result, Ok, Err, if◌then◌else◌}
-use Rattle.axe_algebra.specs.Lists.{IsModuleOver}
+use Rattle.std.specs.Prelude.{ℕ, ◌≤◌, ◌==◌, not, List, [], ◌∷◌, length, map, slice_index_or, All, Option, Some, None, Result, Ok, Err, if◌then◌else◌}
+use Rattle.axe_algebra.specs.Lists.{IsModuleOver, IsSquareOver}
+use Rattle.axe_algebra.specs.SpansOfLists.{SpansEverything}
+use Rattle.axe_algebra.specs.ModulesOfLists.{IsInvariant}
 use Rattle.axe_field.specs.Order.{Order, order_number}
 use Rattle.axe_field.specs.NumberFields.{number_field}
 use Rattle.axe_row.specs.declared.refusals.Refusal.{Refusal}
 use Rattle.axe_row.specs.declared.refusals.Refusal.TheVariants.{FieldsDiffer, ShapesDiffer, NotSquare, NoRows}
 use Rattle.axe_matrix.specs.Limits.{most_columns}
+use Rattle.axe_row.specs.Refusals.{first_of, unless_refused}
 use Rattle.axe_matrix.specs.Matrices.{MatrixValue}
 use Rattle.axe_spin.specs.Limits.{most_generators}
 
@@ -36,24 +39,32 @@ generator_refusal order dim m =
     else (if not (order_number m.order == order_number order) then Some FieldsDiffer
     else (if not (m.cols == dim) then Some ShapesDiffer else None)))
 
--- the first of two refusals that stands
-abbrev pub first_of : Option Refusal → Option Refusal → Option Refusal
-first_of (Some refusal) other = Some refusal
-first_of None other = other
-
 -- why not all of the matrices are such generators: the refusal of the first that is none
 abbrev pub generators_refusal : Order → ℕ → List MatrixValue → Option Refusal
 generators_refusal order dim [] = None
 generators_refusal order dim (m ∷ rest) = first_of (generator_refusal order dim m) (generators_refusal order dim rest)
 
--- a value, unless a refusal stands
-abbrev pub unless_refused : {A : Type 0} → Option Refusal → A → Result A Refusal
-unless_refused (Some refusal) value = Err refusal
-unless_refused None value = Ok value
-
 -- the rows of each of the matrices
 abbrev pub rows_of_each : List MatrixValue → List (List (List ℕ))
 rows_of_each matrices = map (λ (m : MatrixValue). m.rows) matrices
+
+-- why the rows of a matrix are no vectors of a module: they are over another field, or else of another length than the dimension
+abbrev pub rows_refusal : ModuleValue → MatrixValue → Option Refusal
+rows_refusal m rows =
+    if not (order_number rows.order == order_number m.order) then Some FieldsDiffer
+    else (if not (rows.cols == m.dim) then Some ShapesDiffer else None)
+
+-- the generators of a module are square matrices over its field, of as many rows as its dimension
+abbrev pub HasSquareGenerators : ModuleValue → Type 0
+HasSquareGenerators m = All (IsSquareOver (number_field m.order) m.dim) m.generators
+
+-- the span of the rows is invariant in the module (Parker 1984)
+abbrev pub IsInvariantIn : ModuleValue → MatrixValue → Type 0
+IsInvariantIn m rows = IsInvariant (number_field m.order) m.dim m.generators rows.rows
+
+-- the rows span all vectors of the module
+abbrev pub SpansModule : ModuleValue → MatrixValue → Type 0
+SpansModule m rows = SpansEverything (number_field m.order) m.dim rows.rows
 
 -- the module whose generators are these matrices, over the field and of the dimension of the first, or the refusal of the
 -- first that is no generator beside the first; of no matrices there is no module

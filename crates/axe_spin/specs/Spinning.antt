@@ -1,15 +1,16 @@
 -- What spinning rows in a module gives: the space that they generate, and standard bases.
-use Rattle.std.specs.Prelude.{◌≡◌, ℕ, ◌<◌, ◌==◌, Bool, not, Option, Some, None, List, [], length, get_or, if◌then◌else◌}
+use Rattle.std.specs.Prelude.{◌≡◌, ℕ, ◌<◌, ◌==◌, Bool, true, false, Option, Some, None, List, [], length, get_or, slice_index_or, if◌then◌else◌}
 use Rattle.std.specs.List.{list_all}
 use Rattle.axe_algebra.specs.SpansOfLists.{IsIndependent, IsSpanned}
 use Rattle.axe_algebra.specs.ModulesOfLists.{IsGeneratedBasis, IsStandardBasis}
-use Rattle.axe_field.specs.Order.{order_number}
 use Rattle.axe_field.specs.NumberFields.{number_field}
 use Rattle.axe_row.specs.Rows.{RowValue}
 use Rattle.axe_row.specs.declared.refusals.Refusal.{Refusal}
-use Rattle.axe_row.specs.declared.refusals.Refusal.TheVariants.{FieldsDiffer, ShapesDiffer, ZeroSeed}
-use Rattle.axe_matrix.specs.Matrices.{MatrixValue}
-use Rattle.axe_spin.specs.Modules.{ModuleValue}
+use Rattle.axe_row.specs.declared.refusals.Refusal.TheVariants.{ZeroSeed}
+use Rattle.axe_row.specs.Refusals.{first_of}
+use Rattle.axe_row.specs.Operations.{IsZeroVector}
+use Rattle.axe_matrix.specs.Matrices.{MatrixValue, row_of}
+use Rattle.axe_spin.specs.Modules.{ModuleValue, rows_refusal, IsInvariantIn}
 
 -- each entry of each row is 0
 abbrev pub has_only_zeros : List (List ℕ) → Bool
@@ -19,9 +20,7 @@ has_only_zeros rows = list_all (list_all (λ number. number == 0)) rows
 -- dimension, or else none of them is other than zero
 abbrev pub seed_refusal : ModuleValue → MatrixValue → Option Refusal
 seed_refusal m seed =
-    if not (order_number seed.order == order_number m.order) then Some FieldsDiffer
-    else (if not (seed.cols == m.dim) then Some ShapesDiffer
-    else (if has_only_zeros seed.rows then Some ZeroSeed else None))
+    first_of (rows_refusal m seed) (if has_only_zeros seed.rows then Some ZeroSeed else None)
 
 -- the matrix has as its rows independent rows of m that span all rows of m (any linear algebra text)
 pub record IsRowBasis (m basis : MatrixValue) : Type 0 where
@@ -43,3 +42,28 @@ pub record IsStandardMatrix (m : ModuleValue) (v : RowValue) (basis : MatrixValu
   pub field : basis.order ≡ m.order
   pub columns : basis.cols ≡ m.dim
   pub standard : IsStandardBasis (number_field m.order) m.dim m.generators v.entries basis.rows
+
+-- row i of a matrix is its first row that is not zero
+pub record IsFirstNonzeroRow (m : MatrixValue) (i : ℕ) : Type 0 where
+  pub below : i < length m.rows
+  pub nonzero : ¬ (IsZeroVector (slice_index_or m.rows i []))
+  pub zeros_before : (j : ℕ) → j < i → IsZeroVector (slice_index_or m.rows j [])
+
+-- the row is the first row of the matrix that is not zero
+abbrev pub HasFirstNonzeroRow : MatrixValue → RowValue → Type 0
+HasFirstNonzeroRow m row = (i : ℕ) × IsFirstNonzeroRow m i × (row ≡ row_of m i)
+
+-- the matrix has as its rows what spinning a seed in a module gives: the reduced basis of the space that the seed's rows
+-- generate, or where `standard` says so, the standard basis of the seed's first row that is not zero (Parker 1984)
+abbrev pub HasSpunRows : Bool → ModuleValue → MatrixValue → MatrixValue → Type 0
+HasSpunRows false m seed rows = IsGeneratedMatrix m seed rows
+HasSpunRows true m seed rows = (i : ℕ) × IsFirstNonzeroRow seed i × IsStandardMatrix m (row_of seed i) rows
+
+-- the rows are a basis of a submodule: they are vectors of the module and independent, and their span is invariant and not
+-- zero
+pub record IsSubmoduleBasis (m : ModuleValue) (rows : MatrixValue) : Type 0 where
+  pub field : rows.order ≡ m.order
+  pub columns : rows.cols ≡ m.dim
+  pub independent : IsIndependent (number_field rows.order) rows.rows
+  pub invariant : IsInvariantIn m rows
+  pub nonzero : has_only_zeros rows.rows ≡ false

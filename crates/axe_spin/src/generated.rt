@@ -1,7 +1,7 @@
 //! The spaces that rows generate in a module.
 
 ghost use Rattle.std.specs.Prelude.{◌≡◌, [], None, IfOk};
-ghost use Rattle.axe_row.specs.Refusals.{Answers};
+ghost use Rattle.axe_row.specs.Refusals.{Answers, unless_refused};
 ghost use Rattle.axe_matrix.specs.Matrices.{IsMatrix};
 ghost use Rattle.axe_spin.specs.Spinning.{has_only_zeros, seed_refusal, IsRowBasis, IsGeneratedMatrix};
 ghost use Rattle.axe_spin.specs.Spun.{IsSpanOf};
@@ -20,20 +20,24 @@ pub fn generate(alloc: Global, module: &Module, seed: &Matrix) -> Result<Matrix,
     ensures basis { Answers (seed_refusal «module».now seed.now) (IsGeneratedMatrix «module».now seed.now) result }
     ensures well_formed { IfOk result IsMatrix }
 {
-    if seed.field().order() != module.field().order() {
-        return Err(Refusal::FieldsDiffer);
-    }
-    if seed.cols() != module.dim() {
-        return Err(Refusal::ShapesDiffer);
-    }
-    if has_only_zeros(seed) {
-        return Err(Refusal::ZeroSeed);
-    }
+    check_seed(module, seed)?;
     let mut span = Echelon::new(alloc, *module.field(), module.dim());
     let mut rows = Matrix::empty(alloc, *module.field(), module.dim());
     offer_all(alloc, &mut span, &mut rows, seed)?;
     spin(alloc, module, &mut span, &mut rows)?;
     span.reduced(alloc)
+}
+
+/// Refuses a matrix that is no seed in a module.
+fn check_seed(module: &Module, seed: &Matrix) -> Result<(), Refusal>
+    ensures refusal { result ≡ unless_refused (seed_refusal «module».now seed.now) tt }
+    ensures seed_well_formed { IsMatrix seed.now }
+{
+    module.check_rows(seed)?;
+    if has_only_zeros(seed) {
+        return Err(Refusal::ZeroSeed);
+    }
+    Ok(())
 }
 
 /// Whether every entry of a matrix is 0: whether its rows span the zero space. It takes no memory.

@@ -12,7 +12,7 @@ pub use generated::{generate, has_only_zeros};
 pub use laws::{isomorphism_carries_standard_basis, multiple_has_the_same_standard_matrices};
 pub use limits::limits_are_named;
 pub use module::Module;
-pub use standard::standard_basis;
+pub use standard::{first_nonzero_row, standard_basis, standard_rows};
 
 /// The most generators that a module has. It has at least one.
 pub const MAX_GENERATORS: usize = 16;

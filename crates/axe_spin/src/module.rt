@@ -1,9 +1,9 @@
 //! Modules.
 
-ghost use Rattle.std.specs.Prelude.{◌≡◌, ◌<◌, ◌≤◌, ◌++◌, ◌∷◌, [], length, None, IfOk};
-ghost use Rattle.axe_row.specs.Refusals.{Answers};
+ghost use Rattle.std.specs.Prelude.{◌≡◌, ◌<◌, ◌≤◌, length, None, IfOk};
+ghost use Rattle.axe_row.specs.Refusals.{Answers, unless_refused};
 ghost use Rattle.axe_matrix.specs.Matrices.{IsMatrix};
-ghost use Rattle.axe_spin.specs.Modules.{IsModule, generator_of, generator_refusal, unless_refused, module_of_matrices};
+ghost use Rattle.axe_spin.specs.Modules.{IsModule, generator_of, generator_refusal, module_of_matrices, rows_refusal};
 ghost use Rattle.axe_spin.specs.Generators.{IsGeneratorMatrix};
 
 use crate::MAX_GENERATORS;
@@ -91,6 +91,21 @@ impl Module {
         &self.generators[index]
     }
 
+    /// Refuses a matrix whose rows are no vectors of the module: one over another field as FieldsDiffer, and else one with
+    /// another number of columns than the dimension as ShapesDiffer. It takes no memory.
+    pub fn check_rows(&self, rows: &Matrix) -> Result<(), Refusal>
+        ensures refusal { result ≡ unless_refused (rows_refusal self.now rows.now) tt }
+        ensures rows_well_formed { IsMatrix rows.now }
+    {
+        if rows.field().order() != self.field().order() {
+            return Err(Refusal::FieldsDiffer);
+        }
+        if rows.cols() != self.dim() {
+            return Err(Refusal::ShapesDiffer);
+        }
+        Ok(())
+    }
+
     /// The same module a second time.
     pub fn copy(&self, alloc: Global) -> Result<Module, Refusal>
         ensures copied { Answers None (λ copy. copy ≡ self.now) result }
@@ -99,7 +114,7 @@ impl Module {
         let mut generators = Vec::new(alloc);
         for generator in &self.generators {
             let copy = generator.copy(alloc)?;
-            push(&mut generators, copy)?;
+            generators.push(copy)?;
         }
         Ok(Module {
             field: self.field,
@@ -127,11 +142,4 @@ fn check_generator(matrix: &Matrix, field: &Field, dim: usize) -> Result<(), Ref
         return Err(Refusal::ShapesDiffer);
     }
     Ok(())
-}
-
-/// Appends a matrix to a list; for want of memory the matrix is dropped, and the list is unchanged.
-fn push(matrices: &mut Vec<Matrix>, matrix: Matrix) -> Result<(), Refusal>
-    ensures { Answers None (λ _. matrices.new.items ≡ matrices.old.items ++ matrix ∷ []) result }
-{
-    matrices.push(matrix).map_err(|_| Refusal::Memory)
 }

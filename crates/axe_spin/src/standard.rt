@@ -1,10 +1,10 @@
 //! Standard bases of vectors in a module.
 
-ghost use Rattle.std.specs.Prelude.{◌≡◌, length, None, IfOk};
+ghost use Rattle.std.specs.Prelude.{◌≡◌, true, length, None, IfOk, MatchOption, option_copied};
 ghost use Rattle.axe_row.specs.Operations.{IsZeroVector};
 ghost use Rattle.axe_row.specs.Refusals.{Answers};
 ghost use Rattle.axe_matrix.specs.Matrices.{IsMatrix};
-ghost use Rattle.axe_spin.specs.Spinning.{IsStandardMatrix};
+ghost use Rattle.axe_spin.specs.Spinning.{has_only_zeros, seed_refusal, IsStandardMatrix, HasFirstNonzeroRow, HasSpunRows};
 
 use crate::module::Module;
 use crate::spinning::{offer, spin};
@@ -27,4 +27,30 @@ pub fn standard_basis(alloc: Global, module: &Module, vector: &Row) -> Result<Ma
     offer(alloc, &mut span, &mut rows, first)?;
     spin(alloc, module, &mut span, &mut rows)?;
     Ok(rows)
+}
+
+/// The standard basis of the first row of a seed that is not zero. The refusals are those of [`generate`].
+///
+/// [`generate`]: crate::generate
+pub fn standard_rows(alloc: Global, module: &Module, seed: &Matrix) -> Result<Matrix, Refusal>
+    ensures basis { Answers (seed_refusal «module».now seed.now) (HasSpunRows true «module».now seed.now) result }
+    ensures well_formed { IfOk result IsMatrix }
+{
+    module.check_rows(seed)?;
+    match first_nonzero_row(seed) {
+        None => Err(Refusal::ZeroSeed),
+        Some(row) => standard_basis(alloc, module, row),
+    }
+}
+
+/// The first row of a matrix that is not zero, or `None` where it has only zeros.
+pub fn first_nonzero_row(matrix: &Matrix) -> Option<&Row>
+    ensures { MatchOption (option_copied result) (has_only_zeros matrix.now.rows ≡ true) (HasFirstNonzeroRow matrix.now) }
+{
+    for index in 0..matrix.rows() {
+        if !matrix.row(index).is_zero() {
+            return Some(matrix.row(index));
+        }
+    }
+    None
 }

@@ -1,6 +1,6 @@
 use Rattle.std.proofs.Common.{ap, sym, ◌∙◌}
 use Rattle.axe_matrix.proofs.MatrixLaws.{same_fields}
-use Rattle.axe_spin.specs.Modules.{unless_refused}
+use Rattle.axe_row.specs.Refusals.{unless_refused}
 use Rattle.axe_action.proofs.ConjugateLaws.{IsBasisFor, conjugate_accepted}
 use Rattle.axe_action.proofs.conjugates.check_basis.Goals as goal
 

@@ -4,7 +4,7 @@ use Rattle.axe_algebra.specs.ListArithmetic.{combination}
 use Rattle.axe_field.specs.NumberFields.{number_field}
 use Rattle.axe_row.specs.Rows.{RowValue}
 use Rattle.axe_matrix.proofs.ProductLaws.{length-combination}
-use Rattle.axe_action.specs.Coordinates.{image_of_row, HasImagesIn}
+use Rattle.axe_action.specs.Coordinates.{row_times, HasImagesIn}
 use Rattle.axe_action.proofs.QuotientSpans.{image_within, image_without, test_fails}
 use Rattle.axe_action.proofs.quotients.has_images_in.Goals as goal
 
@@ -14,7 +14,7 @@ reduce-requires-clause-fits c =
 
 pub returns-then-not-is_zero : goal.returns-then-not-is_zero
 returns-then-not-is_zero c =
-    let image : c.in_ok-image.image.entries ≡ image_of_row c.args.generator.now c.args.rows.now.rows c.loop-index.index =
+    let image : c.in_ok-image.image.entries ≡ row_times c.args.generator.now c.args.rows.now.rows c.loop-index.index =
     ap (λ (r : RowValue). r.entries) c.in_ok-image.ensures.product
     ∙ ap (λ (r : RowValue). combination (number_field c.args.generator.now.order) c.args.generator.now.cols r.entries c.args.generator.now.rows) c.row.ensures.value in
     let below : c.loop-index.index < length c.args.rows.now.rows = omega (arith, c.loop-index-test.true, c.rows-index-end.ensures.count) in
@@ -25,7 +25,7 @@ returns-then-not-is_zero c =
 
 pub loop-index-preserved : goal.loop-index-preserved
 loop-index-preserved c =
-    let image : c.in_ok-image.image.entries ≡ image_of_row c.args.generator.now c.args.rows.now.rows c.loop-index.index =
+    let image : c.in_ok-image.image.entries ≡ row_times c.args.generator.now c.args.rows.now.rows c.loop-index.index =
     ap (λ (r : RowValue). r.entries) c.in_ok-image.ensures.product
     ∙ ap (λ (r : RowValue). combination (number_field c.args.generator.now.order) c.args.generator.now.cols r.entries c.args.generator.now.rows) c.row.ensures.value in
     below_more _ _ c.loop-index.invariant

@@ -7,7 +7,7 @@ use Rattle.axe_field.specs.NumberFields.{number_field}
 use Rattle.axe_row.specs.Rows.{RowValue}
 use Rattle.axe_matrix.proofs.ProductLaws.{length-combination}
 use Rattle.axe_echelon.specs.Echelons.{EchelonValue, IsEchelon, AreCoordinates}
-use Rattle.axe_action.specs.Coordinates.{image_of_row, HasActionRows}
+use Rattle.axe_action.specs.Coordinates.{row_times, HasActionRows}
 use Rattle.axe_action.proofs.SubRows.{form_over, action_row_of, image_outside, action_rows_more, action_images}
 use Rattle.axe_action.proofs.subspaces.generator_action.Goals as goal
 
@@ -24,7 +24,7 @@ coordinates-requires-clause-fits c =
 
 pub returns-in_default : goal.returns-in_default
 returns-in_default c =
-    let image : c.in_ok-image.image.entries ≡ image_of_row c.args.generator.now c.args.rows.now.rows c.loop-index.index =
+    let image : c.in_ok-image.image.entries ≡ row_times c.args.generator.now c.args.rows.now.rows c.loop-index.index =
     ap (λ (r : RowValue). r.entries) c.in_ok-image.ensures.product
     ∙ ap (λ (r : RowValue). combination (number_field c.args.generator.now.order) c.args.generator.now.cols r.entries c.args.generator.now.rows) c.row.ensures.value in
     let below : c.loop-index.index < length c.args.rows.now.rows = omega (arith, c.loop-index-test.true, c.rows-index-end.ensures.count) in
@@ -34,7 +34,7 @@ returns-in_default c =
 
 pub loop-index-preserved : goal.loop-index-preserved
 loop-index-preserved c =
-    let image : c.in_ok-image.image.entries ≡ image_of_row c.args.generator.now c.args.rows.now.rows c.loop-index.index =
+    let image : c.in_ok-image.image.entries ≡ row_times c.args.generator.now c.args.rows.now.rows c.loop-index.index =
     ap (λ (r : RowValue). r.entries) c.in_ok-image.ensures.product
     ∙ ap (λ (r : RowValue). combination (number_field c.args.generator.now.order) c.args.generator.now.cols r.entries c.args.generator.now.rows) c.row.ensures.value in
     let are : AreCoordinates c.args.span.now c.in_ok-image.image.entries c.in-Some.coefficients =

@@ -23,10 +23,10 @@ next_step-requires-clause-room c =
     λ e. c.if-rank-cols.false (c.rank.ensures.count ∙ e ∙ sym c.cols.ensures.count) in
     room_of_echelon c.args.self.now c.rank.ensures.well_formed other
 
-pub invariant_of-self-in_err-push_step : goal.invariant_of-self-in_err-push_step
-invariant_of-self-in_err-push_step c =
+pub invariant_of-self-in_err-push : goal.invariant_of-self-in_err-push
+invariant_of-self-in_err-push c =
     let long : length c.resize.new.self.items ≡ c.self.inside.cols = omega (arith, c.in_ok-resize.ensures.len, c.resize.new.self.ok.0) in
-    let kept : c.push_step.new.steps.items ≡ c.self.inside.steps.items = c.in_err-push_step.ensures.unchanged in
+    let kept : c.push.new.self.items ≡ c.self.inside.steps.items = c.in_err-push.ensures.items in
     rw kept (table_filled_up _ _ _ c.self.inside.pivots.items c.resize.new.self.items _ c.self.invariant c.in_ok-resize.ensures.items long)
 
 pub invariant_of-self-2 : goal.invariant_of-self-2
@@ -36,7 +36,7 @@ invariant_of-self-2 c =
     table_filled_up _ _ _ c.self.inside.pivots.items c.resize.new.self.items _ c.self.invariant c.in_ok-resize.ensures.items long in
     let next : IsNextStep (echelon_of c.self.inside.field c.self.inside.cols c.self.inside.steps.items) c.args.row.entries c.in-Some.step =
     rw c.self.view_is (rw c.in-Some.is at c.in_ok-step.ensures) in
-    let pushed : c.push_step.new.steps.items ≡ c.self.inside.steps.items ++ c.in-Some.step ∷ [] = c.in_ok-push_step.ensures.pushed in
+    let pushed : c.push.new.self.items ≡ c.self.inside.steps.items ++ c.in-Some.step ∷ [] = c.in_ok-push.ensures.items in
     rw pushed (table_more _ _ _ _ _ filled (steps_more _ _ _ _ _ c.self.invariant.are_steps next) (omega (arith, long, next.place)))
 
 pub returns-clause-well_formed : goal.returns-clause-well_formed
@@ -58,8 +58,8 @@ returns-clause-exactly c =
 pub returns-clause-inserted : goal.returns-clause-inserted
 returns-clause-inserted c =
     let next : IsNextStep c.args.self.now c.args.row.entries c.in-Some.step = rw c.in-Some.is at c.in_ok-step.ensures in
-    let pushed : c.push_step.new.steps.items ≡ c.self.inside.steps.items ++ c.in-Some.step ∷ [] = c.in_ok-push_step.ensures.pushed in
-    echelon_of_more c.self.inside.field c.self.inside.cols c.self.inside.steps.items c.push_step.new.steps.items c.in-Some.step c.args.row.entries c.args.self.now
+    let pushed : c.push.new.self.items ≡ c.self.inside.steps.items ++ c.in-Some.step ∷ [] = c.in_ok-push.ensures.items in
+    echelon_of_more c.self.inside.field c.self.inside.cols c.self.inside.steps.items c.push.new.self.items c.in-Some.step c.args.row.entries c.args.self.now
     pushed next.inserted c.self.view_is
 
 pub returns-then-rank-cols-clause-inserted : goal.returns-then-rank-cols-clause-inserted
@@ -110,20 +110,20 @@ returns-in_err-resize-clause-unchanged c = in_any_case c.from_residual-in_err-re
 pub returns-in_err-resize-clause-well_formed : goal.returns-in_err-resize-clause-well_formed
 returns-in_err-resize-clause-well_formed c = echelon_of_steps _ _ _ c.self.invariant.are_steps
 
-pub returns-in_err-push_step-clause-exactly : goal.returns-in_err-push_step-clause-exactly
-returns-in_err-push_step-clause-exactly c = IfOk-from_err c.from_residual-in_err-push_step.result _ c.from_residual-in_err-push_step.ensures.0
+pub returns-in_err-push-clause-exactly : goal.returns-in_err-push-clause-exactly
+returns-in_err-push-clause-exactly c = IfOk-from_err c.from_residual-in_err-push.result _ c.from_residual-in_err-push.ensures.0
 
-pub returns-in_err-push_step-clause-inserted : goal.returns-in_err-push_step-clause-inserted
-returns-in_err-push_step-clause-inserted c =
-    no_memory _ c.from_residual-in_err-push_step.result _ c.from_residual-in_err-push_step.ensures.1 c.in_err-push_step.ensures.pushed
+pub returns-in_err-push-clause-inserted : goal.returns-in_err-push-clause-inserted
+returns-in_err-push-clause-inserted c =
+    no_memory _ c.from_residual-in_err-push.result Memory c.from_residual-in_err-push.ensures.1 refl
 
-pub returns-in_err-push_step-clause-unchanged : goal.returns-in_err-push_step-clause-unchanged
-returns-in_err-push_step-clause-unchanged c =
-    in_any_case c.from_residual-in_err-push_step.result _
-    (ap (echelon_of c.self.inside.field c.self.inside.cols) c.in_err-push_step.ensures.unchanged ∙ c.self.view_is)
+pub returns-in_err-push-clause-unchanged : goal.returns-in_err-push-clause-unchanged
+returns-in_err-push-clause-unchanged c =
+    in_any_case c.from_residual-in_err-push.result _
+    (ap (echelon_of c.self.inside.field c.self.inside.cols) c.in_err-push.ensures.items ∙ c.self.view_is)
 
-pub returns-in_err-push_step-clause-well_formed : goal.returns-in_err-push_step-clause-well_formed
-returns-in_err-push_step-clause-well_formed c = echelon_of_steps _ _ _ (invariant_of-self-in_err-push_step c).are_steps
+pub returns-in_err-push-clause-well_formed : goal.returns-in_err-push-clause-well_formed
+returns-in_err-push-clause-well_formed c = echelon_of_steps _ _ _ (invariant_of-self-in_err-push c).are_steps
 
 pub returns-clause-unchanged : goal.returns-clause-unchanged
 returns-clause-unchanged c = tt

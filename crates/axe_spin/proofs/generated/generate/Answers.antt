@@ -1,44 +1,43 @@
-use Rattle.std.proofs.Common.{◌≡◌, false, ap}
+use Rattle.std.proofs.Common.{ap}
 use Rattle.std.proofs.lemmas.Result.{err_from_is_err_and, IfOk-from_err}
-use Rattle.axe_field.specs.Order.{order_number}
 use Rattle.axe_matrix.specs.Matrices.{MatrixValue, IsMatrix}
-use Rattle.axe_matrix.proofs.MatrixLaws.{same_fields}
+use Rattle.axe_echelon.proofs.Exits.{handed_on, not_refused, answers_early, refused_at_once}
 use Rattle.axe_echelon.proofs.NullRowLaws.{answers_more}
-use Rattle.axe_spin.specs.Spinning.{has_only_zeros}
-use Rattle.axe_spin.proofs.GeneratedLaws.{seed_refusal-none, generated_matrix}
+use Rattle.axe_spin.specs.Spinning.{seed_refusal}
+use Rattle.axe_spin.proofs.SeedLaws.{seed_if_not_refused}
+use Rattle.axe_spin.proofs.GeneratedLaws.{generated_matrix}
 use Rattle.axe_spin.proofs.generated.generate.Goals as goal
 use mathlib.Core.Path.{sym, ◌∙◌}
 
+pub returns-in_err-check_seed-clause-basis : goal.returns-in_err-check_seed-clause-basis
+returns-in_err-check_seed-clause-basis c =
+    refused_at_once (seed_refusal c.args.module.now c.args.seed.now) tt _ c.from_residual.result _ c.in_err-check_seed.ensures.refusal c.from_residual.ensures.1
+
+pub returns-in_err-check_seed-clause-well_formed : goal.returns-in_err-check_seed-clause-well_formed
+returns-in_err-check_seed-clause-well_formed c = IfOk-from_err c.from_residual.result IsMatrix c.from_residual.ensures.0
+
 pub returns-in_err-offer_all-clause-basis : goal.returns-in_err-offer_all-clause-basis
 returns-in_err-offer_all-clause-basis c =
-    let p = err_from_is_err_and c.from_residual.result c.from_residual.ensures.1 in
-    let fields = same_fields _ _ _ _ _ _ c.field.ensures.order c.order.ensures.value c.if-order.false c.order-2.ensures.value c.field-2.ensures.order in
-    let shapes : c.args.seed.now.cols ≡ c.args.module.now.dim = sym c.cols.ensures.count ∙ c.if-cols-dim.false ∙ c.dim.ensures.count in
-    let nonzero : has_only_zeros c.args.seed.now.rows ≡ false = sym c.has_only_zeros.ensures ∙ c.if-has_only_zeros.false in
-    let none = seed_refusal-none c.args.module.now c.args.seed.now (ap order_number fields) shapes nonzero in
+    let p = err_from_is_err_and c.from_residual-in_err-offer_all.result c.from_residual-in_err-offer_all.ensures.1 in
+    let none = not_refused (seed_refusal c.args.module.now c.args.seed.now) tt c.in_ok-check_seed.field-0 c.in_ok-check_seed.ensures.refusal in
     rw (p.1, none) (p.2 ∙ c.in_err-offer_all.ensures.basis)
 
 pub returns-in_err-spin-clause-basis : goal.returns-in_err-spin-clause-basis
 returns-in_err-spin-clause-basis c =
     let p = err_from_is_err_and c.from_residual-in_err-spin.result c.from_residual-in_err-spin.ensures.1 in
-    let fields = same_fields _ _ _ _ _ _ c.field.ensures.order c.order.ensures.value c.if-order.false c.order-2.ensures.value c.field-2.ensures.order in
-    let shapes : c.args.seed.now.cols ≡ c.args.module.now.dim = sym c.cols.ensures.count ∙ c.if-cols-dim.false ∙ c.dim.ensures.count in
-    let nonzero : has_only_zeros c.args.seed.now.rows ≡ false = sym c.has_only_zeros.ensures ∙ c.if-has_only_zeros.false in
-    let none = seed_refusal-none c.args.module.now c.args.seed.now (ap order_number fields) shapes nonzero in
+    let none = not_refused (seed_refusal c.args.module.now c.args.seed.now) tt c.in_ok-check_seed.field-0 c.in_ok-check_seed.ensures.refusal in
     rw (p.1, none) (p.2 ∙ c.in_err-spin.ensures.spun)
 
 pub returns-clause-basis : goal.returns-clause-basis
 returns-clause-basis c =
-    let fields = same_fields _ _ _ _ _ _ c.field.ensures.order c.order.ensures.value c.if-order.false c.order-2.ensures.value c.field-2.ensures.order in
-    let shapes : c.args.seed.now.cols ≡ c.args.module.now.dim = sym c.cols.ensures.count ∙ c.if-cols-dim.false ∙ c.dim.ensures.count in
-    let nonzero : has_only_zeros c.args.seed.now.rows ≡ false = sym c.has_only_zeros.ensures ∙ c.if-has_only_zeros.false in
-    let none = seed_refusal-none c.args.module.now c.args.seed.now (ap order_number fields) shapes nonzero in
-    rw none (answers_more c.reduced.result _ _ c.reduced.ensures.basis
-    (λ basis reduced. generated_matrix c.args.module.now c.args.seed.now c.offer_all.new.rows c.spin.new.rows basis c.spin.new.span c.field-2.ensures.well_formed
-    fields shapes c.field.ensures.well_formed c.in_ok-offer_all.ensures.basis c.in_ok-spin.ensures.spun c.in_ok-spin.ensures.span reduced))
+    let none = not_refused (seed_refusal c.args.module.now c.args.seed.now) tt c.in_ok-check_seed.field-0 c.in_ok-check_seed.ensures.refusal in
+    let taken = seed_if_not_refused c.args.module.now c.args.seed.now none in
+    answers_early (seed_refusal c.args.module.now c.args.seed.now) _ c.reduced.result none (answers_more c.reduced.result _ _ c.reduced.ensures.basis
+    (λ basis reduced. generated_matrix c.args.module.now c.args.seed.now c.offer_all.new.rows c.spin.new.rows basis c.spin.new.span c.field.ensures.well_formed
+    taken.field taken.columns c.check_seed.ensures.seed_well_formed c.in_ok-offer_all.ensures.basis c.in_ok-spin.ensures.spun c.in_ok-spin.ensures.span reduced))
 
 pub returns-in_err-offer_all-clause-well_formed : goal.returns-in_err-offer_all-clause-well_formed
-returns-in_err-offer_all-clause-well_formed c = IfOk-from_err c.from_residual.result IsMatrix c.from_residual.ensures.0
+returns-in_err-offer_all-clause-well_formed c = IfOk-from_err c.from_residual-in_err-offer_all.result IsMatrix c.from_residual-in_err-offer_all.ensures.0
 
 pub returns-in_err-spin-clause-well_formed : goal.returns-in_err-spin-clause-well_formed
 returns-in_err-spin-clause-well_formed c = IfOk-from_err c.from_residual-in_err-spin.result IsMatrix c.from_residual-in_err-spin.ensures.0

@@ -1,5 +1,6 @@
-use Rattle.std.proofs.Common.{◌≡◌, sym, ◌∙◌, subst}
+use Rattle.std.proofs.Common.{◌≡◌, refl, sym, ◌∙◌, subst}
 use Rattle.std.proofs.lemmas.Result.{IfOk-from_err}
+use Rattle.axe_row.specs.declared.refusals.Refusal.TheVariants.{Memory}
 use Rattle.axe_echelon.proofs.Exits.{no_memory}
 use Rattle.axe_spin.specs.Modules.{IsModule}
 use Rattle.axe_spin.specs.Generators.{MakeModule}
@@ -13,16 +14,16 @@ pub returns-in_err-copy-clause-well_formed : goal.returns-in_err-copy-clause-wel
 returns-in_err-copy-clause-well_formed c = IfOk-from_err c.from_residual.result IsModule c.from_residual.ensures.0
 
 pub returns-in_err-push-clause-copied : goal.returns-in_err-push-clause-copied
-returns-in_err-push-clause-copied c = no_memory _ c.from_residual-in_err-push.result _ c.from_residual-in_err-push.ensures.1 c.in_err-push.ensures
+returns-in_err-push-clause-copied c = no_memory _ c.from_residual-in_err-push.result Memory c.from_residual-in_err-push.ensures.1 refl
 
 pub returns-in_err-push-clause-well_formed : goal.returns-in_err-push-clause-well_formed
 returns-in_err-push-clause-well_formed c = IfOk-from_err c.from_residual-in_err-push.result IsModule c.from_residual-in_err-push.ensures.0
 
 pub loop-generator-preserved : goal.loop-generator-preserved
 loop-generator-preserved c =
-    copies_more c.self.inside.generators.items c.deref-generator-items.result.now c.loop-generator.generators.items c.push.new.matrices.items
+    copies_more c.self.inside.generators.items c.deref-generator-items.result.now c.loop-generator.generators.items c.push.new.self.items
     c.loop-generator.generator-index c.generator-item.result c.in_ok-copy.copy c.deref-generator-items.ensures.value c.loop-generator.invariant
-    c.loop-generator-test.true c.generator-item.is c.in_ok-copy.ensures.copied c.in_ok-push.ensures
+    c.loop-generator-test.true c.generator-item.is c.in_ok-copy.ensures.copied c.in_ok-push.ensures.items
 
 same : (c : goal.After-result-1) → c.loop-generator.generators.items ≡ c.self.inside.generators.items
 same c =

@@ -1,34 +1,22 @@
--- The span of the rows of a matrix, as the rows are inserted one by one; and rows that span zero.
-use Rattle.std.specs.Prelude.{◌≡◌, ℕ, ◌+◌, ◌<◌, ◌≤◌, List, [], ◌∷◌, ◌++◌, length, get_or, Bool, true, false, eqb}
+-- The span of the rows of a matrix, as the rows are inserted one by one.
+use Rattle.std.specs.Prelude.{◌≡◌, ℕ, ◌+◌, ◌<◌, ◌≤◌, List, [], ◌∷◌, ◌++◌, length, get_or, Bool, true, false}
 use Rattle.std.proofs.Common.{length-append}
-use Rattle.std.specs.List.{list_all}
-use Rattle.std.proofs.lemmas.Bool.{eq-eqb}
 use Rattle.std.proofs.lemmas.List.{get_or_append_left, get_or-append-add}
-use Rattle.std.proofs.lemmas.List.Sums.{list_all-from_AllPass}
-use Rattle.std.proofs.lemmas.List.Elements.{All-from_get_or, All-weaker}
 use Rattle.axe_algebra.specs.NumberField.{NumberField}
-use Rattle.axe_algebra.specs.Spans
-use Rattle.axe_algebra.specs.Bridge.{field_of, vector_of, matrix_of}
-use Rattle.axe_algebra.specs.Lists.{IsMatrixOver}
-use Rattle.axe_algebra.specs.SpansOfLists.{IsIndependent, IsSpanned, HaveSameSpan}
-use Rattle.axe_algebra.proofs.ProductLaws.{times_none}
-use Rattle.axe_algebra.proofs.ListEntries.{row_over}
+use Rattle.axe_algebra.specs.SpansOfLists.{IsIndependent, IsSpanned}
 use Rattle.axe_algebra.proofs.ListSpans.{appended_spans, appended_row_spanned, row_spanned}
 use Rattle.axe_algebra.proofs.ListVectors.{same_span_by_rows}
 use Rattle.axe_field.specs.NumberFields.{number_field}
 use Rattle.axe_row.specs.Rows.{RowValue}
-use Rattle.axe_row.specs.Operations.{IsZeroVector}
-use Rattle.axe_matrix.specs.Matrices.{MatrixValue}
-use Rattle.axe_echelon.specs.Echelons.{EchelonValue, IsEchelon, with_row_where}
+use Rattle.axe_matrix.specs.Matrices.{MatrixValue, IsMatrix}
+use Rattle.axe_echelon.specs.Echelons.{EchelonValue, IsEchelon, with_row_where, IsSpanOfRows, IsInvertible}
+use Rattle.axe_echelon.specs.Inserted.{HasAllRows}
 use Rattle.axe_echelon.proofs.FormLaws.{below_or_at}
-use Rattle.axe_echelon.proofs.EliminationLaws.{zero_row_of_vector}
-use Rattle.axe_echelon.proofs.InverseLaws.{HasFirstRows, first_rows_more, first_rows_all, first_rows_dependent, spanned_of_not_new}
-use Rattle.axe_spin.specs.Spinning.{has_only_zeros}
-use Rattle.axe_action.specs.Coordinates.{IsSpanOfRows}
+use Rattle.axe_echelon.proofs.InverseLaws.{HasFirstRows, first_rows_more, first_rows_all, first_rows_dependent, spanned_of_not_new, independent_of_invertible}
 use mathlib.Core.Path.{refl, sym, ◌∙◌, ap, subst}
 use native.Mathlib.Omega.{arith}
 
--- the echelon form has the span of the first rows of a matrix, and all of these rows where they are independent
+-- the echelon form has the span of the first rows of a matrix, and all of these rows where they are independent, or as many
 pub record IsSpanOfFirst (m : MatrixValue) (i : ℕ) (e : EchelonValue) : Type 0 where
   pub field : e.order ≡ m.order
   pub columns : e.cols ≡ m.cols
@@ -36,6 +24,8 @@ pub record IsSpanOfFirst (m : MatrixValue) (i : ℕ) (e : EchelonValue) : Type 0
   pub forth : (t : ℕ) → t < i → IsSpanned (number_field m.order) e.rows (get_or m.rows t [])
   pub back : (t : ℕ) → t < length e.rows → IsSpanned (number_field m.order) m.rows (get_or e.rows t [])
   pub all : IsIndependent (number_field m.order) m.rows → HasFirstRows m i e
+  pub no_more : length e.rows ≤ i
+  pub as_many : length e.rows ≡ i → HasFirstRows m i e
   pub well_formed : IsEchelon e
 
 -- a new row
@@ -56,6 +46,8 @@ span_new m i e next row first below row_is is h = record {
       (subst (IsSpanned K m.rows) (sym row_last) (row_spanned K m.rows i below))
       t (omega (arith, inside, ap (λ (x : EchelonValue). length x.rows) is, length-append e.rows (row.entries ∷ []))));
   all = λ independent. first_rows_more m i e next row (first.all independent) below row_is is h;
+  no_more = omega (arith, longer, first.no_more);
+  as_many = λ same. first_rows_more m i e next row (first.as_many (omega (arith, same, longer))) below row_is is h;
   well_formed = h;
 }
   where
@@ -64,6 +56,9 @@ span_new m i e next row first below row_is is h = record {
 
     rows_are : next.rows ≡ e.rows ++ row.entries ∷ []
     rows_are = ap (λ (x : EchelonValue). x.rows) is
+
+    longer : length next.rows ≡ length e.rows + 1
+    longer = ap (λ (x : EchelonValue). length x.rows) is ∙ length-append e.rows (row.entries ∷ [])
 
     row_last : get_or (e.rows ++ row.entries ∷ []) (length e.rows) [] ≡ get_or m.rows i []
     row_last =
@@ -82,6 +77,8 @@ span_old m i e row first below row_is spanned = record {
       t (omega arith);
   back = first.back;
   all = λ independent. absurd (first_rows_dependent m i e row (first.all independent) below row_is spanned independent);
+  no_more = omega (arith, first.no_more);
+  as_many = λ same. absurd (omega (arith, same, first.no_more));
   well_formed = first.well_formed;
 }
 
@@ -99,34 +96,16 @@ span_whole m i e first whole = record {
   columns = first.columns;
   same = same_span_by_rows (number_field m.order) m.rows e.rows (λ t below. first.forth t (omega arith)) first.back;
   all = λ independent. (first_rows_all m i e (first.all independent) whole).rows;
+  as_many = λ same. (first_rows_all m i e (first.as_many (omega (arith, same, first.few, whole))) whole).rows;
   well_formed = first.well_formed;
 }
 
--- whether a row has only zeros
-only_zeros : (row : List ℕ) → IsZeroVector row → list_all (λ number. eqb number 0) row ≡ true
-only_zeros row zeros =
-    list_all-from_AllPass (λ number. eqb number 0) row (All-weaker (λ number. number ≡ 0) (λ number. eqb number 0 ≡ true) (λ number. eq-eqb number 0) row zeros)
+-- the rows of a matrix, where there are as many in the echelon form
+pub all_rows_of_span : (m : MatrixValue) (e : EchelonValue) → IsSpanOfRows m e → length e.rows ≡ length m.rows → HasAllRows m e
+all_rows_of_span m e span same = record { field = span.field; columns = span.columns; rows = span.as_many same; well_formed = span.well_formed }
 
--- rows in the span of no rows have only zeros
-pub zeros_of_no_basis : (K : NumberField) (n : ℕ) (rows basis : List (List ℕ)) → IsMatrixOver K n rows → HaveSameSpan K rows basis → length basis ≡ 0 →
-    has_only_zeros rows ≡ true
-zeros_of_no_basis K n rows basis over same none =
-    list_all-from_AllPass (list_all (λ number. eqb number 0)) rows
-    (All-from_get_or (λ (row : List ℕ). list_all (λ number. eqb number 0) row ≡ true) rows [] (λ t below. only_zeros (get_or rows t []) (zeros t below)))
-  where
-    zeros : (t : ℕ) → t < length rows → IsZeroVector (get_or rows t [])
-    zeros t below =
-        let spanned : Spans.InSpan (field_of K) 0 (matrix_of K basis) (vector_of K (get_or rows t [])) =
-        subst (λ k. Spans.InSpan (field_of K) k (matrix_of K basis) (vector_of K (get_or rows t []))) none (same.forth t below) in
-        zero_row_of_vector K n (get_or rows t []) (row_over K n rows t over below)
-        (spanned.combines ∙ times_none (field_of K) spanned.coefficients (matrix_of K basis))
-
-pub some_basis_row : (K : NumberField) (n : ℕ) (rows basis : List (List ℕ)) → IsMatrixOver K n rows → HaveSameSpan K rows basis →
-    has_only_zeros rows ≡ false → 1 ≤ length basis
-some_basis_row K n rows basis over same some = positive (length basis) (λ none. different (zeros_of_no_basis K n rows basis over same none) some)
-  where
-    different : has_only_zeros rows ≡ true → has_only_zeros rows ≡ false → ⊥
-    different first second = cc
-
-    positive : (k : ℕ) → (k ≡ 0 → ⊥) → 1 ≤ k
-    positive k not_none = omega arith
+-- with fewer rows in the echelon form a square matrix has no inverse
+pub no_inverse_of_fewer : (m : MatrixValue) (e : EchelonValue) → IsMatrix m → length m.rows ≡ m.cols → IsSpanOfRows m e → ¬ (length e.rows ≡ length m.rows) →
+    ¬ (IsInvertible m)
+no_inverse_of_fewer m e h square span fewer = λ invertible.
+    fewer (ap (λ (rows : List (List ℕ)). length rows) (span.all (independent_of_invertible m h square invertible)))

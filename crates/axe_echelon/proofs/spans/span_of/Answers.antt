@@ -1,8 +1,8 @@
 use Rattle.std.proofs.Common.{◌≡◌, ◌<◌, ◌≤◌, length, get_or, [], ap, sym, ◌∙◌, arith}
 use Rattle.axe_echelon.proofs.Exits.{no_memory}
 use Rattle.axe_row.specs.Rows.{RowValue}
-use Rattle.axe_action.proofs.SubSpans.{span_more, span_whole}
-use Rattle.axe_action.proofs.subspaces.span_of.Goals as goal
+use Rattle.axe_echelon.proofs.SpanLaws.{span_more, span_whole}
+use Rattle.axe_echelon.proofs.spans.span_of.Goals as goal
 
 pub loop-index-preserved : goal.loop-index-preserved
 loop-index-preserved c =

@@ -1,0 +1,23 @@
+//! The spans of the rows of matrices.
+
+ghost use Rattle.std.specs.Prelude.{None};
+ghost use Rattle.axe_row.specs.Refusals.{Answers};
+ghost use Rattle.axe_matrix.specs.Matrices.{IsMatrix};
+ghost use Rattle.axe_echelon.specs.Echelons.{IsSpanOfRows};
+
+use super::Echelon;
+use axe_matrix::{Matrix, Refusal};
+use std::alloc::Global;
+
+/// The echelon form of the span of the rows of a matrix, into which they are inserted in order.
+pub fn span_of(alloc: Global, rows: &Matrix) -> Result<Echelon, Refusal>
+    ensures span { Answers None (IsSpanOfRows rows.now) result }
+    ensures well_formed { IsMatrix rows.now }
+{
+    let mut span = Echelon::new(alloc, *rows.field(), rows.cols());
+    for index in 0..rows.rows() {
+        let row = rows.row(index).copy(alloc)?;
+        span.insert(row)?;
+    }
+    Ok(span)
+}
