@@ -1,7 +1,7 @@
 //! Folders, in memory and of the file system: files put, read within a limit, and removed.
 use crate::tables::{first_field, one_field, three_fields, two_fields};
 use crate::values::{bytes_of_text, is_fault, number_of};
-use axe_folder::{DirFolder, Folder, MemFolder};
+use axe_folder::{DirFolder, Folder, FolderFault, MemFolder};
 use axe_matrix::Refusal;
 use std::alloc::Global;
 use std::fs;
@@ -110,10 +110,36 @@ fn memory_keeps_files_by_name(rt: HostRuntime) -> Result<(), Refusal> {
 
 #[test]
 fn a_directory_reads_files_up_to_the_limit(rt: HostRuntime) -> Result<(), Fail> {
-    let place = "axe_vectors_limits";
+    let place = "axe_call_tests_limits";
     fs::create_dir(&rt, place)?;
     let mut folder = DirFolder::new(rt.clone()?, place)?;
     each_call(&rt, rt.alloc(), &mut folder, PUT_READ_AND_REMOVED)?;
+    fs::remove_dir(&rt, place)?;
+    Ok(())
+}
+
+/// Names that no file in a directory can have. The fifth leads to a file all the same.
+const BAD_NAMES: [&str; 7] = ["", ".", "..", "/A", "within/A", "../A", "A\0"];
+
+#[test]
+fn a_directory_has_no_file_of_a_bad_name(rt: HostRuntime) -> Result<(), Fail> {
+    let place = "axe_call_tests_names";
+    fs::create_dir(&rt, place)?;
+    fs::create_dir(&rt, "axe_call_tests_names/within")?;
+    fs::write(&rt, "axe_call_tests_names/within/A", "one")?;
+    let mut folder = DirFolder::new(rt.clone()?, place)?;
+    for name in BAD_NAMES {
+        let got = folder.get(name, 3);
+        assert!(rt; matches!(got, Err(FolderFault::Missing)), "get {name}");
+        let put = folder.put(name, b"two");
+        assert!(rt; matches!(put, Err(FolderFault::Device)), "put {name}");
+        assert!(rt; folder.remove(name).is_ok(), "remove {name}");
+    }
+    let kept = fs::read(&rt, "axe_call_tests_names/within/A")?;
+    assert!(rt; kept.as_slice() == b"one".as_slice());
+    fs::remove_file(&rt, "axe_call_tests_names/within/A")?;
+    fs::remove_dir(&rt, "axe_call_tests_names/within")?;
+    // it is refused where another file is left
     fs::remove_dir(&rt, place)?;
     Ok(())
 }

@@ -14,7 +14,7 @@ $ zmu A B OUT -> 0
 
 #[test]
 fn products_are_put_into_a_directory(rt: HostRuntime) -> Result<(), Fail> {
-    let place = "axe_rows_products";
+    let place = "axe_command_tests_products";
     fs::create_dir(&rt, place)?;
     let mut folder = Watched::new(rt.alloc(), DirFolder::new(rt.clone()?, place)?);
     play_scene(&rt, PRODUCT, &mut folder);

@@ -52,6 +52,8 @@ zmu A -> usage: ..Usage: axe zmu <A> <B> <OUT>\n
 zmu A B -> usage: ..Usage: axe zmu <A> <B> <OUT>\n
 zmu A B C D -> usage: ..Usage: axe zmu <A> <B> <OUT>\n
 zmu A B C '' -> usage: ..Usage: axe zmu <A> <B> <OUT>\n
+zad -> usage: ..Usage: axe zad <A> <B> <OUT>\n
+zad A -> usage: ..Usage: axe zad <A> <B> <OUT>\n
 zad A B -> usage: ..Usage: axe zad <A> <B> <OUT>\n
 zad A B C D -> usage: ..Usage: axe zad <A> <B> <OUT>\n
 ztr A -> usage: ..Usage: axe ztr <A> <OUT>\n

@@ -3,7 +3,7 @@ use Rattle.std.proofs.Common.{◌≡◌, ℕ, Bool, true, eqb, refl, ◌∙◌}
 use Rattle.std.proofs.lemmas.Bool.{eqb-true}
 use Rattle.axe_field.specs.Order.{Order, Two, Three, Four, Five, Seven, Eight, Nine, IsElement}
 use Rattle.axe_field.specs.Arithmetic.{coefficients, number_of, polynomial_sum, polynomial_multiple, polynomial_negative, polynomial_product, without_leading, polynomial_remainder, polynomial_of, field_add, field_mul}
-use Rattle.axe_field.specs.Laws.{passes_below, at_one, from_one, field_add_comm, field_add-zero, field_mul_comm, field_mul-one}
+use Rattle.axe_field.specs.CheckedLaws.{passes_below, at_one, from_one, field_add_comm, field_add-zero, field_mul_comm, field_mul-one}
 use Rattle.axe_field.proofs.Orders.{zero_is_element, one_is_element}
 
 multiplies_zero : Order → ℕ → Bool

@@ -1,7 +1,7 @@
 -- The numbers of the orders.
 use Rattle.std.proofs.Common.{◌≡◌, ◌<◌, ◌≤◌, refl, ap, ◌∙◌, sym, arith, lit≤}
 use Rattle.axe_field.specs.Order.{Order, Two, Three, Four, Five, Seven, Eight, Nine, order_number, IsElement}
-use Rattle.axe_field.specs.Laws.{order_number-above}
+use Rattle.axe_field.specs.CheckedLaws.{order_number-above}
 use Rattle.axe_field.specs.Tables.{order_with}
 
 pub order_number-at_least : (o : Order) → 2 ≤ order_number o

@@ -3,7 +3,7 @@ use Rattle.std.proofs.Common.{◌≡◌, ℕ, ◌<◌, Bool, true, eqb, List, []
 use Rattle.std.proofs.lemmas.Bool.{eqb-true}
 use Rattle.axe_field.specs.Order.{Order, Two, Three, Four, Five, Seven, Eight, Nine, prime_of, degree_of, conway, IsElement}
 use Rattle.axe_field.specs.Arithmetic.{coefficients, number_of, polynomial_sum, polynomial_multiple, polynomial_negative, polynomial_product, without_leading, polynomial_remainder, polynomial_of, field_mul, IsRemainder}
-use Rattle.axe_field.specs.Laws.{passes_below, at_two, from_two}
+use Rattle.axe_field.specs.CheckedLaws.{passes_below, at_two, from_two}
 
 -- the quotient of a polynomial by the monic polynomial m of degree n
 quotient : ℕ → ℕ → List ℕ → List ℕ → List ℕ

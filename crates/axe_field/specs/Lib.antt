@@ -1,5 +1,5 @@
 pub mod Order
 pub mod Arithmetic
-pub mod Laws
+pub mod CheckedLaws
 pub mod NumberFields
 pub mod Tables

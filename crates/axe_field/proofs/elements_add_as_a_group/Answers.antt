@@ -1,4 +1,4 @@
-use Rattle.axe_field.specs.Laws.{field_add-below, field_add-neg, field_add-zero, field_add_assoc, field_add_comm, field_neg-below}
+use Rattle.axe_field.specs.CheckedLaws.{field_add-below, field_add-neg, field_add-zero, field_add_assoc, field_add_comm, field_neg-below}
 use Rattle.axe_field.proofs.elements_add_as_a_group.Goals as goal
 
 pub returns-clause-closed : goal.returns-clause-closed

@@ -1,4 +1,4 @@
-use Rattle.axe_field.specs.Laws.{field_inv-below, field_mul-add, field_mul-below, field_mul-inv, field_mul-one, field_mul_assoc, field_mul_comm}
+use Rattle.axe_field.specs.CheckedLaws.{field_inv-below, field_mul-add, field_mul-below, field_mul-inv, field_mul-one, field_mul_assoc, field_mul_comm}
 use Rattle.axe_field.proofs.nonzero_elements_multiply_as_a_group.Goals as goal
 
 pub returns-clause-closed : goal.returns-clause-closed

@@ -1,7 +1,7 @@
 use Rattle.std.proofs.Common.{ℕ, ◌<◌, ap, sym, subst, ◌∙◌}
 use Rattle.axe_field.specs.Order.{order_number}
 use Rattle.axe_field.specs.Arithmetic.{field_mul}
-use Rattle.axe_field.specs.Laws.{field_inv-below, field_mul-inv}
+use Rattle.axe_field.specs.CheckedLaws.{field_inv-below, field_mul-inv}
 use Rattle.axe_field.specs.declared.tables.Tables.{Tables}
 use Rattle.axe_field.proofs.Lookup.{inverses-at, inside-tables, value_along}
 use Rattle.axe_field.proofs.Field.inv.Goals as goal

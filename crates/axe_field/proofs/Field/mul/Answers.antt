@@ -1,6 +1,6 @@
 use Rattle.std.proofs.Common.{ℕ, ◌<◌, ap, sym, subst}
 use Rattle.axe_field.specs.Order.{order_number}
-use Rattle.axe_field.specs.Laws.{field_mul-below}
+use Rattle.axe_field.specs.CheckedLaws.{field_mul-below}
 use Rattle.axe_field.specs.declared.tables.Tables.{Tables}
 use Rattle.axe_field.proofs.Lookup.{products-at, inside-tables, entry_along}
 use Rattle.axe_field.proofs.Field.mul.Goals as goal

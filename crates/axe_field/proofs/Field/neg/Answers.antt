@@ -1,7 +1,7 @@
 use Rattle.std.proofs.Common.{ℕ, ◌<◌, ap, sym, subst, ◌∙◌}
 use Rattle.axe_field.specs.Order.{order_number}
 use Rattle.axe_field.specs.Arithmetic.{field_add}
-use Rattle.axe_field.specs.Laws.{field_neg-below, field_add-neg}
+use Rattle.axe_field.specs.CheckedLaws.{field_neg-below, field_add-neg}
 use Rattle.axe_field.specs.declared.tables.Tables.{Tables}
 use Rattle.axe_field.proofs.Lookup.{negatives-at, inside-tables, value_along}
 use Rattle.axe_field.proofs.Field.neg.Goals as goal

@@ -1,4 +1,4 @@
-use Rattle.std.proofs.Common.{◌∙◌}
+use Rattle.std.proofs.Common.{sym, ◌∙◌}
 use Rattle.std.specs.Path.{path_buf_bytes}
 use Rattle.axe_folder.proofs.NameLaws.{path_join-plain}
 use Rattle.axe_folder.proofs.directory.DirFolder.path_of.Goals as goal
@@ -6,4 +6,4 @@ use Rattle.axe_folder.proofs.directory.DirFolder.path_of.Goals as goal
 -- a plain name is joined as it stands
 pub returns-clause-inside : goal.returns-clause-inside
 returns-clause-inside g c =
-    c.in_ok-join.ensures ∙ path_join-plain (path_buf_bytes c.args.self.now.directory) c.args.name.now c.requires
+    c.in_ok-join.ensures ∙ path_join-plain (path_buf_bytes c.args.self.now.directory) c.args.name.now (sym c.is_plain_name.ensures ∙ c.if-not-is_plain_name.false)

@@ -2,5 +2,5 @@ use Rattle.std.proofs.Common.{refl}
 use Rattle.axe_folder.proofs.directory.DirFolderFolder.put.Goals as goal
 
 -- a name that no file in the directory can have is Device
-pub returns-then-not-is_plain_name-clause-no_such_name : goal.returns-then-not-is_plain_name-clause-no_such_name
-returns-then-not-is_plain_name-clause-no_such_name g c = λ _. refl
+pub returns-in_default-clause-no_such_name : goal.returns-in_default-clause-no_such_name
+returns-in_default-clause-no_such_name g c = λ _. refl

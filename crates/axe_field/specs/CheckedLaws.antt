@@ -1,4 +1,5 @@
--- The laws of the seven fields. There are few elements, so each law is computed: it is a test of all of them.
+-- Lemmas, checked, need not be read: the laws of the seven fields, which `number_field` names as proofs. There are few
+-- elements, so each law is computed: it is a test of all of them.
 use Rattle.std.specs.Prelude.{◌≡◌, ◌≢◌, ℕ, zero, suc, ◌<◌, Bool, true, ◌&&◌, ◌||◌, eqb, ltb, ◌⊎◌, refl}
 use Rattle.std.proofs.Common.{arith, ap, ◌∙◌, inl, inr, lit<}
 use Rattle.std.proofs.Math.Nat.{eq-or-lt_of_le}
