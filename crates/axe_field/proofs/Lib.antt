@@ -4,3 +4,4 @@ pub mod NumberFields
 pub mod Orders
 pub mod ProductTables
 pub mod Remainders
+pub mod CoefficientLaws

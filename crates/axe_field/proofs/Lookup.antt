@@ -4,8 +4,10 @@ use Rattle.std.specs.List.{range_with_len}
 use Rattle.std.proofs.lemmas.List.FromFn.{get_or-map-range_with_len}
 use Rattle.axe_field.specs.Order.{Order, order_number, IsElement}
 use Rattle.axe_field.specs.Arithmetic.{field_add, field_neg, field_mul, field_inv}
+use Rattle.axe_field.specs.Planes.{matrix_of_multiplication}
 use Rattle.axe_field.specs.Tables.{table_of, tables_of, order_with, inside_of}
 use Rattle.axe_field.specs.declared.Field.TheInside.{Inside}
+use Rattle.axe_field.specs.declared.tables.Tables.{Tables}
 use Rattle.axe_field.proofs.Orders.{order_number-at_most}
 
 pub table_of-at : (f : ℕ → ℕ) (a : ℕ) → a < 9 → get_or (table_of f) a 0 ≡ f a
@@ -36,6 +38,13 @@ negatives-at o a ha =
     let most : order_number o ≤ 9 = order_number-at_most o in
     table_of-at (field_neg o) a (omega arith)
 
+pub matrices-at : (o : Order) (a : ℕ) → IsElement o a →
+    get_or (tables_of o).matrices a [] ≡ matrix_of_multiplication o a
+unfolding tables_of
+matrices-at o a ha =
+    let most : order_number o ≤ 9 = order_number-at_most o in
+    get_or-map-range_with_len (matrix_of_multiplication o) 0 9 a a [] (omega arith) (omega arith)
+
 pub inverses-at : (o : Order) (a : ℕ) → IsElement o a → get_or (tables_of o).inverses a 0 ≡ field_inv o a
 unfolding tables_of
 inverses-at o a ha =
@@ -45,11 +54,6 @@ inverses-at o a ha =
 -- the fields of a value that keeps its invariant
 pub inside-is : (a : Inside) (o : Order) → a ≡ inside_of (order_with a.order) → order_with a.order ≡ o → a ≡ inside_of o
 inside-is a o e view = e ∙ ap inside_of view
-
--- and its tables
-pub inside-tables : (a : Inside) (o : Order) → a ≡ inside_of (order_with a.order) → order_with a.order ≡ o →
-    a.tables ≡ tables_of o
-inside-tables a o e view = ap (λ (s : Inside). s.tables) (inside-is a o e view)
 
 -- the entry of a table of sums or products at indices that are the elements
 pub entry_along : (t s : List (List ℕ)) (i a j b v : ℕ) → t ≡ s → i ≡ a → j ≡ b → get_or (get_or s a []) b 0 ≡ v →
@@ -61,3 +65,8 @@ entry_along t s i a j b v et ei ej e =
 -- the value of a table of negatives or inverses
 pub value_along : (t s : List ℕ) (i a v : ℕ) → t ≡ s → i ≡ a → get_or s a 0 ≡ v → get_or t i 0 ≡ v
 value_along t s i a v et ei e = ap (λ x. get_or x i 0) et ∙ ap (λ k. get_or s k 0) ei ∙ e
+
+-- the matrix of the multiplication by an element
+pub matrix_along : (t s : Tables) (i a : ℕ) (v : List (List ℕ)) → t ≡ s → i ≡ a → get_or s.matrices a [] ≡ v →
+    get_or t.matrices i [] ≡ v
+matrix_along t s i a v et ei e = ap (λ (x : Tables). get_or x.matrices i []) et ∙ ap (λ k. get_or s.matrices k []) ei ∙ e

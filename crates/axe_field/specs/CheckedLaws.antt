@@ -12,7 +12,7 @@ unfoldable pub passes_below : ℕ → (ℕ → Bool) → Bool
 passes_below zero test = true
 passes_below (suc n) test = test n && passes_below n test
 
-passes_below-at : (n : ℕ) (test : ℕ → Bool) → passes_below n test ≡ true → (a : ℕ) → a < n → test a ≡ true
+pub passes_below-at : (n : ℕ) (test : ℕ → Bool) → passes_below n test ≡ true → (a : ℕ) → a < n → test a ≡ true
 unfolding passes_below
 passes_below-at zero test e a h = absurd (omega arith)
 passes_below-at (suc n) test e a h =

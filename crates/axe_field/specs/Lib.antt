@@ -1,5 +1,6 @@
 pub mod Order
 pub mod Arithmetic
+pub mod Planes
 pub mod CheckedLaws
 pub mod NumberFields
 pub mod Tables

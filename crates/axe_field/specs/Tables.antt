@@ -1,8 +1,9 @@
--- What a value of `Field` holds: the numbers of its order, and the tables of the operations.
+-- What a value of `Field` holds: the numbers of its order; and the tables of its operations.
 use Rattle.std.specs.Prelude.{ℕ, ◌==◌, List, map, cond}
 use Rattle.std.specs.List.{range_with_len}
 use Rattle.axe_field.specs.Order.{Order, Two, Three, Four, Five, Seven, Eight, Nine, order_number, prime_of, degree_of}
 use Rattle.axe_field.specs.Arithmetic.{field_add, field_neg, field_mul, field_inv}
+use Rattle.axe_field.specs.Planes.{matrix_of_multiplication}
 use Rattle.axe_field.specs.declared.Field.TheInside.{Inside}
 use Rattle.axe_field.specs.declared.tables.Tables.{Tables}
 
@@ -17,6 +18,7 @@ tables_of o = record {
   negatives = table_of (field_neg o);
   products = map (λ a. table_of (field_mul o a)) (range_with_len 0 9);
   inverses = table_of (field_inv o);
+  matrices = map (matrix_of_multiplication o) (range_with_len 0 9);
 }
 
 -- the order with the number q, where there is one
@@ -27,4 +29,4 @@ order_with q =
 
 -- the fields of the value for an order
 abbrev pub inside_of : Order → Inside
-inside_of o = record { order = order_number o; prime = prime_of o; degree = degree_of o; tables = tables_of o }
+inside_of o = record { order = order_number o; prime = prime_of o; degree = degree_of o }

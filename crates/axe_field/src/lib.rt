@@ -7,11 +7,12 @@
 
 ghost use Rattle.std.specs.Cmp.{partial_equiv_from_equiv};
 ghost use Rattle.std.specs.Ordering.{on};
-ghost use Rattle.std.specs.Prelude.{◌≡◌, ◌≢◌, ℕ, ◌↔◌, ◌^◌, ◌<◌, ◌≤◌, nat_eq, IfOk, OnErr, IsTrue};
+ghost use Rattle.std.specs.Prelude.{◌≡◌, ◌≢◌, ℕ, ◌↔◌, ◌^◌, ◌<◌, ◌≤◌, ◌+◌, ◌%◌, nat_eq, IfOk, OnErr, IsTrue};
 ghost use Rattle.std.proofs.lemmas.Cmp.{nat_eq_equiv, on_equiv};
 ghost use Rattle.axe_field.specs.Order.{Order, order_number, prime_of, degree_of, conway, IsElement};
 ghost use Rattle.axe_field.specs.Arithmetic.{polynomial_of, polynomial_product, IsRemainder, field_add, field_neg, field_mul, field_inv};
 ghost use Rattle.axe_field.specs.NumberFields.{number_field};
+ghost use Rattle.axe_field.specs.Planes.{matrix_of_multiplication, coefficient, element_of, coefficient_by_matrix};
 
 use std::fmt;
 use std::marker::Model;
@@ -19,13 +20,12 @@ use tables::Tables;
 
 mod tables;
 
-/// One of the seven fields, with the tables of its operations.
+/// One of the seven fields. Its value is three bytes; the tables of its operations are constants.
 #[derive(Clone, Copy)]
 pub struct Field {
     order: u8,
     prime: u8,
     degree: u8,
-    tables: Tables,
 }
 
 impl Model for Field {
@@ -76,26 +76,44 @@ impl fmt::Debug for Field {
 pub struct BadField;
 
 impl Field {
+    ghost use Rattle.axe_field.specs.Tables.{tables_of};
+
+    /// The tables of the field's operations.
+    fn tables(&self) -> &'static Tables
+        ensures { result.now ≡ tables_of self.now }
+    {
+        match self.order {
+            2 => tables::two(),
+            3 => tables::three(),
+            4 => tables::four(),
+            5 => tables::five(),
+            7 => tables::seven(),
+            8 => tables::eight(),
+            _ => tables::nine(),
+        }
+    }
+}
+
+impl Field {
     /// The field of an order: 2, 3, 4, 5, 7, 8 or 9.
     pub fn new(order: u8) -> Result<Field, BadField>
         ensures ok { IfOk result (λ o. order_number o ≡ order) }
         ensures err { OnErr result ((o : Order) → order_number o ≢ order) }
     {
-        let (prime, degree, tables) = match order {
-            2 => (2, 1, tables::two()),
-            3 => (3, 1, tables::three()),
-            4 => (2, 2, tables::four()),
-            5 => (5, 1, tables::five()),
-            7 => (7, 1, tables::seven()),
-            8 => (2, 3, tables::eight()),
-            9 => (3, 2, tables::nine()),
+        let (prime, degree) = match order {
+            2 => (2, 1),
+            3 => (3, 1),
+            4 => (2, 2),
+            5 => (5, 1),
+            7 => (7, 1),
+            8 => (2, 3),
+            9 => (3, 2),
             _ => return Err(BadField),
         };
         Ok(Field {
             order,
             prime,
             degree,
-            tables,
         })
     }
 
@@ -136,7 +154,7 @@ impl Field {
         ensures value { result ≡ field_add self.now left right }
         ensures element { result < order_number self.now }
     {
-        self.tables.sums[usize::from(left)][usize::from(right)]
+        self.tables().sums[usize::from(left)][usize::from(right)]
     }
 
     /// The element whose sum with this one is 0.
@@ -146,7 +164,7 @@ impl Field {
         ensures sum { field_add self.now element result ≡ 0 }
         ensures element { result < order_number self.now }
     {
-        self.tables.negatives[usize::from(element)]
+        self.tables().negatives[usize::from(element)]
     }
 
     /// The product of two elements.
@@ -156,7 +174,7 @@ impl Field {
         ensures value { result ≡ field_mul self.now left right }
         ensures element { result < order_number self.now }
     {
-        self.tables.products[usize::from(left)][usize::from(right)]
+        self.tables().products[usize::from(left)][usize::from(right)]
     }
 
     /// The inverse of an element other than 0.
@@ -167,7 +185,16 @@ impl Field {
         ensures inverse { field_mul self.now element result ≡ 1 }
         ensures element { result < order_number self.now }
     {
-        self.tables.inverses[usize::from(element)]
+        self.tables().inverses[usize::from(element)]
+    }
+
+    /// The matrix of the multiplication by an element on coefficients: row i, for i below the degree, has the
+    /// coefficients of the element times x^i, the constant one first; all else is 0.
+    pub fn plane_matrix(&self, element: u8) -> [[u8; 3]; 3]
+        requires { element < order_number self.now }
+        ensures value { result ≡ matrix_of_multiplication self.now element }
+    {
+        self.tables().matrices[usize::from(element)]
     }
 }
 
@@ -218,4 +245,15 @@ pub fn number_fields_have_these_operations()
     ensures negative { (o : Order) (a : ℕ) → (number_field o).neg a ≡ field_neg o a }
     ensures product { (o : Order) (a b : ℕ) → (number_field o).mul a b ≡ field_mul o a b }
     ensures inverse { (o : Order) (a : ℕ) → (number_field o).inv a ≡ field_inv o a }
+{}
+
+/// Sums are taken coefficient by coefficient modulo the prime, and the matrix of the multiplication by an element makes the
+/// coefficients of a product of those of the other factor.
+pub fn coefficients_add_and_multiply()
+    ensures element { (o : Order) (a : ℕ) → IsElement o a →
+        element_of o (coefficient o a 0) (coefficient o a 1) (coefficient o a 2) ≡ a }
+    ensures sum { (o : Order) (a b j : ℕ) → IsElement o a → IsElement o b → j < 3 →
+        coefficient o (field_add o a b) j ≡ (coefficient o a j + coefficient o b j) % prime_of o }
+    ensures product { (o : Order) (c a j : ℕ) → IsElement o c → IsElement o a → j < 3 →
+        coefficient o (field_mul o c a) j ≡ coefficient_by_matrix o (matrix_of_multiplication o c) a j }
 {}

@@ -6,6 +6,9 @@ ghost use Rattle.axe_field.specs.Tables.{tables_of};
 /// The values of an operation on two elements: row `a` has its values at `a` and each `b`.
 type Table = [[u8; 9]; 9];
 
+/// The matrix of the multiplication by an element, on coefficients.
+type Matrix = [[u8; 3]; 3];
+
 /// The operations of one field. The tables have nine rows and columns, whatever the order: from the order on, a number
 /// stands for the element that its lowest digits name.
 #[derive(Clone, Copy)]
@@ -14,13 +17,14 @@ pub(crate) struct Tables {
     pub(crate) negatives: [u8; 9],
     pub(crate) products: Table,
     pub(crate) inverses: [u8; 9],
+    pub(crate) matrices: [Matrix; 9],
 }
 
 /// The field of two elements: the integers modulo 2.
-pub(crate) fn two() -> Tables
-    ensures { result ≡ tables_of Two }
+pub(crate) fn two() -> &'static Tables
+    ensures { result.now ≡ tables_of Two }
 {
-    Tables {
+    &Tables {
         sums: [
             [0, 1, 0, 1, 0, 1, 0, 1, 0],
             [1, 0, 1, 0, 1, 0, 1, 0, 1],
@@ -45,14 +49,25 @@ pub(crate) fn two() -> Tables
             [0, 0, 0, 0, 0, 0, 0, 0, 0],
         ],
         inverses: [0, 1, 0, 1, 0, 1, 0, 1, 0],
+        matrices: [
+            [[0, 0, 0], [0, 0, 0], [0, 0, 0]],
+            [[1, 0, 0], [0, 0, 0], [0, 0, 0]],
+            [[0, 0, 0], [0, 0, 0], [0, 0, 0]],
+            [[1, 0, 0], [0, 0, 0], [0, 0, 0]],
+            [[0, 0, 0], [0, 0, 0], [0, 0, 0]],
+            [[1, 0, 0], [0, 0, 0], [0, 0, 0]],
+            [[0, 0, 0], [0, 0, 0], [0, 0, 0]],
+            [[1, 0, 0], [0, 0, 0], [0, 0, 0]],
+            [[0, 0, 0], [0, 0, 0], [0, 0, 0]],
+        ],
     }
 }
 
 /// The field of three elements: the integers modulo 3.
-pub(crate) fn three() -> Tables
-    ensures { result ≡ tables_of Three }
+pub(crate) fn three() -> &'static Tables
+    ensures { result.now ≡ tables_of Three }
 {
-    Tables {
+    &Tables {
         sums: [
             [0, 1, 2, 0, 1, 2, 0, 1, 2],
             [1, 2, 0, 1, 2, 0, 1, 2, 0],
@@ -77,14 +92,25 @@ pub(crate) fn three() -> Tables
             [0, 2, 1, 0, 2, 1, 0, 2, 1],
         ],
         inverses: [0, 1, 2, 0, 1, 2, 0, 1, 2],
+        matrices: [
+            [[0, 0, 0], [0, 0, 0], [0, 0, 0]],
+            [[1, 0, 0], [0, 0, 0], [0, 0, 0]],
+            [[2, 0, 0], [0, 0, 0], [0, 0, 0]],
+            [[0, 0, 0], [0, 0, 0], [0, 0, 0]],
+            [[1, 0, 0], [0, 0, 0], [0, 0, 0]],
+            [[2, 0, 0], [0, 0, 0], [0, 0, 0]],
+            [[0, 0, 0], [0, 0, 0], [0, 0, 0]],
+            [[1, 0, 0], [0, 0, 0], [0, 0, 0]],
+            [[2, 0, 0], [0, 0, 0], [0, 0, 0]],
+        ],
     }
 }
 
 /// The field of four elements, modulo x^2 + x + 1.
-pub(crate) fn four() -> Tables
-    ensures { result ≡ tables_of Four }
+pub(crate) fn four() -> &'static Tables
+    ensures { result.now ≡ tables_of Four }
 {
-    Tables {
+    &Tables {
         sums: [
             [0, 1, 2, 3, 0, 1, 2, 3, 0],
             [1, 0, 3, 2, 1, 0, 3, 2, 1],
@@ -109,14 +135,25 @@ pub(crate) fn four() -> Tables
             [0, 0, 0, 0, 0, 0, 0, 0, 0],
         ],
         inverses: [0, 1, 3, 2, 0, 1, 3, 2, 0],
+        matrices: [
+            [[0, 0, 0], [0, 0, 0], [0, 0, 0]],
+            [[1, 0, 0], [0, 1, 0], [0, 0, 0]],
+            [[0, 1, 0], [1, 1, 0], [0, 0, 0]],
+            [[1, 1, 0], [1, 0, 0], [0, 0, 0]],
+            [[0, 0, 0], [0, 0, 0], [0, 0, 0]],
+            [[1, 0, 0], [0, 1, 0], [0, 0, 0]],
+            [[0, 1, 0], [1, 1, 0], [0, 0, 0]],
+            [[1, 1, 0], [1, 0, 0], [0, 0, 0]],
+            [[0, 0, 0], [0, 0, 0], [0, 0, 0]],
+        ],
     }
 }
 
 /// The field of five elements: the integers modulo 5.
-pub(crate) fn five() -> Tables
-    ensures { result ≡ tables_of Five }
+pub(crate) fn five() -> &'static Tables
+    ensures { result.now ≡ tables_of Five }
 {
-    Tables {
+    &Tables {
         sums: [
             [0, 1, 2, 3, 4, 0, 1, 2, 3],
             [1, 2, 3, 4, 0, 1, 2, 3, 4],
@@ -141,14 +178,25 @@ pub(crate) fn five() -> Tables
             [0, 3, 1, 4, 2, 0, 3, 1, 4],
         ],
         inverses: [0, 1, 3, 2, 4, 0, 1, 3, 2],
+        matrices: [
+            [[0, 0, 0], [0, 0, 0], [0, 0, 0]],
+            [[1, 0, 0], [0, 0, 0], [0, 0, 0]],
+            [[2, 0, 0], [0, 0, 0], [0, 0, 0]],
+            [[3, 0, 0], [0, 0, 0], [0, 0, 0]],
+            [[4, 0, 0], [0, 0, 0], [0, 0, 0]],
+            [[0, 0, 0], [0, 0, 0], [0, 0, 0]],
+            [[1, 0, 0], [0, 0, 0], [0, 0, 0]],
+            [[2, 0, 0], [0, 0, 0], [0, 0, 0]],
+            [[3, 0, 0], [0, 0, 0], [0, 0, 0]],
+        ],
     }
 }
 
 /// The field of seven elements: the integers modulo 7.
-pub(crate) fn seven() -> Tables
-    ensures { result ≡ tables_of Seven }
+pub(crate) fn seven() -> &'static Tables
+    ensures { result.now ≡ tables_of Seven }
 {
-    Tables {
+    &Tables {
         sums: [
             [0, 1, 2, 3, 4, 5, 6, 0, 1],
             [1, 2, 3, 4, 5, 6, 0, 1, 2],
@@ -173,14 +221,25 @@ pub(crate) fn seven() -> Tables
             [0, 1, 2, 3, 4, 5, 6, 0, 1],
         ],
         inverses: [0, 1, 4, 5, 2, 3, 6, 0, 1],
+        matrices: [
+            [[0, 0, 0], [0, 0, 0], [0, 0, 0]],
+            [[1, 0, 0], [0, 0, 0], [0, 0, 0]],
+            [[2, 0, 0], [0, 0, 0], [0, 0, 0]],
+            [[3, 0, 0], [0, 0, 0], [0, 0, 0]],
+            [[4, 0, 0], [0, 0, 0], [0, 0, 0]],
+            [[5, 0, 0], [0, 0, 0], [0, 0, 0]],
+            [[6, 0, 0], [0, 0, 0], [0, 0, 0]],
+            [[0, 0, 0], [0, 0, 0], [0, 0, 0]],
+            [[1, 0, 0], [0, 0, 0], [0, 0, 0]],
+        ],
     }
 }
 
 /// The field of eight elements, modulo x^3 + x + 1.
-pub(crate) fn eight() -> Tables
-    ensures { result ≡ tables_of Eight }
+pub(crate) fn eight() -> &'static Tables
+    ensures { result.now ≡ tables_of Eight }
 {
-    Tables {
+    &Tables {
         sums: [
             [0, 1, 2, 3, 4, 5, 6, 7, 0],
             [1, 0, 3, 2, 5, 4, 7, 6, 1],
@@ -205,14 +264,25 @@ pub(crate) fn eight() -> Tables
             [0, 0, 0, 0, 0, 0, 0, 0, 0],
         ],
         inverses: [0, 1, 5, 6, 7, 2, 3, 4, 0],
+        matrices: [
+            [[0, 0, 0], [0, 0, 0], [0, 0, 0]],
+            [[1, 0, 0], [0, 1, 0], [0, 0, 1]],
+            [[0, 1, 0], [0, 0, 1], [1, 1, 0]],
+            [[1, 1, 0], [0, 1, 1], [1, 1, 1]],
+            [[0, 0, 1], [1, 1, 0], [0, 1, 1]],
+            [[1, 0, 1], [1, 0, 0], [0, 1, 0]],
+            [[0, 1, 1], [1, 1, 1], [1, 0, 1]],
+            [[1, 1, 1], [1, 0, 1], [1, 0, 0]],
+            [[0, 0, 0], [0, 0, 0], [0, 0, 0]],
+        ],
     }
 }
 
 /// The field of nine elements, modulo x^2 + 2x + 2.
-pub(crate) fn nine() -> Tables
-    ensures { result ≡ tables_of Nine }
+pub(crate) fn nine() -> &'static Tables
+    ensures { result.now ≡ tables_of Nine }
 {
-    Tables {
+    &Tables {
         sums: [
             [0, 1, 2, 3, 4, 5, 6, 7, 8],
             [1, 2, 0, 4, 5, 3, 7, 8, 6],
@@ -237,5 +307,16 @@ pub(crate) fn nine() -> Tables
             [0, 8, 4, 5, 1, 6, 7, 3, 2],
         ],
         inverses: [0, 1, 2, 5, 8, 3, 7, 6, 4],
+        matrices: [
+            [[0, 0, 0], [0, 0, 0], [0, 0, 0]],
+            [[1, 0, 0], [0, 1, 0], [0, 0, 0]],
+            [[2, 0, 0], [0, 2, 0], [0, 0, 0]],
+            [[0, 1, 0], [1, 1, 0], [0, 0, 0]],
+            [[1, 1, 0], [1, 2, 0], [0, 0, 0]],
+            [[2, 1, 0], [1, 0, 0], [0, 0, 0]],
+            [[0, 2, 0], [2, 2, 0], [0, 0, 0]],
+            [[1, 2, 0], [2, 0, 0], [0, 0, 0]],
+            [[2, 2, 0], [2, 1, 0], [0, 0, 0]],
+        ],
     }
 }

@@ -3,13 +3,13 @@ use Rattle.axe_field.specs.Order.{order_number}
 use Rattle.axe_field.specs.Arithmetic.{field_mul}
 use Rattle.axe_field.specs.CheckedLaws.{field_inv-below, field_mul-inv}
 use Rattle.axe_field.specs.declared.tables.Tables.{Tables}
-use Rattle.axe_field.proofs.Lookup.{inverses-at, inside-tables, value_along}
+use Rattle.axe_field.proofs.Lookup.{inverses-at, value_along}
 use Rattle.axe_field.proofs.Field.inv.Goals as goal
 
 pub returns-clause-value : goal.returns-clause-value
 returns-clause-value c =
     value_along _ _ _ _ _
-    (ap (λ (t : Tables). t.inverses) (inside-tables c.self.inside c.args.self.now c.self.invariant c.self.view_is))
+    (ap (λ (t : Tables). t.inverses) c.tables.ensures)
     c.from.ensures
     (inverses-at c.args.self.now c.args.element c.requires.element)
 

@@ -2,13 +2,13 @@ use Rattle.std.proofs.Common.{ℕ, ◌<◌, ap, sym, subst}
 use Rattle.axe_field.specs.Order.{order_number}
 use Rattle.axe_field.specs.CheckedLaws.{field_mul-below}
 use Rattle.axe_field.specs.declared.tables.Tables.{Tables}
-use Rattle.axe_field.proofs.Lookup.{products-at, inside-tables, entry_along}
+use Rattle.axe_field.proofs.Lookup.{products-at, entry_along}
 use Rattle.axe_field.proofs.Field.mul.Goals as goal
 
 pub returns-clause-value : goal.returns-clause-value
 returns-clause-value c =
     entry_along _ _ _ _ _ _ _
-    (ap (λ (t : Tables). t.products) (inside-tables c.self.inside c.args.self.now c.self.invariant c.self.view_is))
+    (ap (λ (t : Tables). t.products) c.tables.ensures)
     c.from.ensures c.from-2.ensures
     (products-at c.args.self.now c.args.left c.args.right c.requires.left c.requires.right)
 

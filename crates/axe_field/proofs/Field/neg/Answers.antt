@@ -3,13 +3,13 @@ use Rattle.axe_field.specs.Order.{order_number}
 use Rattle.axe_field.specs.Arithmetic.{field_add}
 use Rattle.axe_field.specs.CheckedLaws.{field_neg-below, field_add-neg}
 use Rattle.axe_field.specs.declared.tables.Tables.{Tables}
-use Rattle.axe_field.proofs.Lookup.{negatives-at, inside-tables, value_along}
+use Rattle.axe_field.proofs.Lookup.{negatives-at, value_along}
 use Rattle.axe_field.proofs.Field.neg.Goals as goal
 
 pub returns-clause-value : goal.returns-clause-value
 returns-clause-value c =
     value_along _ _ _ _ _
-    (ap (λ (t : Tables). t.negatives) (inside-tables c.self.inside c.args.self.now c.self.invariant c.self.view_is))
+    (ap (λ (t : Tables). t.negatives) c.tables.ensures)
     c.from.ensures
     (negatives-at c.args.self.now c.args.element c.requires)
 
