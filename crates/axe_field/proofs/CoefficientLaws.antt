@@ -4,7 +4,7 @@ use Rattle.std.proofs.lemmas.Bool.{and_parts, ltb-true, eqb-true}
 use Rattle.axe_algebra.specs.Lists.{entry}
 use Rattle.axe_field.specs.Order.{Order, Two, Three, Four, Five, Seven, Eight, Nine, order_number, prime_of, degree_of, IsElement}
 use Rattle.axe_field.specs.Arithmetic.{coefficients, number_of, polynomial_sum, polynomial_multiple, polynomial_negative, polynomial_product, without_leading, polynomial_remainder, polynomial_of, field_add, field_mul}
-use Rattle.axe_field.specs.Laws.{passes_below, passes_below-at, at_one, at_two, from_one, from_two}
+use Rattle.axe_field.specs.CheckedLaws.{passes_below, passes_below-at, at_one, at_two, from_one, from_two}
 use Rattle.axe_field.specs.Planes.{monomial, coefficients_of_multiple, matrix_of_multiplication, coefficient, IsCoefficient, element_of, coefficient_by_matrix}
 
 -- ---- the tests, each of all elements
