@@ -1,3 +1,4 @@
 pub mod Limits
 pub mod Matrices
 pub mod RowLists
+pub mod Multiples

@@ -10,6 +10,7 @@ ghost use Rattle.axe_matrix.specs.Limits.{most_rows, most_columns};
 ghost use Rattle.axe_matrix.specs.Matrices.{IsMatrix, row_of, product_refusal, matrix_product, vector_product};
 
 mod arithmetic;
+mod multiples;
 mod parts;
 
 use axe_field::Field;

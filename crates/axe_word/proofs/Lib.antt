@@ -1,3 +1,4 @@
 pub mod StoredLaws
 pub mod DrawingLaws
 pub mod TermLaws
+pub mod ValueLaws
