@@ -3,3 +3,4 @@ pub mod Drawing
 pub mod Stored
 pub mod StoredWords
 pub mod Terms
+pub mod PointsOfMatrix

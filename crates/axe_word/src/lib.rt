@@ -2,10 +2,12 @@
 #![tactic(auto)]
 
 mod drawing;
+mod points;
 mod stored;
 mod word;
 
 pub use drawing::nth_word;
+pub use points::{few_points, first_point, Points, MAX_POINTS};
 pub use word::{Term, Word};
 
 /// The most terms that a word has. It may have none.
