@@ -2,12 +2,15 @@
 #![tactic(auto)]
 
 mod drawing;
+mod laws;
 mod points;
 mod stored;
+mod value;
 mod word;
 
 pub use drawing::nth_word;
-pub use points::{few_points, first_point, Points, MAX_POINTS};
+pub use laws::{drawn_words_are_words, words_have_one_value};
+pub use points::{MAX_POINTS, Points, few_points, first_point};
 pub use word::{Term, Word};
 
 /// The most terms that a word has. It may have none.
