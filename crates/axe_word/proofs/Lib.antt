@@ -1,4 +1,6 @@
 pub mod StoredLaws
 pub mod DrawingLaws
 pub mod TermLaws
+pub mod PointPlaces
+pub mod PointSums
 pub mod ValueLaws

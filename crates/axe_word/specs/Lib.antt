@@ -3,4 +3,5 @@ pub mod Drawing
 pub mod Stored
 pub mod StoredWords
 pub mod Terms
+pub mod PointsOfMatrix
 pub mod Products

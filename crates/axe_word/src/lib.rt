@@ -3,12 +3,14 @@
 
 mod drawing;
 mod laws;
+mod points;
 mod stored;
 mod value;
 mod word;
 
 pub use drawing::nth_word;
 pub use laws::{drawn_words_are_words, words_have_one_value};
+pub use points::{MAX_POINTS, Points, few_points, first_point};
 pub use word::{Term, Word};
 
 /// The most terms that a word has. It may have none.
