@@ -2,7 +2,7 @@
 use Rattle.std.proofs.Common.{◌≡◌, refl, ℕ, List, Option, Some, None, Result, Ok, Err, IfOk}
 use Rattle.axe_matrix.specs.Matrices.{IsMatrix}
 use Rattle.axe_file.specs.declared.fault.FileFault.{FileFault}
-use Rattle.axe_file.specs.declared.TheConstants.{PACKED_LIMIT}
+use Rattle.axe_file.specs.Limits.{most_packed_bytes}
 use Rattle.axe_file.specs.Packed.{packed_fault, unpacked}
 use Rattle.axe_file.proofs.Soundness.{sound_bytes}
 use Rattle.axe_file.proofs.Respelling.{unpacked_is_matrix}
@@ -19,4 +19,4 @@ bytes_are_matrix name (Err problem) = tt
 
 pub matrix_in_is_matrix : (files : Files) (name : List ℕ) → IfOk (matrix_in files name) IsMatrix
 unfolding matrix_in
-matrix_in_is_matrix files name = bytes_are_matrix name (bytes_in files name PACKED_LIMIT)
+matrix_in_is_matrix files name = bytes_are_matrix name (bytes_in files name most_packed_bytes)

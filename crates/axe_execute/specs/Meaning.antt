@@ -6,7 +6,7 @@ use Rattle.axe_row.specs.declared.refusals.Refusal.{Refusal}
 use Rattle.axe_matrix.specs.Matrices.{MatrixValue, product_refusal, matrix_product, sum_refusal, sum_of_matrices, transpose_refusal, transposed_matrix}
 use Rattle.axe_spin.specs.Modules.{ModuleValue, generator_of, module_of_matrices}
 use Rattle.axe_file.specs.declared.fault.FileFault.{FileFault}
-use Rattle.axe_file.specs.declared.TheConstants.{PACKED_LIMIT, TEXT_LIMIT}
+use Rattle.axe_file.specs.Limits.{most_packed_bytes, most_text_bytes}
 use Rattle.axe_file.specs.Packed.{packed, packed_fault, unpacked}
 use Rattle.axe_file.specs.TextReading.{text_fault, text_matrix}
 use Rattle.axe_file.specs.TextWriting.{text_of}
@@ -81,13 +81,13 @@ bytes_in files name limit = fetch_named name (fetched (file_at files name) limit
 -- the matrix whose packed spelling is the file of this name
 unfoldable pub matrix_in : Files → List ℕ → Result MatrixValue Problem
 matrix_in files name = do
-  bytes ← bytes_in files name PACKED_LIMIT
+  bytes ← bytes_in files name most_packed_bytes
   unless_faulty name (packed_fault bytes) (unpacked bytes)
 
 -- the matrix of which the file of this name is a text
 unfoldable pub text_matrix_in : Files → List ℕ → Result MatrixValue Problem
 text_matrix_in files name = do
-  bytes ← bytes_in files name TEXT_LIMIT
+  bytes ← bytes_in files name most_text_bytes
   unless_faulty name (text_fault bytes) (text_matrix bytes)
 
 -- the matrices whose packed spellings are the files of these names, each fetched and read before the next
