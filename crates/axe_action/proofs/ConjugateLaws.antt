@@ -1,6 +1,5 @@
 -- Conjugates of generators by an invertible matrix.
 use Rattle.std.specs.Prelude.{◌≡◌, ℕ, List, [], length, get_or, ◌==◌, ◌&&◌, not, Bool, true, false, Option, Some, None, Result, Ok, Err, if◌then◌else◌}
-use Rattle.std.specs.Result.{IsErrAnd}
 use Rattle.std.proofs.lemmas.Bool.{eq-eqb, eqb-true}
 use Rattle.std.proofs.lemmas.List.{length-map}
 use Rattle.axe_algebra.specs.NumberField.{NumberField}
@@ -8,19 +7,19 @@ use Rattle.axe_algebra.specs.Lists.{IsSquareOver}
 use Rattle.axe_algebra.specs.ListArithmetic.{product, IsInverse, IsConjugate}
 use Rattle.axe_field.specs.Order.{Order, order_number}
 use Rattle.axe_field.specs.NumberFields.{number_field}
-use Rattle.axe_row.specs.Refusals.{Answers, unless_refused}
+use Rattle.axe_row.specs.Refusals.{Answers, AnswersOr, RefusedAs}
 use Rattle.axe_row.specs.declared.refusals.Refusal.{Refusal}
-use Rattle.axe_row.specs.declared.refusals.Refusal.TheVariants.{FieldsDiffer, ShapesDiffer, NotSquare, Singular, NotInvariant, WholeSpace, ZeroSeed, NoRows, ZeroSpace, Memory}
+use Rattle.axe_row.specs.declared.refusals.Refusal.TheVariants.{FieldsDiffer, ShapesDiffer, Singular}
 use Rattle.axe_matrix.specs.Matrices.{MatrixValue, IsMatrix, product_refusal, matrix_product}
 use Rattle.axe_matrix.proofs.MatrixLaws.{same_order}
 use Rattle.axe_matrix.proofs.ProductLaws.{length-product, product_refusal-none}
-use Rattle.axe_echelon.specs.Echelons.{IsInverseMatrix, InverseRefused}
-use Rattle.axe_echelon.proofs.Exits.{handed_on}
+use Rattle.axe_echelon.specs.Echelons.{inverse_refusal, IsInverseMatrix, IsInvertible}
+use Rattle.axe_echelon.proofs.Exits.{asked_late}
+use Rattle.axe_echelon.proofs.InverseLaws.{inverse_refusal-none}
 use Rattle.axe_spin.specs.Modules.{ModuleValue, generator_of, rows_of_each}
 use Rattle.axe_spin.specs.Generators.{IsGeneratorMatrix}
-use Rattle.axe_action.specs.Actions.{conjugate_refusal, AnswersConjugate, IsConjugateModule}
+use Rattle.axe_action.specs.Actions.{conjugate_refusal, IsConjugateModule}
 use Rattle.axe_action.proofs.GeneratorLists.{AreNewGenerators}
-use Rattle.axe_action.proofs.SubAnswers.{same_refusal, no_value}
 use mathlib.Core.Path.{refl, sym, ◌∙◌, ap, ap₂, subst}
 use native.Mathlib.Omega.{arith}
 
@@ -92,7 +91,8 @@ module _ (m : ModuleValue) (p q : MatrixValue) (fits : IsBasisFor m p) (inverse 
 -- the conjugates of all generators make the conjugate
 pub conjugate_is : (m : ModuleValue) (p : MatrixValue) (count : ℕ) (matrices : List MatrixValue) (result : Result ModuleValue Refusal) → count ≡ length m.generators →
     IsBasisFor m p → AreNewGenerators m.order m.dim (λ i rows. IsConjugate (number_field m.order) m.dim p.rows (get_or m.generators i []) rows) count matrices →
-    result ≡ Ok (record { order = m.order; dim = m.dim; generators = rows_of_each matrices }) → AnswersConjugate (conjugate_refusal m p) m p result
+    result ≡ Ok (record { order = m.order; dim = m.dim; generators = rows_of_each matrices }) →
+    AnswersOr (conjugate_refusal m p) (IsConjugateModule m p) (RefusedAs Singular (¬ (IsInvertible p))) result
 conjugate_is m p count matrices result all fits are is = rw (conjugate_accepted m p fits, is) made
   where
     made : IsConjugateModule m p (record { order = m.order; dim = m.dim; generators = rows_of_each matrices })
@@ -103,37 +103,12 @@ conjugate_is m p count matrices result all fits are is = rw (conjugate_accepted 
       each = λ i below. are.made i (omega arith);
     }
 
--- it was refused
-pub conjugate_refused : {A : Type 0} (m : ModuleValue) (p : MatrixValue) (why : Option Refusal) (value : A) (result : Result ModuleValue Refusal)
-    (refusal : Refusal) → Err refusal ≡ unless_refused why value → IsErrAnd result (λ r. r ≡ refusal) → AnswersConjugate why m p result
-conjugate_refused m p (Some other) value result refusal e h = handed_on result refusal h ∙ ap Err (same_refusal refusal other e)
-conjugate_refused m p None value result refusal e h = absurd (no_value value refusal e)
-
--- there was no memory
-pub conjugate_no_memory : (m : ModuleValue) (p : MatrixValue) (result : Result ModuleValue Refusal) (refusal : Refusal) → IsBasisFor m p → refusal ≡ Memory →
-    IsErrAnd result (λ r. r ≡ refusal) → AnswersConjugate (conjugate_refusal m p) m p result
-conjugate_no_memory m p result refusal fits memory h =
-    subst (λ why. AnswersConjugate why m p result) (sym (conjugate_accepted m p fits))
-    (subst (λ r. AnswersConjugate None m p r) (sym (handed_on result refusal h ∙ ap Err memory)) tt)
-
--- there was no inverse
-pub conjugate_no_inverse : (m : ModuleValue) (p : MatrixValue) (result : Result ModuleValue Refusal) (refusal : Refusal) → IsBasisFor m p →
-    InverseRefused p refusal → IsErrAnd result (λ r. r ≡ refusal) → AnswersConjugate (conjugate_refusal m p) m p result
-conjugate_no_inverse m p result refusal fits why h =
-    subst (λ why. AnswersConjugate why m p result) (sym (conjugate_accepted m p fits))
-    (subst (λ r. AnswersConjugate None m p r) (sym (handed_on result refusal h)) (answer refusal why))
-  where
-    answer : (refusal : Refusal) → InverseRefused p refusal → AnswersConjugate None m p (Err refusal)
-    answer Singular none = none
-    answer Memory _ = tt
-    answer FieldsDiffer never = absurd never
-    answer ShapesDiffer never = absurd never
-    answer NotSquare never = absurd never
-    answer NotInvariant never = absurd never
-    answer WholeSpace never = absurd never
-    answer ZeroSeed never = absurd never
-    answer NoRows never = absurd never
-    answer ZeroSpace never = absurd never
+-- the inverse, or why there is none, of a matrix that is accepted
+pub asked_inverse : (m : ModuleValue) (p : MatrixValue) (result : Result MatrixValue Refusal) → IsBasisFor m p →
+    AnswersOr (inverse_refusal p) (IsInverseMatrix p) (RefusedAs Singular (¬ (IsInvertible p))) result →
+    AnswersOr None (IsInverseMatrix p) (RefusedAs Singular (¬ (IsInvertible p))) result
+asked_inverse m p result fits =
+    asked_late (inverse_refusal p) (IsInverseMatrix p) (RefusedAs Singular (¬ (IsInvertible p))) result (inverse_refusal-none p (fits.rows ∙ sym fits.columns))
 
 -- a product of three, from those of two
 pub product_of_three : (first second third product : MatrixValue) (result : Result MatrixValue Refusal) → product_refusal first second ≡ None →

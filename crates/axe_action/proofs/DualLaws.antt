@@ -25,7 +25,7 @@ use Rattle.axe_matrix.specs.Matrices.{MatrixValue, IsMatrix, identity_matrix, tr
 use Rattle.axe_matrix.proofs.TransposeLaws.{transpose_refusal-none}
 use Rattle.axe_echelon.specs.Echelons.{null_space_refusal, IsNullSpaceMatrix}
 use Rattle.axe_echelon.proofs.InverseLaws.{matrix_over}
-use Rattle.axe_echelon.proofs.NullRowLaws.{answers_more}
+use Rattle.axe_echelon.proofs.Exits.{answers_more}
 use Rattle.axe_spin.specs.Modules.{ModuleValue, IsModule, generator_of, rows_of_each}
 use Rattle.axe_spin.specs.Generators.{IsGeneratorMatrix}
 use Rattle.axe_action.specs.Actions.{dual_module, IsAnnihilatorMatrix}

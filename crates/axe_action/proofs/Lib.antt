@@ -1,5 +1,4 @@
 pub mod GeneratorLists
-pub mod SubAnswers
 pub mod SubRows
 pub mod SubBases
 pub mod QuotientSpans

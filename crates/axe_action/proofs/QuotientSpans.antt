@@ -1,5 +1,5 @@
 -- Rows modulo a span: which are zero, when a span is invariant or everything, and quotient actions modulo one span.
-use Rattle.std.specs.Prelude.{◌≡◌, ℕ, ◌<◌, ◌≤◌, ◌==◌, not, List, length, Bool, true, false, Some, None, Result, Ok, Err, IsTrue, ◌↔◌, if◌then◌else◌}
+use Rattle.std.specs.Prelude.{◌≡◌, ℕ, ◌<◌, ◌≤◌, ◌==◌, not, List, length, Bool, true, false, Option, None, Result, Ok, Err, IsTrue, ◌↔◌, if◌then◌else◌}
 use Rattle.std.proofs.lemmas.Bool.{eqb-true}
 use Rattle.axe_algebra.specs.NumberField.{NumberField}
 use Rattle.axe_algebra.specs.Field.{Field}
@@ -20,22 +20,22 @@ use Rattle.axe_algebra.proofs.ListEntries.{rows_length}
 use Rattle.axe_algebra.proofs.ListSpans.{enough_rows_span, independent_rows_are_few}
 use Rattle.axe_algebra.proofs.ListVectors.{spanned_within, same_span_sym}
 use Rattle.axe_algebra.proofs.ListModules.{invariant_by_images, images_of_invariant}
-use Rattle.axe_field.specs.Order.{order_number}
 use Rattle.axe_field.specs.NumberFields.{number_field, gf}
 use Rattle.axe_row.specs.Rows.{RowValue, IsRow}
 use Rattle.axe_row.specs.Operations.{IsZeroVector}
-use Rattle.axe_row.specs.Refusals.{Answers}
+use Rattle.axe_row.specs.Refusals.{Answers, AnswersOr}
 use Rattle.axe_row.specs.declared.refusals.Refusal.{Refusal}
-use Rattle.axe_row.specs.declared.refusals.Refusal.TheVariants.{FieldsDiffer, ShapesDiffer, NotInvariant, WholeSpace}
+use Rattle.axe_row.specs.declared.refusals.Refusal.TheVariants.{NotInvariant, WholeSpace}
 use Rattle.axe_matrix.specs.Matrices.{MatrixValue, IsMatrix}
-use Rattle.axe_matrix.proofs.MatrixLaws.{same_order}
-use Rattle.axe_echelon.specs.Echelons.{EchelonValue, IsEchelon}
+use Rattle.axe_echelon.specs.Echelons.{EchelonValue, IsEchelon, IsSpanOfRows}
+use Rattle.axe_echelon.proofs.Exits.{answered_or, stands_late}
 use Rattle.axe_echelon.proofs.EliminationLaws.{vector_of_zero_row, zero_row_of_vector}
 use Rattle.axe_echelon.proofs.StepLaws.{over_of_row}
-use Rattle.axe_echelon.proofs.InverseLaws.{matrix_over}
-use Rattle.axe_spin.specs.Modules.{ModuleValue, IsModule, generator_of}
-use Rattle.axe_action.specs.Actions.{rows_refusal, AnswersQuotientAction, IsInvariantIn, SpansModule, IsActionModulo}
-use Rattle.axe_action.specs.Coordinates.{IsSpanOfRows, row_times, HasImagesIn}
+use Rattle.axe_spin.specs.Modules.{ModuleValue, IsModule, generator_of, rows_refusal, IsInvariantIn, SpansModule}
+use Rattle.axe_spin.proofs.SeedLaws.{AreVectors, vectors_of}
+use Rattle.axe_action.specs.Actions.{quotient_late, IsActionModulo, IsProperActionModulo}
+use Rattle.axe_action.specs.Coordinates.{row_times, HasImagesIn}
+use mathlib.Core.Logic.{inl, inr}
 use mathlib.Core.Path.{refl, sym, ◌∙◌, ap, subst, fun_ext}
 use native.Mathlib.Omega.{arith}
 
@@ -190,36 +190,37 @@ span_in m rows e rows_field rows_columns span = record {
     columns = span.columns ∙ rows_columns
 
 -- the answer for the span is that for the rows
-pub answered_modulo : (m : ModuleValue) (rows : MatrixValue) (e : EchelonValue) (result : Result ModuleValue Refusal) → IsSpanIn m rows e →
-    ¬ (SpansModule m rows) → IsInvariantIn m rows → Answers None (IsActionModulo m (record { order = e.order; cols = e.cols; rows = e.rows })) result →
-    AnswersQuotientAction None (SpansModule m rows) (IsInvariantIn m rows) (IsActionModulo m rows) result
-answered_modulo m rows e (Ok action) span proper invariant h = (
-  proper,
-  invariant,
-  record {
-    field = h.field;
-    acts = quotient_of_same_span F (module_of K m.dim m.generators) (length e.rows) (matrix_of K e.rows) (length rows.rows) (matrix_of K rows.rows)
-        action.dim (module_of K action.dim action.generators) (same_span_sym K rows.rows e.rows span.same) h.acts;
-  },
-)
+pub answered_modulo : (m : ModuleValue) (rows : MatrixValue) (e : EchelonValue) (why : Option Refusal) (result : Result ModuleValue Refusal) → why ≡ None →
+    IsSpanIn m rows e → ¬ (SpansModule m rows) → IsInvariantIn m rows →
+    Answers None (IsActionModulo m (record { order = e.order; cols = e.cols; rows = e.rows })) result →
+    AnswersOr why (IsProperActionModulo m rows) (quotient_late m rows) result
+answered_modulo m rows e why result none span proper invariant =
+    answered_or why (IsActionModulo m (record { order = e.order; cols = e.cols; rows = e.rows })) (IsProperActionModulo m rows) (quotient_late m rows) result none
+    (λ action h. (
+      proper,
+      invariant,
+      record {
+        field = h.field;
+        acts = quotient_of_same_span F (module_of K m.dim m.generators) (length e.rows) (matrix_of K e.rows) (length rows.rows) (matrix_of K rows.rows)
+            action.dim (module_of K action.dim action.generators) (same_span_sym K rows.rows e.rows span.same) h.acts;
+      },
+    ))
   where
     K : NumberField
     K = number_field m.order
 
     F : Field
     F = gf m.order
-answered_modulo m rows e (Err refusal) span proper invariant h =
-    subst (λ r. AnswersQuotientAction None (SpansModule m rows) (IsInvariantIn m rows) (IsActionModulo m rows) (Err r)) (sym h) tt
 
 module _ (m : ModuleValue) (rows : MatrixValue) (e : EchelonValue) (none : rows_refusal m rows ≡ None) (spans : IsSpanOfRows rows e) where
   abbrev Answer : Result ModuleValue Refusal → Type 0
-  Answer result = AnswersQuotientAction (rows_refusal m rows) (SpansModule m rows) (IsInvariantIn m rows) (IsActionModulo m rows) result
+  Answer result = AnswersOr (rows_refusal m rows) (IsProperActionModulo m rows) (quotient_late m rows) result
 
   span_of_vectors : IsSpanIn m rows e
   span_of_vectors = let vectors : AreVectors m rows = vectors_of m rows none in span_in m rows e vectors.field vectors.columns spans
 
-  answered : (result : Result ModuleValue Refusal) → AnswersQuotientAction None (SpansModule m rows) (IsInvariantIn m rows) (IsActionModulo m rows) result → Answer result
-  answered result = subst (λ r. AnswersQuotientAction r (SpansModule m rows) (IsInvariantIn m rows) (IsActionModulo m rows) result) (sym none)
+  answered : (refusal : Refusal) → quotient_late m rows refusal → Answer (Err refusal)
+  answered refusal = stands_late (rows_refusal m rows) (IsProperActionModulo m rows) (quotient_late m rows) refusal none
 
   proper : ¬ (length e.rows ≡ m.dim) → ¬ (SpansModule m rows)
   proper few = λ all.
@@ -231,12 +232,12 @@ module _ (m : ModuleValue) (rows : MatrixValue) (e : EchelonValue) (none : rows_
   -- the three answers
   pub whole_answer : length e.rows ≡ m.dim → Answer (Err WholeSpace)
   whole_answer full =
-      answered (Err WholeSpace)
-      (spans_if_full (number_field m.order) m.dim rows.rows e.rows span_of_vectors.over span_of_vectors.independent span_of_vectors.same full)
+      answered WholeSpace
+      (inl (refl, spans_if_full (number_field m.order) m.dim rows.rows e.rows span_of_vectors.over span_of_vectors.independent span_of_vectors.same full))
 
   pub moved_answer : ¬ (length e.rows ≡ m.dim) → ¬ (IsInvariantIn m rows) → Answer (Err NotInvariant)
-  moved_answer few moved = answered (Err NotInvariant) (proper few, moved)
+  moved_answer few moved = answered NotInvariant (inr (refl, (proper few, moved)))
 
   pub action_answer : (result : Result ModuleValue Refusal) → ¬ (length e.rows ≡ m.dim) → IsInvariantIn m rows →
       Answers None (IsActionModulo m (record { order = e.order; cols = e.cols; rows = e.rows })) result → Answer result
-  action_answer result few invariant h = answered result (answered_modulo m rows e result span_of_vectors (proper few) invariant h)
+  action_answer result few invariant h = answered_modulo m rows e (rows_refusal m rows) result none span_of_vectors (proper few) invariant h

@@ -20,6 +20,7 @@ use Rattle.axe_matrix.specs.Matrices.{MatrixValue}
 use Rattle.axe_spin.specs.Modules.{ModuleValue, HasSquareGenerators, IsInvariantIn}
 use Rattle.axe_action.specs.Actions.{IsBasisAction, IsActionModulo}
 use mathlib.Core.Path.{refl, sym, ◌∙◌, ap, subst}
+use native.Mathlib.Omega.{arith}
 
 -- matrices of one size as lists
 record AreListed (K : NumberField) (n count : ℕ) (g : ℕ → Matrix (field_of K)) (matrices : List (List (List ℕ))) : Type 0 where

@@ -1,6 +1,5 @@
 -- The action on a span over its reduced basis, from that over the rows of this basis.
 use Rattle.std.specs.Prelude.{◌≡◌, ℕ, ◌≤◌, ◌==◌, not, List, [], ◌∷◌, length, Bool, true, false, Option, Some, None, Result, Ok, Err, if◌then◌else◌}
-use Rattle.std.proofs.lemmas.Bool.{eqb-true}
 use Rattle.axe_algebra.specs.NumberField.{NumberField}
 use Rattle.axe_algebra.specs.Field.{Field}
 use Rattle.axe_algebra.specs.Vectors.{Matrix}
@@ -13,21 +12,19 @@ use Rattle.axe_algebra.proofs.Spanning.{span_within, same_sym, same_trans}
 use Rattle.axe_algebra.proofs.Generated.{invariant_span_is_set}
 use Rattle.axe_algebra.proofs.ReducedBases.{reduced_spans, reduced_independent, reduced_of_same_span}
 use Rattle.axe_algebra.proofs.ListEntries.{rows_length}
-use Rattle.axe_field.specs.Order.{order_number}
 use Rattle.axe_field.specs.NumberFields.{number_field, gf}
 use Rattle.axe_row.specs.declared.refusals.Refusal.{Refusal}
-use Rattle.axe_row.specs.declared.refusals.Refusal.TheVariants.{FieldsDiffer, ShapesDiffer, ZeroSpace}
+use Rattle.axe_row.specs.declared.refusals.Refusal.TheVariants.{ZeroSpace}
 use Rattle.axe_matrix.specs.Matrices.{MatrixValue, IsMatrix}
-use Rattle.axe_matrix.proofs.MatrixLaws.{same_order}
-use Rattle.axe_echelon.specs.Echelons.{EchelonValue, IsReducedMatrix}
+use Rattle.axe_echelon.specs.Echelons.{EchelonValue, IsReducedMatrix, IsSpanOfRows}
+use Rattle.axe_echelon.proofs.Exits.{answered_late}
 use Rattle.axe_echelon.proofs.InverseLaws.{matrix_over}
-use Rattle.axe_row.specs.Refusals.{unless_refused}
-use Rattle.axe_spin.specs.Modules.{ModuleValue}
+use Rattle.axe_row.specs.Refusals.{AnswersOr}
+use Rattle.axe_spin.specs.Modules.{ModuleValue, rows_refusal, IsInvariantIn}
+use Rattle.axe_spin.proofs.ZeroRows.{some_basis_row}
+use Rattle.axe_spin.proofs.SeedLaws.{vectors_of, none_of_both, zeros_refusal, some_nonzero_if_accepted}
 use Rattle.axe_spin.specs.Spinning.{has_only_zeros}
-use Rattle.axe_action.specs.Actions.{rows_refusal, sub_action_refusal, AnswersSubAction, IsInvariantIn, IsBasisAction, IsActionOnSpan}
-use Rattle.axe_action.specs.Coordinates.{IsSpanOfRows}
-use Rattle.axe_action.proofs.SubAnswers.{answered_more, no_value}
-use Rattle.axe_action.proofs.SubSpans.{some_basis_row}
+use Rattle.axe_action.specs.Actions.{sub_action_refusal, action_late, IsActionOverRows, IsActionOnSpan}
 use mathlib.Core.Path.{refl, sym, ◌∙◌, subst}
 use native.Mathlib.Omega.{arith}
 
@@ -45,58 +42,9 @@ pub record AreSpaceRows (m : ModuleValue) (rows : MatrixValue) : Type 0 where
 
 pub space_rows : (m : ModuleValue) (rows : MatrixValue) → sub_action_refusal m rows ≡ None → AreSpaceRows m rows
 space_rows m rows none =
-    let tests = passed (order_number rows.order == order_number m.order) (rows.cols == m.dim) (has_only_zeros rows.rows) none in
-    record {
-      field = same_order rows.order m.order (eqb-true (order_number rows.order) (order_number m.order) tests.0);
-      columns = eqb-true rows.cols m.dim tests.1;
-      some = tests.2;
-    }
-  where
-    passed : (a b c : Bool) → (if not a then Some FieldsDiffer else (if not b then Some ShapesDiffer else (if c then Some ZeroSpace else None))) ≡ None →
-        (a ≡ true) × (b ≡ true) × (c ≡ false)
-    passed true true false e = (refl, refl, refl)
-    passed true true true e = cc
-    passed true false c e = cc
-    passed false b c e = cc
-
--- the refusals for two and for three tests
-abbrev two : Bool → Bool → Option Refusal
-two a b = if not a then Some FieldsDiffer else (if not b then Some ShapesDiffer else None)
-
-abbrev three : Bool → Bool → Bool → Option Refusal
-three a b c = if not a then Some FieldsDiffer else (if not b then Some ShapesDiffer else (if c then Some ZeroSpace else None))
-
--- what refuses the rows as vectors refuses them as a space
-pub refused_as_rows : {A : Type 0} (value : A) (m : ModuleValue) (rows : MatrixValue) (refusal : Refusal) → Err refusal ≡ unless_refused (rows_refusal m rows) value →
-    Err refusal ≡ unless_refused (sub_action_refusal m rows) value
-refused_as_rows value m rows refusal = at (order_number rows.order == order_number m.order) (rows.cols == m.dim) (has_only_zeros rows.rows)
-  where
-    at : (a b c : Bool) → Err refusal ≡ unless_refused (two a b) value → Err refusal ≡ unless_refused (three a b c) value
-    at true true c e = absurd (no_value value refusal e)
-    at true false c e = e
-    at false b c e = e
-
--- else rows of zeros are refused
-pub refused_as_zero : {A : Type 0} (value : A) (m : ModuleValue) (rows : MatrixValue) → rows_refusal m rows ≡ None → has_only_zeros rows.rows ≡ true →
-    Err ZeroSpace ≡ unless_refused (sub_action_refusal m rows) value
-refused_as_zero value m rows = at (order_number rows.order == order_number m.order) (rows.cols == m.dim) (has_only_zeros rows.rows)
-  where
-    at : (a b c : Bool) → two a b ≡ None → c ≡ true → Err ZeroSpace ≡ unless_refused (three a b c) value
-    at true true true e zero = refl
-    at true true false e zero = cc
-    at true false c e zero = cc
-    at false b c e zero = cc
-
--- and others are not
-pub accepted_space : {A : Type 0} (value : A) (m : ModuleValue) (rows : MatrixValue) → rows_refusal m rows ≡ None → has_only_zeros rows.rows ≡ false →
-    Ok value ≡ unless_refused (sub_action_refusal m rows) value
-accepted_space value m rows = at (order_number rows.order == order_number m.order) (rows.cols == m.dim) (has_only_zeros rows.rows)
-  where
-    at : (a b c : Bool) → two a b ≡ None → c ≡ false → Ok value ≡ unless_refused (three a b c) value
-    at true true true e some = cc
-    at true true false e some = refl
-    at true false c e some = cc
-    at false b c e some = cc
+    let both = none_of_both (rows_refusal m rows) (zeros_refusal (has_only_zeros rows.rows) ZeroSpace) none in
+    let vectors = vectors_of m rows both.0 in
+    record { field = vectors.field; columns = vectors.columns; some = some_nonzero_if_accepted (has_only_zeros rows.rows) ZeroSpace both.1 }
 
 -- there is one of them
 pub some_row : (rows : List (List ℕ)) → has_only_zeros rows ≡ false → 1 ≤ length rows
@@ -156,22 +104,12 @@ basis_of_span m rows e basis space rows_h span reduced basis_h = record {
         (reduced_spans F e.cols (length e.rows) (matrix_of K e.rows) (length basis.rows) (matrix_of K basis.rows) (rows_length K e.cols e.rows e_over) reduced_e)
 
 -- the action over the basis is the action on the span
-pub action_on_span : (m : ModuleValue) (rows basis : MatrixValue) (result : Result ModuleValue Refusal) → IsBasisOfSpan m rows basis →
-    AnswersSubAction None (IsInvariantIn m basis) (IsBasisAction m basis) result →
-    AnswersSubAction None (IsInvariantIn m rows) (IsActionOnSpan m rows) result
-action_on_span m rows basis result is =
-    answered_more (IsInvariantIn m basis) (IsInvariantIn m rows) (IsBasisAction m basis) (IsActionOnSpan m rows) result
-    (same_invariant F M (length basis.rows) (matrix_of K basis.rows) (length rows.rows) (matrix_of K rows.rows)
-    (same_sym F (length rows.rows) (matrix_of K rows.rows) (length basis.rows) (matrix_of K basis.rows) is.same))
-    (same_invariant F M (length rows.rows) (matrix_of K rows.rows) (length basis.rows) (matrix_of K basis.rows) is.same)
-    (λ action acts. record {
-      field = acts.field;
-      basis = basis.rows;
-      over = is.over;
-      reduced = is.reduced;
-      dimension = acts.dimension;
-      acts = acts.acts;
-    })
+pub action_on_span : (m : ModuleValue) (rows basis : MatrixValue) (why : Option Refusal) (result : Result ModuleValue Refusal) → why ≡ None →
+    IsBasisOfSpan m rows basis → AnswersOr None (IsActionOverRows m basis) (action_late m basis) result →
+    AnswersOr why (λ action. IsInvariantIn m rows × IsActionOnSpan m rows action) (action_late m rows) result
+action_on_span m rows basis why result none is =
+    answered_late why (IsActionOverRows m basis) (λ action. IsInvariantIn m rows × IsActionOnSpan m rows action) (action_late m basis) (action_late m rows) result none
+    on_span (λ refusal stands. (stands.0, λ invariant. stands.1 (back invariant)))
   where
     K : NumberField
     K = number_field m.order
@@ -181,3 +119,23 @@ action_on_span m rows basis result is =
 
     M : Module F
     M = module_of K m.dim m.generators
+
+    forth : IsInvariantIn m basis → IsInvariantIn m rows
+    forth = same_invariant F M (length basis.rows) (matrix_of K basis.rows) (length rows.rows) (matrix_of K rows.rows)
+        (same_sym F (length rows.rows) (matrix_of K rows.rows) (length basis.rows) (matrix_of K basis.rows) is.same)
+
+    back : IsInvariantIn m rows → IsInvariantIn m basis
+    back = same_invariant F M (length rows.rows) (matrix_of K rows.rows) (length basis.rows) (matrix_of K basis.rows) is.same
+
+    on_span : (action : ModuleValue) → IsActionOverRows m basis action → IsInvariantIn m rows × IsActionOnSpan m rows action
+    on_span action (invariant, acts) = (
+      forth invariant,
+      record {
+        field = acts.field;
+        basis = basis.rows;
+        over = is.over;
+        reduced = is.reduced;
+        dimension = acts.dimension;
+        acts = acts.acts;
+      },
+    )

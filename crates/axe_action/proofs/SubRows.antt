@@ -9,15 +9,16 @@ use Rattle.axe_algebra.proofs.ListSpans.{spanned_by_coefficients}
 use Rattle.axe_algebra.proofs.ListModules.{invariant_by_images, images_of_invariant, sub_action_by_rows}
 use Rattle.axe_field.specs.NumberFields.{number_field}
 use Rattle.axe_row.specs.Rows.{RowValue}
+use Rattle.axe_row.specs.Refusals.{AnswersOr}
 use Rattle.axe_row.specs.declared.refusals.Refusal.{Refusal}
 use Rattle.axe_matrix.specs.Matrices.{MatrixValue, IsMatrix}
-use Rattle.axe_echelon.specs.Echelons.{EchelonValue, IsEchelon, AreCoordinates}
+use Rattle.axe_echelon.specs.Echelons.{EchelonValue, IsEchelon, AreCoordinates, IsSpanOfRows}
 use Rattle.axe_echelon.proofs.FormLaws.{below_or_at}
-use Rattle.axe_spin.specs.Modules.{ModuleValue, IsModule, generator_of, rows_of_each, module_of_matrices}
+use Rattle.axe_spin.specs.Modules.{ModuleValue, IsModule, IsInvariantIn, generator_of, rows_of_each, module_of_matrices}
 use Rattle.axe_spin.specs.Generators.{IsGeneratorMatrix}
 use Rattle.axe_spin.proofs.ModuleLaws.{square_over}
-use Rattle.axe_action.specs.Actions.{AnswersSubAction, IsInvariantIn, IsBasisAction}
-use Rattle.axe_action.specs.Coordinates.{IsSpanOfRows, row_times, HasImagesIn, IsActionRow, HasActionRows}
+use Rattle.axe_action.specs.Actions.{action_late, IsActionOverRows}
+use Rattle.axe_action.specs.Coordinates.{row_times, HasImagesIn, IsActionRow, HasActionRows}
 use Rattle.axe_action.proofs.GeneratorLists.{AreNewGenerators, module_of_made}
 use Rattle.std.specs.List.{All}
 use Rattle.std.proofs.lemmas.List.{length-map}
@@ -106,9 +107,9 @@ outside_invariant m rows j h over below invariant t inside =
 pub action_made : (m : ModuleValue) (rows : MatrixValue) (matrices : List MatrixValue) (result : Result ModuleValue Refusal) → IsModule m →
     IsMatrixOver (number_field m.order) m.dim rows.rows →
     AreNewGenerators m.order (length rows.rows) (IsActionOf m rows.rows) (length m.generators) matrices → result ≡ module_of_matrices matrices →
-    AnswersSubAction None (IsInvariantIn m rows) (IsBasisAction m rows) result
+    AnswersOr None (IsActionOverRows m rows) (action_late m rows) result
 action_made m rows matrices result h over are is =
-    subst (AnswersSubAction None (IsInvariantIn m rows) (IsBasisAction m rows))
+    subst (AnswersOr None (IsActionOverRows m rows) (action_late m rows))
     (sym (module_of_made m.order (length rows.rows) (IsActionOf m rows.rows) (length m.generators) matrices result are h.some_generator is))
     (invariant, record { field = refl; dimension = refl; acts = acts })
   where

@@ -7,7 +7,7 @@ ghost use Rattle.axe_row.specs.Refusals.{Answers};
 ghost use Rattle.axe_matrix.specs.Matrices.{IsMatrix};
 ghost use Rattle.axe_action.specs.Actions.{IsExtendedMatrix};
 
-use crate::subspaces::span_of;
+use axe_echelon::span_of;
 use axe_matrix::{Matrix, Refusal, Row};
 use std::alloc::Global;
 

@@ -1,12 +1,13 @@
 //! Modules over another basis.
 
 ghost use Rattle.std.specs.Prelude.{◌≡◌, length, None, IfOk};
-ghost use Rattle.axe_row.specs.Refusals.{Answers, unless_refused};
+ghost use Rattle.axe_row.specs.Refusals.{Answers, unless_refused, AnswersOr, RefusedAs};
+ghost use Rattle.axe_row.specs.declared.refusals.Refusal.TheVariants.{Singular};
 ghost use Rattle.axe_matrix.specs.Matrices.{IsMatrix, matrix_product};
 ghost use Rattle.axe_spin.specs.Modules.{IsModule};
-ghost use Rattle.axe_action.specs.Actions.{conjugate_refusal, AnswersConjugate};
+ghost use Rattle.axe_echelon.specs.Echelons.{IsInvertible};
+ghost use Rattle.axe_action.specs.Actions.{conjugate_refusal, IsConjugateModule};
 
-use crate::lists::push;
 use axe_echelon::inverse;
 use axe_matrix::{Matrix, Refusal};
 use axe_spin::Module;
@@ -16,7 +17,8 @@ use std::alloc::Global;
 /// another field than the module is refused as FieldsDiffer, else one that is not square of the module's dimension as
 /// ShapesDiffer, and else one that has no inverse as Singular.
 pub fn conjugate(alloc: Global, module: &Module, basis: &Matrix) -> Result<Module, Refusal>
-    ensures conjugate { AnswersConjugate (conjugate_refusal «module».now basis.now) «module».now basis.now result }
+    ensures conjugate { AnswersOr (conjugate_refusal «module».now basis.now) (IsConjugateModule «module».now basis.now)
+        (RefusedAs Singular (¬ (IsInvertible basis.now))) result }
     ensures well_formed { IfOk result IsModule }
 {
     check_basis(module, basis)?;
@@ -24,7 +26,7 @@ pub fn conjugate(alloc: Global, module: &Module, basis: &Matrix) -> Result<Modul
     let mut conjugates = Vec::new(alloc);
     for index in 0..module.gens() {
         let conjugate = triple_product(alloc, basis, module.generator(index), &inverse)?;
-        push(&mut conjugates, conjugate)?;
+        conjugates.push(conjugate)?;
     }
     Module::new(conjugates)
 }

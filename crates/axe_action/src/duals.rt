@@ -6,7 +6,6 @@ ghost use Rattle.axe_matrix.specs.Matrices.{IsMatrix};
 ghost use Rattle.axe_spin.specs.Modules.{IsModule};
 ghost use Rattle.axe_action.specs.Actions.{dual_module, IsAnnihilatorMatrix};
 
-use crate::lists::push;
 use axe_echelon::null_space;
 use axe_matrix::{Matrix, Refusal};
 use axe_spin::Module;
@@ -20,7 +19,7 @@ pub fn dual(alloc: Global, module: &Module) -> Result<Module, Refusal>
     let mut transposes = Vec::new(alloc);
     for index in 0..module.gens() {
         let transpose = module.generator(index).transpose(alloc)?;
-        push(&mut transposes, transpose)?;
+        transposes.push(transpose)?;
     }
     Module::new(transposes)
 }

@@ -4,7 +4,6 @@
 mod bases;
 mod conjugates;
 mod duals;
-mod lists;
 mod quotients;
 mod subspaces;
 

@@ -1,17 +1,15 @@
 //! The action of a module modulo an invariant space.
 
 ghost use Rattle.std.specs.Prelude.{◌≡◌, ◌<◌, ◌≤◌, ◌↔◌, length, map, slice_index, All, IsTrue, None, IfOk};
-ghost use Rattle.axe_row.specs.Refusals.{Answers};
+ghost use Rattle.axe_row.specs.Refusals.{Answers, AnswersOr};
 ghost use Rattle.axe_matrix.specs.Matrices.{IsMatrix};
-ghost use Rattle.axe_echelon.specs.Echelons.{IsEchelon};
-ghost use Rattle.axe_spin.specs.Modules.{IsModule};
-ghost use Rattle.axe_action.specs.Actions.{rows_refusal, AnswersQuotientAction, SpansModule, IsInvariantIn, IsActionModulo};
-ghost use Rattle.axe_action.specs.Coordinates.{IsSpanOfRows, HasImagesIn};
+ghost use Rattle.axe_echelon.specs.Echelons.{IsEchelon, IsSpanOfRows};
+ghost use Rattle.axe_spin.specs.Modules.{IsModule, rows_refusal, IsInvariantIn};
+ghost use Rattle.axe_action.specs.Actions.{quotient_late, IsActionModulo, IsProperActionModulo};
+ghost use Rattle.axe_action.specs.Coordinates.{HasImagesIn};
 ghost use Rattle.axe_action.specs.FreeColumns.{IsFreeColumn, AreFreeColumns, IsRowModulo, HasRowsModulo};
 
-use crate::lists::push;
-use crate::subspaces::{check_rows, span_of};
-use axe_echelon::Echelon;
+use axe_echelon::{Echelon, span_of};
 use axe_matrix::{Matrix, Refusal, Row};
 use axe_spin::Module;
 use std::alloc::Global;
@@ -22,10 +20,11 @@ use std::alloc::Global;
 /// refused as FieldsDiffer, else rows of another length than the dimension as ShapesDiffer, else rows that span everything
 /// as WholeSpace, and else rows whose span is not invariant as NotInvariant.
 pub fn quotient_action(alloc: Global, module: &Module, rows: &Matrix) -> Result<Module, Refusal>
-    ensures action { AnswersQuotientAction (rows_refusal «module».now rows.now) (SpansModule «module».now rows.now) (IsInvariantIn «module».now rows.now) (IsActionModulo «module».now rows.now) result }
+    ensures action { AnswersOr (rows_refusal «module».now rows.now) (IsProperActionModulo «module».now rows.now)
+        (quotient_late «module».now rows.now) result }
     ensures well_formed { IfOk result IsModule }
 {
-    check_rows(module, rows)?;
+    module.check_rows(rows)?;
     let span = span_of(alloc, rows)?;
     if span.rank() == module.dim() {
         return Err(Refusal::WholeSpace);
@@ -93,7 +92,7 @@ fn action_modulo(alloc: Global, module: &Module, span: &Echelon) -> Result<Modul
     let mut actions = Vec::new(alloc);
     for number in 0..module.gens() {
         let action = generator_modulo(alloc, module.generator(number), span, &columns)?;
-        push(&mut actions, action)?;
+        actions.push(action)?;
     }
     Module::new(actions)
 }
@@ -106,7 +105,7 @@ fn free_columns(alloc: Global, span: &Echelon) -> Result<Vec<usize>, Refusal>
     let mut columns = Vec::new(alloc);
     for column in 0..span.cols() {
         if is_free(span, column) {
-            columns.push(column).map_err(|_| Refusal::Memory)?;
+            columns.push(column)?;
         }
     }
     Ok(columns)

@@ -3,14 +3,14 @@
 ghost use Rattle.std.specs.Prelude.{◌≡◌, ◌≤◌, length, None, IfOk};
 ghost use Rattle.axe_algebra.specs.SpansOfLists.{IsIndependent};
 ghost use Rattle.axe_field.specs.NumberFields.{number_field};
-ghost use Rattle.axe_row.specs.Refusals.{Answers, unless_refused};
+ghost use Rattle.axe_row.specs.Refusals.{AnswersOr, RefusedAs, unless_refused};
+ghost use Rattle.axe_row.specs.declared.refusals.Refusal.TheVariants.{NotInvariant};
 ghost use Rattle.axe_matrix.specs.Matrices.{IsMatrix};
-ghost use Rattle.axe_spin.specs.Modules.{IsModule};
-ghost use Rattle.axe_action.specs.Actions.{rows_refusal, sub_action_refusal, AnswersSubAction, IsInvariantIn, IsActionOnSpan, IsBasisAction};
-ghost use Rattle.axe_action.specs.Coordinates.{IsSpanOfRows, HasImagesIn, HasActionRows};
+ghost use Rattle.axe_spin.specs.Modules.{IsModule, IsInvariantIn};
+ghost use Rattle.axe_action.specs.Actions.{sub_action_refusal, action_late, IsActionOnSpan, IsActionOverRows};
+ghost use Rattle.axe_action.specs.Coordinates.{HasImagesIn, HasActionRows};
 
-use crate::lists::push;
-use axe_echelon::Echelon;
+use axe_echelon::{Echelon, span_of};
 use axe_matrix::{Matrix, Refusal};
 use axe_spin::{Module, has_only_zeros};
 use std::alloc::Global;
@@ -19,7 +19,9 @@ use std::alloc::Global;
 /// than the module are refused as FieldsDiffer, else rows of another length than the dimension as ShapesDiffer, else rows
 /// that are all zero, or none, as ZeroSpace, and else rows whose span is not invariant as NotInvariant.
 pub fn sub_action(alloc: Global, module: &Module, rows: &Matrix) -> Result<Module, Refusal>
-    ensures action { AnswersSubAction (sub_action_refusal «module».now rows.now) (IsInvariantIn «module».now rows.now) (IsActionOnSpan «module».now rows.now) result }
+    ensures action { AnswersOr (sub_action_refusal «module».now rows.now)
+        (λ action. IsInvariantIn «module».now rows.now × IsActionOnSpan «module».now rows.now action)
+        (action_late «module».now rows.now) result }
     ensures well_formed { IfOk result IsModule }
 {
     check_space(module, rows)?;
@@ -32,48 +34,24 @@ pub fn sub_action(alloc: Global, module: &Module, rows: &Matrix) -> Result<Modul
 /// [`sub_action`].
 pub fn basis_action(alloc: Global, module: &Module, rows: &Matrix) -> Result<Module, Refusal>
     requires independent { IsIndependent (number_field rows.now.order) rows.now.rows }
-    ensures action { AnswersSubAction (sub_action_refusal «module».now rows.now) (IsInvariantIn «module».now rows.now) (IsBasisAction «module».now rows.now) result }
+    ensures action { AnswersOr (sub_action_refusal «module».now rows.now)
+        (IsActionOverRows «module».now rows.now) (action_late «module».now rows.now) result }
     ensures well_formed { IfOk result IsModule }
 {
     check_space(module, rows)?;
     action_over(alloc, module, rows)
 }
 
-/// Refuses rows that are no vectors of a module.
-pub(crate) fn check_rows(module: &Module, rows: &Matrix) -> Result<(), Refusal>
-    ensures { result ≡ unless_refused (rows_refusal «module».now rows.now) tt }
-{
-    if rows.field().order() != module.field().order() {
-        return Err(Refusal::FieldsDiffer);
-    }
-    if rows.cols() != module.dim() {
-        return Err(Refusal::ShapesDiffer);
-    }
-    Ok(())
-}
-
 /// Refuses rows that are no vectors of a module, and rows that span zero.
 fn check_space(module: &Module, rows: &Matrix) -> Result<(), Refusal>
-    ensures { result ≡ unless_refused (sub_action_refusal «module».now rows.now) tt }
+    ensures refusal { result ≡ unless_refused (sub_action_refusal «module».now rows.now) tt }
+    ensures rows_well_formed { IsMatrix rows.now }
 {
-    check_rows(module, rows)?;
+    module.check_rows(rows)?;
     if has_only_zeros(rows) {
         return Err(Refusal::ZeroSpace);
     }
     Ok(())
-}
-
-/// The echelon form of the span of the rows of a matrix, into which they are inserted in order.
-pub(crate) fn span_of(alloc: Global, rows: &Matrix) -> Result<Echelon, Refusal>
-    ensures span { Answers None (IsSpanOfRows rows.now) result }
-    ensures well_formed { IsMatrix rows.now }
-{
-    let mut span = Echelon::new(alloc, *rows.field(), rows.cols());
-    for index in 0..rows.rows() {
-        let row = rows.row(index).copy(alloc)?;
-        span.insert(row)?;
-    }
-    Ok(span)
 }
 
 /// The action of a module on the span of independent rows, of which there is one at least, over these rows.
@@ -82,14 +60,14 @@ fn action_over(alloc: Global, module: &Module, rows: &Matrix) -> Result<Module, 
     requires some_row { 1 ≤ length rows.now.rows }
     requires field { rows.now.order ≡ «module».now.order }
     requires fits { rows.now.cols ≡ «module».now.dim }
-    ensures action { AnswersSubAction None (IsInvariantIn «module».now rows.now) (IsBasisAction «module».now rows.now) result }
+    ensures action { AnswersOr None (IsActionOverRows «module».now rows.now) (action_late «module».now rows.now) result }
     ensures well_formed { IfOk result IsModule }
 {
     let span = span_of(alloc, rows)?;
     let mut actions = Vec::new(alloc);
     for number in 0..module.gens() {
         let action = generator_action(alloc, module.generator(number), &span, rows)?;
-        push(&mut actions, action)?;
+        actions.push(action)?;
     }
     Module::new(actions)
 }
@@ -107,8 +85,10 @@ fn generator_action(
     requires some_row { 1 ≤ length rows.now.rows }
     requires field { rows.now.order ≡ generator.now.order }
     requires fits { rows.now.cols ≡ generator.now.cols }
-    ensures { AnswersSubAction None (HasImagesIn generator.now rows.now.rows rows.now.rows)
-        (HasActionRows generator.now rows.now.rows (length rows.now.rows)) result }
+    ensures { AnswersOr None
+        (λ action. HasImagesIn generator.now rows.now.rows rows.now.rows
+            × HasActionRows generator.now rows.now.rows (length rows.now.rows) action)
+        (RefusedAs NotInvariant (¬ (HasImagesIn generator.now rows.now.rows rows.now.rows))) result }
 {
     let mut action = Matrix::empty(alloc, *span.field(), span.rank());
     for index in 0..rows.rows() {

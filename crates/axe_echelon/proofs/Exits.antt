@@ -32,6 +32,11 @@ pub value_if_answered : {T : Type 0} (result : Result T Refusal) (P : T → Type
 value_if_answered (Ok value) P h = h
 value_if_answered (Err refusal) P h = tt
 
+-- an answer that says more
+pub answers_more : {T : Type 0} (result : Result T Refusal) (P Q : T → Type 0) → Answers None P result → ((value : T) → P value → Q value) → Answers None Q result
+answers_more (Ok value) P Q h more = more value h
+answers_more (Err refusal) P Q h more = h
+
 -- ---- refusals that are told by a callee
 
 -- a value that there is was not refused
@@ -76,6 +81,11 @@ answered_late why P Q early late (Ok value) none more too h = subst (λ w. Answe
 answered_late why P Q early late (Err refusal) none more too (inl memory) = subst (λ w. AnswersOr w Q late (Err refusal)) (sym none) (inl memory)
 answered_late why P Q early late (Err refusal) none more too (inr stands) =
     subst (λ w. AnswersOr w Q late (Err refusal)) (sym none) (inr (too refusal stands))
+
+-- what a callee answers whose operands are not refused
+pub asked_late : {T : Type 0} (why : Option Refusal) (P : T → Type 0) (late : Refusal → Type 0) (result : Result T Refusal) → why ≡ None →
+    AnswersOr why P late result → AnswersOr None P late result
+asked_late why P late result none h = subst (λ w. AnswersOr w P late result) none h
 
 -- the same of a callee that has no late refusals
 pub answered_or : {T : Type 0} (why : Option Refusal) (P Q : T → Type 0) (late : Refusal → Type 0) (result : Result T Refusal) → why ≡ None →

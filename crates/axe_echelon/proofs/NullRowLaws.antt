@@ -16,7 +16,6 @@ use Rattle.axe_algebra.proofs.ListVectors.{vector_of_added, vector_of_unit_row}
 use Rattle.axe_field.specs.Order.{Order, IsElement}
 use Rattle.axe_field.specs.Arithmetic.{field_neg}
 use Rattle.axe_field.specs.NumberFields.{number_field, gf}
-use Rattle.axe_row.specs.Refusals.{Answers}
 use Rattle.axe_row.specs.declared.refusals.Refusal.{Refusal}
 use Rattle.axe_row.specs.Rows.{RowValue, IsRow}
 use Rattle.axe_row.specs.Operations.{sum_with_multiple, row_with_multiple}
@@ -291,8 +290,3 @@ null_so_far_old m i image units null next row unit vector new so_far inside row_
         (ap (vector_of (number_field image.order)) relation.are_coordinates.combine
         ∙ vector_of_combination (number_field image.order) image.cols relation.coordinates.entries image.rows relation.are_coordinates.over
         so_far.image_well_formed.over)
-
--- an answer that says more
-pub answers_more : (result : Result MatrixValue Refusal) (P Q : MatrixValue → Type 0) → Answers None P result → ((m : MatrixValue) → P m → Q m) → Answers None Q result
-answers_more (Ok m) P Q h f = f m h
-answers_more (Err refusal) P Q h f = h

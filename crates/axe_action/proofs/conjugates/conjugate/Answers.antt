@@ -1,24 +1,26 @@
-use Rattle.std.proofs.Common.{◌≡◌, length, ap, sym, ◌∙◌, ◌<◌, ◌≤◌, subst}
+use Rattle.std.proofs.Common.{◌≡◌, length, refl, ap, sym, ◌∙◌, ◌<◌, ◌≤◌, subst}
 use Rattle.std.proofs.lemmas.Result.{IfOk-from_err}
 use Rattle.axe_matrix.specs.Matrices.{MatrixValue, matrix_product}
-use Rattle.axe_echelon.specs.Echelons.{IsInverseMatrix}
+use Rattle.axe_row.specs.Refusals.{RefusedAs}
+use Rattle.axe_row.specs.declared.refusals.Refusal.TheVariants.{Singular, Memory}
+use Rattle.axe_echelon.specs.Echelons.{IsInverseMatrix, IsInvertible}
+use Rattle.axe_echelon.proofs.Exits.{not_refused, refused_early, refused_late, no_memory_late}
 use Rattle.axe_spin.specs.Modules.{IsModule, generator_of}
 use Rattle.axe_action.specs.Actions.{conjugate_refusal}
-use Rattle.axe_action.proofs.SubAnswers.{not_refused}
 use Rattle.axe_action.proofs.GeneratorLists.{generators_more, module_of_made, all_taken, some_made, made_fit}
-use Rattle.axe_action.proofs.ConjugateLaws.{IsBasisFor, basis_if_accepted, conjugate_refused, conjugate_of_generator, conjugate_is_generator, conjugate_is, conjugate_no_memory, conjugate_no_inverse}
+use Rattle.axe_action.proofs.ConjugateLaws.{IsBasisFor, basis_if_accepted, conjugate_accepted, conjugate_of_generator, conjugate_is_generator, conjugate_is, asked_inverse}
 use Rattle.axe_action.proofs.conjugates.conjugate.Goals as goal
 
 pub loop-index-preserved : goal.loop-index-preserved
 loop-index-preserved c =
     let fits : IsBasisFor c.args.module.now c.args.basis.now =
     basis_if_accepted _ _ (not_refused (conjugate_refusal c.args.module.now c.args.basis.now) tt c.in_ok-check_basis.field-0 c.in_ok-check_basis.ensures) in
-    let inverse : IsInverseMatrix c.args.basis.now c.in_ok-inverse.inverse = c.in_ok-inverse.ensures.square (fits.rows ∙ sym fits.columns) in
+    let inverse : IsInverseMatrix c.args.basis.now c.in_ok-inverse.inverse = asked_inverse c.args.module.now c.args.basis.now _ fits c.in_ok-inverse.ensures.inverse in
     let is : c.in_ok-conjugate.conjugate ≡
     matrix_product (matrix_product c.args.basis.now (generator_of c.args.module.now c.loop-index.index)) c.in_ok-inverse.inverse =
     c.in_ok-conjugate.ensures.product
     ∙ ap (λ (g : MatrixValue). matrix_product (matrix_product c.args.basis.now g) c.in_ok-inverse.inverse) c.generator.ensures.value in
-    generators_more _ _ _ c.loop-index.index c.loop-index.conjugates.items c.push.new.matrices.items c.in_ok-conjugate.conjugate c.loop-index.invariant c.in_ok-push.ensures
+    generators_more _ _ _ c.loop-index.index c.loop-index.conjugates.items c.push.new.self.items c.in_ok-conjugate.conjugate c.loop-index.invariant c.in_ok-push.ensures.items
     (conjugate_is_generator c.args.module.now c.args.basis.now c.in_ok-inverse.inverse fits inverse c.loop-index.index c.in_ok-conjugate.conjugate is
     c.in_ok-conjugate.ensures.well_formed)
     (conjugate_of_generator c.args.module.now c.args.basis.now c.in_ok-inverse.inverse fits inverse c.loop-index.index c.in_ok-conjugate.conjugate is)
@@ -37,8 +39,9 @@ pub returns-in_err-inverse-clause-conjugate : goal.returns-in_err-inverse-clause
 returns-in_err-inverse-clause-conjugate c =
     let fits : IsBasisFor c.args.module.now c.args.basis.now =
     basis_if_accepted _ _ (not_refused (conjugate_refusal c.args.module.now c.args.basis.now) tt c.in_ok-check_basis.field-0 c.in_ok-check_basis.ensures) in
-    conjugate_no_inverse c.args.module.now c.args.basis.now c.from_residual-in_err-inverse.result _ fits (c.in_err-inverse.ensures.square (fits.rows ∙ sym fits.columns))
-    c.from_residual-in_err-inverse.ensures.1
+    refused_late (conjugate_refusal c.args.module.now c.args.basis.now) (IsInverseMatrix c.args.basis.now) _ (RefusedAs Singular (¬ (IsInvertible c.args.basis.now))) _
+    c.from_residual-in_err-inverse.result _ (conjugate_accepted c.args.module.now c.args.basis.now fits) (λ refusal stands. stands)
+    (asked_inverse c.args.module.now c.args.basis.now _ fits c.in_err-inverse.ensures.inverse) c.from_residual-in_err-inverse.ensures.1
 
 pub returns-in_err-inverse-clause-well_formed : goal.returns-in_err-inverse-clause-well_formed
 returns-in_err-inverse-clause-well_formed c = IfOk-from_err c.from_residual-in_err-inverse.result IsModule c.from_residual-in_err-inverse.ensures.0
@@ -56,7 +59,7 @@ pub triple_product-requires-clause-third_field : goal.triple_product-requires-cl
 triple_product-requires-clause-third_field c =
     let fits : IsBasisFor c.args.module.now c.args.basis.now =
     basis_if_accepted _ _ (not_refused (conjugate_refusal c.args.module.now c.args.basis.now) tt c.in_ok-check_basis.field-0 c.in_ok-check_basis.ensures) in
-    let inverse : IsInverseMatrix c.args.basis.now c.in_ok-inverse.inverse = c.in_ok-inverse.ensures.square (fits.rows ∙ sym fits.columns) in
+    let inverse : IsInverseMatrix c.args.basis.now c.in_ok-inverse.inverse = asked_inverse c.args.module.now c.args.basis.now _ fits c.in_ok-inverse.ensures.inverse in
     inverse.field
 
 pub triple_product-requires-clause-second_fits : goal.triple_product-requires-clause-second_fits
@@ -69,15 +72,15 @@ pub triple_product-requires-clause-third_fits : goal.triple_product-requires-cla
 triple_product-requires-clause-third_fits c =
     let fits : IsBasisFor c.args.module.now c.args.basis.now =
     basis_if_accepted _ _ (not_refused (conjugate_refusal c.args.module.now c.args.basis.now) tt c.in_ok-check_basis.field-0 c.in_ok-check_basis.ensures) in
-    let inverse : IsInverseMatrix c.args.basis.now c.in_ok-inverse.inverse = c.in_ok-inverse.ensures.square (fits.rows ∙ sym fits.columns) in
+    let inverse : IsInverseMatrix c.args.basis.now c.in_ok-inverse.inverse = asked_inverse c.args.module.now c.args.basis.now _ fits c.in_ok-inverse.ensures.inverse in
     inverse.square.length_is ∙ fits.columns ∙ sym (ap (λ (g : MatrixValue). g.cols) c.generator.ensures.value)
 
 pub returns-in_err-conjugate-clause-conjugate : goal.returns-in_err-conjugate-clause-conjugate
 returns-in_err-conjugate-clause-conjugate c =
     let fits : IsBasisFor c.args.module.now c.args.basis.now =
     basis_if_accepted _ _ (not_refused (conjugate_refusal c.args.module.now c.args.basis.now) tt c.in_ok-check_basis.field-0 c.in_ok-check_basis.ensures) in
-    conjugate_no_memory c.args.module.now c.args.basis.now c.from_residual-in_err-conjugate.result _ fits c.in_err-conjugate.ensures.product
-    c.from_residual-in_err-conjugate.ensures.1
+    no_memory_late (conjugate_refusal c.args.module.now c.args.basis.now) _ _ c.from_residual-in_err-conjugate.result _
+    (conjugate_accepted c.args.module.now c.args.basis.now fits) c.in_err-conjugate.ensures.product c.from_residual-in_err-conjugate.ensures.1
 
 pub returns-in_err-conjugate-clause-well_formed : goal.returns-in_err-conjugate-clause-well_formed
 returns-in_err-conjugate-clause-well_formed c = IfOk-from_err c.from_residual-in_err-conjugate.result IsModule c.from_residual-in_err-conjugate.ensures.0
@@ -86,8 +89,8 @@ pub returns-in_err-push-clause-conjugate : goal.returns-in_err-push-clause-conju
 returns-in_err-push-clause-conjugate c =
     let fits : IsBasisFor c.args.module.now c.args.basis.now =
     basis_if_accepted _ _ (not_refused (conjugate_refusal c.args.module.now c.args.basis.now) tt c.in_ok-check_basis.field-0 c.in_ok-check_basis.ensures) in
-    conjugate_no_memory c.args.module.now c.args.basis.now c.from_residual-in_err-push.result _ fits c.in_err-push.ensures
-    c.from_residual-in_err-push.ensures.1
+    no_memory_late (conjugate_refusal c.args.module.now c.args.basis.now) _ _ c.from_residual-in_err-push.result Memory
+    (conjugate_accepted c.args.module.now c.args.basis.now fits) refl c.from_residual-in_err-push.ensures.1
 
 pub returns-in_err-push-clause-well_formed : goal.returns-in_err-push-clause-well_formed
 returns-in_err-push-clause-well_formed c = IfOk-from_err c.from_residual-in_err-push.result IsModule c.from_residual-in_err-push.ensures.0
@@ -105,7 +108,7 @@ returns-clause-well_formed c = c.new.ensures.well_formed
 
 pub returns-in_err-check_basis-clause-conjugate : goal.returns-in_err-check_basis-clause-conjugate
 returns-in_err-check_basis-clause-conjugate c =
-    conjugate_refused _ _ (conjugate_refusal c.args.module.now c.args.basis.now) tt c.from_residual.result _ c.in_err-check_basis.ensures c.from_residual.ensures.1
+    refused_early (conjugate_refusal c.args.module.now c.args.basis.now) tt _ _ c.from_residual.result _ c.in_err-check_basis.ensures c.from_residual.ensures.1
 
 pub returns-in_err-check_basis-clause-well_formed : goal.returns-in_err-check_basis-clause-well_formed
 returns-in_err-check_basis-clause-well_formed c = IfOk-from_err c.from_residual.result IsModule c.from_residual.ensures.0

@@ -1,5 +1,5 @@
 use Rattle.std.proofs.Common.{◌≢◌, length, sym, ◌∙◌}
-use Rattle.axe_echelon.proofs.NullRowLaws.{answers_more}
+use Rattle.axe_echelon.proofs.Exits.{answers_more}
 use Rattle.axe_action.proofs.DualLaws.{annihilator_without_rows, annihilator_answer}
 use Rattle.axe_action.proofs.duals.annihilator.Goals as goal
 

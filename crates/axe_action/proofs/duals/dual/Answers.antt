@@ -1,5 +1,6 @@
 use Rattle.std.proofs.Common.{◌≡◌, ◌≢◌, length, refl, ap, sym, ◌∙◌, arith, ◌<◌, ◌≤◌, subst}
 use Rattle.std.proofs.lemmas.Result.{IfOk-from_err}
+use Rattle.axe_row.specs.declared.refusals.Refusal.TheVariants.{Memory}
 use Rattle.axe_matrix.specs.Matrices.{MatrixValue, transposed_matrix}
 use Rattle.axe_matrix.proofs.TransposeLaws.{transpose_refusal-none}
 use Rattle.axe_echelon.proofs.Exits.{no_memory, memory_if_accepted}
@@ -15,7 +16,7 @@ loop-index-preserved c =
     let is : c.in_ok-transpose.transpose ≡ transposed_matrix (generator_of c.args.module.now c.loop-index.index) =
     transposed_if_accepted c.args.module.now c.loop-index.index c.in_ok-transpose.transpose c.generator.ensures.well_formed square
     (rw c.generator.ensures.value at c.in_ok-transpose.ensures.transpose) in
-    generators_more _ _ _ c.loop-index.index c.loop-index.transposes.items c.push.new.matrices.items c.in_ok-transpose.transpose c.loop-index.invariant c.in_ok-push.ensures
+    generators_more _ _ _ c.loop-index.index c.loop-index.transposes.items c.push.new.self.items c.in_ok-transpose.transpose c.loop-index.invariant c.in_ok-push.ensures.items
     (transposed_generator c.args.module.now c.loop-index.index c.in_ok-transpose.transpose square is c.in_ok-transpose.ensures.well_formed)
     (ap (λ (m : MatrixValue). m.rows) is)
 
@@ -31,7 +32,7 @@ pub generator-requires : goal.generator-requires
 generator-requires c = subst (λ count. c.loop-index.index < count) c.gens-index-end.ensures.count c.loop-index-test.true
 
 pub returns-in_err-push-clause-transposed : goal.returns-in_err-push-clause-transposed
-returns-in_err-push-clause-transposed c = no_memory _ c.from_residual-in_err-push.result _ c.from_residual-in_err-push.ensures.1 c.in_err-push.ensures
+returns-in_err-push-clause-transposed c = no_memory _ c.from_residual-in_err-push.result Memory c.from_residual-in_err-push.ensures.1 refl
 
 pub returns-in_err-push-clause-well_formed : goal.returns-in_err-push-clause-well_formed
 returns-in_err-push-clause-well_formed c = IfOk-from_err c.from_residual-in_err-push.result IsModule c.from_residual-in_err-push.ensures.0

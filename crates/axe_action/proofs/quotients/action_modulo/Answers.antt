@@ -1,5 +1,6 @@
-use Rattle.std.proofs.Common.{◌≡◌, ◌≤◌, ℕ, List, length, ap, sym, ◌∙◌, subst, arith, ◌<◌}
+use Rattle.std.proofs.Common.{◌≡◌, ◌≤◌, ℕ, List, length, refl, ap, sym, ◌∙◌, subst, arith, ◌<◌}
 use Rattle.std.proofs.lemmas.Result.{IfOk-from_err}
+use Rattle.axe_row.specs.declared.refusals.Refusal.TheVariants.{Memory}
 use Rattle.axe_matrix.specs.Matrices.{MatrixValue}
 use Rattle.axe_spin.specs.Modules.{IsModule, generator_of}
 use Rattle.axe_echelon.proofs.Exits.{no_memory}
@@ -29,7 +30,7 @@ loop-number-preserved c =
     subst (λ (g : MatrixValue). HasRowsModulo c.args.span.now c.in_ok-columns.columns.items g.rows (length c.in_ok-columns.columns.items) c.in_ok-action.action)
     c.generator.ensures.value here in
     generators_more c.args.module.now.order (length c.in_ok-columns.columns.items) (IsActionOfModulo c.args.module.now c.args.span.now c.in_ok-columns.columns.items)
-    c.loop-number.number c.loop-number.actions.items c.push.new.matrices.items c.in_ok-action.action c.loop-number.invariant c.in_ok-push.ensures
+    c.loop-number.number c.loop-number.actions.items c.push.new.self.items c.in_ok-action.action c.loop-number.invariant c.in_ok-push.ensures.items
     (modulo_is_generator c.args.module.now c.args.span.now c.in_ok-columns.columns.items (generator_of c.args.module.now c.loop-number.number).rows
     c.in_ok-action.action c.requires.field all) all.each
 
@@ -72,7 +73,7 @@ pub returns-in_err-action-clause-well_formed : goal.returns-in_err-action-clause
 returns-in_err-action-clause-well_formed c = IfOk-from_err c.from_residual-in_err-action.result IsModule c.from_residual-in_err-action.ensures.0
 
 pub returns-in_err-push-clause-action : goal.returns-in_err-push-clause-action
-returns-in_err-push-clause-action c = no_memory _ c.from_residual-in_err-push.result _ c.from_residual-in_err-push.ensures.1 c.in_err-push.ensures
+returns-in_err-push-clause-action c = no_memory _ c.from_residual-in_err-push.result Memory c.from_residual-in_err-push.ensures.1 refl
 
 pub returns-in_err-push-clause-well_formed : goal.returns-in_err-push-clause-well_formed
 returns-in_err-push-clause-well_formed c = IfOk-from_err c.from_residual-in_err-push.result IsModule c.from_residual-in_err-push.ensures.0

@@ -1,8 +1,9 @@
 use Rattle.std.proofs.Common.{◌<◌, ◌≤◌, length, sym, subst, arith, below_more}
 use Rattle.axe_echelon.proofs.Exits.{no_memory}
-use Rattle.axe_action.specs.Actions.{IsInvariantIn}
+use Rattle.axe_spin.specs.Modules.{IsInvariantIn}
 use Rattle.axe_action.specs.Coordinates.{HasImagesIn}
-use Rattle.axe_action.proofs.QuotientSpans.{IsSpanIn, span_in, vectors_over, images_of_span, invariant_of_images, test_fails, test_holds, test_failed}
+use Rattle.axe_spin.proofs.SeedLaws.{vectors_over}
+use Rattle.axe_action.proofs.QuotientSpans.{IsSpanIn, span_in, images_of_span, invariant_of_images, test_fails, test_holds, test_failed}
 use Rattle.axe_action.proofs.quotients.is_invariant.Goals as goal
 
 pub returns-then-not-branch : goal.returns-then-not-branch

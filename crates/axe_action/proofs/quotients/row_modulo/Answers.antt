@@ -2,13 +2,13 @@ use Rattle.std.proofs.Common.{ap}
 use Rattle.axe_echelon.proofs.Exits.{no_memory}
 use Rattle.axe_row.specs.Rows.{RowValue}
 use Rattle.axe_action.specs.FreeColumns.{IsRowModulo}
-use Rattle.axe_action.proofs.SubAnswers.{answers_weaker}
+use Rattle.axe_echelon.proofs.Exits.{answers_more}
 use Rattle.axe_action.proofs.QuotientRows.{row_is_modulo}
 use Rattle.axe_action.proofs.quotients.row_modulo.Goals as goal
 
 pub returns-clause-modulo : goal.returns-clause-modulo
 returns-clause-modulo c =
-    answers_weaker c.entries_at.result _ (λ (entries : RowValue). IsRowModulo c.args.span.now c.args.columns.now c.args.row.now.entries entries.entries)
+    answers_more c.entries_at.result _ (λ (entries : RowValue). IsRowModulo c.args.span.now c.args.columns.now c.args.row.now.entries entries.entries)
     c.entries_at.ensures
     (λ entries is. row_is_modulo c.args.span.now c.args.columns.now c.args.row.now c.reduce.new.row entries
     (rw (ap (λ (r : RowValue). r.entries) c.in_ok-rest.ensures.copied) at c.reduce.ensures.representative)

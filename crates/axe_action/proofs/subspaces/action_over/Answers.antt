@@ -1,13 +1,15 @@
 use Rattle.std.proofs.Common.{◌≡◌, ◌<◌, length, None, refl, ap, sym, ◌∙◌, subst}
-use Rattle.std.proofs.lemmas.Result.{err_from_is_err_and, IfOk-from_err}
+use Rattle.std.proofs.lemmas.Result.{IfOk-from_err}
 use Rattle.axe_algebra.specs.Lists.{IsMatrixOver}
 use Rattle.axe_field.specs.NumberFields.{number_field}
 use Rattle.axe_matrix.specs.Matrices.{MatrixValue}
 use Rattle.axe_spin.specs.Modules.{IsModule, generator_of}
-use Rattle.axe_action.specs.Actions.{IsInvariantIn, IsBasisAction}
+use Rattle.axe_row.specs.Refusals.{RefusedAs}
+use Rattle.axe_row.specs.declared.refusals.Refusal.TheVariants.{NotInvariant, Memory}
+use Rattle.axe_echelon.proofs.Exits.{refused_late, no_memory_late}
+use Rattle.axe_action.specs.Actions.{action_late, IsActionOverRows}
 use Rattle.axe_action.specs.Coordinates.{HasImagesIn, HasActionRows}
 use Rattle.axe_action.proofs.GeneratorLists.{AreNewGenerators, generators_more, all_taken, some_made, made_fit}
-use Rattle.axe_action.proofs.SubAnswers.{refused_too, no_memory_for_action}
 use Rattle.axe_action.proofs.SubRows.{IsActionOf, form_over, span_is_form, action_is_generator, outside_invariant, action_made}
 use Rattle.axe_action.proofs.subspaces.action_over.Goals as goal
 
@@ -19,24 +21,24 @@ generator_action-requires-clause-span c =
 
 pub returns-in_err-action-clause-action : goal.returns-in_err-action-clause-action
 returns-in_err-action-clause-action c =
-    let p = err_from_is_err_and c.from_residual-in_err-action.result c.from_residual-in_err-action.ensures.1 in
     let below : c.loop-number.number < length c.args.module.now.generators = subst (λ count. c.loop-number.number < count) c.gens-number-end.ensures.count c.loop-number-test.true in
     let form = span_is_form c.args.rows.now c.in_ok-span.span (generator_of c.args.module.now 0) c.in_ok-span.ensures.span c.requires.independent c.requires.field c.requires.fits in
     let over : IsMatrixOver (number_field c.args.module.now.order) c.args.module.now.dim c.args.rows.now.rows =
     form_over (generator_of c.args.module.now 0) c.args.rows.now.rows c.in_ok-span.span form c.in_ok-span.ensures.span.well_formed in
-    rw (p.1, p.2) (refused_too (HasImagesIn c.generator.result.now c.args.rows.now.rows c.args.rows.now.rows) (IsInvariantIn c.args.module.now c.args.rows.now)
-    (HasActionRows c.generator.result.now c.args.rows.now.rows (length c.args.rows.now.rows)) (IsBasisAction c.args.module.now c.args.rows.now)
-    c.in_err-action.field-0.0
-    (λ invariant. subst (λ g. HasImagesIn g c.args.rows.now.rows c.args.rows.now.rows) (sym c.generator.ensures.value)
-    (outside_invariant c.args.module.now c.args.rows.now c.loop-number.number c.gens-number-end.ensures.well_formed over below invariant))
-    c.in_err-action.ensures)
+    refused_late None (λ action. HasImagesIn c.generator.result.now c.args.rows.now.rows c.args.rows.now.rows
+    × HasActionRows c.generator.result.now c.args.rows.now.rows (length c.args.rows.now.rows) action) (IsActionOverRows c.args.module.now c.args.rows.now)
+    (RefusedAs NotInvariant (¬ (HasImagesIn c.generator.result.now c.args.rows.now.rows c.args.rows.now.rows))) (action_late c.args.module.now c.args.rows.now)
+    c.from_residual-in_err-action.result _ refl
+    (λ refusal stands. (stands.0, λ invariant. stands.1 (subst (λ g. HasImagesIn g c.args.rows.now.rows c.args.rows.now.rows) (sym c.generator.ensures.value)
+    (outside_invariant c.args.module.now c.args.rows.now c.loop-number.number c.gens-number-end.ensures.well_formed over below invariant))))
+    c.in_err-action.ensures c.from_residual-in_err-action.ensures.1
 
 pub loop-number-preserved : goal.loop-number-preserved
 loop-number-preserved c =
     let all : HasActionRows (generator_of c.args.module.now c.loop-number.number) c.args.rows.now.rows (length c.args.rows.now.rows) c.in_ok-action.action =
     subst (λ g. HasActionRows g c.args.rows.now.rows (length c.args.rows.now.rows) c.in_ok-action.action) c.generator.ensures.value c.in_ok-action.ensures.1 in
     generators_more c.args.module.now.order (length c.args.rows.now.rows) (IsActionOf c.args.module.now c.args.rows.now.rows) c.loop-number.number
-    c.loop-number.actions.items c.push.new.matrices.items c.in_ok-action.action c.loop-number.invariant c.in_ok-push.ensures
+    c.loop-number.actions.items c.push.new.self.items c.in_ok-action.action c.loop-number.invariant c.in_ok-push.ensures.items
     (action_is_generator (generator_of c.args.module.now c.loop-number.number) c.args.rows.now.rows c.in_ok-action.action all) all.each
 
 pub returns-clause-action : goal.returns-clause-action
@@ -51,7 +53,7 @@ returns-clause-action c =
     c.new.ensures.made
 
 pub returns-in_err-span-clause-action : goal.returns-in_err-span-clause-action
-returns-in_err-span-clause-action c = no_memory_for_action None _ _ c.from_residual.result _ refl c.in_err-span.ensures.span c.from_residual.ensures.1
+returns-in_err-span-clause-action c = no_memory_late None _ _ c.from_residual.result _ refl c.in_err-span.ensures.span c.from_residual.ensures.1
 
 pub returns-in_err-span-clause-well_formed : goal.returns-in_err-span-clause-well_formed
 returns-in_err-span-clause-well_formed c = IfOk-from_err c.from_residual.result IsModule c.from_residual.ensures.0
@@ -76,7 +78,7 @@ returns-in_err-action-clause-well_formed c = IfOk-from_err c.from_residual-in_er
 
 pub returns-in_err-push-clause-action : goal.returns-in_err-push-clause-action
 returns-in_err-push-clause-action c =
-    no_memory_for_action None _ _ c.from_residual-in_err-push.result _ refl c.in_err-push.ensures c.from_residual-in_err-push.ensures.1
+    no_memory_late None _ _ c.from_residual-in_err-push.result Memory refl refl c.from_residual-in_err-push.ensures.1
 
 pub returns-in_err-push-clause-well_formed : goal.returns-in_err-push-clause-well_formed
 returns-in_err-push-clause-well_formed c = IfOk-from_err c.from_residual-in_err-push.result IsModule c.from_residual-in_err-push.ensures.0

@@ -1,14 +1,13 @@
-use Rattle.std.proofs.Common.{sym, subst}
 use Rattle.std.proofs.lemmas.Result.{IfOk-from_err}
 use Rattle.axe_spin.specs.Modules.{IsModule}
-use Rattle.axe_action.specs.Actions.{sub_action_refusal, AnswersSubAction, IsInvariantIn, IsBasisAction}
-use Rattle.axe_action.proofs.SubAnswers.{not_refused, refused}
+use Rattle.axe_action.specs.Actions.{sub_action_refusal}
+use Rattle.axe_echelon.proofs.Exits.{not_refused, refused_early, answered_late}
 use Rattle.axe_action.proofs.SubBases.{space_rows, some_row}
 use Rattle.axe_action.proofs.subspaces.basis_action.Goals as goal
 
 pub returns-in_err-check_space-clause-action : goal.returns-in_err-check_space-clause-action
 returns-in_err-check_space-clause-action c =
-    refused (sub_action_refusal c.args.module.now c.args.rows.now) tt _ _ c.from_residual.result _ c.in_err-check_space.ensures c.from_residual.ensures.1
+    refused_early (sub_action_refusal c.args.module.now c.args.rows.now) tt _ _ c.from_residual.result _ c.in_err-check_space.ensures.refusal c.from_residual.ensures.1
 
 pub returns-in_err-check_space-clause-well_formed : goal.returns-in_err-check_space-clause-well_formed
 returns-in_err-check_space-clause-well_formed c = IfOk-from_err c.from_residual.result IsModule c.from_residual.ensures.0
@@ -19,23 +18,23 @@ action_over-requires-clause-independent c = c.requires.independent
 pub action_over-requires-clause-some_row : goal.action_over-requires-clause-some_row
 action_over-requires-clause-some_row c =
     some_row c.args.rows.now.rows (space_rows c.args.module.now c.args.rows.now
-    (not_refused (sub_action_refusal c.args.module.now c.args.rows.now) tt c.in_ok-check_space.field-0 c.in_ok-check_space.ensures)).some
+    (not_refused (sub_action_refusal c.args.module.now c.args.rows.now) tt c.in_ok-check_space.field-0 c.in_ok-check_space.ensures.refusal)).some
 
 pub action_over-requires-clause-field : goal.action_over-requires-clause-field
 action_over-requires-clause-field c =
     (space_rows c.args.module.now c.args.rows.now
-    (not_refused (sub_action_refusal c.args.module.now c.args.rows.now) tt c.in_ok-check_space.field-0 c.in_ok-check_space.ensures)).field
+    (not_refused (sub_action_refusal c.args.module.now c.args.rows.now) tt c.in_ok-check_space.field-0 c.in_ok-check_space.ensures.refusal)).field
 
 pub action_over-requires-clause-fits : goal.action_over-requires-clause-fits
 action_over-requires-clause-fits c =
     (space_rows c.args.module.now c.args.rows.now
-    (not_refused (sub_action_refusal c.args.module.now c.args.rows.now) tt c.in_ok-check_space.field-0 c.in_ok-check_space.ensures)).columns
+    (not_refused (sub_action_refusal c.args.module.now c.args.rows.now) tt c.in_ok-check_space.field-0 c.in_ok-check_space.ensures.refusal)).columns
 
 pub returns-clause-action : goal.returns-clause-action
 returns-clause-action c =
-    let none = not_refused (sub_action_refusal c.args.module.now c.args.rows.now) tt c.in_ok-check_space.field-0 c.in_ok-check_space.ensures in
-    subst (λ r. AnswersSubAction r (IsInvariantIn c.args.module.now c.args.rows.now) (IsBasisAction c.args.module.now c.args.rows.now) c.action_over.result)
-    (sym none) c.action_over.ensures.action
+    let none = not_refused (sub_action_refusal c.args.module.now c.args.rows.now) tt c.in_ok-check_space.field-0 c.in_ok-check_space.ensures.refusal in
+    answered_late (sub_action_refusal c.args.module.now c.args.rows.now) _ _ _ _ c.action_over.result none (λ action acts. acts) (λ refusal stands. stands)
+    c.action_over.ensures.action
 
 pub returns-clause-well_formed : goal.returns-clause-well_formed
 returns-clause-well_formed c = c.action_over.ensures.well_formed

@@ -1,23 +1,24 @@
 use Rattle.std.proofs.Common.{sym, ◌∙◌}
-use Rattle.axe_echelon.proofs.Exits.{handed_on}
-use Rattle.axe_action.specs.Actions.{rows_refusal}
-use Rattle.axe_action.proofs.SubAnswers.{not_refused}
-use Rattle.axe_action.proofs.SubBases.{refused_as_rows, refused_as_zero, accepted_space}
+use Rattle.axe_row.specs.declared.refusals.Refusal.TheVariants.{ZeroSpace}
+use Rattle.axe_echelon.proofs.Exits.{handed_on, not_refused}
+use Rattle.axe_spin.specs.Modules.{rows_refusal}
+use Rattle.axe_spin.specs.Spinning.{has_only_zeros}
+use Rattle.axe_spin.proofs.SeedLaws.{zeros_refusal, refused_first, then_second, zeros_refused, others_accepted}
 use Rattle.axe_action.proofs.subspaces.check_space.Goals as goal
 
-pub returns-in_err-check_rows : goal.returns-in_err-check_rows
-returns-in_err-check_rows c =
+pub returns-in_err-check_rows-clause-refusal : goal.returns-in_err-check_rows-clause-refusal
+returns-in_err-check_rows-clause-refusal c =
     handed_on c.from_residual.result _ c.from_residual.ensures.1
-    ∙ refused_as_rows tt c.args.module.now c.args.rows.now _ c.in_err-check_rows.ensures
+    ∙ refused_first (rows_refusal c.args.module.now c.args.rows.now) (zeros_refusal (has_only_zeros c.args.rows.now.rows) ZeroSpace) tt _ c.in_err-check_rows.ensures.refusal
 
-pub returns-then-has_only_zeros : goal.returns-then-has_only_zeros
-returns-then-has_only_zeros c =
-    refused_as_zero tt c.args.module.now c.args.rows.now
-    (not_refused (rows_refusal c.args.module.now c.args.rows.now) tt c.in_ok-check_rows.field-0 c.in_ok-check_rows.ensures)
-    (sym c.has_only_zeros.ensures ∙ c.if-has_only_zeros.true)
+pub returns-then-has_only_zeros-clause-refusal : goal.returns-then-has_only_zeros-clause-refusal
+returns-then-has_only_zeros-clause-refusal c =
+    let none = not_refused (rows_refusal c.args.module.now c.args.rows.now) tt c.in_ok-check_rows.field-0 c.in_ok-check_rows.ensures.refusal in
+    zeros_refused (has_only_zeros c.args.rows.now.rows) ZeroSpace tt (sym c.has_only_zeros.ensures ∙ c.if-has_only_zeros.true)
+    ∙ then_second (rows_refusal c.args.module.now c.args.rows.now) (zeros_refusal (has_only_zeros c.args.rows.now.rows) ZeroSpace) tt none
 
-pub returns : goal.returns
-returns c =
-    accepted_space tt c.args.module.now c.args.rows.now
-    (not_refused (rows_refusal c.args.module.now c.args.rows.now) tt c.in_ok-check_rows.field-0 c.in_ok-check_rows.ensures)
-    (sym c.has_only_zeros.ensures ∙ c.if-has_only_zeros.false)
+pub returns-clause-refusal : goal.returns-clause-refusal
+returns-clause-refusal c =
+    let none = not_refused (rows_refusal c.args.module.now c.args.rows.now) tt c.in_ok-check_rows.field-0 c.in_ok-check_rows.ensures.refusal in
+    others_accepted (has_only_zeros c.args.rows.now.rows) ZeroSpace tt (sym c.has_only_zeros.ensures ∙ c.if-has_only_zeros.false)
+    ∙ then_second (rows_refusal c.args.module.now c.args.rows.now) (zeros_refusal (has_only_zeros c.args.rows.now.rows) ZeroSpace) tt none

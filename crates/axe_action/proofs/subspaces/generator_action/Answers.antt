@@ -1,5 +1,5 @@
-use Rattle.std.proofs.Common.{◌≡◌, ◌<◌, ◌≤◌, length, ap, sym, ◌∙◌, subst, arith, None, refl}
-use Rattle.axe_action.proofs.SubAnswers.{no_memory_for_action}
+use Rattle.std.proofs.Common.{◌≡◌, ◌<◌, ◌≤◌, length, ap, sym, ◌∙◌, subst, arith, None, refl, inr}
+use Rattle.axe_echelon.proofs.Exits.{no_memory_late}
 use Rattle.axe_algebra.specs.ListArithmetic.{combination}
 use Rattle.axe_algebra.specs.SpansOfLists.{IsSpanned}
 use Rattle.axe_algebra.proofs.ListSpans.{independent_rows_are_few}
@@ -30,7 +30,7 @@ returns-in_default c =
     let below : c.loop-index.index < length c.args.rows.now.rows = omega (arith, c.loop-index-test.true, c.rows-index-end.ensures.count) in
     let outside : ¬ (IsSpanned (number_field c.args.span.now.order) c.args.span.now.rows c.in_ok-image.image.entries) =
     rw c.in_default.is at c.in_ok-coefficients.ensures.coefficients in
-    image_outside c.args.generator.now c.args.rows.now.rows c.loop-index.index c.args.span.now c.in_ok-image.image c.requires.span image below outside
+    inr (refl, image_outside c.args.generator.now c.args.rows.now.rows c.loop-index.index c.args.span.now c.in_ok-image.image c.requires.span image below outside)
 
 pub loop-index-preserved : goal.loop-index-preserved
 loop-index-preserved c =
@@ -55,10 +55,10 @@ returns c =
     )
 
 pub returns-in_err-image : goal.returns-in_err-image
-returns-in_err-image c = no_memory_for_action None _ _ c.from_residual.result _ refl c.in_err-image.ensures.product c.from_residual.ensures.1
+returns-in_err-image c = no_memory_late None _ _ c.from_residual.result _ refl c.in_err-image.ensures.product c.from_residual.ensures.1
 
 pub returns-in_err-coefficients : goal.returns-in_err-coefficients
-returns-in_err-coefficients c = no_memory_for_action None _ _ c.from_residual-in_err-coefficients.result _ refl c.in_err-coefficients.ensures.coefficients c.from_residual-in_err-coefficients.ensures.1
+returns-in_err-coefficients c = no_memory_late None _ _ c.from_residual-in_err-coefficients.result _ refl c.in_err-coefficients.ensures.coefficients c.from_residual-in_err-coefficients.ensures.1
 
 pub returns-in_err-append : goal.returns-in_err-append
-returns-in_err-append c = no_memory_for_action None _ _ c.from_residual-in_err-append.result _ refl c.in_err-append.ensures.appended c.from_residual-in_err-append.ensures.1
+returns-in_err-append c = no_memory_late None _ _ c.from_residual-in_err-append.result _ refl c.in_err-append.ensures.appended c.from_residual-in_err-append.ensures.1

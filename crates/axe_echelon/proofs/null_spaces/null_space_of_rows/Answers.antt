@@ -8,7 +8,8 @@ use Rattle.axe_echelon.specs.Echelons.{EchelonValue, with_row_where}
 use Rattle.axe_echelon.specs.Inserted.{IsRelation}
 use Rattle.axe_echelon.proofs.Exits.{no_memory}
 use Rattle.axe_echelon.proofs.InverseLaws.{spanned_of_not_new}
-use Rattle.axe_echelon.proofs.NullRowLaws.{null_so_far_none, null_so_far_new, null_so_far_old, null_so_far_all, answers_more}
+use Rattle.axe_echelon.proofs.NullRowLaws.{null_so_far_none, null_so_far_new, null_so_far_old, null_so_far_all}
+use Rattle.axe_echelon.proofs.Exits.{answers_more}
 use Rattle.axe_echelon.proofs.null_spaces.null_space_of_rows.Goals.{then-branch+in_ok-append, else-branch+in_ok-vector+in_ok-insert-2}
 use Rattle.axe_echelon.proofs.null_spaces.null_space_of_rows.Goals as goal
 
