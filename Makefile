@@ -1,26 +1,42 @@
-# make demo      proves and builds axe, and runs its commands on the files of examples/
+# make try       a minute: builds axe without a proof, and prints an example with it
+# make demo      proves and builds axe, some 13 minutes on four processors, and runs its commands on the files of examples/
 # make test      everything that CI runs: each proof from nothing, the wrong bodies, the tests and the runs of the program
 # make build     proves and builds crates/axe/out/axe
-# make cases     the runs of the built program alone
+# make cases     the runs of the built program alone, and the sessions of the documents
 # make bench     times the built program, beside GAP where that is installed
-# make install   puts the program into PREFIX/bin (PREFIX=/usr/local)
+# make install   puts the program into PREFIX/bin (PREFIX=/usr/local), its man page and its completions where such files go
 PREFIX ?= /usr/local
 AXE = crates/axe/out/axe
+# the example of `make try`, and the command that shows it
+EXAMPLE = l32.1
+SHOWN = zpr $(EXAMPLE)
 
-.PHONY: build demo test cases bench install
+.PHONY: try build demo test cases bench install
+
+try:
+	@command -v rt >/dev/null || { echo "axe is built by 'rt' of the Rattle kit, which is not on the path: README.md says which kit"; exit 1; }
+	@echo "axe $(SHOWN), built without a proof ('make demo' proves it), in about a minute:"
+	@cd crates/axe && rt try --data $(EXAMPLE)=$(abspath examples/$(EXAMPLE)) -- $(SHOWN)
 
 build:
-	cd crates/axe && rt run -- --version
+	@tests/prove
 
 demo: build
-	AXE=$(abspath $(AXE)) examples/demo
-	AXE=$(abspath $(AXE)) examples/a5/demo
+	@echo "The commands of axe on the files of examples/:"
+	@echo
+	@AXE=$(abspath $(AXE)) examples/demo
+	@echo
+	@echo "The walk of examples/a5:"
+	@echo
+	@AXE=$(abspath $(AXE)) examples/a5/demo
 
 test:
 	.ci/run
 
 cases: build
 	tests/run
+	tests/disk
+	tests/documents
 
 bench: build
 	-AXE=$(abspath $(AXE)) bench/run

@@ -1,0 +1,20 @@
+# Reads the texts that axe wrote and compares them with what GAP computes: the rows that it spun with those of GAP's MeatAxe,
+# the quotient's generators with those of GAP's factor module by their orders and traces, an inverse and a product.
+LoadPackage("atlasrep", false);;
+field := GF(3);;
+read := name -> ScanMeatAxeFile(Concatenation(name, ".txt"));;
+module := GModuleByMats([read("m11.1"), read("m11.2")], field);;
+same := function(what, mine, theirs)
+  Print(what, ": ");
+  if mine = theirs then Print("the same\n"); else Print("DIFFERENT\n"); fi;
+end;;
+seed := read("difference");;
+spun := MTX.SpinnedBasis(seed[1], module.generators, field);;
+same("rows of zsp", read("deleted"), TriangulizedMat(spun));
+factor := MTX.InducedActionFactorModule(module, read("fixed"));;
+same("dimension of zqt", Length(read("quotient.1")), factor.dimension);
+same("orders of zqt", List([read("quotient.1"), read("quotient.2")], Order), List(factor.generators, Order));
+same("traces of zqt", List([read("quotient.1"), read("quotient.2")], Trace), List(factor.generators, Trace));
+same("product of zmu", read("product"), module.generators[1] * module.generators[2]);
+same("inverse of ziv", read("inverse"), read("product") ^ -1);
+QUIT;
