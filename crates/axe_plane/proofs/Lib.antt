@@ -1,0 +1,4 @@
+pub mod BitLaws
+pub mod DigitLaws
+pub mod ChangedLists
+pub mod PlaneLaws

@@ -1,0 +1,18 @@
+-- Words of 64 bits as lists of digits modulo 2.
+use Rattle.std.specs.Prelude.{◌≡◌, ℕ, ◌+◌, ◌/◌, ◌%◌, ◌^◌, ◌<◌, ◌≤◌, List, length, slice_index}
+use Rattle.std.specs.Int.{bit_at}
+use Rattle.axe_algebra.specs.Lists.{listed}
+
+-- bit e of a list of words: bit e mod 64 of word e / 64, where bit 0 is the lowest
+unfoldable pub bit_of : List ℕ → ℕ → ℕ
+bit_of words e = bit_at (slice_index words (e / 64)) (e % 64)
+
+-- the first n bits of a list of words
+unfoldable pub bits : ℕ → List ℕ → List ℕ
+bits n words = listed n (bit_of words)
+
+-- words of 64 bits with room for n bits, and none that is there for nothing; each bit that is not used is 0
+pub record HoldsBits (n : ℕ) (words : List ℕ) : Type 0 where
+  pub fits : (k : ℕ) → slice_index words k < 2 ^ 64
+  pub long : length words ≡ (n + 63) / 64
+  pub unused : (e : ℕ) → n ≤ e → bit_of words e ≡ 0

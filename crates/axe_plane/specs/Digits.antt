@@ -1,0 +1,11 @@
+-- Lists of digits modulo a prime.
+use Rattle.std.specs.Prelude.{ℕ, ◌+◌, ◌*◌, ◌%◌, ◌<◌, List, length, slice_index, All}
+use Rattle.axe_algebra.specs.Lists.{listed}
+
+-- each digit is below p
+abbrev pub AreDigits : ℕ → List ℕ → Type 0
+AreDigits p digits = All (λ digit. digit < p) digits
+
+-- a list of digits plus m times another, modulo p, digit by digit (any linear algebra text)
+unfoldable pub digits_with_multiple : ℕ → List ℕ → ℕ → List ℕ → List ℕ
+digits_with_multiple p a m b = listed (length a) (λ e. (slice_index a e + m * slice_index b e) % p)

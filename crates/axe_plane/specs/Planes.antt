@@ -1,0 +1,27 @@
+-- A plane as its prime and its digits.
+use Rattle.std.specs.Prelude.{◌≡◌, ℕ, List, length}
+use Rattle.axe_plane.specs.Digits.{AreDigits}
+use Rattle.axe_plane.specs.Primes.{odd_number}
+use Rattle.axe_plane.specs.declared.Plane.{Plane}
+use Rattle.axe_plane.specs.declared.Plane.TheVariants.{Bits, Bytes}
+
+-- the prime that the digits are taken modulo of
+abbrev pub prime_of_plane : Plane → ℕ
+prime_of_plane (Bits digits) = 2
+prime_of_plane (Bytes plane) = odd_number plane.prime
+
+-- the digits, in order
+abbrev pub digits_of : Plane → List ℕ
+digits_of (Bits digits) = digits
+digits_of (Bytes plane) = plane.digits
+
+-- a plane of these digits modulo this prime
+pub record IsPlane (p : ℕ) (digits : List ℕ) (plane : Plane) : Type 0 where
+  pub prime : prime_of_plane plane ≡ p
+  pub digits_are : digits_of plane ≡ digits
+
+-- a plane of n digits modulo p
+pub record IsPlaneOf (p n : ℕ) (plane : Plane) : Type 0 where
+  pub prime : prime_of_plane plane ≡ p
+  pub long : length (digits_of plane) ≡ n
+  pub digits : AreDigits p (digits_of plane)

@@ -1,0 +1,106 @@
+//! Planes of digits modulo 2.
+ghost use Rattle.std.specs.Int.{bit_at};
+ghost use Rattle.std.specs.Prelude.{ℕ, ◌≡◌, ◌≢◌, ◌^◌, ◌<◌, ◌↔◌, IsTrue, IfOk, length, replicate, slice_index, slice_set, All, MatchOption};
+ghost use Rattle.axe_plane.specs.Digits.{AreDigits, digits_with_multiple};
+
+use crate::kernels::xor_into;
+use std::alloc::{AllocError, Global};
+use std::marker::Model;
+
+/// How many digits a word has.
+const WORD: usize = 64;
+
+/// A list of digits modulo 2, one in each bit: digit e is bit e mod 64 of word e / 64. The bits from its length on are 0.
+#[derive(Drop)]
+pub struct BitPlane {
+    len: usize,
+    words: Vec<u64>,
+}
+
+impl Model for BitPlane {
+    ghost use Rattle.std.specs.Prelude.{ℕ, List};
+    ghost use Rattle.axe_plane.specs.Bits.{bits, HoldsBits};
+
+    ghost Value = { List ℕ };
+
+    ghost view = { λ a. bits a.len a.words.items };
+
+    ghost invariant = { λ a. HoldsBits a.len a.words.items };
+}
+
+impl BitPlane {
+    /// The plane of `len` zeros.
+    pub fn zero(alloc: Global, len: usize) -> Result<BitPlane, AllocError>
+        ensures { IfOk result (λ plane. plane ≡ replicate len 0) }
+    {
+        let words = vec![in alloc; 0; len.div_ceil(WORD)]?;
+        Ok(BitPlane { len, words })
+    }
+
+    /// How many digits the plane has.
+    pub fn len(&self) -> usize
+        ensures count { result ≡ length self.now }
+        ensures digits { AreDigits 2 self.now }
+    {
+        self.len
+    }
+
+    /// The digit at an index, counted from 0, and 0 from the length on.
+    pub fn get(&self, index: usize) -> u8
+        ensures { result ≡ slice_index self.now index }
+    {
+        if index < self.len {
+            ((self.words[index / WORD] >> (index % WORD)) & 1) as u8
+        } else {
+            0
+        }
+    }
+
+    /// Makes a digit the one at an index; all others stay. From the length on there is none to be changed.
+    pub fn set(&mut self, index: usize, digit: u8)
+        requires { digit < 2 }
+        ensures { self.new ≡ slice_set self.old index digit }
+    {
+        if index < self.len {
+            let word = index / WORD;
+            self.words[word] = with_bit(self.words[word], index % WORD, digit);
+        }
+    }
+
+    /// The same plane a second time.
+    pub fn copy(&self, alloc: Global) -> Result<BitPlane, AllocError>
+        ensures { IfOk result (λ plane. plane ≡ self.now) }
+    {
+        let words = Vec::from_slice(alloc, &self.words)?;
+        Ok(BitPlane {
+            len: self.len,
+            words,
+        })
+    }
+
+    /// Adds another plane of the same length: each digit becomes its sum with the other's modulo 2.
+    pub fn add(&mut self, other: &BitPlane)
+        requires { length other.now ≡ length self.old }
+        ensures { self.new ≡ digits_with_multiple 2 self.old 1 other.now }
+    {
+        xor_into(&mut self.words, &other.words);
+    }
+
+    /// Whether two planes are equal.
+    pub fn same(&self, other: &BitPlane) -> bool
+        ensures { IsTrue result ↔ (self.now ≡ other.now) }
+    {
+        self.len == other.len && self.words == other.words
+    }
+}
+
+/// A word with another bit at a place, counted from the lowest.
+fn with_bit(word: u64, place: usize, bit: u8) -> u64
+    requires place { place < 64 }
+    requires bit { bit < 2 }
+    ensures fits { result < 2 ^ 64 }
+    ensures changed { bit_at result place ≡ bit }
+    ensures kept { (i : ℕ) → i < 64 → i ≢ place → bit_at result i ≡ bit_at word i }
+{
+    if bit == 0 { word & !(1 << place) } else { word | 1 << place }
+}

@@ -1,0 +1,117 @@
+//! Planes: lists of digits modulo one of the primes 2, 3, 5 and 7. A plane modulo 2 has 64 digits in a word; another plane
+//! has a byte for each digit.
+#![tactic(auto)]
+
+ghost use Rattle.std.specs.Prelude.{◌≡◌, ◌≢◌, ◌⊎◌, ◌<◌, ◌↔◌, IsTrue, IfOk, length, replicate, slice_index, slice_set};
+ghost use Rattle.axe_plane.specs.Digits.{AreDigits, digits_with_multiple};
+
+use std::alloc::{AllocError, Global};
+
+pub use bits::BitPlane;
+pub use bytes::BytePlane;
+pub use primes::OddPrime;
+
+mod bits;
+mod bytes;
+mod kernels;
+mod primes;
+
+/// A list of digits modulo 2, 3, 5 or 7.
+#[derive(Drop)]
+pub enum Plane {
+    /// Modulo 2, each digit a bit.
+    Bits(BitPlane),
+    /// Modulo an odd prime, each digit a byte.
+    Bytes(BytePlane),
+}
+
+impl Plane {
+    ghost use Rattle.axe_plane.specs.Planes.{prime_of_plane, digits_of, IsPlane};
+
+    /// The plane of `len` zeros modulo 2, 3, 5 or 7. A plane of no digits takes no memory.
+    pub fn zero(alloc: Global, prime: u8, len: usize) -> Result<Plane, AllocError>
+        requires { (prime ≡ 2) ⊎ ((prime ≡ 3) ⊎ ((prime ≡ 5) ⊎ (prime ≡ 7))) }
+        ensures { IfOk result (IsPlane prime (replicate len 0)) }
+    {
+        Ok(match prime {
+            2 => Plane::Bits(BitPlane::zero(alloc, len)?),
+            3 => Plane::Bytes(BytePlane::zero(alloc, OddPrime::Three, len)?),
+            5 => Plane::Bytes(BytePlane::zero(alloc, OddPrime::Five, len)?),
+            _ => Plane::Bytes(BytePlane::zero(alloc, OddPrime::Seven, len)?),
+        })
+    }
+
+    /// How many digits the plane has.
+    pub fn len(&self) -> usize
+        ensures { result ≡ length (digits_of self.now) }
+    {
+        match self {
+            Plane::Bits(plane) => plane.len(),
+            Plane::Bytes(plane) => plane.len(),
+        }
+    }
+
+    /// The digit at an index, counted from 0, and 0 from the length on.
+    #[inline]
+    pub fn get(&self, index: usize) -> u8
+        ensures { result ≡ slice_index (digits_of self.now) index }
+    {
+        match self {
+            Plane::Bits(plane) => plane.get(index),
+            Plane::Bytes(plane) => plane.get(index),
+        }
+    }
+
+    /// Makes a digit the one at an index; all others stay. From the length on there is none to be changed.
+    #[inline]
+    pub fn set(&mut self, index: usize, digit: u8)
+        requires { digit < prime_of_plane self.old }
+        ensures { IsPlane (prime_of_plane self.old) (slice_set (digits_of self.old) index digit) self.new }
+    {
+        match self {
+            Plane::Bits(plane) => plane.set(index, digit),
+            Plane::Bytes(plane) => plane.set(index, digit),
+        }
+    }
+
+    /// The same plane a second time.
+    pub fn copy(&self, alloc: Global) -> Result<Plane, AllocError>
+        ensures { IfOk result (λ plane. plane ≡ self.now) }
+    {
+        Ok(match self {
+            Plane::Bits(plane) => Plane::Bits(plane.copy(alloc)?),
+            Plane::Bytes(plane) => Plane::Bytes(plane.copy(alloc)?),
+        })
+    }
+
+    /// Adds a multiple of another plane modulo the same prime and of the same length: each digit d becomes d + m s modulo
+    /// the prime, where s is the other plane's digit. Nothing is done where m is 0, and then the lengths may differ.
+    #[inline]
+    pub fn add_scaled(&mut self, factor: u8, other: &Plane)
+        requires prime { prime_of_plane other.now ≡ prime_of_plane self.old }
+        requires factor { factor < prime_of_plane self.old }
+        requires fits { factor ≢ 0 → length (digits_of other.now) ≡ length (digits_of self.old) }
+        requires digits { AreDigits (prime_of_plane self.old) (digits_of self.old) }
+        ensures { IsPlane (prime_of_plane self.old)
+            (digits_with_multiple (prime_of_plane self.old) (digits_of self.old) factor (digits_of other.now)) self.new }
+    {
+        if factor != 0 {
+            match (self, other) {
+                (Plane::Bits(plane), Plane::Bits(other)) => plane.add(other),
+                (Plane::Bytes(plane), Plane::Bytes(other)) => plane.add_scaled(factor, other),
+                _ => {}
+            }
+        }
+    }
+
+    /// Whether two planes are equal: one prime, and the same digits.
+    pub fn same(&self, other: &Plane) -> bool
+        ensures { IsTrue result ↔ (self.now ≡ other.now) }
+    {
+        match (self, other) {
+            (Plane::Bits(plane), Plane::Bits(other)) => plane.same(other),
+            (Plane::Bytes(plane), Plane::Bytes(other)) => plane.same(other),
+            _ => false,
+        }
+    }
+}
