@@ -1,0 +1,4 @@
+pub mod Progress
+pub mod VectorLaws
+pub mod ResidueLaws
+pub mod ByteLaws
