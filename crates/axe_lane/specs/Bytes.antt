@@ -1,5 +1,5 @@
 -- Lists of bytes as rows over a prime field of order below 8: each byte is a number below the prime.
-use Rattle.std.specs.Prelude.{◌≡◌, ◌⊎◌, ℕ, ◌+◌, ◌-◌, ◌*◌, ◌%◌, ◌<◌, List, map, All, if◌then◌else◌, nat_le}
+use Rattle.std.specs.Prelude.{◌≡◌, ◌⊎◌, ℕ, ◌+◌, ◌-◌, ◌*◌, ◌%◌, ◌<◌, List, map, sum, All, if◌then◌else◌, nat_le}
 use Rattle.std.specs.Simd.Lanes.{zip2}
 
 -- the primes below 8
@@ -21,3 +21,7 @@ multiple p m a = map (λ x. (m * x) % p) a
 -- x less y where x is not below y, and else x
 abbrev pub less_where_not_below : ℕ → ℕ → ℕ
 less_where_not_below y x = if nat_le y x then x - y else x
+
+-- the sum of the products of the entries of two rows at the same index
+abbrev pub sum_of_products : List ℕ → List ℕ → ℕ
+sum_of_products a b = sum (zip2 (λ x y. x * y) a b)

@@ -1,12 +1,16 @@
 //! Kernels on bytes that are entries over a prime field.
-ghost use Rattle.std.specs.Prelude.{◌≡◌, ◌+◌, ◌-◌, ◌*◌, ◌%◌, ◌<◌, ◌≤◌, length, map};
-ghost use Rattle.std.specs.Simd.Lanes.{chunk, put_chunk, zip2};
-ghost use Rattle.axe_lane.specs.Bytes.{AreBelow, IsSmallPrime, less_where_not_below, multiple, sum_with_multiple};
+ghost use Rattle.std.specs.Prelude.{◌≡◌, ◌+◌, ◌*◌, ◌%◌, ◌^◌, ◌<◌, ◌≤◌, length, map, All, IsTrue, MatchOption};
+ghost use Rattle.std.specs.Simd.Lanes.{chunk, products, put_chunk, sum_l};
+ghost use Rattle.axe_lane.specs.Bytes.{AreBelow, IsSmallPrime, less_where_not_below, multiple, sum_of_products, sum_with_multiple};
+ghost use Rattle.axe_lane.specs.Entries.{AreZerosBefore, IsFirstNonzero};
 
 use std::simd::prelude::*;
 
 /// How many bytes a block has: one vector.
 const BLOCK: usize = 32;
+
+/// How many bytes are multiplied at once, since their products take more room.
+const HALF_BLOCK: usize = 16;
 
 /// Adds a multiple of a row to another over the field of a prime order p: each byte d of `dst` becomes d + m s modulo p,
 /// where s is the byte of `src` at the same index.
@@ -41,6 +45,37 @@ pub fn scale_bytes(dst: &mut [u8], m: u8, p: u8)
         5 => scale_over::<5>(dst, m),
         _ => scale_over::<7>(dst, m),
     }
+}
+
+/// The least index of a byte other than zero, or `None` where every byte is zero.
+pub fn first_byte(bytes: &[u8]) -> Option<usize>
+    ensures { MatchOption result (All (λ byte. byte ≡ 0) bytes.now) (IsFirstNonzero bytes.now) }
+{
+    for at in zero_bytes(bytes)..bytes.len() {
+        if bytes[at] != 0 {
+            return Some(at);
+        }
+    }
+    None
+}
+
+/// The sum of the products of bytes at one index, modulo p: the dot product of two rows over the field of order p.
+pub fn dot_bytes(a: &[u8], b: &[u8], p: u8) -> u8
+    requires prime { IsSmallPrime p }
+    requires fits { length b.now ≡ length a.now }
+    requires short { length a.now ≤ 4096 }
+    ensures { result ≡ sum_of_products a.now b.now % p }
+{
+    let whole = a.len() / HALF_BLOCK;
+    let mut sums = u32x16::splat(0);
+    for block in 0..whole {
+        sums = with_products(sums, a, b, block * HALF_BLOCK);
+    }
+    let mut sum = sums.strict_reduce_sum();
+    for at in whole * HALF_BLOCK..a.len() {
+        sum += a[at] as u32 * b[at] as u32;
+    }
+    (sum % p as u32) as u8
 }
 
 /// The same over the field of order `P`. The factor is told apart here, outside the loops.
@@ -185,4 +220,42 @@ fn reduced(v: u8x32, by: u8) -> u8x32
     ensures { result ≡ map (less_where_not_below by) v }
 {
     v.simd_min(v - u8x32::splat(by))
+}
+
+/// Lanes plus the products of the block from an index on. Sums of 32 bits hold 4,096 products of any bytes.
+#[inline(always)]
+fn with_products(sums: u32x16, a: &[u8], b: &[u8], at: usize) -> u32x16
+    requires a_has_block { at + HALF_BLOCK ≤ length a.now }
+    requires b_has_block { at + HALF_BLOCK ≤ length b.now }
+    requires fits { sum_l sums + 65025 * HALF_BLOCK < 2 ^ 32 }
+    ensures { sum_l result ≡ sum_l sums + sum_l (products (chunk at HALF_BLOCK a.now) (chunk at HALF_BLOCK b.now)) }
+{
+    let left = u8x16::from_slice(&a[at..]).cast::<u32>();
+    let right = u8x16::from_slice(&b[at..]).cast::<u32>();
+    sums.strict_add(left.strict_mul(right))
+}
+
+/// How many bytes the whole blocks of zeros at the start have.
+#[inline(always)]
+fn zero_bytes(bytes: &[u8]) -> usize
+    ensures within { result ≤ length bytes.now }
+    ensures zeros { AreZerosBefore bytes.now result }
+{
+    let whole = bytes.len() / BLOCK;
+    for block in 0..whole {
+        let is_zero = is_zero_block(bytes, block * BLOCK);
+        if !is_zero {
+            return block * BLOCK;
+        }
+    }
+    whole * BLOCK
+}
+
+/// Whether a block from an index on has only zeros.
+#[inline(always)]
+fn is_zero_block(bytes: &[u8], at: usize) -> bool
+    requires { at + BLOCK ≤ length bytes.now }
+    ensures { IsTrue result → AreZerosBefore (chunk at BLOCK bytes.now) BLOCK }
+{
+    u8x32::from_slice(&bytes[at..]).reduce_or() == 0
 }
