@@ -88,14 +88,14 @@ impl Word {
         ensures count { result ≡ length self.now }
         ensures well_formed { IsWord self.now }
     {
-        self.len
+        self.terms().len()
     }
 
     /// Whether there are no terms.
     pub fn is_empty(&self) -> bool
         ensures { IsTrue result ↔ (length self.now ≡ 0) }
     {
-        self.len == 0
+        self.terms().is_empty()
     }
 
     /// The term at an index.
@@ -105,12 +105,19 @@ impl Word {
         ensures numbers { result.gens.now ≡ (slice_index_or self.now index (0, [])).1 }
         ensures well_formed { IsWord self.now }
     {
-        prove!(index < self.len());
-        let term = &self.terms[index];
+        let term = &self.terms()[index];
         Term {
             coefficient: term.coefficient(),
             gens: term.numbers(),
         }
+    }
+
+    /// The terms as they are stored.
+    fn terms(&self) -> &[StoredTerm]
+        ensures terms { result.now ≡ self.now }
+        ensures well_formed { IsWord self.now }
+    {
+        &self.terms[..self.len]
     }
 }
 
