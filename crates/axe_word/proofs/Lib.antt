@@ -4,3 +4,4 @@ pub mod TermLaws
 pub mod PointPlaces
 pub mod PointSums
 pub mod ValueLaws
+pub mod MembershipLaws

@@ -3,6 +3,7 @@
 
 mod drawing;
 mod laws;
+mod limits;
 mod points;
 mod stored;
 mod value;
@@ -10,6 +11,7 @@ mod word;
 
 pub use drawing::nth_word;
 pub use laws::{drawn_words_are_words, words_have_one_value};
+pub use limits::limits_are_named;
 pub use points::{MAX_POINTS, Points, few_points, first_point};
 pub use word::{Term, Word};
 

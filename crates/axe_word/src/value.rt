@@ -1,21 +1,34 @@
 //! The values of words.
 
-ghost use Rattle.std.specs.Prelude.{◌≡◌, ◌+◌, ◌<◌, ◌≤◌, length, take, All, None, IfOk};
+ghost use Rattle.std.specs.Prelude.{◌≡◌, ◌+◌, ◌<◌, ◌≤◌, ◌↔◌, length, take, All, None, IfOk, IsTrue};
 ghost use Rattle.axe_row.specs.Refusals.{Answers};
 ghost use Rattle.axe_matrix.specs.Matrices.{IsMatrix, matrix_product};
 ghost use Rattle.axe_spin.specs.Modules.{generator_of};
-ghost use Rattle.axe_word.specs.Words.{IsWordIn, IsValueOf};
+ghost use Rattle.axe_word.specs.Words.{IsWordIn, IsTermIn, IsValueOf};
 ghost use Rattle.axe_word.specs.Products.{IsProductOf};
 
-use crate::word::Word;
+use crate::word::{Term, Word};
 use axe_matrix::{Matrix, Refusal};
 use axe_spin::Module;
 use std::alloc::Global;
 
 impl Word {
-    /// The value of the word in a module that has a field with its coefficients, and its generators: the sum over the terms
-    /// of the coefficient times the product of the generators from left to right. The empty sum is zero, and the empty
-    /// product the identity.
+    /// Whether the word is one in the generators of a module: whether each coefficient is the number of an element of its
+    /// field, and each generator number that of a generator.
+    pub fn is_word_in(&self, module: &Module) -> bool
+        ensures { IsTrue result ↔ IsWordIn «module».now self.now }
+    {
+        for index in 0..self.len() {
+            if !is_term_in(self.term(index), module) {
+                return false;
+            }
+        }
+        true
+    }
+
+    /// The value of the word in a module of which it is one, as [`Word::is_word_in`] says: the sum over the terms of the
+    /// coefficient times the product of the generators from left to right. The empty sum is zero, and the empty product
+    /// the identity.
     pub fn value(&self, alloc: Global, module: &Module) -> Result<Matrix, Refusal>
         requires { IsWordIn «module».now self.now }
         ensures value { Answers None (IsValueOf «module».now self.now) result }
@@ -57,6 +70,15 @@ impl Word {
         }
         Ok(())
     }
+}
+
+/// Whether a term may stand in a word in the generators of a module.
+fn is_term_in(term: Term<'_>, module: &Module) -> bool
+    ensures { IsTrue result ↔ IsTermIn «module».now (term.entry.coefficient, term.entry.gens.now) }
+{
+    let count = module.gens();
+    module.field().is_element(term.coefficient)
+        && term.gens.iter().all(|&number| usize::from(number) < count)
 }
 
 /// The product of two or more generators of a module from left to right.

@@ -1,6 +1,7 @@
 //! Words: sums of multiples of products of generators.
 
 ghost use Rattle.std.specs.Prelude.{◌≡◌, ◌≢◌, ◌<◌, ◌≤◌, ◌↔◌, [], ◌∷◌, ◌++◌, length, All, MatchOption, IsTrue, slice_index_or};
+ghost use Rattle.axe_word.specs.Limits.{most_terms, most_numbers};
 ghost use Rattle.axe_word.specs.Words.{IsWord};
 ghost use Rattle.axe_word.specs.Terms.{word_of_terms, IsTerm};
 
@@ -73,9 +74,9 @@ impl Word {
 
     /// Appends a term with a coefficient other than 0.
     pub(crate) fn push(&mut self, term: StoredTerm)
-        requires room { length self.old < MAX_TERMS }
+        requires room { length self.old < most_terms }
         requires nonzero { term.0 ≢ 0 }
-        requires fits { length term.1 ≤ MAX_NUMBERS }
+        requires fits { length term.1 ≤ most_numbers }
         ensures { self.new ≡ self.old ++ term ∷ [] }
     {
         self.terms[self.len] = term;
@@ -87,14 +88,14 @@ impl Word {
         ensures count { result ≡ length self.now }
         ensures well_formed { IsWord self.now }
     {
-        self.len
+        self.terms().len()
     }
 
     /// Whether there are no terms.
     pub fn is_empty(&self) -> bool
         ensures { IsTrue result ↔ (length self.now ≡ 0) }
     {
-        self.len == 0
+        self.terms().is_empty()
     }
 
     /// The term at an index.
@@ -104,12 +105,19 @@ impl Word {
         ensures numbers { result.gens.now ≡ (slice_index_or self.now index (0, [])).1 }
         ensures well_formed { IsWord self.now }
     {
-        prove!(index < self.len());
-        let term = &self.terms[index];
+        let term = &self.terms()[index];
         Term {
             coefficient: term.coefficient(),
             gens: term.numbers(),
         }
+    }
+
+    /// The terms as they are stored.
+    fn terms(&self) -> &[StoredTerm]
+        ensures terms { result.now ≡ self.now }
+        ensures well_formed { IsWord self.now }
+    {
+        &self.terms[..self.len]
     }
 }
 
