@@ -49,3 +49,4 @@ pub mod PointFilters
 pub mod PointLists
 pub mod PointMembers
 pub mod PointSpans
+pub mod FormMatches
