@@ -51,3 +51,4 @@ pub mod PointMembers
 pub mod PointSpans
 pub mod ListExistence
 pub mod ListInvariance
+pub mod FormMatches
