@@ -43,3 +43,7 @@ bench: build
 
 install: build
 	install -D -m 755 $(AXE) $(DESTDIR)$(PREFIX)/bin/axe
+	install -d $(DESTDIR)$(PREFIX)/share/man/man1
+	share/manual $(AXE) >$(DESTDIR)$(PREFIX)/share/man/man1/axe.1
+	install -D -m 644 share/axe.bash $(DESTDIR)$(PREFIX)/share/bash-completion/completions/axe
+	install -D -m 644 share/_axe $(DESTDIR)$(PREFIX)/share/zsh/site-functions/_axe
