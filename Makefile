@@ -2,7 +2,7 @@
 # make demo      proves and builds axe, some 13 minutes on four processors, and runs its commands on the files of examples/
 # make test      everything that CI runs: each proof from nothing, the wrong bodies, the tests and the runs of the program
 # make build     proves and builds crates/axe/out/axe
-# make cases     the runs of the built program alone, and the sessions of the documents
+# make cases     the runs of the built program alone: cases, disks, the sessions of the documents, what is installed
 # make bench     times the built program, beside GAP where that is installed
 # make install   puts the program into PREFIX/bin (PREFIX=/usr/local), its man page and its completions where such files go
 PREFIX ?= /usr/local
@@ -37,6 +37,7 @@ cases: build
 	tests/run
 	tests/disk
 	tests/documents
+	tests/installed
 
 bench: build
 	-AXE=$(abspath $(AXE)) bench/run
