@@ -1,10 +1,10 @@
 # make try       a minute: builds axe without a proof, and prints an example with it
-# make demo      proves and builds axe, some 13 minutes on four processors, and runs its commands on the files of examples/
-# make test      everything that CI runs: each proof from nothing, the wrong bodies, the tests and the runs of the program
+# make demo      proves and builds axe, some 13 minutes on four processors, and runs its commands on examples/
+# make test      everything that CI runs: proofs from nothing, the wrong bodies, the tests and the runs of the program
 # make build     proves and builds crates/axe/out/axe
-# make cases     the runs of the built program alone: cases, disks, the sessions of the documents, what is installed
+# make cases     the runs of the built program alone: cases, disks, sessions of the documents, what is installed
 # make bench     times the built program, beside GAP where that is installed
-# make install   puts the program into PREFIX/bin (PREFIX=/usr/local), its man page and its completions where such files go
+# make install   puts the program into PREFIX/bin (PREFIX=/usr/local), man page and completions where such files go
 PREFIX ?= /usr/local
 AXE = crates/axe/out/axe
 # the example of `make try`, and the command that shows it
@@ -14,7 +14,8 @@ SHOWN = zpr $(EXAMPLE)
 .PHONY: try build demo test cases bench install
 
 try:
-	@command -v rt >/dev/null || { echo "axe is built by 'rt' of the Rattle kit, which is not on the path: README.md says which kit"; exit 1; }
+	@command -v rt >/dev/null || \
+	  { echo "axe is built by 'rt' of the Rattle kit, which is not on the path: README.md says which kit"; exit 1; }
 	@echo "axe $(SHOWN), built without a proof ('make demo' proves it), in about a minute:"
 	@cd crates/axe && rt try --data $(EXAMPLE)=$(abspath examples/$(EXAMPLE)) -- $(SHOWN)
 
