@@ -1,10 +1,10 @@
 # make try       a minute: builds axe without a proof, and prints an example with it
-# make demo      proves and builds axe, some 13 minutes on four processors, and runs its commands on the files of examples/
-# make test      everything that CI runs: each proof from nothing, the wrong bodies, the tests and the runs of the program
+# make demo      proves and builds axe, some 13 minutes on four processors, and runs its commands on examples/
+# make test      everything that CI runs: proofs from nothing, the wrong bodies, the tests and the runs of the program
 # make build     proves and builds crates/axe/out/axe
-# make cases     the runs of the built program alone, and the sessions of the documents
+# make cases     the runs of the built program alone: cases, disks, sessions of the documents, what is installed
 # make bench     times the built program, beside GAP where that is installed
-# make install   puts the program into PREFIX/bin (PREFIX=/usr/local), its man page and its completions where such files go
+# make install   puts the program into PREFIX/bin (PREFIX=/usr/local), man page and completions where such files go
 PREFIX ?= /usr/local
 AXE = crates/axe/out/axe
 # the example of `make try`, and the command that shows it
@@ -14,7 +14,8 @@ SHOWN = zpr $(EXAMPLE)
 .PHONY: try build demo test cases bench install
 
 try:
-	@command -v rt >/dev/null || { echo "axe is built by 'rt' of the Rattle kit, which is not on the path: README.md says which kit"; exit 1; }
+	@command -v rt >/dev/null || \
+	  { echo "axe is built by 'rt' of the Rattle kit, which is not on the path: README.md says which kit"; exit 1; }
 	@echo "axe $(SHOWN), built without a proof ('make demo' proves it), in about a minute:"
 	@cd crates/axe && rt try --data $(EXAMPLE)=$(abspath examples/$(EXAMPLE)) -- $(SHOWN)
 
@@ -37,9 +38,14 @@ cases: build
 	tests/run
 	tests/disk
 	tests/documents
+	tests/installed
 
 bench: build
 	-AXE=$(abspath $(AXE)) bench/run
 
 install: build
 	install -D -m 755 $(AXE) $(DESTDIR)$(PREFIX)/bin/axe
+	install -d $(DESTDIR)$(PREFIX)/share/man/man1
+	share/manual $(AXE) >$(DESTDIR)$(PREFIX)/share/man/man1/axe.1
+	install -D -m 644 share/axe.bash $(DESTDIR)$(PREFIX)/share/bash-completion/completions/axe
+	install -D -m 644 share/_axe $(DESTDIR)$(PREFIX)/share/zsh/site-functions/_axe

@@ -24,9 +24,9 @@ const MOST_BESIDE: u8 = 100;
 /// Device and `remove` Ok, and none of them asks the file system. So no call names a file outside the directory.
 ///
 /// `put` never leaves a file half replaced: it writes a new file beside it, named `.NAME.NUMBER`, and renames that. The
-/// new file has the permissions of the old one. A link to a file is replaced, and what it leads to stays as it is; `get`
-/// follows it. What may not be written to is Device, and so is a directory that takes no new file. A FIFO or a device
-/// takes the bytes as they come.
+/// new file has the permissions of the old one. A link to a file is replaced, and what it leads to stays as it is;
+/// `get` follows it. What may not be written to is Device, and so is a directory that takes no new file. A FIFO or a
+/// device takes the bytes as they come.
 #[derive(Drop)]
 pub struct DirFolder<R: Files + AllocGlobal + Drop> {
     runtime: R,
