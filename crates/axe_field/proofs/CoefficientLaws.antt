@@ -1,6 +1,6 @@
 -- Elements by their coefficients: sums are taken coefficient by coefficient, products by the matrix of a factor.
-use Rattle.std.proofs.Common.{◌≡◌, ℕ, ◌<◌, ◌+◌, ◌%◌, Bool, true, ◌&&◌, eqb, ltb, cond, refl}
-use Rattle.std.proofs.lemmas.Bool.{and_parts, ltb-true, eqb-true}
+use Rattle.std.proofs.Common.{◌≡◌, ℕ, ◌<◌, ◌+◌, ◌%◌, Bool, true, ◌&&◌, eqb, ltb, cond, refl, ◌≢◌, ◌||◌, inl, inr}
+use Rattle.std.proofs.lemmas.Bool.{and_parts, or_cases, ltb-true, eqb-true}
 use Rattle.axe_algebra.specs.Lists.{entry}
 use Rattle.axe_field.specs.Order.{Order, Two, Three, Four, Five, Seven, Eight, Nine, order_number, prime_of, degree_of, IsElement}
 use Rattle.axe_field.specs.Arithmetic.{coefficients, number_of, polynomial_sum, polynomial_multiple, polynomial_negative, polynomial_product, without_leading, polynomial_remainder, polynomial_of, field_add, field_mul}
@@ -26,6 +26,14 @@ is_of_its_coefficients o a = eqb (element_of o (coefficient o a 0) (coefficient 
 
 has_coefficients_below : Order → ℕ → Bool
 has_coefficients_below o a = passes_below 3 (λ j. ltb (coefficient o a j) (cond (ltb j (degree_of o)) (prime_of o) 1))
+
+has_first_row : Order → ℕ → Bool
+has_first_row o a = passes_below 3 (λ j. eqb (entry (matrix_of_multiplication o a) 0 j) (coefficient o a j))
+
+has_zeros_outside : Order → ℕ → Bool
+has_zeros_outside o c =
+    passes_below 3 (λ i. passes_below 3 (λ j.
+    (ltb i (degree_of o) && ltb j (degree_of o)) || eqb (entry (matrix_of_multiplication o c) i j) 0))
 
 -- the number of three coefficients is that of an element, and has them
 has_these : Order → ℕ → ℕ → ℕ → Bool
@@ -67,6 +75,26 @@ has_entries_below-all Five = refl
 has_entries_below-all Seven = refl
 has_entries_below-all Eight = refl
 has_entries_below-all Nine = refl
+
+has_first_row-all : (o : Order) → at_one has_first_row o ≡ true
+unfolding at_one passes_below has_first_row monomial coefficients_of_multiple matrix_of_multiplication coefficients polynomial_sum polynomial_multiple polynomial_negative polynomial_product without_leading polynomial_remainder polynomial_of
+has_first_row-all Two = refl
+has_first_row-all Three = refl
+has_first_row-all Four = refl
+has_first_row-all Five = refl
+has_first_row-all Seven = refl
+has_first_row-all Eight = refl
+has_first_row-all Nine = refl
+
+has_zeros_outside-all : (o : Order) → at_one has_zeros_outside o ≡ true
+unfolding at_one passes_below has_zeros_outside monomial coefficients_of_multiple matrix_of_multiplication coefficients polynomial_sum polynomial_multiple polynomial_negative polynomial_product without_leading polynomial_remainder polynomial_of
+has_zeros_outside-all Two = refl
+has_zeros_outside-all Three = refl
+has_zeros_outside-all Four = refl
+has_zeros_outside-all Five = refl
+has_zeros_outside-all Seven = refl
+has_zeros_outside-all Eight = refl
+has_zeros_outside-all Nine = refl
 
 is_of_its_coefficients-all : (o : Order) → at_one is_of_its_coefficients o ≡ true
 unfolding at_one passes_below is_of_its_coefficients coefficients number_of polynomial_of
@@ -120,6 +148,26 @@ pub matrix_of_multiplication-below : (o : Order) (c i j : ℕ) → IsElement o c
 unfolding has_entries_below
 matrix_of_multiplication-below o c i j hc hi hj =
     ltb-true _ _ (passes_below-at 3 _ (passes_below-at 3 _ (from_one has_entries_below o (has_entries_below-all o) c hc) i hi) j hj)
+
+-- its first row has the element's own coefficients
+pub matrix_of_multiplication-first : (o : Order) (a j : ℕ) → IsElement o a → j < 3 →
+    entry (matrix_of_multiplication o a) 0 j ≡ coefficient o a j
+unfolding has_first_row
+matrix_of_multiplication-first o a j ha hj =
+    eqb-true _ _ (passes_below-at 3 _ (from_one has_first_row o (has_first_row-all o) a ha) j hj)
+
+-- from the degree on its rows and columns are 0
+pub matrix_of_multiplication-outside : (o : Order) (c i j : ℕ) → IsElement o c → i < 3 → j < 3 →
+    entry (matrix_of_multiplication o c) i j ≢ 0 → (i < degree_of o) × (j < degree_of o)
+unfolding has_zeros_outside
+matrix_of_multiplication-outside o c i j hc hi hj nonzero =
+    let test = passes_below-at 3 _ (passes_below-at 3 _ (from_one has_zeros_outside o (has_zeros_outside-all o) c hc) i hi) j hj in
+    elim (or_cases (ltb i (degree_of o) && ltb j (degree_of o)) (eqb (entry (matrix_of_multiplication o c) i j) 0) test) [
+      | inl inside ↦
+          let both = and_parts (ltb i (degree_of o)) (ltb j (degree_of o)) inside in
+          (ltb-true i (degree_of o) both.0, ltb-true j (degree_of o) both.1)
+      | inr none ↦ absurd (nonzero (eqb-true (entry (matrix_of_multiplication o c) i j) 0 none))
+    ]
 
 -- an element is that of its coefficients
 pub element_of-coefficients : (o : Order) (a : ℕ) → IsElement o a →
