@@ -44,3 +44,4 @@ pub mod Sections
 pub mod Leading
 pub mod ListExtended
 pub mod SectionChains
+pub mod NortonLists
