@@ -41,10 +41,10 @@ module _ (K : NumberField) where
     -- where every nonzero null vector of a word's value generates everything, and one null vector of its transpose generates
     -- everything in the transposed module, the module is irreducible
     pub irreducible_by_norton : (terms : List (ℕ × List ℕ)) (value : List (List ℕ)) (w : List ℕ) → IsWordOver K (length generators) terms →
-        IsSquareOver K n value → IsWordValue K n generators terms value →
+        IsWordValue K n generators terms value →
         ((v : List ℕ) → IsVectorOver K n v → v ≢ listed n (λ j. 0) → IsNullVector K value v → GeneratesEverything K n generators v) →
         IsNullVector K (transpose n value) w → GeneratesEverything K n (transposed_generators n generators) w → IsIrreducible K n generators
-    irreducible_by_norton terms value w over over_value is_value each null generates =
+    irreducible_by_norton terms value w over is_value each null generates =
         norton F M (module_shape K n generators square) word (is_word K n generators terms over) every (vector_of K w) null_of_transpose
         (subst (λ (N : Module F). VectorGeneratesAll F N (vector_of K w)) (module_of_transposes K n generators square) generates)
       where
@@ -56,10 +56,10 @@ module _ (K : NumberField) where
             subst (VectorGeneratesAll F M) same
             (each (entries_of K n x) (entries_over K n x) (λ e. nonzero (sym same ∙ ap (vector_of K) e ∙ vector_of_zeros K n))
             (record {
-              length = subst (λ m. HasLength F m (vector_of K (entries_of K n x))) (sym over_value.length_is) (subst (HasLength F n) (sym same) null_x.length);
+              length = subst (λ m. HasLength F m (vector_of K (entries_of K n x))) (sym is_value.square.length_is) (subst (HasLength F n) (sym same) null_x.length);
               vanishes =
-                  ap (λ m. times F m (vector_of K (entries_of K n x)) (matrix_of K value)) over_value.length_is
-                  ∙ ap (λ (a : Matrix F). times F n (vector_of K (entries_of K n x)) a) is_value
+                  ap (λ m. times F m (vector_of K (entries_of K n x)) (matrix_of K value)) is_value.square.length_is
+                  ∙ ap (λ (a : Matrix F). times F n (vector_of K (entries_of K n x)) a) is_value.value
                   ∙ ap (λ (y : Vector F). times F n y (word_value F M word)) same ∙ null_x.vanishes;
             }))
           where
@@ -73,8 +73,8 @@ module _ (K : NumberField) where
         null_of_transpose = record {
           length = subst (λ m. HasLength F m (vector_of K w)) columns null.length;
           vanishes =
-              ap (λ (a : Matrix F). times F n (vector_of K w) (transposed F a)) (sym is_value)
-              ∙ ap (times F n (vector_of K w)) (sym (matrix_of_transpose K n value over_value.matrix))
+              ap (λ (a : Matrix F). times F n (vector_of K w) (transposed F a)) (sym is_value.value)
+              ∙ ap (times F n (vector_of K w)) (sym (matrix_of_transpose K n value is_value.square.matrix))
               ∙ ap (λ m. times F m (vector_of K w) (matrix_of K (transpose n value))) (sym columns) ∙ null.vanishes;
         }
 

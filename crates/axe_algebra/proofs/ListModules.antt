@@ -128,14 +128,17 @@ module _ (K : NumberField) where
       ((i : ℕ) → i < length generators → product K n matrix (get_or others i []) ≡ product K n (get_or generators i []) matrix) →
       IsIsomorphism K n generators others matrix
   isomorphism_by_products n generators others matrix inverse square square_others square_matrix square_inverse inverts count same = record {
-    dimension = refl;
-    count = count;
-    shape = square_shape K n matrix square_matrix;
-    invertible = record { inverse = matrix_of K inverse; inverts = inverse_of_lists K n matrix inverse square_matrix square_inverse inverts };
-    intertwines = λ i below.
-        let other : IsSquareOver K n (get_or others i []) = generator_over n others i square_others (omega arith) in
-        let own : IsSquareOver K n (get_or generators i []) = generator_over n generators i square below in
-        sym (matrix_of_product_of K n n matrix (get_or others i []) other.length_is square_matrix.matrix other.matrix)
-        ∙ ap (matrix_of K) (same i below)
-        ∙ matrix_of_product_of K n n (get_or generators i []) matrix square_matrix.length_is own.matrix square_matrix.matrix;
+    square = square_matrix;
+    isomorphism = record {
+      dimension = refl;
+      count = count;
+      shape = square_shape K n matrix square_matrix;
+      invertible = record { inverse = matrix_of K inverse; inverts = inverse_of_lists K n matrix inverse square_matrix square_inverse inverts };
+      intertwines = λ i below.
+          let other : IsSquareOver K n (get_or others i []) = generator_over n others i square_others (omega arith) in
+          let own : IsSquareOver K n (get_or generators i []) = generator_over n generators i square below in
+          sym (matrix_of_product_of K n n matrix (get_or others i []) other.length_is square_matrix.matrix other.matrix)
+          ∙ ap (matrix_of K) (same i below)
+          ∙ matrix_of_product_of K n n (get_or generators i []) matrix square_matrix.length_is own.matrix square_matrix.matrix;
+    };
   }

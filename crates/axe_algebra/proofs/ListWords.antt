@@ -12,8 +12,8 @@ use Rattle.axe_algebra.specs.ListArithmetic.{product, identity}
 use Rattle.axe_algebra.specs.WordsOfLists.{IsWordOver, IsWordValue}
 use Rattle.axe_algebra.proofs.FieldLaws.{mul-zero}
 use Rattle.axe_algebra.proofs.ProductLaws.{multiply_assoc, multiply_identity, identity_multiply}
-use Rattle.axe_algebra.proofs.ElementNumbers.{element_zero, element_add, element_mul}
-use Rattle.axe_algebra.proofs.ListEntries.{square_shape, matrix_entry-below, matrix_of_table, same_matrix}
+use Rattle.axe_algebra.proofs.ElementNumbers.{element_zero, element_add, element_mul, zero-below}
+use Rattle.axe_algebra.proofs.ListEntries.{square_shape, matrix_entry-below, matrix_of_table, same_matrix, table_length, table_over}
 use Rattle.axe_algebra.proofs.ListProducts.{matrix_of_identity}
 use Rattle.axe_algebra.proofs.ListLaws.{matrix_of_product_of}
 use Rattle.axe_algebra.proofs.ListModules.{module_shape, generator_over}
@@ -85,20 +85,29 @@ module _ (K : NumberField) where
     -- the empty sum, and one more term
     pub empty_sum : IsWordValue K n generators [] (table n n (λ i j. 0))
     unfolding word_value
-    empty_sum = matrix_of_table K n n (λ i j. 0) (λ i j. F.zero) (record { rows = λ i j past. refl; columns = λ i j past. refl })
-        (λ i j below inside. element_zero K)
+    empty_sum = record {
+      square = record { length_is = table_length n n (λ i j. 0); matrix = table_over K n n (λ i j. 0) (λ i j below inside. zero-below K) };
+      value = matrix_of_table K n n (λ i j. 0) (λ i j. F.zero) (record { rows = λ i j past. refl; columns = λ i j past. refl })
+          (λ i j below inside. element_zero K);
+    }
 
     pub term_added : (terms : List (ℕ × List ℕ)) (c : ℕ) (path : List ℕ) (value term sum : List (List ℕ)) → c < K.order →
-        IsSquareOver K n value → IsSquareOver K n term → IsSquareOver K n sum →
+        IsSquareOver K n term → IsSquareOver K n sum →
         IsWordValue K n generators terms value → matrix_of K term ≡ path_product F M path →
         ((i j : ℕ) → i < n → j < n → entry sum i j ≡ K.add (entry value i j) (K.mul c (entry term i j))) →
         IsWordValue K n generators (terms ++ (c, path) ∷ []) sum
-    term_added terms c path value term sum below over_value over_term over_sum is_value is_product same =
-        (fun_ext λ i. fun_ext λ j. at i j (dec_lt i n) (dec_lt j n))
-        ∙ ap₂ (λ (a b : Matrix F). add_matrices F a (λ i. scale F (element K c) (b i))) is_value is_product
-        ∙ sym (word_value_then F M (word_of K terms) (element K c) path)
-        ∙ ap (word_value F M) (sym (map-append (λ (t : ℕ × List ℕ). (element K t.0, t.1)) terms ((c, path) ∷ [])))
+    term_added terms c path value term sum below over_term over_sum is_value is_product same = record {
+      square = over_sum;
+      value =
+          (fun_ext λ i. fun_ext λ j. at i j (dec_lt i n) (dec_lt j n))
+          ∙ ap₂ (λ (a b : Matrix F). add_matrices F a (λ i. scale F (element K c) (b i))) is_value.value is_product
+          ∙ sym (word_value_then F M (word_of K terms) (element K c) path)
+          ∙ ap (word_value F M) (sym (map-append (λ (t : ℕ × List ℕ). (element K t.0, t.1)) terms ((c, path) ∷ [])));
+    }
       where
+        over_value : IsSquareOver K n value
+        over_value = is_value.square
+
         shape_value : IsMatrix F n n (matrix_of K value)
         shape_value = square_shape K n value over_value
 
@@ -123,7 +132,8 @@ module _ (K : NumberField) where
             shape_sum.columns i j (omega arith) ∙ sym (none i j (shape_value.columns i j (omega arith)) (shape_term.columns i j (omega arith)))
 
     -- a word has one value
-    pub word_value_is_unique : (terms : List (ℕ × List ℕ)) (a b : List (List ℕ)) → IsSquareOver K n a → IsSquareOver K n b →
+    pub word_value_is_unique : (terms : List (ℕ × List ℕ)) (a b : List (List ℕ)) →
         IsWordValue K n generators terms a → IsWordValue K n generators terms b → a ≡ b
-    word_value_is_unique terms a b over_a over_b first second =
-        same_matrix K n a b (over_a.length_is ∙ sym over_b.length_is) over_a.matrix over_b.matrix (first ∙ sym second)
+    word_value_is_unique terms a b first second =
+        same_matrix K n a b (first.square.length_is ∙ sym second.square.length_is) first.square.matrix second.square.matrix
+        (first.value ∙ sym second.value)

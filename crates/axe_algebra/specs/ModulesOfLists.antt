@@ -7,6 +7,7 @@ use Rattle.axe_algebra.specs.Modules
 use Rattle.axe_algebra.specs.Actions
 use Rattle.axe_algebra.specs.Irreducible
 use Rattle.axe_algebra.specs.Standard
+use Rattle.axe_algebra.specs.Lists.{IsSquareOver}
 
 -- the rows' span is invariant under the generators of dimension n
 abbrev pub IsInvariant : NumberField → ℕ → List (List (List ℕ)) → List (List ℕ) → Type 0
@@ -51,10 +52,11 @@ IsStandardBasis K n generators v rows =
 abbrev pub IsIrreducible : NumberField → ℕ → List (List (List ℕ)) → Type 0
 IsIrreducible K n generators = Irreducible.IsIrreducible (field_of K) (module_of K n generators)
 
--- `matrix` is an isomorphism from the generators g' to the generators g: it is invertible, and times g' it is g times it
-abbrev pub IsIsomorphism : NumberField → ℕ → List (List (List ℕ)) → List (List (List ℕ)) → List (List ℕ) → Type 0
-IsIsomorphism K n generators others matrix =
-    Irreducible.IsIsomorphism (field_of K) (module_of K n generators) (module_of K n others) (matrix_of K matrix)
+-- `matrix`, square of n rows, is an isomorphism from the generators g' to the generators g: it is invertible, and times g'
+-- it is g times it
+pub record IsIsomorphism (K : NumberField) (n : ℕ) (generators others : List (List (List ℕ))) (matrix : List (List ℕ)) : Type 0 where
+  pub square : IsSquareOver K n matrix
+  pub isomorphism : Irreducible.IsIsomorphism (field_of K) (module_of K n generators) (module_of K n others) (matrix_of K matrix)
 
 -- the modules of dimensions n and m are isomorphic
 abbrev pub AreIsomorphic : NumberField → ℕ → List (List (List ℕ)) → ℕ → List (List (List ℕ)) → Type 0

@@ -67,14 +67,14 @@ module _ (K : NumberField) where
 
   -- the standard basis of a vector times an isomorphism is that of the vector times it
   pub carried_list : (n : ℕ) (generators others : List (List (List ℕ))) (t basis : List (List ℕ)) (v : List ℕ) → All (IsSquareOver K n) generators →
-      IsSquareOver K n t → IsMatrixOver K n basis → IsVectorOver K n v → IsIsomorphism K n generators others t →
+      IsMatrixOver K n basis → IsVectorOver K n v → IsIsomorphism K n generators others t →
       lists.IsStandardBasis K n generators v basis → lists.IsStandardBasis K n others (combination K n v t) (product K n basis t)
-  carried_list n generators others t basis v square square_t over over_v isomorphism standard =
+  carried_list n generators others t basis v square over over_v iso standard =
       subst (λ (b : Matrix F). IsStandardBasis F N (vector_of K (combination K n v t)) (length (product K n basis t)) b)
-      (sym (matrix_of_product_of K n n basis t square_t.length_is over square_t.matrix))
+      (sym (matrix_of_product_of K n n basis t iso.square.length_is over iso.square.matrix))
       (subst (λ k. IsStandardBasis F N (vector_of K (combination K n v t)) k image_rows) (sym (product_length K n basis t))
       (subst (λ (x : Vector F). IsStandardBasis F N x (length basis) image_rows) (sym vector)
-      (isomorphism_carries_standard_basis F (module_of K n generators) N (matrix_of K t) (module_shape K n generators square) isomorphism (vector_of K v)
+      (isomorphism_carries_standard_basis F (module_of K n generators) N (matrix_of K t) (module_shape K n generators square) iso.isomorphism (vector_of K v)
       (vector_length K n v over_v.length_is) (length basis) (matrix_of K basis) standard)))
     where
       N : Module F
@@ -85,8 +85,8 @@ module _ (K : NumberField) where
 
       vector : vector_of K (combination K n v t) ≡ times F n (vector_of K v) (matrix_of K t)
       vector =
-          vector_of_combination K n v t (subst (λ k. IsVectorOver K k v) (sym square_t.length_is) over_v) square_t.matrix
-          ∙ ap (λ k. times F k (vector_of K v) (matrix_of K t)) square_t.length_is
+          vector_of_combination K n v t (subst (λ k. IsVectorOver K k v) (sym iso.square.length_is) over_v) iso.square.matrix
+          ∙ ap (λ k. times F k (vector_of K v) (matrix_of K t)) iso.square.length_is
 
   -- a multiple of a vector
   multiple_over : (n c : ℕ) (v : List ℕ) → IsVectorOver K n v → c < K.order → IsVectorOver K n (multiple K c v)
@@ -111,7 +111,7 @@ isomorphism_carries_matrix m n t v basis is_m iso of well_formed standard =
     let over : IsMatrixOver K m.dim basis.rows =
     subst (λ k. IsMatrixOver K k basis.rows) standard.columns
     (subst (λ o. IsMatrixOver (number_field o) basis.cols basis.rows) standard.field (matrix_over basis well_formed)) in
-    let carried = carried_list K m.dim m.generators n.generators t.rows basis.rows v.entries is_m.over.square iso.square over (vector_over m v of)
+    let carried = carried_list K m.dim m.generators n.generators t.rows basis.rows v.entries is_m.over.square over (vector_over m v of)
     iso.isomorphism standard.standard in
     record {
       field = standard.field ∙ sym iso.one_field;

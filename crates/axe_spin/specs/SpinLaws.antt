@@ -1,6 +1,5 @@
 -- What the law functions on standard bases promise, of matrices over the seven fields (Parker 1984; Holt and Rees 1994).
 use Rattle.std.specs.Prelude.{◌≡◌, ◌≢◌, ℕ, ◌↔◌, List, length}
-use Rattle.axe_algebra.specs.Lists.{IsSquareOver}
 use Rattle.axe_algebra.specs.ModulesOfLists.{IsSubAction, IsIsomorphism}
 use Rattle.axe_field.specs.Order.{IsElement}
 use Rattle.axe_field.specs.NumberFields.{number_field}
@@ -23,7 +22,6 @@ pub record IsIsomorphismMatrix (m n : ModuleValue) (t : MatrixValue) : Type 0 wh
   pub one_dimension : n.dim ≡ m.dim
   pub field : t.order ≡ m.order
   pub columns : t.cols ≡ m.dim
-  pub square : IsSquareOver (number_field m.order) m.dim t.rows
   pub isomorphism : IsIsomorphism (number_field m.order) m.dim m.generators n.generators t.rows
 
 -- an isomorphism carries the standard basis of v to that of its image
