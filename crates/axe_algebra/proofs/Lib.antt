@@ -37,6 +37,7 @@ pub mod ListGenerated
 pub mod ListWords
 pub mod ListStandard
 pub mod ListIrreducible
+pub mod NortonLists
 pub mod ListQuotients
 pub mod Matching
 pub mod FreeColumns
@@ -44,4 +45,6 @@ pub mod Sections
 pub mod Leading
 pub mod ListExtended
 pub mod SectionChains
-pub mod NortonLists
+pub mod Digits
+pub mod PointFilters
+pub mod PointLists

@@ -21,3 +21,5 @@ pub mod ListTheorems
 pub mod ModuleTheorems
 pub mod NortonTheorems
 pub mod StandardTheorems
+pub mod Digits
+pub mod PointsOfLists
