@@ -1,0 +1,3 @@
+pub mod StoredLaws
+pub mod DrawingLaws
+pub mod TermLaws

@@ -1,0 +1,5 @@
+pub mod Words
+pub mod Drawing
+pub mod Stored
+pub mod StoredWords
+pub mod Terms

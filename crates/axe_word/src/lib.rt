@@ -1,0 +1,15 @@
+//! Words in the generators of a module, their values, and words that are drawn.
+#![tactic(auto)]
+
+mod drawing;
+mod stored;
+mod word;
+
+pub use drawing::nth_word;
+pub use word::{Term, Word};
+
+/// The most terms that a word has. It may have none.
+pub const MAX_TERMS: usize = 4;
+
+/// The most generator numbers that a term of a word has. It may have none.
+pub const MAX_NUMBERS: usize = 6;
