@@ -5,6 +5,7 @@ use Rattle.std.proofs.lemmas.List.Elements.{All-nil, All-cons, All-head, All-tai
 use Rattle.std.proofs.lemmas.Nat.{div-mul-add, mul-add-lt, div_below}
 use native.Mathlib.Nat.{mul-add-div_right, mul-add-mod_self_right, one-le-pow, pow-zero, mod-lt, mod-eq_of_lt, pow-suc, mul_assoc, mul_comm, div-add-mod'}
 use Rattle.axe_algebra.specs.Digits.{digits, number_with_digits}
+use Rattle.axe_algebra.specs.PointTheorems.{DigitsAreBelow, ListsAreDigits, DigitsTellTheNumber}
 use mathlib.Core.Path.{refl, sym, ◌∙◌, ap, ap₂, subst}
 use native.Mathlib.Omega.{arith}
 
@@ -81,6 +82,12 @@ number_of_its_digits q (suc m) x positive small =
     ∙ parts.2
 
 -- two numbers below q^m with the same digits are the same
-pub digits_are_injective : (q m x y : ℕ) → 0 < q → x < q ^ m → y < q ^ m → digits q m x ≡ digits q m y → x ≡ y
+pub digits_are_injective : DigitsTellTheNumber
 digits_are_injective q m x y positive x_small y_small same =
     sym (number_of_its_digits q m x positive x_small) ∙ ap (number_with_digits q) same ∙ number_of_its_digits q m y positive y_small
+
+pub digits_are_below : DigitsAreBelow
+digits_are_below q m x positive = (digits_length q m x, digits-below q m x positive)
+
+pub lists_are_digits : ListsAreDigits
+lists_are_digits q ds all = (number_with_digits-below q ds all, digits_of_their_number q ds all)

@@ -48,3 +48,5 @@ pub mod SectionChains
 pub mod Digits
 pub mod PointFilters
 pub mod PointLists
+pub mod PointMembers
+pub mod PointSpans

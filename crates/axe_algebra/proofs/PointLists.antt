@@ -8,6 +8,7 @@ use Rattle.std.proofs.lemmas.Nat.{le-div}
 use Rattle.axe_algebra.specs.Lists.{listed, unit_row}
 use Rattle.axe_algebra.specs.Digits.{digits, number_with_digits}
 use Rattle.axe_algebra.specs.PointsOfLists.{leads_with_one, point_coordinates}
+use Rattle.axe_algebra.specs.PointTheorems.{CoordinatesAreCounted, CoordinatesGrow}
 use Rattle.axe_algebra.proofs.ListEntries.{listed_length, listed_at}
 use Rattle.axe_algebra.proofs.Digits.{pow-positive, digits_cons, leading_digit}
 use Rattle.axe_algebra.proofs.PointFilters.{filter_of_map, filter_keeps, filter_skips, range_append, range_as_listed}
@@ -173,7 +174,7 @@ count_more q m large =
     ∙ ap₂ (λ (a b : ℕ). a + b) (length-map (point_coordinates q m) (λ (c : List ℕ). 0 ∷ c))
       (length-map (listed (q ^ m) (digits q m)) (λ (c : List ℕ). 1 ∷ c) ∙ listed_length (q ^ m) (digits q m))
 
-pub count_times : (q m : ℕ) → 2 ≤ q → length (point_coordinates q m) * (q - 1) + 1 ≡ q ^ m
+pub count_times : CoordinatesAreCounted
 count_times q zero large =
     ap (λ (xs : List (List ℕ)). length xs * (q - 1) + 1) (no_coordinates q) ∙ (let e : 0 * (q - 1) + 1 ≡ q ^ 0 = omega (arith, zero-mul (q - 1), pow-zero q) in e)
 count_times q (suc m) large =
@@ -194,7 +195,7 @@ count_next q m large =
             ap (λ k. c * k) (let e : q ≡ q - 1 + 1 = omega arith in e) ∙ mul-add c (q - 1) 1 ∙ ap (λ k. c * (q - 1) + k) (mul-one c) in
       omega arith)
 
-pub count_grows : (q m n : ℕ) → 2 ≤ q → m ≤ n → length (point_coordinates q m) ≤ length (point_coordinates q n)
+pub count_grows : CoordinatesGrow
 count_grows q m zero large most = omega (arith, ap (λ k. length (point_coordinates q k)) (let e : m ≡ 0 = omega arith in e))
 count_grows q m (suc n) large most = cases (ℕ_discrete m (suc n)) (λ below. count_grows q m n large below)
   where

@@ -23,3 +23,4 @@ pub mod NortonTheorems
 pub mod StandardTheorems
 pub mod Digits
 pub mod PointsOfLists
+pub mod PointTheorems

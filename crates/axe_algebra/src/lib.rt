@@ -6,6 +6,7 @@ pub mod inverses;
 pub mod lists;
 pub mod modules;
 pub mod norton;
+pub mod points;
 pub mod products;
 pub mod reduced_bases;
 pub mod spans;
