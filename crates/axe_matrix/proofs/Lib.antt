@@ -5,3 +5,5 @@ pub mod SumLaws
 pub mod TransposeLaws
 mod RowListLaws
 mod PartialMatrices
+mod RowWrites
+pub mod MultipleLaws

@@ -1,2 +1,3 @@
 pub mod Matrices
 pub mod RowLists
+pub mod Multiples

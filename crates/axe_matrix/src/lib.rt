@@ -9,6 +9,7 @@ ghost use Rattle.axe_row.specs.Refusals.{Answers};
 ghost use Rattle.axe_matrix.specs.Matrices.{IsMatrix, row_of, product_refusal, matrix_product, vector_product};
 
 mod arithmetic;
+mod multiples;
 mod parts;
 
 use axe_field::Field;

@@ -11,7 +11,7 @@ use Rattle.axe_field.specs.Order.{Order, order_number}
 use Rattle.axe_field.specs.NumberFields.{number_field}
 use Rattle.axe_field.specs.Laws.{order_number-above}
 use Rattle.axe_field.proofs.NumberFields.{number_field-order}
-use Rattle.axe_word.specs.declared.TheConstants.{MAX_TERMS, MAX_NUMBERS}
+use Rattle.axe_word.specs.Limits.{most_terms, most_numbers}
 use Rattle.axe_word.specs.Words.{WordValue, IsWord}
 use Rattle.axe_word.specs.Drawing.{draw, draws, drawn_term, drawn_terms, word_from, drawn_word}
 
@@ -71,13 +71,13 @@ IsDrawnUpTo-more count coefficient n start term next generator after number h is
 }
 
 pub IsDrawnUpTo-all : (q k drawn count : ℕ) (generator first start after : Lcg) (term : ℕ × List ℕ) → (drawn, first) ≡ draw (q - 1) generator →
-    (count, start) ≡ draw (MAX_NUMBERS + 1) first → IsDrawnUpTo count (1 + drawn) k start term after → (term, after) ≡ drawn_term q k generator
+    (count, start) ≡ draw (most_numbers + 1) first → IsDrawnUpTo count (1 + drawn) k start term after → (term, after) ≡ drawn_term q k generator
 unfolding drawn_term
 IsDrawnUpTo-all q k drawn count generator first start after term coefficient_is count_is h =
     ap (λ c. ((c, term.1), after)) h.coefficient_is
     ∙ ap (λ (d : List ℕ × Lcg). ((1 + drawn, d.0), d.1)) h.drawn
     ∙ ap (λ (d : ℕ × Lcg). let numbers = draws d.0 k d.1 in ((1 + drawn, numbers.0), numbers.1)) count_is
-    ∙ ap (λ (d : ℕ × Lcg). let count = draw (MAX_NUMBERS + 1) d.1 in let numbers = draws count.0 k count.1 in ((1 + d.0, numbers.0), numbers.1)) coefficient_is
+    ∙ ap (λ (d : ℕ × Lcg). let count = draw (most_numbers + 1) d.1 in let numbers = draws count.0 k count.1 in ((1 + d.0, numbers.0), numbers.1)) coefficient_is
 
 -- no drawn terms, and one more
 pub drawn_terms-none : (q k : ℕ) (start : Lcg) → drawn_terms 0 q k start ≡ ([], start)
@@ -113,7 +113,7 @@ IsWordUpTo-more count q k start word next generator after term h is next_is = re
   count_is = omega (arith, ap (λ (w : WordValue). length w) next_is, length-append word (term ∷ []), h.count_is);
 }
 
-pub IsWordUpTo-all : (q k count drawn : ℕ) (generator start after : Lcg) (word : WordValue) → (drawn, start) ≡ draw MAX_TERMS generator →
+pub IsWordUpTo-all : (q k count drawn : ℕ) (generator start after : Lcg) (word : WordValue) → (drawn, start) ≡ draw most_terms generator →
     count ≡ 1 + drawn → IsWordUpTo count q k start word after → word ≡ word_from q k generator
 unfolding word_from
 IsWordUpTo-all q k count drawn generator start after word is count_is h =
@@ -139,12 +139,12 @@ drawn_term-nonzero : (q k : ℕ) (g : Lcg) → (drawn_term q k g).0.0 ≢ 0
 unfolding drawn_term
 drawn_term-nonzero q k g e = absurd (omega (arith, e))
 
-drawn_term-short : (q k : ℕ) (g : Lcg) → length (drawn_term q k g).0.1 ≤ MAX_NUMBERS
+drawn_term-short : (q k : ℕ) (g : Lcg) → length (drawn_term q k g).0.1 ≤ most_numbers
 unfolding drawn_term
 drawn_term-short q k g =
     let first = draw (q - 1) g in
-    let count = draw (MAX_NUMBERS + 1) first.1 in
-    omega (arith, length-draws count.0 k count.1, draw-below (MAX_NUMBERS + 1) first.1 (omega arith))
+    let count = draw (most_numbers + 1) first.1 in
+    omega (arith, length-draws count.0 k count.1, draw-below (most_numbers + 1) first.1 (omega arith))
 
 drawn_term-below : (q k : ℕ) (g : Lcg) → 2 ≤ q → (drawn_term q k g).0.0 < q
 unfolding drawn_term
@@ -153,24 +153,24 @@ drawn_term-below q k g large = omega (arith, draw-below (q - 1) g (omega arith))
 drawn_term-numbers : (q k : ℕ) (g : Lcg) → 1 ≤ k → All (λ number. number < k) (drawn_term q k g).0.1
 unfolding drawn_term
 drawn_term-numbers q k g some =
-    let count = draw (MAX_NUMBERS + 1) (draw (q - 1) g).1 in
+    let count = draw (most_numbers + 1) (draw (q - 1) g).1 in
     draws-below count.0 k count.1 some
 
 -- the word of some draws is a word
 word_from-IsWord : (q k : ℕ) (g : Lcg) → IsWord (word_from q k g)
 unfolding word_from
 word_from-IsWord q k g =
-    let count = draw MAX_TERMS g in
+    let count = draw most_terms g in
     record {
-      terms_fit = omega (arith, length-drawn_terms (1 + count.0) q k count.1, draw-below MAX_TERMS g (omega arith));
+      terms_fit = omega (arith, length-drawn_terms (1 + count.0) q k count.1, draw-below most_terms g (omega arith));
       coefficients = drawn_terms-all (λ (t : ℕ × List ℕ). t.0 ≢ 0) (1 + count.0) q k count.1 (drawn_term-nonzero q k);
-      numbers_fit = drawn_terms-all (λ (t : ℕ × List ℕ). length t.1 ≤ MAX_NUMBERS) (1 + count.0) q k count.1 (drawn_term-short q k);
+      numbers_fit = drawn_terms-all (λ (t : ℕ × List ℕ). length t.1 ≤ most_numbers) (1 + count.0) q k count.1 (drawn_term-short q k);
     }
 
 word_from-over : (o : Order) (k : ℕ) (g : Lcg) → 1 ≤ k → IsWordOver (number_field o) k (word_from (order_number o) k g)
 unfolding word_from
 word_from-over o k g some =
-    let count = draw MAX_TERMS g in
+    let count = draw most_terms g in
     record {
       coefficients =
           subst (λ q. All (λ (t : ℕ × List ℕ). t.0 < q) (drawn_terms (1 + count.0) (order_number o) k count.1).0) (sym (number_field-order o))
@@ -197,7 +197,7 @@ drawn_word-IsWord seed number q k = drawn_word-all IsWord seed number q k none (
     none = record {
       terms_fit = omega arith;
       coefficients = All-nil (λ (t : ℕ × List ℕ). t.0 ≢ 0);
-      numbers_fit = All-nil (λ (t : ℕ × List ℕ). length t.1 ≤ MAX_NUMBERS);
+      numbers_fit = All-nil (λ (t : ℕ × List ℕ). length t.1 ≤ most_numbers);
     }
 
 pub drawn_word-over : (seed number q k : ℕ) (o : Order) → order_number o ≡ q → 1 ≤ k → IsWordOver (number_field o) k (drawn_word seed number q k)

@@ -4,7 +4,7 @@ use Rattle.std.proofs.lemmas.List.{length-replicate}
 use Rattle.std.proofs.Math.Seq.{set-append_seam, take-append_seam}
 use Rattle.std.specs.List.{All}
 use Rattle.std.proofs.lemmas.List.Elements.{All-push}
-use Rattle.axe_word.specs.declared.TheConstants.{MAX_TERMS, MAX_NUMBERS}
+use Rattle.axe_word.specs.Limits.{most_terms, most_numbers}
 use Rattle.axe_word.specs.declared.stored.StoredTerm.TheInside.{Inside as TermInside}
 use Rattle.axe_word.specs.declared.word.Word.TheInside.{Inside as WordInside}
 use Rattle.axe_word.specs.Words.{WordValue, IsWord}
@@ -56,39 +56,39 @@ pushed places filler len array entry count filled room = record { view = view; f
         ∙ take-filled_up places filler (take len array ++ entry ∷ [])
 
 -- a stored term with one more number
-pub IsStoredTerm-push : (a : TermInside) (number : ℕ) → IsStoredTerm a → length (take a.len a.places) < MAX_NUMBERS →
+pub IsStoredTerm-push : (a : TermInside) (number : ℕ) → IsStoredTerm a → length (take a.len a.places) < most_numbers →
     IsStoredTerm (record { coefficient = a.coefficient; len = a.len + 1; places = set a.places a.len number })
 IsStoredTerm-push a number h room =
     let count : a.len ≡ length (take a.len a.places) = ap (λ (x : TermInside). x.len) h.filled in
-    let p = pushed MAX_NUMBERS 0 a.len a.places number count (ap (λ (x : TermInside). x.places) h.filled) (omega arith) in
+    let p = pushed most_numbers 0 a.len a.places number count (ap (λ (x : TermInside). x.places) h.filled) (omega arith) in
     record {
       fits = omega arith;
       filled = λ i. record {
         coefficient = a.coefficient;
         len = (p.count ∙ ap (λ (xs : List ℕ). length xs) (sym p.view)) i;
-        places = (p.filled ∙ ap (filled_up MAX_NUMBERS 0) (sym p.view)) i;
+        places = (p.filled ∙ ap (filled_up most_numbers 0) (sym p.view)) i;
       };
     }
 
 -- a word with one more term
-pub IsWord-push : (word : WordValue) (term : ℕ × List ℕ) → IsWord word → length word < MAX_TERMS → term.0 ≢ 0 → length term.1 ≤ MAX_NUMBERS →
+pub IsWord-push : (word : WordValue) (term : ℕ × List ℕ) → IsWord word → length word < most_terms → term.0 ≢ 0 → length term.1 ≤ most_numbers →
     IsWord (word ++ term ∷ [])
 IsWord-push word term h room nonzero fits = record {
   terms_fit = omega (arith, length-append word (term ∷ []));
   coefficients = All-push (λ (t : ℕ × List ℕ). t.0 ≢ 0) word term h.coefficients nonzero;
-  numbers_fit = All-push (λ (t : ℕ × List ℕ). length t.1 ≤ MAX_NUMBERS) word term h.numbers_fit fits;
+  numbers_fit = All-push (λ (t : ℕ × List ℕ). length t.1 ≤ most_numbers) word term h.numbers_fit fits;
 }
 
 -- a stored word with one more term
-pub IsStoredWord-push : (a : WordInside) (term : ℕ × List ℕ) → IsStoredWord a → length (take a.len a.terms) < MAX_TERMS → term.0 ≢ 0 →
-    length term.1 ≤ MAX_NUMBERS → IsStoredWord (record { len = a.len + 1; terms = set a.terms a.len term })
+pub IsStoredWord-push : (a : WordInside) (term : ℕ × List ℕ) → IsStoredWord a → length (take a.len a.terms) < most_terms → term.0 ≢ 0 →
+    length term.1 ≤ most_numbers → IsStoredWord (record { len = a.len + 1; terms = set a.terms a.len term })
 IsStoredWord-push a term h room nonzero fits =
     let count : a.len ≡ length (take a.len a.terms) = ap (λ (x : WordInside). x.len) h.filled in
-    let p = pushed MAX_TERMS (0, []) a.len a.terms term count (ap (λ (x : WordInside). x.terms) h.filled) (omega arith) in
+    let p = pushed most_terms (0, []) a.len a.terms term count (ap (λ (x : WordInside). x.terms) h.filled) (omega arith) in
     record {
       well_formed = subst IsWord (sym p.view) (IsWord-push (take a.len a.terms) term h.well_formed room nonzero fits);
       filled = λ i. record {
         len = (p.count ∙ ap (λ (xs : WordValue). length xs) (sym p.view)) i;
-        terms = (p.filled ∙ ap (filled_up MAX_TERMS (0, [])) (sym p.view)) i;
+        terms = (p.filled ∙ ap (filled_up most_terms (0, [])) (sym p.view)) i;
       };
     }

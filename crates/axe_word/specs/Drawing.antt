@@ -3,7 +3,7 @@ use Rattle.std.specs.Prelude.{◌≡◌, ℕ, zero, suc, ◌+◌, ◌-◌, ◌<�
 use Rattle.rand_pcg.specs.Lcg.{Lcg, started, increment_of}
 use Rattle.rand_pcg.specs.Pcg.{multiplier_64, pcg32}
 use Rattle.axe_field.specs.Order.{Order, order_number}
-use Rattle.axe_word.specs.declared.TheConstants.{MAX_TERMS, MAX_NUMBERS}
+use Rattle.axe_word.specs.Limits.{most_terms, most_numbers}
 use Rattle.axe_word.specs.Words.{WordValue}
 
 -- a draw modulo n: the generator's next word modulo n, and the generator after it
@@ -23,7 +23,7 @@ draws (suc count) n generator =
 unfoldable pub drawn_term : ℕ → ℕ → Lcg → (ℕ × List ℕ) × Lcg
 drawn_term q k generator =
     let coefficient = draw (q - 1) generator in
-    let count = draw (MAX_NUMBERS + 1) coefficient.1 in
+    let count = draw (most_numbers + 1) coefficient.1 in
     let numbers = draws count.0 k count.1 in
     ((1 + coefficient.0, numbers.0), numbers.1)
 
@@ -37,7 +37,7 @@ drawn_terms (suc count) q k generator =
 
 -- the word of the draws of a generator: how many terms there are is 1 more than the first draw, modulo 4
 unfoldable pub word_from : ℕ → ℕ → Lcg → WordValue
-word_from q k generator = let count = draw MAX_TERMS generator in (drawn_terms (1 + count.0) q k count.1).0
+word_from q k generator = let count = draw most_terms generator in (drawn_terms (1 + count.0) q k count.1).0
 
 -- the word of this seed and number for a field of order q and k generators: word 0 has no terms, and every other one is drawn
 -- from the generator with the seed as its state and the number as its stream

@@ -1,5 +1,7 @@
+pub mod Limits
 pub mod Words
 pub mod Drawing
 pub mod Stored
 pub mod StoredWords
 pub mod Terms
+pub mod Products

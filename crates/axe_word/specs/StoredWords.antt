@@ -1,6 +1,6 @@
 -- What a word holds: its terms in an array, with the places after the last one filled up.
 use Rattle.std.specs.Prelude.{◌≡◌, ℕ, ◌≤◌, List, [], length, take}
-use Rattle.axe_word.specs.declared.TheConstants.{MAX_TERMS}
+use Rattle.axe_word.specs.Limits.{most_terms}
 use Rattle.axe_word.specs.declared.word.Word.TheInside.{Inside}
 use Rattle.axe_word.specs.Words.{WordValue, IsWord}
 use Rattle.axe_word.specs.Stored.{filled_up}
@@ -11,7 +11,7 @@ stored_word a = take a.len a.terms
 
 -- what is stored of a word: the places after its last term have the coefficient 0 and no numbers
 abbrev pub word_inside : WordValue → Inside
-word_inside word = record { len = length word; terms = filled_up MAX_TERMS (0, []) word }
+word_inside word = record { len = length word; terms = filled_up most_terms (0, []) word }
 
 -- it is a word, and the places after its terms are filled up
 pub record IsStoredWord (a : Inside) : Type 0 where

@@ -6,6 +6,7 @@ ghost use Rattle.axe_algebra.specs.WordsOfLists.{IsWordOver};
 ghost use Rattle.axe_field.specs.Order.{Order, order_number};
 ghost use Rattle.axe_field.specs.NumberFields.{number_field};
 ghost use Rattle.axe_spin.specs.declared.TheConstants.{MAX_GENERATORS};
+ghost use Rattle.axe_word.specs.Limits.{most_numbers};
 ghost use Rattle.axe_word.specs.Words.{IsWord};
 ghost use Rattle.axe_word.specs.Drawing.{draw, drawn_term, word_from, drawn_word, IsOrder};
 
@@ -56,7 +57,7 @@ fn draw_term(generator: &mut Lcg64Xsh32, order: u8, gens: u8) -> StoredTerm
     requires some_generator { 1 ≤ gens }
     ensures drawn { (result, generator.new) ≡ drawn_term order gens generator.old }
     ensures nonzero { result.0 ≢ 0 }
-    ensures fits { length result.1 ≤ MAX_NUMBERS }
+    ensures fits { length result.1 ≤ most_numbers }
 {
     let coefficient = 1 + draw(generator, order - 1);
     let count = draw(generator, MAX_NUMBERS as u8 + 1);

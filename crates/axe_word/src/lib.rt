@@ -2,10 +2,15 @@
 #![tactic(auto)]
 
 mod drawing;
+mod laws;
+mod limits;
 mod stored;
+mod value;
 mod word;
 
 pub use drawing::nth_word;
+pub use laws::{drawn_words_are_words, words_have_one_value};
+pub use limits::limits_are_named;
 pub use word::{Term, Word};
 
 /// The most terms that a word has. It may have none.

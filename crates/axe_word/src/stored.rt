@@ -1,6 +1,7 @@
 //! A term of a word, in an array.
 
 ghost use Rattle.std.specs.Prelude.{◌≡◌, ◌<◌, ◌≤◌, [], ◌∷◌, ◌++◌, length};
+ghost use Rattle.axe_word.specs.Limits.{most_numbers};
 
 use crate::MAX_NUMBERS;
 use std::marker::Model;
@@ -45,7 +46,7 @@ impl StoredTerm {
 
     /// The term of a coefficient and these numbers.
     pub(crate) fn with_numbers(coefficient: u8, numbers: &[u8]) -> StoredTerm
-        requires { length numbers.now ≤ MAX_NUMBERS }
+        requires { length numbers.now ≤ most_numbers }
         ensures { result ≡ (coefficient, numbers.now) }
     {
         let mut term = StoredTerm::new(coefficient);
@@ -57,7 +58,7 @@ impl StoredTerm {
 
     /// Appends a number.
     pub(crate) fn push(&mut self, number: u8)
-        requires { length self.old.1 < MAX_NUMBERS }
+        requires { length self.old.1 < most_numbers }
         ensures { self.new ≡ (self.old.0, self.old.1 ++ number ∷ []) }
     {
         self.places[self.len] = number;

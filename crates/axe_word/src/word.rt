@@ -1,6 +1,7 @@
 //! Words: sums of multiples of products of generators.
 
 ghost use Rattle.std.specs.Prelude.{◌≡◌, ◌≢◌, ◌<◌, ◌≤◌, ◌↔◌, [], ◌∷◌, ◌++◌, length, All, MatchOption, IsTrue, slice_index_or};
+ghost use Rattle.axe_word.specs.Limits.{most_terms, most_numbers};
 ghost use Rattle.axe_word.specs.Words.{IsWord};
 ghost use Rattle.axe_word.specs.Terms.{word_of_terms, IsTerm};
 
@@ -73,9 +74,9 @@ impl Word {
 
     /// Appends a term with a coefficient other than 0.
     pub(crate) fn push(&mut self, term: StoredTerm)
-        requires room { length self.old < MAX_TERMS }
+        requires room { length self.old < most_terms }
         requires nonzero { term.0 ≢ 0 }
-        requires fits { length term.1 ≤ MAX_NUMBERS }
+        requires fits { length term.1 ≤ most_numbers }
         ensures { self.new ≡ self.old ++ term ∷ [] }
     {
         self.terms[self.len] = term;

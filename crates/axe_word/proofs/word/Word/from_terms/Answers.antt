@@ -1,6 +1,6 @@
 use Rattle.std.proofs.Common.{◌≡◌, ◌≤◌, true, length, take, ap, ◌∙◌, arith}
 use Rattle.std.proofs.Math.Seq.{take-length}
-use Rattle.axe_word.specs.declared.TheConstants.{MAX_TERMS}
+use Rattle.axe_word.specs.Limits.{most_terms}
 use Rattle.axe_word.specs.Words.{WordValue}
 use Rattle.axe_word.specs.Terms.{word_of_terms}
 use Rattle.axe_word.proofs.TermLaws.{All-IsTerm, IsWord-terms, length-terms, length-word_of_terms}
@@ -20,7 +20,7 @@ returns-then-terms-gt-MAX_TERMS c =
 pub returns : goal.returns
 returns c =
     let all : c.loop-term.term-index ≡ length (word_of_terms c.args.terms.now) = omega (arith, length-word_of_terms c.args.terms.now) in
-    let few : length c.args.terms.now ≤ MAX_TERMS = c.if-terms-gt-MAX_TERMS.false in (
+    let few : length c.args.terms.now ≤ most_terms = c.if-terms-gt-MAX_TERMS.false in (
       c.loop-term.invariant ∙ ap (λ n. take n (word_of_terms c.args.terms.now)) all ∙ take-length (word_of_terms c.args.terms.now),
       IsWord-terms c.args.terms.now few (c.all_fit.ensures.0 c.if-not-all_fit.false),
     )

@@ -1,0 +1,15 @@
+-- A matrix plus a multiple of another.
+use Rattle.std.specs.Prelude.{ℕ, List, length}
+use Rattle.axe_algebra.specs.NumberField.{NumberField}
+use Rattle.axe_algebra.specs.Lists.{entry, table}
+use Rattle.axe_field.specs.NumberFields.{number_field}
+use Rattle.axe_matrix.specs.Matrices.{MatrixValue}
+
+-- the rows of so many columns of a plus c times b: entry i, j is a[i][j] + c b[i][j] (any linear algebra text)
+unfoldable pub rows_with_multiple : NumberField → ℕ → List (List ℕ) → ℕ → List (List ℕ) → List (List ℕ)
+rows_with_multiple K columns a c b = table (length a) columns (λ i j. K.add (entry a i j) (K.mul c (entry b i j)))
+
+-- the matrix a plus c times the matrix b of its shape
+abbrev pub matrix_with_multiple : MatrixValue → ℕ → MatrixValue → MatrixValue
+matrix_with_multiple a c b =
+    record { order = a.order; cols = a.cols; rows = rows_with_multiple (number_field a.order) a.cols a.rows c b.rows }
