@@ -1,5 +1,5 @@
 -- Digits: how many and how large they are; numbers below q^m and lists of m digits below q are in one-to-one correspondence.
-use Rattle.std.specs.Prelude.{◌≡◌, ℕ, zero, suc, ◌+◌, ◌*◌, ◌/◌, ◌%◌, ◌^◌, ◌<◌, ◌≤◌, List, [], ◌∷◌, length}
+use Rattle.std.specs.Prelude.{◌≡◌, ℕ, zero, suc, ◌+◌, ◌*◌, ◌/◌, ◌%◌, ◌^◌, ◌<◌, ◌≤◌, List, [], ◌∷◌, length, get_or}
 use Rattle.std.specs.List.{All}
 use Rattle.std.proofs.lemmas.List.Elements.{All-nil, All-cons, All-head, All-tail}
 use Rattle.std.proofs.lemmas.Nat.{div-mul-add, mul-add-lt, div_below}
@@ -91,3 +91,10 @@ digits_are_below q m x positive = (digits_length q m x, digits-below q m x posit
 
 pub lists_are_digits : ListsAreDigits
 lists_are_digits q ds all = (number_with_digits-below q ds all, digits_of_their_number q ds all)
+
+-- digit j, with k digits after it
+pub digit_at : (q m x j k : ℕ) → j + k + 1 ≡ m → get_or (digits q m x) j 0 ≡ x / q ^ k % q
+unfolding digits
+digit_at q zero x j k all = absurd (omega arith)
+digit_at q (suc m) x zero k all = ap (λ p. x / q ^ p % q) (let e : m ≡ k = omega arith in e)
+digit_at q (suc m) x (suc j) k all = digit_at q m x j k (omega arith)

@@ -1,5 +1,7 @@
 pub mod StoredLaws
 pub mod DrawingLaws
 pub mod TermLaws
+pub mod PointPlaces
+pub mod PointSums
 pub mod ValueLaws
 pub mod MembershipLaws

@@ -4,4 +4,5 @@ pub mod Drawing
 pub mod Stored
 pub mod StoredWords
 pub mod Terms
+pub mod PointsOfMatrix
 pub mod Products

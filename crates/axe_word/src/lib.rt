@@ -4,6 +4,7 @@
 mod drawing;
 mod laws;
 mod limits;
+mod points;
 mod stored;
 mod value;
 mod word;
@@ -11,6 +12,7 @@ mod word;
 pub use drawing::nth_word;
 pub use laws::{drawn_words_are_words, words_have_one_value};
 pub use limits::limits_are_named;
+pub use points::{MAX_POINTS, Points, few_points, first_point};
 pub use word::{Term, Word};
 
 /// The most terms that a word has. It may have none.
