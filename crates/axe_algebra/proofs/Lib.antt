@@ -37,6 +37,7 @@ pub mod ListGenerated
 pub mod ListWords
 pub mod ListStandard
 pub mod ListIrreducible
+pub mod NortonLists
 pub mod ListQuotients
 pub mod Matching
 pub mod FreeColumns
