@@ -1,5 +1,5 @@
 -- Sums over the first entries of lists, block by block and one by one, and the parity of counts of bits.
-use Rattle.std.proofs.Common.{◌≡◌, ℕ, zero, suc, ◌+◌, ◌-◌, ◌*◌, ◌/◌, ◌%◌, ◌^◌, ◌<◌, ◌≤◌, List, [], ◌∷◌, map, sum, take, drop, length, get_or, replicate, refl, sym, ap, ap₂, ◌∙◌, arith, bit_and, bit_xor, Fits, w8, w32}
+use Rattle.std.proofs.Common.{◌≡◌, ℕ, zero, suc, ◌+◌, ◌*◌, ◌/◌, ◌%◌, ◌<◌, ◌≤◌, List, [], ◌∷◌, map, sum, take, drop, length, get_or, replicate, refl, sym, ap, ap₂, ◌∙◌, arith, bit_xor, Fits, w8, w32}
 use Rattle.std.specs.Simd.Lanes.{zip2, fold_l, chunk, sum_l, Each1, Each2}
 use Rattle.std.specs.Int.RustNames.{count_ones}
 use Rattle.std.proofs.lemmas.List.Sums.{sum_by-cons}

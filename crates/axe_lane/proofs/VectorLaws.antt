@@ -1,5 +1,5 @@
 -- What the operations on vectors make of lists that were made lane by lane.
-use Rattle.std.proofs.Common.{◌≡◌, ℕ, zero, suc, ◌+◌, ◌-◌, ◌*◌, ◌%◌, ◌^◌, ◌<◌, ◌≤◌, List, [], ◌∷◌, Bool, cond, map, length, get_or, replicate, ltb, refl, sym, ap, ap₂, ◌∙◌, arith, Fits, w8}
+use Rattle.std.proofs.Common.{◌≡◌, ℕ, zero, suc, ◌+◌, ◌-◌, ◌*◌, ◌%◌, ◌^◌, List, [], ◌∷◌, Bool, cond, map, length, ltb, refl, ap, ap₂, ◌∙◌, arith, w8}
 use Rattle.std.specs.Simd.Lanes.{zip2, sel_l, Each1, top}
 use Rattle.std.specs.List.{All}
 use Rattle.std.proofs.lemmas.List.Elements.{All-head, All-tail}

@@ -1,8 +1,8 @@
 -- Entries that are zero, and the first that is not.
-use Rattle.std.proofs.Common.{◌≡◌, ◌≢◌, ◌↔◌, ◌⊎◌, ℕ, zero, suc, ◌+◌, ◌-◌, ◌*◌, ◌/◌, ◌%◌, ◌^◌, ◌<◌, ◌≤◌, List, [], ◌∷◌, Option, Some, None, Bool, true, false, length, get_or, refl, sym, ap, ap₂, ◌∙◌, arith, inl, inr, IsTrue, MatchOption, is_some, bit_or, w64}
+use Rattle.std.proofs.Common.{◌≡◌, ◌↔◌, ℕ, zero, suc, ◌+◌, ◌-◌, ◌*◌, ◌/◌, ◌%◌, ◌<◌, ◌≤◌, List, [], ◌∷◌, Option, Some, None, length, get_or, refl, sym, ap, ap₂, ◌∙◌, arith, inl, inr, IsTrue, MatchOption, is_some, bit_or}
 use Rattle.std.specs.Simd.Lanes.{fold_l, chunk}
 use Rattle.std.specs.List.{All}
-use Rattle.std.specs.Int.{bit_at, trailing_zeros}
+use Rattle.std.specs.Int.{bit_at}
 use Rattle.std.proofs.lemmas.Simd.{get_or-chunk}
 use Rattle.std.proofs.lemmas.Bool.{cases_lt}
 use Rattle.std.proofs.lemmas.List.{get_or_default, get_or_past}
@@ -10,7 +10,7 @@ use Rattle.std.proofs.lemmas.List.Elements.{All-get_or, All-from_get_or}
 use Rattle.std.proofs.lemmas.Nat.{le_or_l, le_or_r}
 use Rattle.std.proofs.lemmas.Nat.Bits.{bit_at-zero}
 use Rattle.axe_lane.specs.Entries.{HasNonzero, AreZerosBefore, IsFirstNonzero}
-use Rattle.axe_lane.specs.Words.{bit_of_words, HasNoSetBit, IsFirstSetBit}
+use Rattle.axe_lane.specs.Words.{HasNoSetBit, IsFirstSetBit}
 
 first_and_rest : (x : ℕ) (xs : List ℕ) → x ≡ 0 → ((j : ℕ) → get_or xs j 0 ≡ 0) → (j : ℕ) → get_or (x ∷ xs) j 0 ≡ 0
 first_and_rest x xs e rest zero = e

@@ -1,5 +1,5 @@
-use Rattle.std.proofs.Common.{◌<◌, ap, arith}
-use Rattle.std.specs.Simd.Lanes.{chunk, put_chunk}
+use Rattle.std.proofs.Common.{◌<◌, ap}
+use Rattle.std.specs.Simd.Lanes.{put_chunk}
 use Rattle.std.proofs.lemmas.List.Elements.{All-take, All-drop}
 use Rattle.axe_lane.proofs.bytes.add_block.Goals as goal
 

@@ -1,5 +1,5 @@
 use Rattle.std.proofs.Common.{◌≡◌, ℕ, ◌+◌, ◌*◌, ◌/◌, ◌%◌, ◌<◌, ◌≤◌, length, get_or, take, sym, ap, ◌∙◌, arith, w32}
-use Rattle.std.specs.Simd.Lanes.{chunk, products, sum_l, zip2}
+use Rattle.std.specs.Simd.Lanes.{chunk, products, sum_l}
 use Rattle.std.proofs.lemmas.List.{take_all}
 use Rattle.std.proofs.lemmas.Nat.{mul-le}
 use Rattle.std.proofs.lemmas.Simd.{fold-sum, get_or-zip2, length-zip2, sum_fits}

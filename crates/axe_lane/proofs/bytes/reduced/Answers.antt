@@ -1,4 +1,4 @@
-use Rattle.std.proofs.Common.{ℕ, ◌+◌, ◌-◌, ◌%◌, cond, ltb, map, replicate, ap, ◌∙◌, arith, w8, Fits}
+use Rattle.std.proofs.Common.{ℕ, ◌+◌, ◌-◌, ◌%◌, cond, ltb, ap, ◌∙◌, w8, Fits}
 use Rattle.std.proofs.lemmas.Simd.{zip2_splat}
 use Rattle.axe_lane.specs.Bytes.{less_where_not_below}
 use Rattle.axe_lane.proofs.VectorLaws.{mins, mins-map, map-agree}

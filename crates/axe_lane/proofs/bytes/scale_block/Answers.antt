@@ -1,5 +1,5 @@
-use Rattle.std.proofs.Common.{ℕ, ◌+◌, ◌*◌, ◌%◌, ◌<◌, ap, ◌∙◌, arith, replicate, map}
-use Rattle.std.specs.Simd.Lanes.{chunk, put_chunk, zip2}
+use Rattle.std.proofs.Common.{◌+◌, ◌*◌, ◌%◌, ◌<◌, ap, ◌∙◌, arith}
+use Rattle.std.specs.Simd.Lanes.{chunk, put_chunk}
 use Rattle.std.proofs.lemmas.List.Elements.{All-take, All-drop, All-replicate}
 use Rattle.std.proofs.lemmas.Simd.{zip2_splat_left, length-chunk, Each1-all}
 use Rattle.axe_lane.proofs.VectorLaws.{map-agree}

@@ -1,4 +1,4 @@
-use Rattle.std.proofs.Common.{◌≡◌, ℕ, ◌+◌, ◌*◌, ◌≤◌, length, sym, ap, map, ◌∙◌, arith, w8, w32}
+use Rattle.std.proofs.Common.{ℕ, ◌+◌, ◌*◌, sym, ap, map, ◌∙◌, arith, w8, w32}
 use Rattle.std.specs.Simd.Lanes.{chunk, sum_l, zip2}
 use Rattle.std.proofs.lemmas.Simd.{adds_fit, chunk-fits, length-chunk, sum-zip2}
 use Rattle.axe_lane.proofs.SumLaws.{wide_products_fit, wide_products, products_bound}

@@ -1,6 +1,6 @@
-use Rattle.std.proofs.Common.{◌≡◌, ◌+◌, ◌*◌, ◌/◌, ◌≤◌, length, get_or, set, refl, ap, ◌∙◌, arith, bit_xor}
+use Rattle.std.proofs.Common.{◌≡◌, ◌+◌, ◌*◌, ◌/◌, length, get_or, set, refl, ap, ◌∙◌, arith, bit_xor}
 use Rattle.std.specs.Simd.Lanes.{chunk, put_chunk, zip2}
-use Rattle.axe_lane.proofs.Progress.{combined_to, combined_to_block, combined_to_more, combined_to_end, length-combined_to}
+use Rattle.axe_lane.proofs.Progress.{combined_to, combined_to_block, combined_to_more, combined_to_end}
 use Rattle.axe_lane.proofs.words.xor_into.Goals as goal
 
 pub loop-block-init : goal.loop-block-init

@@ -1,4 +1,4 @@
-use Rattle.std.proofs.Common.{◌≡◌, ◌*◌, ◌≤◌, length, bit_xor}
+use Rattle.std.proofs.Common.{◌≡◌, ◌*◌, bit_xor}
 use Rattle.axe_lane.proofs.Progress.{combined_to}
 use Rattle.axe_lane.proofs.words.xor_into.Given as goal
 
