@@ -30,3 +30,5 @@ mod spinning;
 mod tables;
 #[cfg(test)]
 mod values;
+#[cfg(test)]
+mod words;

@@ -10,8 +10,8 @@ ghost use Rattle.axe_matrix.specs.Multiples.{matrix_with_multiple};
 use super::{Matrix, Row};
 
 impl Matrix {
-    /// Adds a multiple of another matrix over the same field and of the same shape: each entry d becomes d + c s, where c
-    /// is the scalar and s the other matrix's entry. It takes no memory.
+    /// Adds a multiple of another matrix over the same field and of the same shape: each entry d becomes d + c s,
+    /// where c is the scalar and s the other matrix's entry. It takes no memory.
     pub fn add_scaled(&mut self, scalar: u8, other: &Matrix)
         requires field { other.now.order ≡ self.old.order }
         requires rows_fit { length other.now.rows ≡ length self.old.rows }
@@ -31,8 +31,9 @@ impl Matrix {
         requires field { row.now.order ≡ self.old.order }
         requires fits { length row.now.entries ≡ self.old.cols }
         requires element { IsElement self.old.order scalar }
-        ensures sum { self.new ≡ record self.old { rows = slice_set self.old.rows index
-            (sum_with_multiple (number_field self.old.order) (slice_index_or self.old.rows index []) scalar row.now.entries) } }
+        ensures sum { let old = slice_index_or self.old.rows index [] in
+            let sum = sum_with_multiple (number_field self.old.order) old scalar row.now.entries in
+            self.new ≡ record self.old { rows = slice_set self.old.rows index sum } }
         ensures well_formed { IsMatrix self.new }
     {
         self.rows[index].add_scaled(scalar, row);

@@ -1,5 +1,5 @@
 -- Words that are drawn: word j of seed s (the draws are those of O'Neill's PCG XSH RR 64/32).
-use Rattle.std.specs.Prelude.{◌≡◌, ℕ, zero, suc, ◌+◌, ◌-◌, ◌<◌, ◌%◌, ◌==◌, List, [], ◌∷◌, ◌++◌, All, if◌then◌else◌}
+use Rattle.std.specs.Prelude.{◌≡◌, ℕ, zero, suc, ◌+◌, ◌-◌, ◌%◌, ◌==◌, List, [], ◌∷◌, ◌++◌, if◌then◌else◌}
 use Rattle.rand_pcg.specs.Lcg.{Lcg, started, increment_of}
 use Rattle.rand_pcg.specs.Pcg.{multiplier_64, pcg32}
 use Rattle.axe_field.specs.Order.{Order, order_number}
@@ -18,8 +18,8 @@ draws (suc count) n generator =
     let last = draw n before.1 in
     (before.0 ++ last.0 ∷ [], last.1)
 
--- a drawn term for a field of order q and k generators: the coefficient is 1 more than a draw modulo q - 1, how many numbers
--- there are is the next draw, modulo 7, and the numbers are as many draws modulo k
+-- a drawn term for a field of order q and k generators: the coefficient is 1 more than a draw modulo q - 1, how many
+-- numbers there are is the next draw, modulo 7, and the numbers are as many draws modulo k
 unfoldable pub drawn_term : ℕ → ℕ → Lcg → (ℕ × List ℕ) × Lcg
 drawn_term q k generator =
     let coefficient = draw (q - 1) generator in
@@ -39,8 +39,8 @@ drawn_terms (suc count) q k generator =
 unfoldable pub word_from : ℕ → ℕ → Lcg → WordValue
 word_from q k generator = let count = draw most_terms generator in (drawn_terms (1 + count.0) q k count.1).0
 
--- the word of this seed and number for a field of order q and k generators: word 0 has no terms, and every other one is drawn
--- from the generator with the seed as its state and the number as its stream
+-- the word of this seed and number for a field of order q and k generators: word 0 has no terms, and every other one
+-- is drawn from the generator with the seed as its state and the number as its stream
 unfoldable pub drawn_word : ℕ → ℕ → ℕ → ℕ → WordValue
 drawn_word seed number q k =
     if number == 0 then [] else word_from q k (started 64 multiplier_64 seed (increment_of 64 number))

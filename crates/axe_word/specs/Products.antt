@@ -12,4 +12,5 @@ pub record IsProductOf (m : ModuleValue) (numbers : List ℕ) (x : MatrixValue) 
   pub field : x.order ≡ m.order
   pub columns : x.cols ≡ m.dim
   pub square : IsSquareOver (number_field m.order) m.dim x.rows
-  pub product : matrix_of (number_field m.order) x.rows ≡ path_product (field_of (number_field m.order)) (module_of (number_field m.order) m.dim m.generators) numbers
+  pub product : let K = number_field m.order in
+      matrix_of K x.rows ≡ path_product (field_of K) (module_of K m.dim m.generators) numbers

@@ -11,8 +11,8 @@ use Rattle.axe_word.specs.Limits.{most_terms, most_numbers}
 abbrev pub WordValue : Type 0
 WordValue = List (ℕ × List ℕ)
 
--- there are no more terms than the limit allows, each with a coefficient other than 0 and no more generator numbers than
--- the limit allows
+-- there are no more terms than the limit allows, each with a coefficient other than 0 and no more generator numbers
+-- than the limit allows
 pub record IsWord (word : WordValue) : Type 0 where
   pub terms_fit : length word ≤ most_terms
   pub coefficients : All (λ (term : ℕ × List ℕ). term.0 ≢ 0) word
@@ -28,8 +28,9 @@ pub record IsTermIn (m : ModuleValue) (term : ℕ × List ℕ) : Type 0 where
   pub element : IsElement m.order term.0
   pub numbers : All (λ number. number < length m.generators) term.1
 
--- the square matrix is the value of the word in the module: the sum over the terms of the coefficient times the product of
--- the generators from left to right; the empty sum is zero, and the empty product the identity (Parker 1984)
+-- the square matrix is the value of the word in the module: the sum over the terms of the coefficient times the
+-- product of the generators from left to right; the empty sum is zero, and the empty product the identity (Parker
+-- 1984)
 pub record IsValueOf (m : ModuleValue) (word : WordValue) (x : MatrixValue) : Type 0 where
   pub field : x.order ≡ m.order
   pub columns : x.cols ≡ m.dim

@@ -16,11 +16,11 @@ use crate::{MAX_NUMBERS, MAX_TERMS};
 use rand_core::utils::NextWord;
 use rand_pcg::Lcg64Xsh32;
 
-/// The word of a seed and a number for the field of an order and a number of generators, 1 to 16. Word 0 has no terms.
-/// Every other one is drawn from the generator `Lcg64Xsh32::new(seed, number)`, each draw being its next word: how many
-/// terms there are is 1 plus a draw modulo 4; each term in turn has the coefficient 1 plus a draw modulo the order less 1,
-/// then a length, a draw modulo 7, and then as many generator numbers, each a draw modulo the number of generators. A draw
-/// is taken also where it can give only one value. It takes no memory.
+/// The word of a seed and a number for the field of an order and a number of generators, 1 to 16. Word 0 has no
+/// terms. Every other one is drawn from the generator `Lcg64Xsh32::new(seed, number)`, each draw being its next word:
+/// how many terms there are is 1 plus a draw modulo 4; each term in turn has the coefficient 1 plus a draw modulo the
+/// order less 1, then a length, a draw modulo 7, and then as many generator numbers, each a draw modulo the number of
+/// generators. A draw is taken also where it can give only one value. It takes no memory.
 pub fn nth_word(seed: u64, number: u32, order: u8, gens: u8) -> Word
     requires order { IsOrder order }
     requires some_generator { 1 ≤ gens }

@@ -13,8 +13,8 @@ use axe_spin::Module;
 use std::alloc::Global;
 
 impl Word {
-    /// Whether the word is one in the generators of a module: whether each coefficient is the number of an element of its
-    /// field, and each generator number that of a generator.
+    /// Whether the word is one in the generators of a module: whether each coefficient is the number of an element of
+    /// its field, and each generator number that of a generator.
     pub fn is_word_in(&self, module: &Module) -> bool
         ensures { IsTrue result ↔ IsWordIn «module».now self.now }
     {
@@ -26,9 +26,9 @@ impl Word {
         true
     }
 
-    /// The value of the word in a module of which it is one, as [`Word::is_word_in`] says: the sum over the terms of the
-    /// coefficient times the product of the generators from left to right. The empty sum is zero, and the empty product
-    /// the identity.
+    /// The value of the word in a module of which it is one, as [`Word::is_word_in`] says: the sum over the terms of
+    /// the coefficient times the product of the generators from left to right. The empty sum is zero, and the empty
+    /// product the identity.
     pub fn value(&self, alloc: Global, module: &Module) -> Result<Matrix, Refusal>
         requires { IsWordIn «module».now self.now }
         ensures value { Answers None (IsValueOf «module».now self.now) result }
@@ -106,7 +106,8 @@ fn times_generator(
     requires number { number < length «module».now.generators }
     requires field { matrix.now.order ≡ «module».now.order }
     requires columns { matrix.now.cols ≡ «module».now.dim }
-    ensures product { Answers None (λ product. product ≡ matrix_product matrix.now (generator_of «module».now number)) result }
+    ensures product { Answers None
+        (λ product. product ≡ matrix_product matrix.now (generator_of «module».now number)) result }
     ensures well_formed { IfOk result IsMatrix }
 {
     matrix.mul(alloc, module.generator(usize::from(number)))

@@ -9,8 +9,9 @@ use crate::stored::StoredTerm;
 use crate::{MAX_NUMBERS, MAX_TERMS};
 use std::marker::Model;
 
-/// A term of a word: a coefficient, the number of an element of a field, and the numbers of the generators whose product,
-/// from left to right, it is multiplied with. Generators are counted from 0. The product of no generators is the identity.
+/// A term of a word: a coefficient, the number of an element of a field, and the numbers of the generators whose
+/// product, from left to right, it is multiplied with. Generators are counted from 0. The product of no generators is
+/// the identity.
 #[derive(Debug, Clone, Copy)]
 pub struct Term<'a> {
     /// The number of the coefficient.
@@ -19,9 +20,9 @@ pub struct Term<'a> {
     pub gens: &'a [u8],
 }
 
-/// A word in the generators of a module: a sum of up to [`MAX_TERMS`] terms, perhaps none, each with a coefficient other
-/// than 0 and up to [`MAX_NUMBERS`] generator numbers, perhaps none. It says nothing of the field and of how many
-/// generators there are. Terms are counted from 0.
+/// A word in the generators of a module: a sum of up to [`MAX_TERMS`] terms, perhaps none, each with a coefficient
+/// other than 0 and up to [`MAX_NUMBERS`] generator numbers, perhaps none. It says nothing of the field and of how
+/// many generators there are. Terms are counted from 0.
 #[derive(Debug, Clone, Copy)]
 pub struct Word {
     len: usize,
@@ -46,8 +47,8 @@ impl Model for Word {
 }
 
 impl Word {
-    /// The word with these terms, or `None` where there are more than [`MAX_TERMS`], or one has the coefficient 0 or more
-    /// than [`MAX_NUMBERS`] generator numbers. It takes no memory.
+    /// The word with these terms, or `None` where there are more than [`MAX_TERMS`], or one has the coefficient 0 or
+    /// more than [`MAX_NUMBERS`] generator numbers. It takes no memory.
     pub fn from_terms(terms: &[Term]) -> Option<Word>
         ensures { MatchOption result (¬ (IsWord (word_of_terms terms.now)))
             (λ word. (word ≡ word_of_terms terms.now) × IsWord (word_of_terms terms.now)) }
