@@ -23,6 +23,8 @@ mod matrices;
 #[cfg(test)]
 mod modules;
 #[cfg(test)]
+mod points;
+#[cfg(test)]
 mod rows;
 #[cfg(test)]
 mod spinning;

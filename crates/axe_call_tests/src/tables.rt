@@ -12,7 +12,7 @@
 //!
 //! A further case of a call is a line. A further call is a function that makes it, and an arm in `answers` of its module.
 
-use crate::{actions, duals, echelons, fields, files, matrices, modules, rows, spinning};
+use crate::{actions, duals, echelons, fields, files, matrices, modules, points, rows, spinning};
 use axe_matrix::Refusal;
 use std::alloc::Global;
 use std::process::Abort;
@@ -27,6 +27,7 @@ pub(crate) enum Topic {
     Files,
     Matrices,
     Modules,
+    Points,
     Rows,
     Spinning,
 }
@@ -42,6 +43,7 @@ fn answers(rt: &impl Abort, alloc: Global, topic: Topic, line: &str) -> Result<b
         Topic::Files => files::answers(rt, alloc, call, line),
         Topic::Matrices => matrices::answers(rt, alloc, call, line),
         Topic::Modules => modules::answers(rt, alloc, call, line),
+        Topic::Points => points::answers(rt, alloc, call, line),
         Topic::Rows => rows::answers(rt, alloc, call, line),
         Topic::Spinning => spinning::answers(rt, alloc, call, line),
     }
