@@ -56,7 +56,8 @@ impl Draft {
     ghost use Rattle.axe_file.specs.Packed.{packed};
     ghost use Rattle.axe_file.specs.TextWriting.{text_of};
     ghost use Rattle.axe_execute.specs.declared.fault.Fault.TheVariants.{Memory};
-    ghost use Rattle.axe_execute.specs.Meaning.{Put, put_generators};
+    ghost use Rattle.axe_execute.specs.Plans.{Put};
+    ghost use Rattle.axe_execute.specs.ModuleCommands.{put_generators};
     ghost use Rattle.axe_execute.specs.Drafts.{plan_in, with_step, with_steps, with_text};
 
     /// The draft that changes nothing and shows nothing.

@@ -1,7 +1,7 @@
 //! Commands, executed.
 ghost use Rattle.std.specs.Prelude.{IsTrue};
-ghost use Rattle.axe_execute.specs.Meaning.{names_read};
-ghost use Rattle.axe_execute.specs.Relations.{Means};
+ghost use Rattle.axe_execute.specs.Means.{names_read};
+ghost use Rattle.axe_execute.specs.Means.{Means};
 ghost use Rattle.axe_execute.specs.Outcome.{Executes, BlamesDevice, Counted};
 
 use crate::draft::{Draft, make_all};
