@@ -66,11 +66,7 @@ fn finds_standard_basis(rt: &impl Abort, alloc: Global, line: &str) -> Result<bo
     is_matrix(rt, alloc, standard_basis(alloc, &module, &vector), wanted)
 }
 
-fn finds_first_nonzero_row(
-    rt: &impl Abort,
-    alloc: Global,
-    line: &str,
-) -> Result<bool, Refusal> {
+fn finds_first_nonzero_row(rt: &impl Abort, alloc: Global, line: &str) -> Result<bool, Refusal> {
     let (matrix, wanted) = two_fields(rt, line);
     let matrix = matrix_of(rt, alloc, matrix)?;
     match first_nonzero_row(&matrix) {

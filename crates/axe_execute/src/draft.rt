@@ -5,11 +5,11 @@ ghost use Rattle.axe_execute.specs.Outcome.{Carries, Counted};
 
 use crate::fault::Fault;
 use crate::modules::numbered;
+use axe_arguments::Name;
 use axe_file::{write_packed, write_text};
 use axe_folder::Folder;
 use axe_matrix::Matrix;
 use axe_spin::Module;
-use axe_arguments::Name;
 use std::alloc::Global;
 
 /// One change to the files of a folder.

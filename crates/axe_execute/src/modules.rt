@@ -7,10 +7,10 @@ ghost use Rattle.axe_execute.specs.Outcome.{Agrees, Counted};
 
 use crate::fault::Fault;
 use crate::reading::read_matrix_file;
+use axe_arguments::{GeneratorCount, Name};
 use axe_folder::Folder;
 use axe_matrix::Matrix;
 use axe_spin::{MAX_GENERATORS, Module};
-use axe_arguments::{GeneratorCount, Name};
 use itoa::Buffer;
 use std::alloc::{AllocError, Global};
 

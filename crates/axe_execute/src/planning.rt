@@ -13,10 +13,10 @@ use crate::fault::Fault;
 use crate::quotients::quotient_draft;
 use crate::reading::{read_matrix, read_text_matrix};
 use crate::spinning::SeededModule;
+use axe_arguments::{Command, Name};
 use axe_echelon::{inverse, null_space};
 use axe_folder::Folder;
 use axe_matrix::Matrix;
-use axe_arguments::{Command, Name};
 use std::alloc::Global;
 
 /// The draft of a command.

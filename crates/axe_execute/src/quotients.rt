@@ -11,10 +11,10 @@ use crate::fault::Fault;
 use crate::modules::{module_of, read_generators};
 use crate::reading::read_matrix;
 use axe_action::quotient_action;
+use axe_arguments::{GeneratorCount, Name};
 use axe_folder::Folder;
 use axe_matrix::Matrix;
 use axe_spin::Module;
-use axe_arguments::{GeneratorCount, Name};
 use std::alloc::Global;
 
 /// The draft of `zqt`: the quotient of a module by the space that rows span.

@@ -6,10 +6,10 @@ ghost use Rattle.axe_execute.specs.Meanings.{Is};
 ghost use Rattle.axe_execute.specs.Outcome.{Agrees, Counted};
 
 use crate::fault::Fault;
+use axe_arguments::Name;
 use axe_file::{PACKED_LIMIT, TEXT_LIMIT, read_packed, read_text};
 use axe_folder::Folder;
 use axe_matrix::Matrix;
-use axe_arguments::Name;
 use std::alloc::Global;
 
 /// The matrix of the packed file that a command names.

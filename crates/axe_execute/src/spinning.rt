@@ -14,10 +14,10 @@ use crate::fault::Fault;
 use crate::modules::{module_of, read_generators};
 use crate::reading::read_matrix;
 use axe_action::basis_action;
+use axe_arguments::{GeneratorCount, Name};
 use axe_folder::Folder;
 use axe_matrix::Matrix;
 use axe_spin::{Module, generate, standard_rows};
-use axe_arguments::{GeneratorCount, Name};
 use std::alloc::Global;
 
 /// A module, and a matrix whose rows are to be spun in it.
