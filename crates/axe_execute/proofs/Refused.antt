@@ -1,5 +1,5 @@
 -- Answers of operations that refuse some operands: what they say of a meaning.
-use Rattle.std.proofs.Common.{◌≡◌, refl, sym, ap, subst, [], Option, Some, None, Result, Ok, Err, ◌⊎◌, inl, inr}
+use Rattle.std.proofs.Common.{◌≡◌, refl, sym, ap, subst, [], Option, Some, None, Ok, Err, ◌⊎◌, inl, inr}
 use Rattle.axe_row.specs.declared.refusals.Refusal.{Refusal}
 use Rattle.axe_row.specs.declared.refusals.Refusal.TheVariants.{FieldsDiffer, ShapesDiffer, NotSquare, Singular, NotInvariant, WholeSpace, ZeroSeed, NoRows, ZeroSpace, Memory}
 use Rattle.axe_row.specs.Refusals.{Answers, AnswersOr}

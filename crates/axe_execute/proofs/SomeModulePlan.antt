@@ -1,5 +1,5 @@
 -- The commands that read a module have a plan, or a problem stands against them.
-use Rattle.std.proofs.Common.{◌≡◌, refl, ℕ, List, length, Bool, Option, Some, None, Ok, Err, inl, inr}
+use Rattle.std.proofs.Common.{refl, ℕ, List, length, Bool, Option, Some, None, Ok, Err, inl, inr}
 use Rattle.std.specs.Prelude.{⊤}
 use Rattle.std.specs.List.{All}
 use Rattle.axe_matrix.specs.Matrices.{MatrixValue, IsMatrix}

@@ -1,5 +1,5 @@
 -- The action on a basis of a submodule is never refused.
-use Rattle.std.proofs.Common.{◌≡◌, sym, ap, refl, true, false, Option, None, Ok, Err, ◌⊎◌, inl, inr}
+use Rattle.std.proofs.Common.{◌≡◌, refl, None, Ok, Err, ◌⊎◌, inl, inr}
 use Rattle.axe_row.specs.declared.refusals.Refusal.{Refusal}
 use Rattle.axe_row.specs.declared.refusals.Refusal.TheVariants.{Memory}
 use Rattle.axe_row.specs.Refusals.{AnswersOr}

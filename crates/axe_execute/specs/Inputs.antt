@@ -13,7 +13,7 @@ use Rattle.axe_folder.specs.Files.{Files, file_at}
 use Rattle.axe_folder.specs.Outcomes.{fetched}
 use Rattle.axe_execute.specs.Plans.{Problem, Unfetched, Unreadable, Refuses}
 
--- what a right answer leads to: a value goes on, a problem ends it
+-- one reading after another: a value goes on, a problem ends it
 abbrev pub and_then : {A B : Type 0} → Result A Problem → (A → Result B Problem) → Result B Problem
 and_then (Ok value) next = next value
 and_then (Err problem) next = Err problem
