@@ -1,5 +1,5 @@
 -- Conjugates of generators by an invertible matrix.
-use Rattle.std.specs.Prelude.{◌≡◌, ℕ, List, [], length, get_or, ◌==◌, ◌&&◌, not, Bool, true, false, Option, Some, None, Result, Ok, Err, if◌then◌else◌}
+use Rattle.std.specs.Prelude.{◌≡◌, ℕ, List, [], length, get_or, ◌==◌, ◌&&◌, not, Bool, true, false, Some, None, Result, Ok, if◌then◌else◌}
 use Rattle.std.proofs.lemmas.Bool.{eq-eqb, eqb-true}
 use Rattle.std.proofs.lemmas.List.{length-map}
 use Rattle.axe_algebra.specs.NumberField.{NumberField}

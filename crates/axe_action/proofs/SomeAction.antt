@@ -10,7 +10,7 @@ use Rattle.axe_algebra.specs.Modules.{Module, image}
 use Rattle.axe_algebra.specs.Actions
 use Rattle.axe_algebra.specs.Actions.{unit_vectors}
 use Rattle.axe_algebra.specs.Bridge.{field_of, matrix_of, module_of}
-use Rattle.axe_algebra.specs.Lists.{listed, rows_of, IsVectorOver, IsMatrixOver, IsSquareOver}
+use Rattle.axe_algebra.specs.Lists.{listed, rows_of, IsMatrixOver, IsSquareOver}
 use Rattle.axe_algebra.proofs.SubActions.{sub_action_exists}
 use Rattle.axe_algebra.proofs.Quotients.{quotient_action_exists}
 use Rattle.axe_algebra.proofs.ListEntries.{listed_length, listed_at, table_length, rows_length, rows_over, matrix_of_rows}

@@ -1,5 +1,5 @@
 -- The action on a span over its reduced basis, from that over the rows of this basis.
-use Rattle.std.specs.Prelude.{◌≡◌, ℕ, ◌≤◌, ◌==◌, not, List, [], ◌∷◌, length, Bool, true, false, Option, Some, None, Result, Ok, Err, if◌then◌else◌}
+use Rattle.std.specs.Prelude.{◌≡◌, ℕ, ◌≤◌, not, List, [], ◌∷◌, length, false, Option, None, Result}
 use Rattle.axe_algebra.specs.NumberField.{NumberField}
 use Rattle.axe_algebra.specs.Field.{Field}
 use Rattle.axe_algebra.specs.Vectors.{Matrix}
@@ -25,7 +25,7 @@ use Rattle.axe_spin.proofs.ZeroRows.{some_basis_row}
 use Rattle.axe_spin.proofs.SeedLaws.{vectors_of, none_of_both, zeros_refusal, some_nonzero_if_accepted}
 use Rattle.axe_spin.specs.Spinning.{has_only_zeros}
 use Rattle.axe_action.specs.Actions.{sub_action_refusal, action_late, IsActionOverRows, IsActionOnSpan}
-use mathlib.Core.Path.{refl, sym, ◌∙◌, subst}
+use mathlib.Core.Path.{sym, ◌∙◌, subst}
 use native.Mathlib.Omega.{arith}
 
 -- spans that are the same are invariant together

@@ -87,7 +87,7 @@ fn generator_action(
     requires fits { rows.now.cols ≡ generator.now.cols }
     ensures { AnswersOr None
         (λ action. HasImagesIn generator.now rows.now.rows rows.now.rows
-            × HasActionRows generator.now rows.now.rows (length rows.now.rows) action)
+        × HasActionRows generator.now rows.now.rows (length rows.now.rows) action)
         (RefusedAs NotInvariant (¬ (HasImagesIn generator.now rows.now.rows rows.now.rows))) result }
 {
     let mut action = Matrix::empty(alloc, *span.field(), span.rank());

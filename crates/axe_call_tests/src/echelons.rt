@@ -3,7 +3,7 @@ use crate::tables::{Topic, each_call, four_fields, three_fields, two_fields};
 use crate::values::{
     assert_shape, field_of, is_matrix, is_row, matrix_of, number_of, row_of, truth_of,
 };
-use axe_echelon::{Echelon, inverse, null_space};
+use axe_echelon::{Echelon, inverse, null_space, span_of};
 use axe_matrix::{Refusal, Row};
 use std::alloc::Global;
 use std::process::Abort;
@@ -47,13 +47,7 @@ inverse | 3: 000/000 | the matrix is not square
 /// The echelon form in which each row of a matrix was inserted.
 fn form_of(rt: &impl Abort, alloc: Global, text: &str) -> Result<Echelon, Refusal> {
     let matrix = matrix_of(rt, alloc, text)?;
-    let mut form = Echelon::new(alloc, *matrix.field(), matrix.cols());
-    for index in 0..matrix.rows() {
-        let row = matrix.row(index).copy(alloc)?;
-        assert_shape(rt, &row, form.field(), form.cols());
-        form.insert(row)?;
-    }
-    Ok(form)
+    span_of(alloc, &matrix)
 }
 
 fn inserts(rt: &impl Abort, alloc: Global, line: &str) -> Result<bool, Refusal> {

@@ -1,8 +1,8 @@
 //! Generated spaces and standard bases, in modules that were worked through by hand.
-use crate::tables::{Topic, each_call, three_fields};
-use crate::values::{assert_shape, is_matrix, matrix_of, module_of, row_of};
+use crate::tables::{Topic, each_call, three_fields, two_fields};
+use crate::values::{assert_shape, is_matrix, is_row, matrix_of, module_of, row_of};
 use axe_matrix::Refusal;
-use axe_spin::{generate, standard_basis};
+use axe_spin::{first_nonzero_row, generate, standard_basis, standard_rows};
 use std::alloc::Global;
 use std::process::Abort;
 
@@ -37,6 +37,19 @@ standard_basis | 2: 010/100/001, 2: 010/001/100 | 2: 010 | 2: 010/100/001
 standard_basis | 2: 010/100/001, 2: 010/001/100 | 2: 111 | 2: 111
 ";
 
+/// Which row of a matrix is the first that is not zero, which rows are vectors of a module, and the standard basis of the
+/// first row of a seed that is not zero.
+const SEEDS: &str = "\
+first_nonzero_row | 2: 00/01/10 | 2: 01
+first_nonzero_row | 2: 00/00 | none
+check_rows | 2: 01/10 | 2: 11/00 | 2: 11/00
+check_rows | 2: 01/10 | 3: 121 | the operands are over different fields
+check_rows | 2: 01/10 | 2: 101 | the shapes of the operands do not fit
+standard_rows | 2: 11/10 | 2: 00/01/11 | 2: 01/10
+standard_rows | 2: 01/10 | 2: 00 | the seed has no nonzero row
+standard_rows | 2: 01/10 | 3: 00 | the operands are over different fields
+";
+
 fn generates(rt: &impl Abort, alloc: Global, line: &str) -> Result<bool, Refusal> {
     let (module, seed, wanted) = three_fields(rt, line);
     let module = module_of(rt, alloc, module)?;
@@ -53,6 +66,33 @@ fn finds_standard_basis(rt: &impl Abort, alloc: Global, line: &str) -> Result<bo
     is_matrix(rt, alloc, standard_basis(alloc, &module, &vector), wanted)
 }
 
+fn finds_first_nonzero_row(rt: &impl Abort, alloc: Global, line: &str) -> Result<bool, Refusal> {
+    let (matrix, wanted) = two_fields(rt, line);
+    let matrix = matrix_of(rt, alloc, matrix)?;
+    match first_nonzero_row(&matrix) {
+        Some(row) => is_row(rt, alloc, row, wanted),
+        None => Ok(wanted == "none"),
+    }
+}
+
+fn checks_rows(rt: &impl Abort, alloc: Global, line: &str) -> Result<bool, Refusal> {
+    let (module, rows, wanted) = three_fields(rt, line);
+    let module = module_of(rt, alloc, module)?;
+    let rows = matrix_of(rt, alloc, rows)?;
+    let answer = match module.check_rows(&rows) {
+        Ok(()) => Ok(rows),
+        Err(refusal) => Err(refusal),
+    };
+    is_matrix(rt, alloc, answer, wanted)
+}
+
+fn finds_standard_rows(rt: &impl Abort, alloc: Global, line: &str) -> Result<bool, Refusal> {
+    let (module, seed, wanted) = three_fields(rt, line);
+    let module = module_of(rt, alloc, module)?;
+    let seed = matrix_of(rt, alloc, seed)?;
+    is_matrix(rt, alloc, standard_rows(alloc, &module, &seed), wanted)
+}
+
 /// Whether a call answers what its line says.
 pub(crate) fn answers(
     rt: &impl Abort,
@@ -63,6 +103,9 @@ pub(crate) fn answers(
     match call {
         "generate" => generates(rt, alloc, line),
         "standard_basis" => finds_standard_basis(rt, alloc, line),
+        "first_nonzero_row" => finds_first_nonzero_row(rt, alloc, line),
+        "check_rows" => checks_rows(rt, alloc, line),
+        "standard_rows" => finds_standard_rows(rt, alloc, line),
         _ => panic!(rt; "no such call: {call}"),
     }
 }
@@ -80,4 +123,9 @@ fn seeds_are_refused(rt: HostRuntime) -> Result<(), Refusal> {
 #[test]
 fn vectors_have_standard_bases(rt: HostRuntime) -> Result<(), Refusal> {
     each_call(&rt, rt.alloc(), Topic::Spinning, STANDARD_BASES)
+}
+
+#[test]
+fn seeds_are_looked_at(rt: HostRuntime) -> Result<(), Refusal> {
+    each_call(&rt, rt.alloc(), Topic::Spinning, SEEDS)
 }

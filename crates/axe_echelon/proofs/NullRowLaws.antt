@@ -1,5 +1,5 @@
 -- The null space of a matrix as the rows are inserted one by one.
-use Rattle.std.specs.Prelude.{◌≡◌, ℕ, suc, ◌+◌, ◌<◌, ◌≤◌, List, [], ◌∷◌, ◌++◌, length, get_or, Bool, true, false, None, Result, Ok, Err}
+use Rattle.std.specs.Prelude.{◌≡◌, ℕ, suc, ◌+◌, ◌<◌, ◌≤◌, List, [], ◌∷◌, ◌++◌, length, get_or, Bool, true, false}
 use Rattle.std.proofs.Common.{add-one}
 use Rattle.axe_algebra.specs.NumberField.{NumberField}
 use Rattle.axe_algebra.specs.Vectors.{Vector, unit_vector, add_vectors, scale, times}
@@ -16,7 +16,6 @@ use Rattle.axe_algebra.proofs.ListVectors.{vector_of_added, vector_of_unit_row}
 use Rattle.axe_field.specs.Order.{Order, IsElement}
 use Rattle.axe_field.specs.Arithmetic.{field_neg}
 use Rattle.axe_field.specs.NumberFields.{number_field, gf}
-use Rattle.axe_row.specs.declared.refusals.Refusal.{Refusal}
 use Rattle.axe_row.specs.Rows.{RowValue, IsRow}
 use Rattle.axe_row.specs.Operations.{sum_with_multiple, row_with_multiple}
 use Rattle.axe_row.proofs.OperationLaws.{get_or-sum_with_multiple}

@@ -5,9 +5,12 @@ use Rattle.axe_spin.specs.Modules.{ModuleValue}
 use Rattle.axe_folder.specs.Files.{Files}
 use Rattle.axe_execute.specs.declared.draft.Draft.{Draft}
 use Rattle.axe_execute.specs.declared.fault.Fault.{Fault}
-use Rattle.axe_execute.specs.Meaning.{Problem, Plan, ◌>>=◌, matrix_in, matrices_in, numbered_names, checked_module, seeded_module, put_generators}
+use Rattle.axe_execute.specs.Plans.{Problem, Plan}
+use Rattle.axe_execute.specs.Inputs.{and_then, matrix_in, matrices_in, numbered_names, checked_module, seeded_module}
+use Rattle.axe_execute.specs.ModuleCommands.{put_generators}
 use Rattle.axe_execute.specs.Drafts.{plan_in, with_steps}
-use Rattle.axe_execute.specs.Relations.{Is, ActionModulo, SpunPlan, SpinPlan, QuotientPlan}
+use Rattle.axe_execute.specs.Meanings.{Is}
+use Rattle.axe_execute.specs.ModuleCommands.{ActionModulo, SpunPlan, SpinPlan, QuotientPlan}
 use Rattle.axe_execute.specs.Outcome.{Agrees}
 use Rattle.axe_execute.proofs.Sequences.{among_before, among_after, among_none, fault_carries, answer_carries}
 
@@ -18,26 +21,23 @@ module _ (files : Files) (count : ℕ) (name seed : List ℕ) where
   names = numbered_names name count ++ seed ∷ []
 
   abbrev after_matrices : List MatrixValue → Result (ModuleValue × MatrixValue) Problem
-  after_matrices matrices = do
-    vectors ← matrix_in files seed
-    m ← checked_module matrices
-    Ok (m, vectors)
+  after_matrices matrices = and_then (matrix_in files seed) (λ vectors. and_then (checked_module matrices) (λ m. Ok (m, vectors)))
 
   seeded_of_matrices : (matrices : List MatrixValue) → matrices_in files (numbered_names name count) ≡ Ok matrices →
       seeded_module count name seed files ≡ after_matrices matrices
   unfolding seeded_module
-  seeded_of_matrices matrices e = ap (λ found. found >>= after_matrices) e
+  seeded_of_matrices matrices e = ap (λ found. and_then found after_matrices) e
 
   seeded_of_seed : (matrices : List MatrixValue) (vectors : MatrixValue) → matrices_in files (numbered_names name count) ≡ Ok matrices →
-      matrix_in files seed ≡ Ok vectors → seeded_module count name seed files ≡ (checked_module matrices >>= λ m. Ok (m, vectors))
+      matrix_in files seed ≡ Ok vectors → seeded_module count name seed files ≡ and_then (checked_module matrices) (λ m. Ok (m, vectors))
   seeded_of_seed matrices vectors e f =
-      seeded_of_matrices matrices e ∙ ap (λ found. found >>= λ vectors. checked_module matrices >>= λ m. Ok (m, vectors)) f
+      seeded_of_matrices matrices e ∙ ap (λ found. and_then found (λ vectors. and_then (checked_module matrices) (λ m. Ok (m, vectors)))) f
 
   pub seeded_value : (now : Files) (matrices : List MatrixValue) (vectors : MatrixValue) (m : ModuleValue) → now ≡ files →
       matrices_in files (numbered_names name count) ≡ Ok matrices → matrix_in now seed ≡ Ok vectors → checked_module matrices ≡ Ok m →
       seeded_module count name seed files ≡ Ok (m, vectors)
   seeded_value now matrices vectors m same e f g =
-      seeded_of_seed matrices vectors e (sym (ap (λ files. matrix_in files seed) same) ∙ f) ∙ ap (λ found. found >>= λ m. Ok (m, vectors)) g
+      seeded_of_seed matrices vectors e (sym (ap (λ files. matrix_in files seed) same) ∙ f) ∙ ap (λ found. and_then found (λ m. Ok (m, vectors))) g
 
   module _ {U : Type 0} (other : U → ModuleValue × MatrixValue) (fault : Fault) where
     pub seeded_fault_of_matrices : {T : Type 0} (view : T → List MatrixValue) →
@@ -46,7 +46,7 @@ module _ (files : Files) (count : ℕ) (name seed : List ℕ) where
     unfolding seeded_module
     seeded_fault_of_matrices view right =
         fault_carries (numbered_names name count) names view other fault (Is (matrices_in files (numbered_names name count))) (Is (seeded_module count name seed files))
-        (among_before (numbered_names name count) (seed ∷ [])) (λ problem e. ap (λ found. found >>= after_matrices) e) right
+        (among_before (numbered_names name count) (seed ∷ [])) (λ problem e. ap (λ found. and_then found after_matrices) e) right
 
     pub seeded_fault_of_seed : (now : Files) (matrices : List MatrixValue) → now ≡ files → matrices_in files (numbered_names name count) ≡ Ok matrices →
         Agrees (seed ∷ []) (λ (m : MatrixValue). m) (Err fault) (Is (matrix_in now seed)) →
@@ -55,7 +55,7 @@ module _ (files : Files) (count : ℕ) (name seed : List ℕ) where
         fault_carries (seed ∷ []) names (λ (m : MatrixValue). m) other fault (Is (matrix_in now seed)) (Is (seeded_module count name seed files))
         (among_after (numbered_names name count) (seed ∷ []))
         (λ problem f. seeded_of_matrices matrices e
-        ∙ ap (λ found. found >>= λ vectors. checked_module matrices >>= λ m. Ok (m, vectors)) (sym (ap (λ files. matrix_in files seed) same) ∙ f)) right
+        ∙ ap (λ found. and_then found (λ vectors. and_then (checked_module matrices) (λ m. Ok (m, vectors)))) (sym (ap (λ files. matrix_in files seed) same) ∙ f)) right
 
     pub seeded_fault_of_module : (now : Files) (matrices : List MatrixValue) (vectors : MatrixValue) → now ≡ files →
         matrices_in files (numbered_names name count) ≡ Ok matrices → matrix_in now seed ≡ Ok vectors →
@@ -63,7 +63,7 @@ module _ (files : Files) (count : ℕ) (name seed : List ℕ) where
         Agrees names other (Err fault) (Is (seeded_module count name seed files))
     seeded_fault_of_module now matrices vectors same e f right =
         fault_carries [] names (λ (m : ModuleValue). m) other fault (Is (checked_module matrices)) (Is (seeded_module count name seed files)) (among_none names)
-        (λ problem g. seeded_of_seed matrices vectors e (sym (ap (λ files. matrix_in files seed) same) ∙ f) ∙ ap (λ found. found >>= λ m. Ok (m, vectors)) g) right
+        (λ problem g. seeded_of_seed matrices vectors e (sym (ap (λ files. matrix_in files seed) same) ∙ f) ∙ ap (λ found. and_then found (λ m. Ok (m, vectors))) g) right
 
   -- what is spun
   module _ (standard : Bool) (action : Option (List ℕ)) (out : List ℕ) where

@@ -5,9 +5,11 @@ use Rattle.std.proofs.lemmas.List.{append-nil, length-append}
 use Rattle.std.proofs.lemmas.List.FromFn.{get_or-map-range_with_len, length-map-range_with_len}
 use Rattle.axe_matrix.specs.Matrices.{MatrixValue}
 use Rattle.axe_folder.specs.Files.{Files}
-use Rattle.axe_execute.specs.Meaning.{Problem, ◌>>=◌, matrix_in, matrices_in, numbered, numbered_names, IsOneOf}
+use Rattle.axe_execute.specs.Plans.{Problem}
+use Rattle.axe_execute.specs.Inputs.{and_then, matrix_in, matrices_in, numbered, numbered_names}
+use Rattle.axe_execute.specs.Outcome.{IsOneOf}
 use Rattle.axe_execute.specs.declared.fault.Fault.{Fault}
-use Rattle.axe_execute.specs.Relations.{Is}
+use Rattle.axe_execute.specs.Meanings.{Is}
 use Rattle.axe_execute.specs.Outcome.{Agrees}
 use Rattle.axe_execute.proofs.Sequences.{AreAmong, fault_carries}
 
@@ -22,24 +24,22 @@ first_of_names name i count below =
 
 -- matrices that are there, and after them those of the files of these names
 abbrev pub read_after : Files → List MatrixValue → List (List ℕ) → Result (List MatrixValue) Problem
-read_after files before names = do
-  rest ← matrices_in files names
-  Ok (before ++ rest)
+read_after files before names = and_then (matrices_in files names) (λ rest. Ok (before ++ rest))
 
 pub read_more : (files : Files) (before : List MatrixValue) (name : List ℕ) (names : List (List ℕ)) (m : MatrixValue) → matrix_in files name ≡ Ok m →
     read_after files before (name ∷ names) ≡ read_after files (before ++ m ∷ []) names
 read_more files before name names m e =
-    ap (λ first. (first >>= λ a. matrices_in files names >>= λ rest. Ok (a ∷ rest)) >>= λ rest. Ok (before ++ rest)) e ∙ cases (matrices_in files names)
+    ap (λ first. and_then (and_then first (λ a. and_then (matrices_in files names) (λ rest. Ok (a ∷ rest)))) (λ rest. Ok (before ++ rest))) e ∙ cases (matrices_in files names)
   where
     cases : (rest : Result (List MatrixValue) Problem) →
-        ((rest >>= λ rest. Ok (m ∷ rest)) >>= λ rest. Ok (before ++ rest)) ≡ (rest >>= λ rest. Ok ((before ++ m ∷ []) ++ rest))
+        and_then (and_then rest (λ rest. Ok (m ∷ rest))) (λ rest. Ok (before ++ rest)) ≡ and_then rest (λ rest. Ok ((before ++ m ∷ []) ++ rest))
     cases (Ok rest) = ap Ok (sym (append_assoc before (m ∷ []) rest))
     cases (Err problem) = refl
 
 pub read_problem : (files : Files) (before : List MatrixValue) (name : List ℕ) (names : List (List ℕ)) (problem : Problem) → matrix_in files name ≡ Err problem →
     read_after files before (name ∷ names) ≡ Err problem
 read_problem files before name names problem e =
-    ap (λ first. (first >>= λ a. matrices_in files names >>= λ rest. Ok (a ∷ rest)) >>= λ rest. Ok (before ++ rest)) e
+    ap (λ first. and_then (and_then first (λ a. and_then (matrices_in files names) (λ rest. Ok (a ∷ rest)))) (λ rest. Ok (before ++ rest))) e
 
 pub read_all : (files : Files) (before : List MatrixValue) (name : List ℕ) (i count : ℕ) → count ≡ i →
     read_after files before (names_from name (i + 1) (count - i)) ≡ Ok before
@@ -49,7 +49,7 @@ read_all files before name i count e =
 pub read_none : (files : Files) (names : List (List ℕ)) → matrices_in files names ≡ read_after files [] names
 read_none files names = cases (matrices_in files names)
   where
-    cases : (rest : Result (List MatrixValue) Problem) → rest ≡ (rest >>= λ rest. Ok ([] ++ rest))
+    cases : (rest : Result (List MatrixValue) Problem) → rest ≡ and_then rest (λ rest. Ok ([] ++ rest))
     cases (Ok rest) = refl
     cases (Err problem) = refl
 

@@ -1,8 +1,8 @@
 -- Meanings with at most one answer.
 use Rattle.std.proofs.Common.{◌≡◌, refl, sym, ◌∙◌, ap, subst, Option, Some, None, Result, Ok, Err, IfOk}
 use Rattle.axe_row.specs.declared.refusals.Refusal.{Refusal}
-use Rattle.axe_execute.specs.Meaning.{Problem}
-use Rattle.axe_execute.specs.Relations.{Meaning, AtMostOne, Is, Has, HasOrRefuses, UnlessRefused, After, ◌>>=◌}
+use Rattle.axe_execute.specs.Plans.{Problem, Refuses}
+use Rattle.axe_execute.specs.Meanings.{Meaning, AtMostOne, Is, Has, HasOr, UnlessRefused, After, ◌>>=◌}
 
 pub is_one : {A : Type 0} (right : Result A Problem) → AtMostOne (Is right)
 is_one right first second is_first is_second = sym is_first ∙ is_second
@@ -12,11 +12,13 @@ has_one P only (Ok a) (Ok b) of_a of_b = ap Ok (only a b of_a of_b)
 has_one P only (Ok a) (Err problem) of_a of_b = absurd of_b
 has_one P only (Err problem) second of_a of_b = absurd of_a
 
-pub has_or_refuses_one : {A : Type 0} (P : A → Type 0) (refusal : Refusal) → ((a b : A) → P a → P b → a ≡ b) → AtMostOne (HasOrRefuses P refusal)
-has_or_refuses_one P refusal only (Ok a) (Ok b) of_a of_b = ap Ok (only a b of_a of_b)
-has_or_refuses_one P refusal only (Ok a) (Err problem) of_a none = absurd (none.1 (a, of_a))
-has_or_refuses_one P refusal only (Err problem) (Ok b) none of_b = absurd (none.1 (b, of_b))
-has_or_refuses_one P refusal only (Err problem) (Err other) none nor = ap Err (none.0 ∙ sym nor.0)
+pub has_or_one : {A : Type 0} (P : A → Type 0) (late : Refusal → Type 0) → ((a b : A) → P a → P b → a ≡ b) →
+    ((first second : Refusal) → late first → late second → first ≡ second) → ((value : A) (refusal : Refusal) → P value → ¬ (late refusal)) → AtMostOne (HasOr P late)
+has_or_one P late only one apart (Ok a) (Ok b) of_a of_b = ap Ok (only a b of_a of_b)
+has_or_one P late only one apart (Ok a) (Err problem) of_a (refusal, stands, is) = absurd (apart a refusal of_a stands)
+has_or_one P late only one apart (Err problem) (Ok b) (refusal, stands, is) of_b = absurd (apart b refusal of_b stands)
+has_or_one P late only one apart (Err problem) (Err other) (first, stands, is) (second, holds, is_other) =
+    ap Err (is ∙ ap Refuses (one first second stands holds) ∙ sym is_other)
 
 pub unless_refused_one : {A : Type 0} (refusal : Option Refusal) (meaning : Meaning A) → (refusal ≡ None → AtMostOne meaning) →
     AtMostOne (UnlessRefused refusal meaning)

@@ -1,5 +1,5 @@
 -- Each command has one meaning.
-use Rattle.std.proofs.Common.{◌≡◌, refl, sym, ℕ, zero, suc, ◌≤◌, List, length, Bool, true, false, ◌==◌, if◌then◌else◌, Some, None, Ok, Err, ◌⊎◌, inl, inr, arith}
+use Rattle.std.proofs.Common.{◌≡◌, refl, sym, ◌∙◌, Option, ℕ, zero, suc, ◌≤◌, List, length, Bool, true, false, ◌==◌, if◌then◌else◌, Some, None, Ok, Err, ◌⊎◌, inl, inr, arith}
 use Rattle.std.proofs.lemmas.Bool.{eqb-true, true≢false}
 use Rattle.std.proofs.lemmas.Option.{none-some}
 use Rattle.axe_row.specs.declared.refusals.Refusal.TheVariants.{NotSquare, Singular, NoRows}
@@ -8,15 +8,20 @@ use Rattle.axe_echelon.specs.Echelons.{null_space_refusal, IsNullSpaceMatrix, in
 use Rattle.axe_folder.specs.Files.{Files}
 use Rattle.axe_arguments.specs.declared.command.Command.{Command}
 use Rattle.axe_arguments.specs.declared.command.Command.TheVariants.{Zcv, Zpr, Zmu, Zad, Ztr, Ziv, Znu, Zsp, Zqt}
-use Rattle.axe_execute.specs.Meaning.{Refuses, put_packed}
-use Rattle.axe_execute.specs.Relations.{Answered, AtMostOne, Is, Has, HasOrRefuses, ◌>>=◌, InverseOf, NullSpaceOf, InversePlan, NullSpacePlan, Means}
 use Rattle.axe_execute.proofs.PlanParts.{matrix_then_one, matrix_then_some, put_one, put_some}
 use Rattle.axe_execute.proofs.OneModulePlan.{spin_plan_one, quotient_plan_one}
 use Rattle.axe_execute.proofs.SomeModulePlan.{spin_plan_some, quotient_plan_some}
-use Rattle.axe_execute.proofs.OneAnswer.{is_one, has_one, has_or_refuses_one, unless_refused_one}
-use Rattle.axe_execute.proofs.OneMatrix.{null_space_is_one, inverse_is_one}
+use Rattle.axe_execute.proofs.OneAnswer.{is_one, has_one, has_or_one, unless_refused_one}
+use Rattle.axe_echelon.proofs.OneMatrix.{null_space_is_one, inverse_is_one}
 use Rattle.axe_execute.proofs.SomeAnswer.{unless_refused_some}
-use Rattle.axe_execute.proofs.SomeMatrix.{some_null_space, inverse_or_none}
+use Rattle.axe_echelon.proofs.SomeMatrix.{some_null_space, inverse_or_none}
+use Rattle.axe_row.specs.declared.refusals.Refusal.{Refusal}
+use Rattle.axe_row.specs.Refusals.{RefusedAs}
+use Rattle.axe_execute.specs.Plans.{Refuses}
+use Rattle.axe_execute.specs.Meanings.{Meaning, Answered, AtMostOne, Is, Has, HasOr, UnlessRefused, ◌>>=◌}
+use Rattle.axe_execute.specs.Inputs.{matrix_in, text_matrix_in}
+use Rattle.axe_execute.specs.MatrixCommands.{put_packed, put_or_show_text, ProductOf, SumOf, TransposeOf, InverseOf, NullSpaceOf, ConversionPlan, PrintingPlan, ProductPlan, SumPlan, TransposePlan, InversePlan, NullSpacePlan}
+use Rattle.axe_execute.specs.Means.{Means}
 
 square_of_test : (test : Bool) (m n : ℕ) → (m == n) ≡ test → (if test then None else Some NotSquare) ≡ None → m ≡ n
 square_of_test true m n is e = eqb-true m n is
@@ -38,17 +43,19 @@ rows_if_not_refused a e = rows_of_test (length a.rows == 0) (length a.rows) refl
 inverse_one : (a : MatrixValue) → IsMatrix a → AtMostOne (InverseOf a)
 unfolding InverseOf
 inverse_one a well =
-    unless_refused_one (inverse_refusal a) (HasOrRefuses (IsInverseMatrix a) Singular)
-    (λ e. has_or_refuses_one (IsInverseMatrix a) Singular (λ b c. inverse_is_one a b c well (square_if_not_refused a e)))
+    unless_refused_one (inverse_refusal a) (HasOr (IsInverseMatrix a) (RefusedAs Singular (¬ (IsInvertible a))))
+    (λ e. has_or_one (IsInverseMatrix a) (RefusedAs Singular (¬ (IsInvertible a))) (λ b c. inverse_is_one a b c well (square_if_not_refused a e))
+    (λ first second stands holds. stands.0 ∙ sym holds.0) (λ b refusal inverts none. none.1 (b, inverts)))
 
 inverse_some : (a : MatrixValue) → IsMatrix a → Answered (InverseOf a)
 unfolding InverseOf
 inverse_some a well =
-    unless_refused_some (inverse_refusal a) (HasOrRefuses (IsInverseMatrix a) Singular) (λ e. from (inverse_or_none a well (square_if_not_refused a e)))
+    unless_refused_some (inverse_refusal a) (HasOr (IsInverseMatrix a) (RefusedAs Singular (¬ (IsInvertible a))))
+    (λ e. from (inverse_or_none a well (square_if_not_refused a e)))
   where
-    from : IsInvertible a ⊎ (¬ (IsInvertible a)) → Answered (HasOrRefuses (IsInverseMatrix a) Singular)
+    from : IsInvertible a ⊎ (¬ (IsInvertible a)) → Answered (HasOr (IsInverseMatrix a) (RefusedAs Singular (¬ (IsInvertible a))))
     from (inl (inverse, inverts)) = (Ok inverse, inverts)
-    from (inr none) = (Err (Refuses Singular), (refl, none))
+    from (inr none) = (Err (Refuses Singular), (Singular, (refl, none), refl))
 
 null_space_one : (a : MatrixValue) → AtMostOne (NullSpaceOf a)
 unfolding NullSpaceOf
@@ -61,6 +68,15 @@ unfolding NullSpaceOf
 null_space_some a well =
     unless_refused_some (null_space_refusal a) (Has (λ basis. IsNullSpaceMatrix a basis × IsMatrix basis))
     (λ e. let found = some_null_space a well (rows_if_not_refused a e) in (Ok found.0, found.1))
+
+-- ---- results that are functions of their operands
+
+equal_one : {A : Type 0} (refusal : Option Refusal) (value : A) → AtMostOne (UnlessRefused refusal (Has (λ answer. answer ≡ value)))
+equal_one refusal value =
+    unless_refused_one refusal (Has (λ answer. answer ≡ value)) (λ e. has_one (λ answer. answer ≡ value) (λ a b is_a is_b. is_a ∙ sym is_b))
+
+equal_some : {A : Type 0} (refusal : Option Refusal) (value : A) → Answered (UnlessRefused refusal (Has (λ answer. answer ≡ value)))
+equal_some refusal value = unless_refused_some refusal (Has (λ answer. answer ≡ value)) (λ e. (Ok value, refl))
 
 -- ---- commands
 
@@ -84,23 +100,76 @@ unfolding NullSpacePlan
 null_space_plan_some input out files =
     matrix_then_some files input (λ a. NullSpaceOf a >>= λ basis. Is (Ok (put_packed out basis))) (λ a well. put_some out (NullSpaceOf a) (null_space_some a well))
 
+conversion_plan_one : (input out : List ℕ) (files : Files) → AtMostOne (ConversionPlan input out files)
+unfolding ConversionPlan
+conversion_plan_one input out files = put_one out (Is (text_matrix_in files input)) (is_one (text_matrix_in files input))
+
+conversion_plan_some : (input out : List ℕ) (files : Files) → Answered (ConversionPlan input out files)
+unfolding ConversionPlan
+conversion_plan_some input out files = put_some out (Is (text_matrix_in files input)) (text_matrix_in files input, refl)
+
+printing_plan_one : (input : List ℕ) (out : Option (List ℕ)) (files : Files) → AtMostOne (PrintingPlan input out files)
+unfolding PrintingPlan
+printing_plan_one input out files = matrix_then_one files input (λ a. Is (Ok (put_or_show_text out a))) (λ a well. is_one (Ok (put_or_show_text out a)))
+
+printing_plan_some : (input : List ℕ) (out : Option (List ℕ)) (files : Files) → Answered (PrintingPlan input out files)
+unfolding PrintingPlan
+printing_plan_some input out files = matrix_then_some files input (λ a. Is (Ok (put_or_show_text out a))) (λ a well. (Ok (put_or_show_text out a), refl))
+
+-- the result of an operation on two matrices is put
+two_then_one : (operation : MatrixValue → MatrixValue → Meaning MatrixValue) (left right out : List ℕ) (files : Files) →
+    ((a b : MatrixValue) → AtMostOne (operation a b)) →
+    AtMostOne (Is (matrix_in files left) >>= λ a. Is (matrix_in files right) >>= λ b. operation a b >>= λ c. Is (Ok (put_packed out c)))
+two_then_one operation left right out files one =
+    matrix_then_one files left _ (λ a well. matrix_then_one files right _ (λ b well. put_one out (operation a b) (one a b)))
+
+two_then_some : (operation : MatrixValue → MatrixValue → Meaning MatrixValue) (left right out : List ℕ) (files : Files) →
+    ((a b : MatrixValue) → Answered (operation a b)) →
+    Answered (Is (matrix_in files left) >>= λ a. Is (matrix_in files right) >>= λ b. operation a b >>= λ c. Is (Ok (put_packed out c)))
+two_then_some operation left right out files some =
+    matrix_then_some files left _ (λ a well. matrix_then_some files right _ (λ b well. put_some out (operation a b) (some a b)))
+
+product_plan_one : (left right out : List ℕ) (files : Files) → AtMostOne (ProductPlan left right out files)
+unfolding ProductPlan ProductOf
+product_plan_one left right out files = two_then_one ProductOf left right out files (λ a b. equal_one _ _)
+
+product_plan_some : (left right out : List ℕ) (files : Files) → Answered (ProductPlan left right out files)
+unfolding ProductPlan ProductOf
+product_plan_some left right out files = two_then_some ProductOf left right out files (λ a b. equal_some _ _)
+
+sum_plan_one : (left right out : List ℕ) (files : Files) → AtMostOne (SumPlan left right out files)
+unfolding SumPlan SumOf
+sum_plan_one left right out files = two_then_one SumOf left right out files (λ a b. equal_one _ _)
+
+sum_plan_some : (left right out : List ℕ) (files : Files) → Answered (SumPlan left right out files)
+unfolding SumPlan SumOf
+sum_plan_some left right out files = two_then_some SumOf left right out files (λ a b. equal_some _ _)
+
+transpose_plan_one : (input out : List ℕ) (files : Files) → AtMostOne (TransposePlan input out files)
+unfolding TransposePlan TransposeOf
+transpose_plan_one input out files = matrix_then_one files input _ (λ a well. put_one out (TransposeOf a) (equal_one _ _))
+
+transpose_plan_some : (input out : List ℕ) (files : Files) → Answered (TransposePlan input out files)
+unfolding TransposePlan TransposeOf
+transpose_plan_some input out files = matrix_then_some files input _ (λ a well. put_some out (TransposeOf a) (equal_some _ _))
+
 pub at_most_one_meaning : (command : Command) (files : Files) → AtMostOne (Means command files)
-at_most_one_meaning (Zcv input out) files = is_one _
-at_most_one_meaning (Zpr input out) files = is_one _
-at_most_one_meaning (Zmu left right out) files = is_one _
-at_most_one_meaning (Zad left right out) files = is_one _
-at_most_one_meaning (Ztr input out) files = is_one _
+at_most_one_meaning (Zcv input out) files = conversion_plan_one input out files
+at_most_one_meaning (Zpr input out) files = printing_plan_one input out files
+at_most_one_meaning (Zmu left right out) files = product_plan_one left right out files
+at_most_one_meaning (Zad left right out) files = sum_plan_one left right out files
+at_most_one_meaning (Ztr input out) files = transpose_plan_one input out files
 at_most_one_meaning (Ziv input out) files = inverse_plan_one input out files
 at_most_one_meaning (Znu input out) files = null_space_plan_one input out files
 at_most_one_meaning (Zsp generators standard action name seed out) files = spin_plan_one generators standard action name seed out files
 at_most_one_meaning (Zqt generators subspace name out) files = quotient_plan_one generators subspace name out files
 
 pub some_meaning : (command : Command) (files : Files) → Answered (Means command files)
-some_meaning (Zcv input out) files = (_, refl)
-some_meaning (Zpr input out) files = (_, refl)
-some_meaning (Zmu left right out) files = (_, refl)
-some_meaning (Zad left right out) files = (_, refl)
-some_meaning (Ztr input out) files = (_, refl)
+some_meaning (Zcv input out) files = conversion_plan_some input out files
+some_meaning (Zpr input out) files = printing_plan_some input out files
+some_meaning (Zmu left right out) files = product_plan_some left right out files
+some_meaning (Zad left right out) files = sum_plan_some left right out files
+some_meaning (Ztr input out) files = transpose_plan_some input out files
 some_meaning (Ziv input out) files = inverse_plan_some input out files
 some_meaning (Znu input out) files = null_space_plan_some input out files
 some_meaning (Zsp generators standard action name seed out) files = spin_plan_some generators standard action name seed out files

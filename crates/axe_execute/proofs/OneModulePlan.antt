@@ -1,26 +1,29 @@
 -- The commands that read a module have at most one plan.
-use Rattle.std.proofs.Common.{◌≡◌, refl, sym, ◌∙◌, ap, subst, ℕ, List, ◌==◌, not, if◌then◌else◌, Bool, true, false, Option, Some, None, Result, Ok, Err, IfOk, inl, inr}
+use Rattle.std.proofs.Common.{◌≡◌, refl, sym, ◌∙◌, subst, ℕ, List, Bool, Option, Some, None, Result, Ok, Err, IfOk, inl, inr}
 use Rattle.std.specs.Prelude.{⊤}
 use Rattle.std.specs.List.{All}
-use Rattle.std.proofs.lemmas.Bool.{eqb-true}
-use Rattle.std.proofs.lemmas.Option.{none-some}
 use Rattle.axe_algebra.specs.Lists.{IsMatrixOver}
 use Rattle.axe_algebra.specs.SpansOfLists.{IsIndependent}
-use Rattle.axe_field.specs.Order.{order_number}
 use Rattle.axe_field.specs.NumberFields.{number_field}
 use Rattle.axe_row.specs.declared.refusals.Refusal.{Refusal}
-use Rattle.axe_row.specs.declared.refusals.Refusal.TheVariants.{FieldsDiffer, ShapesDiffer}
 use Rattle.axe_matrix.specs.Matrices.{MatrixValue, IsMatrix}
-use Rattle.axe_matrix.proofs.MatrixLaws.{same_order}
 use Rattle.axe_spin.specs.Modules.{ModuleValue}
 use Rattle.axe_spin.specs.Spinning.{seed_refusal}
-use Rattle.axe_action.specs.Actions.{rows_refusal}
+use Rattle.axe_spin.specs.Modules.{rows_refusal}
 use Rattle.axe_folder.specs.Files.{Files}
-use Rattle.axe_execute.specs.Meaning.{Problem, matrices_in, numbered_names, checked_module, seeded_module, put_packed}
-use Rattle.axe_execute.specs.Relations.{AtMostOne, Is, Has, UnlessRefused, HasSpunRows, IsSubmoduleBasis, HasSquareGenerators, RowsOf, ActionOn, HasQuotient, ActionModulo, RowsPlan, SpunPlan, SpinPlan, QuotientPlan}
-use Rattle.axe_execute.proofs.OneAnswer.{is_one, has_one, unless_refused_one, then_one}
-use Rattle.axe_execute.proofs.OneModule.{spun_matrix_is_one, basis_action_is_one, quotient_is_one}
-use Rattle.axe_execute.proofs.Submodules.{seed_over, spun_is_submodule}
+use Rattle.axe_execute.specs.Plans.{Problem}
+use Rattle.axe_execute.specs.Inputs.{matrices_in, numbered_names, checked_module, seeded_module}
+use Rattle.axe_execute.specs.MatrixCommands.{put_packed}
+use Rattle.axe_execute.specs.Meanings.{AtMostOne, Is, Has, HasOr, UnlessRefused}
+use Rattle.axe_spin.specs.Spinning.{HasSpunRows, IsSubmoduleBasis}
+use Rattle.axe_spin.specs.Modules.{HasSquareGenerators}
+use Rattle.axe_execute.specs.ModuleCommands.{RowsOf, ActionOn, ActionModulo, RowsPlan, SpunPlan, SpinPlan, QuotientPlan}
+use Rattle.axe_execute.proofs.OneAnswer.{is_one, has_one, has_or_one, unless_refused_one, then_one}
+use Rattle.axe_spin.proofs.OneSpun.{spun_matrix_is_one}
+use Rattle.axe_spin.proofs.SeedLaws.{vectors_of, vectors_over}
+use Rattle.axe_spin.proofs.SubmoduleLaws.{spun_is_submodule}
+use Rattle.axe_action.proofs.OneAction.{basis_action_is_one, quotient_is_one}
+use Rattle.axe_action.specs.Actions.{IsProperActionModulo, quotient_late}
 use Rattle.axe_execute.proofs.ReadModules.{IsReadModule, made_is_module, matrices_are_matrices, seeded_is_module}
 use Rattle.axe_execute.proofs.PlanParts.{any_value, matrix_then_one}
 
@@ -75,32 +78,27 @@ spin_plan_one count standard action name seed out files =
 -- ---- quotients
 
 -- rows that are not refused are vectors of the module
-over_of_tests : (m : ModuleValue) (rows : MatrixValue) (fields shapes : Bool) → IsMatrix rows → (order_number rows.order == order_number m.order) ≡ fields →
-    (rows.cols == m.dim) ≡ shapes → (if not fields then Some FieldsDiffer else (if not shapes then Some ShapesDiffer else None)) ≡ None →
-    IsMatrixOver (number_field m.order) m.dim rows.rows
-over_of_tests m rows true true well fields shapes e = seed_over m rows well (same_order rows.order m.order (eqb-true _ _ fields)) (eqb-true _ _ shapes)
-over_of_tests m rows true false well fields shapes e = absurd (none-some ShapesDiffer (sym e))
-over_of_tests m rows false shape well fields shapes e = absurd (none-some FieldsDiffer (sym e))
-
 pub over_if_not_refused : (m : ModuleValue) (rows : MatrixValue) → IsMatrix rows → rows_refusal m rows ≡ None → IsMatrixOver (number_field m.order) m.dim rows.rows
-over_if_not_refused m rows well e = over_of_tests m rows _ _ well refl refl e
+over_if_not_refused m rows well e = let vectors = vectors_of m rows e in vectors_over m rows vectors.field vectors.columns well
 
-has_quotient_one : (m : ModuleValue) (rows : MatrixValue) → HasSquareGenerators m → IsMatrixOver (number_field m.order) m.dim rows.rows → AtMostOne (HasQuotient m rows)
-has_quotient_one m rows square over (Ok a) (Ok b) (proper, invariant, first, of_a) (_, _, second, of_b) =
-    ap Ok (quotient_is_one m rows a b square over first of_a second of_b)
-has_quotient_one m rows square over (Ok a) (Err problem) (proper, invariant, first, of_a) (inl (whole, e)) = absurd (proper whole)
-has_quotient_one m rows square over (Ok a) (Err problem) (proper, invariant, first, of_a) (inr (other, varies, e)) = absurd (varies invariant)
-has_quotient_one m rows square over (Err problem) (Ok b) (inl (whole, e)) (proper, invariant, second, of_b) = absurd (proper whole)
-has_quotient_one m rows square over (Err problem) (Ok b) (inr (other, varies, e)) (proper, invariant, second, of_b) = absurd (varies invariant)
-has_quotient_one m rows square over (Err problem) (Err another) (inl (whole, e)) (inl (whole', f)) = ap Err (e ∙ sym f)
-has_quotient_one m rows square over (Err problem) (Err another) (inl (whole, e)) (inr (proper, varies, f)) = absurd (proper whole)
-has_quotient_one m rows square over (Err problem) (Err another) (inr (proper, varies, e)) (inl (whole, f)) = absurd (proper whole)
-has_quotient_one m rows square over (Err problem) (Err another) (inr (proper, varies, e)) (inr (proper', varies', f)) = ap Err (e ∙ sym f)
+quotient_late_is_one : (m : ModuleValue) (rows : MatrixValue) (first second : Refusal) → quotient_late m rows first → quotient_late m rows second → first ≡ second
+quotient_late_is_one m rows first second (inl (e, whole)) (inl (f, _)) = e ∙ sym f
+quotient_late_is_one m rows first second (inl (e, whole)) (inr (f, (proper, varies))) = absurd (proper whole)
+quotient_late_is_one m rows first second (inr (e, (proper, varies))) (inl (f, whole)) = absurd (proper whole)
+quotient_late_is_one m rows first second (inr (e, (proper, varies))) (inr (f, _)) = e ∙ sym f
+
+quotient_or_late : (m : ModuleValue) (rows : MatrixValue) (action : ModuleValue) (refusal : Refusal) → IsProperActionModulo m rows action × HasSquareGenerators action →
+    ¬ (quotient_late m rows refusal)
+quotient_or_late m rows action refusal ((proper, invariant, acts), square) (inl (e, whole)) = proper whole
+quotient_or_late m rows action refusal ((proper, invariant, acts), square) (inr (e, (_, varies))) = varies invariant
 
 modulo_one : (m : ModuleValue) (rows : MatrixValue) → IsReadModule m → IsMatrix rows → AtMostOne (ActionModulo m rows)
 unfolding ActionModulo
 modulo_one m rows is well =
-    unless_refused_one (rows_refusal m rows) (HasQuotient m rows) (λ e. has_quotient_one m rows is.over.square (over_if_not_refused m rows well e))
+    unless_refused_one (rows_refusal m rows) (HasOr (λ action. IsProperActionModulo m rows action × HasSquareGenerators action) (quotient_late m rows))
+    (λ e. has_or_one (λ action. IsProperActionModulo m rows action × HasSquareGenerators action) (quotient_late m rows)
+    (λ a b of_a of_b. quotient_is_one m rows a b is.over.square (over_if_not_refused m rows well e) of_a.0.2 of_a.1 of_b.0.2 of_b.1)
+    (quotient_late_is_one m rows) (quotient_or_late m rows))
 
 pub matrices_if_read : (files : Files) (names : List (List ℕ)) (before : Result (List MatrixValue) Problem) → Is (matrices_in files names) before →
     IfOk before (All IsMatrix)

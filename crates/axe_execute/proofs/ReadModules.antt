@@ -12,12 +12,14 @@ use Rattle.axe_row.specs.declared.refusals.Refusal.TheVariants.{FieldsDiffer, Sh
 use Rattle.axe_matrix.specs.declared.TheConstants.{MAX_COLUMNS}
 use Rattle.axe_matrix.specs.Matrices.{MatrixValue, IsMatrix}
 use Rattle.axe_matrix.proofs.MatrixLaws.{same_order}
-use Rattle.axe_row.specs.Refusals.{first_of, unless_refused}
+use Rattle.axe_row.specs.Refusals.{unless_refused}
 use Rattle.axe_spin.specs.Modules.{ModuleValue, generator_refusal, generators_refusal, rows_of_each}
 use Rattle.axe_folder.specs.Files.{Files}
-use Rattle.axe_execute.specs.Meaning.{Problem, ◌>>=◌, or_refuses, matrix_in, matrices_in, numbered_names, checked_module, seeded_module}
+use Rattle.axe_execute.specs.Plans.{Problem}
+use Rattle.axe_execute.specs.Inputs.{and_then, or_refuses, matrix_in, matrices_in, numbered_names, checked_module, seeded_module}
 use Rattle.axe_execute.proofs.Readings.{matrix_in_is_matrix}
-use Rattle.axe_execute.proofs.OneMatrix.{over_of}
+use Rattle.axe_echelon.proofs.OneMatrix.{over_of}
+use Rattle.axe_spin.proofs.SeedLaws.{none_of_both}
 use mathlib.Core.Path.{refl, sym, ◌∙◌}
 
 -- a dimension within the limits, and square generators of that dimension
@@ -44,16 +46,11 @@ square_of_tests o n m false true true false square field columns e well = absurd
 square_if_not_refused : (o : Order) (n : ℕ) (m : MatrixValue) → generator_refusal o n m ≡ None → IsMatrix m → IsSquareOver (number_field o) n m.rows
 square_if_not_refused o n m e well = square_of_tests o n m _ _ _ _ refl refl refl e well
 
--- none of the refusals stands where the first that stands is none
-first_is_none : (first second : Option Refusal) → first_of first second ≡ None → (first ≡ None) × (second ≡ None)
-first_is_none None second e = (refl, e)
-first_is_none (Some refusal) second e = absurd (none-some refusal (sym e))
-
 squares_if_not_refused : (o : Order) (n : ℕ) (matrices : List MatrixValue) → generators_refusal o n matrices ≡ None → All IsMatrix matrices →
     All (IsSquareOver (number_field o) n) (rows_of_each matrices)
 squares_if_not_refused o n [] e well = All-nil (IsSquareOver (number_field o) n)
 squares_if_not_refused o n (m ∷ rest) e well =
-    let both = first_is_none (generator_refusal o n m) (generators_refusal o n rest) e in
+    let both = none_of_both (generator_refusal o n m) (generators_refusal o n rest) e in
     All-cons (IsSquareOver (number_field o) n) m.rows (rows_of_each rest) (square_if_not_refused o n m both.0 (All-head IsMatrix m rest well))
     (squares_if_not_refused o n rest both.1 (All-tail IsMatrix m rest well))
 
@@ -84,7 +81,7 @@ matrices_are_matrices files (name ∷ names) =
     cases (matrix_in files name) (matrices_in files names) (matrix_in_is_matrix files name) (matrices_are_matrices files names)
   where
     cases : (first : Result MatrixValue Problem) (rest : Result (List MatrixValue) Problem) → IfOk first IsMatrix → IfOk rest (All IsMatrix) →
-        IfOk (first >>= λ first. rest >>= λ rest. Ok (first ∷ rest)) (All IsMatrix)
+        IfOk (and_then first (λ first. and_then rest (λ rest. Ok (first ∷ rest)))) (All IsMatrix)
     cases (Ok first) (Ok rest) well wells = All-cons IsMatrix first rest well wells
     cases (Ok first) (Err problem) well wells = tt
     cases (Err problem) rest well wells = tt
@@ -96,12 +93,12 @@ seeded_is_module count name seed files =
     cases (matrices_in files (numbered_names name count)) (matrix_in files seed) (matrices_are_matrices files (numbered_names name count)) (matrix_in_is_matrix files seed)
   where
     module_then : (made : Result ModuleValue Problem) (vectors : MatrixValue) → IfOk made IsReadModule → IsMatrix vectors →
-        IfOk (made >>= λ m. Ok (m, vectors)) (λ (seeded : ModuleValue × MatrixValue). IsReadModule seeded.0 × IsMatrix seeded.1)
+        IfOk (and_then made (λ m. Ok (m, vectors))) (λ (seeded : ModuleValue × MatrixValue). IsReadModule seeded.0 × IsMatrix seeded.1)
     module_then (Ok m) vectors is well = (is, well)
     module_then (Err problem) vectors is well = tt
 
     cases : (matrices : Result (List MatrixValue) Problem) (vectors : Result MatrixValue Problem) → IfOk matrices (All IsMatrix) → IfOk vectors IsMatrix →
-        IfOk (matrices >>= λ matrices. vectors >>= λ vectors. checked_module matrices >>= λ m. Ok (m, vectors)) (λ (seeded : ModuleValue × MatrixValue). IsReadModule seeded.0 × IsMatrix seeded.1)
+        IfOk (and_then matrices (λ matrices. and_then vectors (λ vectors. and_then (checked_module matrices) (λ m. Ok (m, vectors))))) (λ (seeded : ModuleValue × MatrixValue). IsReadModule seeded.0 × IsMatrix seeded.1)
     cases (Ok matrices) (Ok vectors) wells well = module_then (checked_module matrices) vectors (made_is_module matrices wells) well
     cases (Ok matrices) (Err problem) wells well = tt
     cases (Err problem) vectors wells well = tt

@@ -3,8 +3,9 @@ use Rattle.std.proofs.Common.{ℕ, List, ◌++◌, [], ◌∷◌, Result, Ok, Er
 use Rattle.axe_folder.specs.declared.fault.FolderFault.TheVariants as folder
 use Rattle.axe_execute.specs.declared.fault.Fault.{Fault}
 use Rattle.axe_execute.specs.declared.fault.Fault.TheVariants.{File, Folder, Refused, Usage, Memory}
-use Rattle.axe_execute.specs.Meaning.{Problem, IsOneOf}
-use Rattle.axe_execute.specs.Relations.{Meaning}
+use Rattle.axe_execute.specs.Plans.{Problem}
+use Rattle.axe_execute.specs.Outcome.{IsOneOf}
+use Rattle.axe_execute.specs.Meanings.{Meaning}
 use Rattle.axe_execute.specs.Outcome.{Agrees}
 
 -- each of these names is one of those

@@ -1,20 +1,34 @@
 -- The commands that read a module have a plan, or a problem stands against them.
-use Rattle.std.proofs.Common.{refl, ℕ, List, Bool, Option, Some, None, Ok}
+use Rattle.std.proofs.Common.{refl, ℕ, List, length, Bool, Option, Some, None, Ok, Err, inl, inr}
 use Rattle.std.specs.Prelude.{⊤}
 use Rattle.std.specs.List.{All}
 use Rattle.axe_matrix.specs.Matrices.{MatrixValue, IsMatrix}
 use Rattle.axe_spin.specs.Modules.{ModuleValue}
 use Rattle.axe_spin.specs.Spinning.{seed_refusal}
-use Rattle.axe_action.specs.Actions.{rows_refusal}
+use Rattle.axe_spin.specs.Modules.{rows_refusal}
 use Rattle.axe_folder.specs.Files.{Files}
-use Rattle.axe_execute.specs.Meaning.{matrices_in, numbered_names, checked_module, seeded_module}
-use Rattle.axe_execute.specs.Relations.{Answered, Is, Has, HasSpunRows, IsSubmoduleBasis, RowsOf, ActionOn, HasQuotient, ActionModulo, RowsPlan, SpunPlan, SpinPlan, QuotientPlan}
+use Rattle.axe_execute.specs.Inputs.{matrices_in, numbered_names, checked_module, seeded_module}
+use Rattle.axe_execute.specs.Meanings.{Answered, Is, Has, HasOr}
+use Rattle.axe_spin.specs.Spinning.{HasSpunRows, IsSubmoduleBasis}
+use Rattle.axe_execute.specs.ModuleCommands.{RowsOf, ActionOn, ActionModulo, RowsPlan, SpunPlan, SpinPlan, QuotientPlan}
 use Rattle.axe_execute.proofs.SomeAnswer.{unless_refused_some, then_some}
-use Rattle.axe_execute.proofs.Submodules.{seed_if_not_refused}
+use Rattle.axe_spin.proofs.SeedLaws.{seed_if_not_refused}
 use Rattle.axe_execute.proofs.ReadModules.{IsReadModule}
 use Rattle.axe_execute.proofs.PlanParts.{any_value, matrix_then_some}
 use Rattle.axe_execute.proofs.OneModulePlan.{rows_are_basis, seeded_if_read, over_if_not_refused, matrices_if_read, module_if_made}
-use Rattle.axe_execute.proofs.SomeModule.{some_spun_matrix, some_basis_action, has_quotient_some}
+use Rattle.axe_algebra.specs.NumberField.{NumberField}
+use Rattle.axe_algebra.specs.Bridge.{field_of, matrix_of}
+use Rattle.axe_algebra.specs.Lists.{IsMatrixOver}
+use Rattle.axe_algebra.proofs.Duality.{spans_all_or_not}
+use Rattle.axe_algebra.proofs.ListEntries.{rows_length}
+use Rattle.axe_algebra.proofs.ListInvariance.{invariant_or_not}
+use Rattle.axe_field.specs.NumberFields.{number_field}
+use Rattle.axe_row.specs.declared.refusals.Refusal.TheVariants.{WholeSpace, NotInvariant}
+use Rattle.axe_spin.specs.Modules.{HasSquareGenerators, IsInvariantIn, SpansModule}
+use Rattle.axe_spin.proofs.SomeSpun.{some_spun_matrix}
+use Rattle.axe_action.specs.Actions.{IsProperActionModulo, quotient_late}
+use Rattle.axe_action.proofs.SomeAction.{some_basis_action, some_quotient}
+use Rattle.axe_execute.specs.Plans.{Refuses}
 
 -- ---- spinning
 
@@ -22,7 +36,7 @@ rows_some : (standard : Bool) (m : ModuleValue) (seed : MatrixValue) → IsReadM
 unfolding RowsOf
 rows_some standard m seed is well =
     unless_refused_some (seed_refusal m seed) (Has (λ rows. HasSpunRows standard m seed rows × IsMatrix rows))
-    (λ e. let found = some_spun_matrix standard m seed is well (seed_if_not_refused m seed e) in (Ok found.0, found.1))
+    (λ e. let found = some_spun_matrix standard m seed is.over is.dim_fits well (seed_if_not_refused m seed e) in (Ok found.0, found.1))
 
 action_some : (m : ModuleValue) (rows : MatrixValue) → IsSubmoduleBasis m rows → Answered (ActionOn m rows)
 unfolding ActionOn
@@ -48,10 +62,28 @@ spin_plan_some count standard action name seed out files =
 
 -- ---- quotients
 
+has_quotient_some : (m : ModuleValue) (rows : MatrixValue) → HasSquareGenerators m → IsMatrixOver (number_field m.order) m.dim rows.rows →
+    Answered (HasOr (λ action. IsProperActionModulo m rows action × HasSquareGenerators action) (quotient_late m rows))
+has_quotient_some m rows square over =
+    cases (spans_all_or_not (field_of K) m.dim (length rows.rows) (matrix_of K rows.rows) (rows_length K m.dim rows.rows over))
+    (invariant_or_not K m.dim m.generators rows.rows square over)
+  where
+    K : NumberField
+    K = number_field m.order
+
+    cases : Dec (SpansModule m rows) → Dec (IsInvariantIn m rows) →
+        Answered (HasOr (λ action. IsProperActionModulo m rows action × HasSquareGenerators action) (quotient_late m rows))
+    cases (yes whole) _ = (Err (Refuses WholeSpace), (WholeSpace, inl (refl, whole), refl))
+    cases (no proper) (no varies) = (Err (Refuses NotInvariant), (NotInvariant, inr (refl, (proper, varies)), refl))
+    cases (no proper) (yes invariant) =
+        let found = some_quotient m rows square over in
+        (Ok found.0, ((proper, invariant, found.1.0), found.1.1))
+
 modulo_some : (m : ModuleValue) (rows : MatrixValue) → IsReadModule m → IsMatrix rows → Answered (ActionModulo m rows)
 unfolding ActionModulo
 modulo_some m rows is well =
-    unless_refused_some (rows_refusal m rows) (HasQuotient m rows) (λ e. has_quotient_some m rows is.over.square (over_if_not_refused m rows well e))
+    unless_refused_some (rows_refusal m rows) (HasOr (λ action. IsProperActionModulo m rows action × HasSquareGenerators action) (quotient_late m rows))
+    (λ e. has_quotient_some m rows is.over.square (over_if_not_refused m rows well e))
 
 pub quotient_plan_some : (count : ℕ) (subspace name out : List ℕ) (files : Files) → Answered (QuotientPlan count subspace name out files)
 unfolding QuotientPlan

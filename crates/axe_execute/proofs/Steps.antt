@@ -8,7 +8,9 @@ use Rattle.axe_file.specs.Packed.{packed}
 use Rattle.axe_folder.specs.Files.{Files}
 use Rattle.axe_execute.specs.declared.draft.Change.{Change}
 use Rattle.axe_execute.specs.Drafts.{step_in, with_step, with_steps}
-use Rattle.axe_execute.specs.Meaning.{Step, Put, step_applied, applied, Plan, numbered, put_generator}
+use Rattle.axe_execute.specs.Plans.{Step, Put, step_applied, applied, Plan}
+use Rattle.axe_execute.specs.Inputs.{numbered}
+use Rattle.axe_execute.specs.ModuleCommands.{put_generator}
 
 -- one more change is made after the others
 pub applied_more : (changes : List Change) (change : Change) (files : Files) → applied (map step_in (changes ++ change ∷ [])) files ≡ step_applied (step_in change) (applied (map step_in changes) files)

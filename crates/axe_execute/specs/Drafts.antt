@@ -3,7 +3,7 @@ use Rattle.std.specs.Prelude.{ℕ, List, [], ◌∷◌, ◌++◌, map, string_by
 use Rattle.axe_execute.specs.declared.draft.Change.{Change}
 use Rattle.axe_execute.specs.declared.draft.Change.TheVariants as change
 use Rattle.axe_execute.specs.declared.draft.Draft.{Draft}
-use Rattle.axe_execute.specs.Meaning.{Step, Put, Remove, Plan}
+use Rattle.axe_execute.specs.Plans.{Step, Put, Remove, Plan}
 
 -- the step that a change makes
 abbrev pub step_in : Change → Step

@@ -1,5 +1,9 @@
-pub mod Meaning
-pub mod Relations
+pub mod Plans
+pub mod Meanings
+pub mod Inputs
+pub mod MatrixCommands
+pub mod ModuleCommands
+pub mod Means
 pub mod Outcome
 pub mod Drafts
 pub mod Faults

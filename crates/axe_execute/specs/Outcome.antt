@@ -1,15 +1,20 @@
 -- How a command may end: what its answer says of its meaning, of the files, and of the folder's device.
-use Rattle.std.specs.Prelude.{◌≡◌, ◌⊎◌, ⊤, ℕ, ◌+◌, ◌<◌, min, List, ◌∷◌, ◌++◌, Result, Ok, Err, string_bytes}
+use Rattle.std.specs.Prelude.{◌≡◌, ◌⊎◌, ⊤, ℕ, ◌+◌, ◌<◌, min, List, [], ◌∷◌, ◌++◌, Result, Ok, Err, string_bytes}
 use Rattle.axe_folder.specs.declared.fault.FolderFault.TheVariants as folder
 use Rattle.axe_folder.specs.Files.{Files}
 use Rattle.axe_folder.specs.Outcomes.{Puts, Removes, most_failures}
 use Rattle.axe_execute.specs.declared.fault.Fault.{Fault}
 use Rattle.axe_execute.specs.declared.fault.Fault.TheVariants.{File, Folder, Refused, Usage, Memory}
 use Rattle.axe_execute.specs.declared.execution.Shown.{Shown}
-use Rattle.axe_execute.specs.Meaning.{Step, Put, Remove, step_name, step_applied, applied, Plan, Problem, Unfetched, Unreadable, Refuses, IsOneOf}
-use Rattle.axe_execute.specs.Relations.{Meaning}
+use Rattle.axe_execute.specs.Plans.{Step, Put, Remove, step_name, step_applied, applied, Plan, Problem, Unfetched, Unreadable, Refuses}
+use Rattle.axe_execute.specs.Meanings.{Meaning}
 
 -- ---- reading
+
+-- one of these names
+abbrev pub IsOneOf : List (List ℕ) → List ℕ → Type 0
+IsOneOf [] name = ⊥
+IsOneOf (first ∷ names) name = (name ≡ first) ⊎ IsOneOf names name
 
 -- the answer of a call that reads the files of these names: one that is right, its value as `view` sees it or the problem
 -- that stands. A device that fails at one of the files, and want of memory, stop it before it knows

@@ -5,11 +5,11 @@ ghost use Rattle.axe_execute.specs.Outcome.{Carries, Counted};
 
 use crate::fault::Fault;
 use crate::modules::numbered;
+use axe_arguments::Name;
 use axe_file::{write_packed, write_text};
 use axe_folder::Folder;
 use axe_matrix::Matrix;
 use axe_spin::Module;
-use axe_arguments::Name;
 use std::alloc::Global;
 
 /// One change to the files of a folder.
@@ -56,7 +56,8 @@ impl Draft {
     ghost use Rattle.axe_file.specs.Packed.{packed};
     ghost use Rattle.axe_file.specs.TextWriting.{text_of};
     ghost use Rattle.axe_execute.specs.declared.fault.Fault.TheVariants.{Memory};
-    ghost use Rattle.axe_execute.specs.Meaning.{Put, put_generators};
+    ghost use Rattle.axe_execute.specs.Plans.{Put};
+    ghost use Rattle.axe_execute.specs.ModuleCommands.{put_generators};
     ghost use Rattle.axe_execute.specs.Drafts.{plan_in, with_step, with_steps, with_text};
 
     /// The draft that changes nothing and shows nothing.

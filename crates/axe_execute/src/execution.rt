@@ -1,14 +1,14 @@
 //! Commands, executed.
 ghost use Rattle.std.specs.Prelude.{IsTrue};
-ghost use Rattle.axe_execute.specs.Meaning.{names_read};
-ghost use Rattle.axe_execute.specs.Relations.{Means};
+ghost use Rattle.axe_execute.specs.Means.{names_read};
+ghost use Rattle.axe_execute.specs.Means.{Means};
 ghost use Rattle.axe_execute.specs.Outcome.{Executes, BlamesDevice, Counted};
 
 use crate::draft::{Draft, make_all};
 use crate::fault::Fault;
 use crate::planning::draft_of;
-use axe_folder::Folder;
 use axe_arguments::Command;
+use axe_folder::Folder;
 use std::alloc::Global;
 
 /// What a command shows when it ends well.

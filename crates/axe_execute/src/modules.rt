@@ -1,16 +1,16 @@
 //! Modules whose generators lie in files of their own, NAME.1 to NAME.N.
 ghost use Rattle.std.specs.Prelude.{◌≡◌, ◌≤◌, IsTrue, [], length, IfOk, string_bytes};
 ghost use Rattle.axe_spin.specs.Modules.{IsModule};
-ghost use Rattle.axe_execute.specs.Meaning.{matrices_in, numbered, numbered_names, checked_module};
-ghost use Rattle.axe_execute.specs.Relations.{Is};
+ghost use Rattle.axe_execute.specs.Inputs.{matrices_in, numbered, numbered_names, checked_module};
+ghost use Rattle.axe_execute.specs.Meanings.{Is};
 ghost use Rattle.axe_execute.specs.Outcome.{Agrees, Counted};
 
 use crate::fault::Fault;
 use crate::reading::read_matrix_file;
+use axe_arguments::{GeneratorCount, Name};
 use axe_folder::Folder;
 use axe_matrix::Matrix;
 use axe_spin::{MAX_GENERATORS, Module};
-use axe_arguments::{GeneratorCount, Name};
 use itoa::Buffer;
 use std::alloc::{AllocError, Global};
 
@@ -48,7 +48,7 @@ pub(crate) fn numbered(alloc: Global, name: &Name, number: usize) -> Result<Stri
 }
 
 /// The module with these matrices as its generators.
-#[tactic(auto, unfolding(crate::specs::Meaning::checked_module))]
+#[tactic(auto, unfolding(crate::specs::Inputs::checked_module))]
 pub(crate) fn module_of(matrices: Vec<Matrix>) -> Result<Module, Fault>
     requires some { 1 ≤ length matrices.items }
     requires fits { length matrices.items ≤ MAX_GENERATORS }

@@ -1,9 +1,10 @@
 //! What each command is about to do: its files are read, its result is computed, and everything that it will write is made.
 //! Nothing is written here.
 ghost use Rattle.std.specs.Prelude.{◌≡◌, IsTrue, [], ◌∷◌, option_copied};
-ghost use Rattle.axe_execute.specs.Meaning.{names_read, checked_product, checked_sum, checked_transpose};
-ghost use Rattle.axe_execute.specs.Meaning.{conversion_plan, printing_plan, product_plan, sum_plan, transpose_plan};
-ghost use Rattle.axe_execute.specs.Relations.{Is, InverseOf, NullSpaceOf, InversePlan, NullSpacePlan, Means};
+ghost use Rattle.axe_execute.specs.MatrixCommands.{ProductOf, SumOf, TransposeOf, InverseOf, NullSpaceOf};
+ghost use Rattle.axe_execute.specs.MatrixCommands.{ConversionPlan, PrintingPlan, ProductPlan, SumPlan, TransposePlan};
+ghost use Rattle.axe_execute.specs.MatrixCommands.{InversePlan, NullSpacePlan};
+ghost use Rattle.axe_execute.specs.Means.{Means, names_read};
 ghost use Rattle.axe_execute.specs.Outcome.{Agrees, Counted};
 ghost use Rattle.axe_execute.specs.Drafts.{plan_in};
 
@@ -12,10 +13,10 @@ use crate::fault::Fault;
 use crate::quotients::quotient_draft;
 use crate::reading::{read_matrix, read_text_matrix};
 use crate::spinning::SeededModule;
+use axe_arguments::{Command, Name};
 use axe_echelon::{inverse, null_space};
 use axe_folder::Folder;
 use axe_matrix::Matrix;
-use axe_arguments::{Command, Name};
 use std::alloc::Global;
 
 /// The draft of a command.
@@ -59,7 +60,7 @@ pub(crate) fn draft_of<F: Folder>(
 }
 
 // The draft of `zcv`: the matrix of which a file is a text.
-#[tactic(auto, unfolding(crate::specs::Meaning::conversion_plan))]
+#[tactic(auto, unfolding(crate::specs::MatrixCommands::ConversionPlan))]
 fn conversion_draft<F: Folder>(
     alloc: Global,
     input: &Name,
@@ -68,7 +69,7 @@ fn conversion_draft<F: Folder>(
 ) -> Result<Draft, Fault>
     ensures means { IsTrue F.tells →
         Agrees (input.now ∷ []) plan_in result
-        (Is (conversion_plan input.now out.now (F.files folder.old))) }
+        (ConversionPlan input.now out.now (F.files folder.old)) }
     ensures kept { IsTrue F.tells → F.files folder.new ≡ F.files folder.old }
     ensures counted { IsTrue F.tells → Counted result (F.failures folder.old) (F.failures folder.new) }
 {
@@ -79,7 +80,7 @@ fn conversion_draft<F: Folder>(
 }
 
 // The draft of `zpr`: the text of a matrix, to be put or shown.
-#[tactic(auto, unfolding(crate::specs::Meaning::printing_plan))]
+#[tactic(auto, unfolding(crate::specs::MatrixCommands::PrintingPlan))]
 fn printing_draft<F: Folder>(
     alloc: Global,
     input: &Name,
@@ -88,7 +89,7 @@ fn printing_draft<F: Folder>(
 ) -> Result<Draft, Fault>
     ensures means { IsTrue F.tells →
         Agrees (input.now ∷ []) plan_in result
-        (Is (printing_plan input.now (option_copied out.entry) (F.files folder.old))) }
+        (PrintingPlan input.now (option_copied out.entry) (F.files folder.old)) }
     ensures kept { IsTrue F.tells → F.files folder.new ≡ F.files folder.old }
     ensures counted { IsTrue F.tells → Counted result (F.failures folder.old) (F.failures folder.new) }
 {
@@ -102,7 +103,7 @@ fn printing_draft<F: Folder>(
 }
 
 // The draft of `zmu`: the product of two matrices.
-#[tactic(auto, unfolding(crate::specs::Meaning::product_plan))]
+#[tactic(auto, unfolding(crate::specs::MatrixCommands::ProductPlan))]
 fn product_draft<F: Folder>(
     alloc: Global,
     left: &Name,
@@ -112,7 +113,7 @@ fn product_draft<F: Folder>(
 ) -> Result<Draft, Fault>
     ensures means { IsTrue F.tells →
         Agrees (left.now ∷ right.now ∷ []) plan_in result
-        (Is (product_plan left.now right.now out.now (F.files folder.old))) }
+        (ProductPlan left.now right.now out.now (F.files folder.old)) }
     ensures kept { IsTrue F.tells → F.files folder.new ≡ F.files folder.old }
     ensures counted { IsTrue F.tells → Counted result (F.failures folder.old) (F.failures folder.new) }
 {
@@ -125,7 +126,7 @@ fn product_draft<F: Folder>(
 }
 
 // The draft of `zad`: the sum of two matrices.
-#[tactic(auto, unfolding(crate::specs::Meaning::sum_plan))]
+#[tactic(auto, unfolding(crate::specs::MatrixCommands::SumPlan))]
 fn sum_draft<F: Folder>(
     alloc: Global,
     left: &Name,
@@ -135,7 +136,7 @@ fn sum_draft<F: Folder>(
 ) -> Result<Draft, Fault>
     ensures means { IsTrue F.tells →
         Agrees (left.now ∷ right.now ∷ []) plan_in result
-        (Is (sum_plan left.now right.now out.now (F.files folder.old))) }
+        (SumPlan left.now right.now out.now (F.files folder.old)) }
     ensures kept { IsTrue F.tells → F.files folder.new ≡ F.files folder.old }
     ensures counted { IsTrue F.tells → Counted result (F.failures folder.old) (F.failures folder.new) }
 {
@@ -148,7 +149,7 @@ fn sum_draft<F: Folder>(
 }
 
 // The draft of `ztr`: the transpose of a matrix.
-#[tactic(auto, unfolding(crate::specs::Meaning::transpose_plan))]
+#[tactic(auto, unfolding(crate::specs::MatrixCommands::TransposePlan))]
 fn transpose_draft<F: Folder>(
     alloc: Global,
     input: &Name,
@@ -157,7 +158,7 @@ fn transpose_draft<F: Folder>(
 ) -> Result<Draft, Fault>
     ensures means { IsTrue F.tells →
         Agrees (input.now ∷ []) plan_in result
-        (Is (transpose_plan input.now out.now (F.files folder.old))) }
+        (TransposePlan input.now out.now (F.files folder.old)) }
     ensures kept { IsTrue F.tells → F.files folder.new ≡ F.files folder.old }
     ensures counted { IsTrue F.tells → Counted result (F.failures folder.old) (F.failures folder.new) }
 {
@@ -169,7 +170,7 @@ fn transpose_draft<F: Folder>(
 }
 
 // The draft of `ziv`: the inverse of a matrix.
-#[tactic(auto, unfolding(crate::specs::Relations::InversePlan))]
+#[tactic(auto, unfolding(crate::specs::MatrixCommands::InversePlan))]
 fn inverse_draft<F: Folder>(
     alloc: Global,
     input: &Name,
@@ -190,7 +191,7 @@ fn inverse_draft<F: Folder>(
 }
 
 // The draft of `znu`: the reduced basis of the null space of a matrix.
-#[tactic(auto, unfolding(crate::specs::Relations::NullSpacePlan))]
+#[tactic(auto, unfolding(crate::specs::MatrixCommands::NullSpacePlan))]
 fn null_space_draft<F: Folder>(
     alloc: Global,
     input: &Name,
@@ -211,31 +212,31 @@ fn null_space_draft<F: Folder>(
 }
 
 // The product of two matrices.
-#[tactic(auto, unfolding(crate::specs::Meaning::checked_product))]
+#[tactic(auto, unfolding(crate::specs::MatrixCommands::ProductOf))]
 fn multiply(alloc: Global, left: &Matrix, right: &Matrix) -> Result<Matrix, Fault>
-    ensures { Agrees [] (λ product. product) result (Is (checked_product left.now right.now)) }
+    ensures { Agrees [] (λ product. product) result (ProductOf left.now right.now) }
 {
     Ok(left.mul(alloc, right)?)
 }
 
 // The sum of two matrices.
-#[tactic(auto, unfolding(crate::specs::Meaning::checked_sum))]
+#[tactic(auto, unfolding(crate::specs::MatrixCommands::SumOf))]
 fn add(alloc: Global, left: &Matrix, right: &Matrix) -> Result<Matrix, Fault>
-    ensures { Agrees [] (λ sum. sum) result (Is (checked_sum left.now right.now)) }
+    ensures { Agrees [] (λ sum. sum) result (SumOf left.now right.now) }
 {
     Ok(left.add(alloc, right)?)
 }
 
 // The transpose of a matrix.
-#[tactic(auto, unfolding(crate::specs::Meaning::checked_transpose))]
+#[tactic(auto, unfolding(crate::specs::MatrixCommands::TransposeOf))]
 fn transpose(alloc: Global, matrix: &Matrix) -> Result<Matrix, Fault>
-    ensures { Agrees [] (λ transpose. transpose) result (Is (checked_transpose matrix.now)) }
+    ensures { Agrees [] (λ transpose. transpose) result (TransposeOf matrix.now) }
 {
     Ok(matrix.transpose(alloc)?)
 }
 
 // The inverse of a matrix.
-#[tactic(auto, unfolding(crate::specs::Relations::InverseOf))]
+#[tactic(auto, unfolding(crate::specs::MatrixCommands::InverseOf))]
 fn invert(alloc: Global, matrix: &Matrix) -> Result<Matrix, Fault>
     ensures { Agrees [] (λ inverse. inverse) result (InverseOf matrix.now) }
 {
@@ -243,7 +244,7 @@ fn invert(alloc: Global, matrix: &Matrix) -> Result<Matrix, Fault>
 }
 
 // The reduced basis of the null space of a matrix.
-#[tactic(auto, unfolding(crate::specs::Relations::NullSpaceOf))]
+#[tactic(auto, unfolding(crate::specs::MatrixCommands::NullSpaceOf))]
 fn null_space_basis(alloc: Global, matrix: &Matrix) -> Result<Matrix, Fault>
     ensures { Agrees [] (λ basis. basis) result (NullSpaceOf matrix.now) }
 {

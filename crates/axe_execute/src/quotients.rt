@@ -1,8 +1,8 @@
 //! `zqt`: the action of a module modulo an invariant space.
 ghost use Rattle.std.specs.Prelude.{◌≡◌, IsTrue, [], ◌∷◌, IfOk};
 ghost use Rattle.axe_spin.specs.Modules.{IsModule};
-ghost use Rattle.axe_execute.specs.Meaning.{numbered_names};
-ghost use Rattle.axe_execute.specs.Relations.{ActionModulo, QuotientPlan};
+ghost use Rattle.axe_execute.specs.Inputs.{numbered_names};
+ghost use Rattle.axe_execute.specs.ModuleCommands.{ActionModulo, QuotientPlan};
 ghost use Rattle.axe_execute.specs.Outcome.{Agrees, Counted};
 ghost use Rattle.axe_execute.specs.Drafts.{plan_in};
 
@@ -11,14 +11,14 @@ use crate::fault::Fault;
 use crate::modules::{module_of, read_generators};
 use crate::reading::read_matrix;
 use axe_action::quotient_action;
+use axe_arguments::{GeneratorCount, Name};
 use axe_folder::Folder;
 use axe_matrix::Matrix;
 use axe_spin::Module;
-use axe_arguments::{GeneratorCount, Name};
 use std::alloc::Global;
 
 /// The draft of `zqt`: the quotient of a module by the space that rows span.
-#[tactic(auto, unfolding(crate::specs::Relations::QuotientPlan))]
+#[tactic(auto, unfolding(crate::specs::ModuleCommands::QuotientPlan))]
 pub(crate) fn quotient_draft<F: Folder>(
     alloc: Global,
     generators: GeneratorCount,
@@ -43,7 +43,7 @@ pub(crate) fn quotient_draft<F: Folder>(
 }
 
 // The quotient action of a module modulo the space that rows span.
-#[tactic(auto, unfolding(crate::specs::Relations::ActionModulo))]
+#[tactic(auto, unfolding(crate::specs::ModuleCommands::ActionModulo))]
 fn action_modulo(alloc: Global, module: &Module, rows: &Matrix) -> Result<Module, Fault>
     ensures { Agrees [] (λ action. action) result (ActionModulo «module».now rows.now) }
 {

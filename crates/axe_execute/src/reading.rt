@@ -1,15 +1,15 @@
 //! Files, fetched from a folder and read.
 ghost use Rattle.std.specs.Prelude.{◌≡◌, IsTrue, [], ◌∷◌, IfOk};
 ghost use Rattle.axe_matrix.specs.Matrices.{IsMatrix};
-ghost use Rattle.axe_execute.specs.Meaning.{bytes_in, matrix_in, text_matrix_in};
-ghost use Rattle.axe_execute.specs.Relations.{Is};
+ghost use Rattle.axe_execute.specs.Inputs.{bytes_in, matrix_in, text_matrix_in};
+ghost use Rattle.axe_execute.specs.Meanings.{Is};
 ghost use Rattle.axe_execute.specs.Outcome.{Agrees, Counted};
 
 use crate::fault::Fault;
+use axe_arguments::Name;
 use axe_file::{PACKED_LIMIT, TEXT_LIMIT, read_packed, read_text};
 use axe_folder::Folder;
 use axe_matrix::Matrix;
-use axe_arguments::Name;
 use std::alloc::Global;
 
 /// The matrix of the packed file that a command names.
@@ -29,7 +29,7 @@ pub(crate) fn read_matrix<F: Folder>(
 }
 
 /// The matrix of a packed file.
-#[tactic(auto, unfolding(crate::specs::Meaning::matrix_in))]
+#[tactic(auto, unfolding(crate::specs::Inputs::matrix_in))]
 pub(crate) fn read_matrix_file<F: Folder>(
     alloc: Global,
     folder: &mut F,
@@ -50,7 +50,7 @@ pub(crate) fn read_matrix_file<F: Folder>(
 }
 
 /// The matrix of which a file is a text.
-#[tactic(auto, unfolding(crate::specs::Meaning::text_matrix_in))]
+#[tactic(auto, unfolding(crate::specs::Inputs::text_matrix_in))]
 pub(crate) fn read_text_matrix<F: Folder>(
     alloc: Global,
     folder: &mut F,
@@ -70,7 +70,7 @@ pub(crate) fn read_text_matrix<F: Folder>(
 }
 
 // The bytes of a file that has at most `limit` of them.
-#[tactic(auto, unfolding(crate::specs::Meaning::bytes_in))]
+#[tactic(auto, unfolding(crate::specs::Inputs::bytes_in))]
 fn fetch<F: Folder>(
     alloc: Global,
     folder: &mut F,

@@ -1,12 +1,11 @@
 //! `zsp`: the spaces that rows generate in a module, and standard bases.
-ghost use Rattle.std.specs.Prelude.{◌≡◌, ◌++◌, true, IsTrue, [], ◌∷◌, IfOk, MatchOption, option_copied};
-ghost use Rattle.axe_row.specs.Refusals.{Answers};
+ghost use Rattle.std.specs.Prelude.{◌≡◌, ◌++◌, IsTrue, [], ◌∷◌, IfOk, option_copied};
 ghost use Rattle.axe_matrix.specs.Matrices.{IsMatrix};
 ghost use Rattle.axe_spin.specs.Modules.{IsModule};
-ghost use Rattle.axe_spin.specs.Spinning.{has_only_zeros, seed_refusal};
-ghost use Rattle.axe_execute.specs.Meaning.{numbered_names, seeded_module};
-ghost use Rattle.axe_execute.specs.Relations.{Is, IsFirstNonzeroRow, HasSpunRows, IsSubmoduleBasis};
-ghost use Rattle.axe_execute.specs.Relations.{RowsOf, ActionOn, SpunPlan};
+ghost use Rattle.axe_execute.specs.Inputs.{numbered_names, seeded_module};
+ghost use Rattle.axe_execute.specs.Meanings.{Is};
+ghost use Rattle.axe_spin.specs.Spinning.{IsSubmoduleBasis};
+ghost use Rattle.axe_execute.specs.ModuleCommands.{RowsOf, ActionOn, SpunPlan};
 ghost use Rattle.axe_execute.specs.Outcome.{Agrees, Counted};
 ghost use Rattle.axe_execute.specs.Drafts.{plan_in};
 
@@ -15,11 +14,10 @@ use crate::fault::Fault;
 use crate::modules::{module_of, read_generators};
 use crate::reading::read_matrix;
 use axe_action::basis_action;
+use axe_arguments::{GeneratorCount, Name};
 use axe_folder::Folder;
 use axe_matrix::Matrix;
-use axe_row::Refusal;
-use axe_spin::{Module, generate, standard_basis};
-use axe_arguments::{GeneratorCount, Name};
+use axe_spin::{Module, generate, standard_rows};
 use std::alloc::Global;
 
 /// A module, and a matrix whose rows are to be spun in it.
@@ -53,7 +51,7 @@ impl SeededModule {
     }
 
     /// The draft of `zsp`: the rows that spinning the seed gives, and the action on them.
-    #[tactic(auto, unfolding(crate::specs::Relations::SpunPlan))]
+    #[tactic(auto, unfolding(crate::specs::ModuleCommands::SpunPlan))]
     pub(crate) fn draft(
         &self,
         alloc: Global,
@@ -78,7 +76,7 @@ impl SeededModule {
 }
 
 // The rows that spinning a seed gives.
-#[tactic(auto, unfolding(crate::specs::Relations::RowsOf))]
+#[tactic(auto, unfolding(crate::specs::ModuleCommands::RowsOf))]
 fn spun_rows(alloc: Global, module: &Module, seed: &Matrix, standard: bool) -> Result<Matrix, Fault>
     requires is_module { IsModule «module».now }
     requires is_matrix { IsMatrix seed.now }
@@ -92,37 +90,8 @@ fn spun_rows(alloc: Global, module: &Module, seed: &Matrix, standard: bool) -> R
     }
 }
 
-// The standard basis of the first row of a seed that is not zero.
-fn standard_rows(alloc: Global, module: &Module, seed: &Matrix) -> Result<Matrix, Refusal>
-    ensures basis { Answers (seed_refusal «module».now seed.now) (HasSpunRows true «module».now seed.now) result }
-    ensures well_formed { IfOk result IsMatrix }
-{
-    if seed.field().order() != module.field().order() {
-        return Err(Refusal::FieldsDiffer);
-    }
-    if seed.cols() != module.dim() {
-        return Err(Refusal::ShapesDiffer);
-    }
-    match first_nonzero_row(seed) {
-        None => Err(Refusal::ZeroSeed),
-        Some(index) => standard_basis(alloc, module, seed.row(index)),
-    }
-}
-
-// The index of the first row that is not zero.
-fn first_nonzero_row(matrix: &Matrix) -> Option<usize>
-    ensures { MatchOption result (has_only_zeros matrix.now.rows ≡ true) (IsFirstNonzeroRow matrix.now) }
-{
-    for index in 0..matrix.rows() {
-        if !matrix.row(index).is_zero() {
-            return Some(index);
-        }
-    }
-    None
-}
-
 // The action of a module on the span of a submodule's basis, over its rows.
-#[tactic(auto, unfolding(crate::specs::Relations::ActionOn))]
+#[tactic(auto, unfolding(crate::specs::ModuleCommands::ActionOn))]
 fn action_on(alloc: Global, module: &Module, rows: &Matrix) -> Result<Module, Fault>
     requires submodule { IsSubmoduleBasis «module».now rows.now }
     ensures { Agrees [] (λ action. action) result (ActionOn «module».now rows.now) }

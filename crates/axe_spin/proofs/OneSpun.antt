@@ -1,5 +1,5 @@
 -- The rows that spinning gives are determined.
-use Rattle.std.specs.Prelude.{◌≡◌, ℕ, ◌<◌, List, [], length, get_or, Bool, true, false}
+use Rattle.std.specs.Prelude.{◌≡◌, ℕ, ◌<◌, [], length, get_or, Bool, true, false}
 use Rattle.axe_algebra.specs.NumberField.{NumberField}
 use Rattle.axe_algebra.specs.Modules.{InGenerated}
 use Rattle.axe_algebra.specs.Bridge.{field_of, matrix_of, module_of}
@@ -10,7 +10,7 @@ use Rattle.axe_matrix.specs.Matrices.{MatrixValue, IsMatrix, row_of}
 use Rattle.axe_echelon.proofs.OneMatrix.{same_value, over_of}
 use Rattle.axe_spin.specs.Modules.{ModuleValue}
 use Rattle.axe_spin.specs.Spinning.{IsStandardMatrix, IsFirstNonzeroRow, HasSpunRows}
-use mathlib.Core.Path.{refl, sym, ◌∙◌, subst}
+use mathlib.Core.Path.{sym, ◌∙◌, subst}
 use native.Mathlib.Omega.{arith}
 use native.Mathlib.Decide.{dec_lt}
 

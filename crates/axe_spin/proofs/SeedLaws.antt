@@ -1,5 +1,5 @@
 -- Rows that are vectors of a module, and seeds.
-use Rattle.std.specs.Prelude.{◌≡◌, ℕ, ◌<◌, ◌==◌, not, if◌then◌else◌, List, [], length, get_or, Bool, true, false, Option, Some, None, Result, Ok, Err}
+use Rattle.std.specs.Prelude.{◌≡◌, ℕ, ◌==◌, not, if◌then◌else◌, length, Bool, true, false, Option, Some, None, Ok, Err}
 use Rattle.std.proofs.lemmas.Bool.{eq-eqb, eqb-true}
 use Rattle.axe_algebra.specs.Lists.{IsMatrixOver}
 use Rattle.axe_field.specs.Order.{order_number}
@@ -14,7 +14,7 @@ use Rattle.axe_echelon.proofs.InverseLaws.{matrix_over}
 use Rattle.axe_spin.specs.Modules.{ModuleValue, rows_refusal}
 use Rattle.axe_spin.specs.Spinning.{has_only_zeros, seed_refusal, IsFirstNonzeroRow}
 use Rattle.axe_spin.proofs.ZeroRows.{false_if_absurd, row_of_zeros}
-use mathlib.Core.Path.{refl, sym, ◌∙◌, ap, subst}
+use mathlib.Core.Path.{refl, ap, subst}
 
 -- ---- one refusal after another
 

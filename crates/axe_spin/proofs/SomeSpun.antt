@@ -21,7 +21,7 @@ use Rattle.axe_spin.specs.Spinning.{has_only_zeros, IsFirstNonzeroRow, HasSpunRo
 use Rattle.axe_spin.proofs.ZeroRows.{zeros_pass, passed_zeros, only_zeros}
 use Rattle.axe_spin.proofs.SeedLaws.{IsSeed, vectors_over}
 use mathlib.Core.Logic.{inl, inr}
-use mathlib.Core.Path.{refl, sym, ◌∙◌, ap, subst}
+use mathlib.Core.Path.{refl, sym, ◌∙◌, subst}
 use native.Mathlib.Omega.{arith}
 use native.Mathlib.Decide.{ℕ_discrete}
 

@@ -14,10 +14,10 @@ use Rattle.axe_field.specs.NumberFields.{number_field}
 use Rattle.axe_matrix.specs.Matrices.{MatrixValue, IsMatrix}
 use Rattle.axe_echelon.proofs.EliminationLaws.{zero_row_of_vector}
 use Rattle.axe_spin.specs.Modules.{ModuleValue, HasSquareGenerators}
-use Rattle.axe_spin.specs.Spinning.{has_only_zeros, seed_refusal, IsGeneratedMatrix, IsFirstNonzeroRow, HasSpunRows, IsSubmoduleBasis}
+use Rattle.axe_spin.specs.Spinning.{has_only_zeros, seed_refusal, IsGeneratedMatrix, HasSpunRows, IsSubmoduleBasis}
 use Rattle.axe_spin.proofs.ZeroRows.{only_zeros, row_of_zeros, zero_of_zeros, spanned_by_zeros, false_if_absurd}
 use Rattle.axe_spin.proofs.SeedLaws.{IsSeed, seed_if_not_refused, vectors_over}
-use mathlib.Core.Path.{refl, sym, ◌∙◌, ap, subst}
+use mathlib.Core.Path.{sym, ◌∙◌, subst}
 
 -- a seed that is spanned by rows that are zero has only zeros
 zero_seed : (K : NumberField) (n : ℕ) (seed rows : List (List ℕ)) → IsMatrixOver K n seed → has_only_zeros rows ≡ true →

@@ -7,7 +7,7 @@ use Rattle.std.proofs.lemmas.List.Elements.{All-get_or, All-from_get_or}
 use Rattle.std.proofs.lemmas.List.Sums.{AllPass-from_list_all, list_all-from_AllPass}
 use Rattle.axe_algebra.specs.NumberField.{NumberField}
 use Rattle.axe_algebra.specs.Field.{Field}
-use Rattle.axe_algebra.specs.Vectors.{Vector, zero_vector}
+use Rattle.axe_algebra.specs.Vectors.{zero_vector}
 use Rattle.axe_algebra.specs.Spans
 use Rattle.axe_algebra.specs.Bridge.{field_of, vector_of, matrix_of, element}
 use Rattle.axe_algebra.specs.Lists.{IsVectorOver, IsMatrixOver}
@@ -18,7 +18,7 @@ use Rattle.axe_algebra.proofs.ListEntries.{row_over}
 use Rattle.axe_row.specs.Operations.{IsZeroVector}
 use Rattle.axe_echelon.proofs.EliminationLaws.{zero_row_of_vector}
 use Rattle.axe_spin.specs.Spinning.{has_only_zeros}
-use mathlib.Core.Path.{refl, sym, ◌∙◌, ap, subst, fun_ext}
+use mathlib.Core.Path.{refl, ◌∙◌, ap, subst, fun_ext}
 use native.Mathlib.Omega.{arith}
 use native.Mathlib.Decide.{dec_lt}
 

@@ -1,5 +1,5 @@
 -- Modules: square matrices of one dimension over one field.
-use Rattle.std.specs.Prelude.{ℕ, ◌≤◌, ◌==◌, not, List, [], ◌∷◌, length, map, slice_index_or, All, Option, Some, None, Result, Ok, Err, if◌then◌else◌}
+use Rattle.std.specs.Prelude.{ℕ, ◌≤◌, ◌==◌, not, List, [], ◌∷◌, length, map, slice_index_or, All, Option, Some, None, Result, Err, if◌then◌else◌}
 use Rattle.axe_algebra.specs.Lists.{IsModuleOver, IsSquareOver}
 use Rattle.axe_algebra.specs.SpansOfLists.{SpansEverything}
 use Rattle.axe_algebra.specs.ModulesOfLists.{IsInvariant}

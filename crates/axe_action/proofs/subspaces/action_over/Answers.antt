@@ -29,8 +29,11 @@ returns-in_err-action-clause-action c =
     × HasActionRows c.generator.result.now c.args.rows.now.rows (length c.args.rows.now.rows) action) (IsActionOverRows c.args.module.now c.args.rows.now)
     (RefusedAs NotInvariant (¬ (HasImagesIn c.generator.result.now c.args.rows.now.rows c.args.rows.now.rows))) (action_late c.args.module.now c.args.rows.now)
     c.from_residual-in_err-action.result _ refl
-    (λ refusal stands. (stands.0, λ invariant. stands.1 (subst (λ g. HasImagesIn g c.args.rows.now.rows c.args.rows.now.rows) (sym c.generator.ensures.value)
-    (outside_invariant c.args.module.now c.args.rows.now c.loop-number.number c.gens-number-end.ensures.well_formed over below invariant))))
+    (λ refusal stands. (
+      stands.0,
+      λ invariant. stands.1 (subst (λ g. HasImagesIn g c.args.rows.now.rows c.args.rows.now.rows) (sym c.generator.ensures.value)
+          (outside_invariant c.args.module.now c.args.rows.now c.loop-number.number c.gens-number-end.ensures.well_formed over below invariant)),
+    ))
     c.in_err-action.ensures c.from_residual-in_err-action.ensures.1
 
 pub loop-number-preserved : goal.loop-number-preserved

@@ -29,9 +29,11 @@ pub returns-then-rank-rows-clause-inverse : goal.returns-then-rank-rows-clause-i
 returns-then-rank-rows-clause-inverse c =
     let square : length c.args.matrix.now.rows ≡ c.args.matrix.now.cols = sym c.rows.ensures.count ∙ c.if-rows-cols.false ∙ c.cols.ensures.count in
     stands_late (inverse_refusal c.args.matrix.now) (IsInverseMatrix c.args.matrix.now) (RefusedAs Singular (¬ (IsInvertible c.args.matrix.now))) Singular
-    (inverse_refusal-none c.args.matrix.now square)
-    (refl, no_inverse_of_fewer c.args.matrix.now c.in_ok-rows.rows c.rows.ensures.well_formed square c.in_ok-rows.ensures.span
-    (λ same. c.if-rank-rows.true (c.rank.ensures.count ∙ same ∙ sym c.rows-3.ensures.count)))
+    (inverse_refusal-none c.args.matrix.now square) (
+      refl,
+      no_inverse_of_fewer c.args.matrix.now c.in_ok-rows.rows c.rows.ensures.well_formed square c.in_ok-rows.ensures.span
+          (λ same. c.if-rank-rows.true (c.rank.ensures.count ∙ same ∙ sym c.rows-3.ensures.count)),
+    )
 
 pub returns-then-rank-rows-clause-well_formed : goal.returns-then-rank-rows-clause-well_formed
 returns-then-rank-rows-clause-well_formed c = tt

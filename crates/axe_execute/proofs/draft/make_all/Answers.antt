@@ -1,7 +1,7 @@
 use Rattle.std.proofs.Common.{ap, sym, ◌∙◌, append_assoc, ◌++◌, [], ◌∷◌}
 use Rattle.std.specs.Vec.Iter.{into_iter_items}
 use Rattle.axe_execute.specs.Drafts.{step_in}
-use Rattle.axe_execute.specs.Meaning.{step_applied}
+use Rattle.axe_execute.specs.Plans.{step_applied}
 use Rattle.axe_execute.proofs.Steps.{applied_more}
 use Rattle.axe_execute.proofs.draft.make_all.Goals as goal
 

@@ -1,7 +1,7 @@
 use Rattle.std.proofs.Common.{IsTrue, map, ◌≡◌, ◌++◌}
 use Rattle.std.specs.Vec.Iter.{into_iter_items}
 use Rattle.axe_execute.specs.Drafts.{step_in}
-use Rattle.axe_execute.specs.Meaning.{applied}
+use Rattle.axe_execute.specs.Plans.{applied}
 use Rattle.axe_execute.proofs.draft.make_all.Given as goal
 
 abbrev pub invariant-loop-change : goal.invariant-loop-change

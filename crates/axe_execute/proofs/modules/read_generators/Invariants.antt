@@ -1,5 +1,5 @@
 use Rattle.std.proofs.Common.{IsTrue, ◌≡◌, ◌+◌, ◌-◌, length}
-use Rattle.axe_execute.specs.Meaning.{matrices_in, numbered_names}
+use Rattle.axe_execute.specs.Inputs.{matrices_in, numbered_names}
 use Rattle.axe_execute.proofs.Numbered.{names_from, read_after}
 use Rattle.axe_execute.proofs.modules.read_generators.Given as goal
 

@@ -1,7 +1,7 @@
 use Rattle.std.proofs.Common.{rules, Vec, Global}
 use Rattle.std.proofs.lemmas.Result.{err_from_is_err_and}
 use Rattle.axe_matrix.specs.declared.Matrix.{Matrix}
-use Rattle.axe_execute.specs.Relations.{QuotientPlan}
+use Rattle.axe_execute.specs.ModuleCommands.{QuotientPlan}
 use Rattle.axe_execute.proofs.ModulePlans.{quotient_fault_of_matrices, quotient_fault_of_module, quotient_fault_of_action, quotient_value}
 use Rattle.axe_execute.proofs.quotients.quotient_draft.Goals as goal
 

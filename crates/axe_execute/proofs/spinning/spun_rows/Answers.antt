@@ -1,5 +1,6 @@
 use Rattle.std.proofs.Common.{true, false}
-use Rattle.axe_execute.proofs.Submodules.{answered_value, spun_is_submodule}
+use Rattle.axe_spin.proofs.SubmoduleLaws.{spun_is_submodule}
+use Rattle.axe_execute.proofs.Refused.{answered_value}
 use Rattle.axe_execute.proofs.spinning.spun_rows.Goals as goal
 
 pub returns-in_ok-standard_rows-clause-submodule :

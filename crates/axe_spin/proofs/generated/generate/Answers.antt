@@ -1,13 +1,13 @@
 use Rattle.std.proofs.Common.{ap}
 use Rattle.std.proofs.lemmas.Result.{err_from_is_err_and, IfOk-from_err}
 use Rattle.axe_matrix.specs.Matrices.{MatrixValue, IsMatrix}
-use Rattle.axe_echelon.proofs.Exits.{handed_on, not_refused, answers_early, refused_at_once}
+use Rattle.axe_echelon.proofs.Exits.{not_refused, answers_early, refused_at_once}
 use Rattle.axe_echelon.proofs.Exits.{answers_more}
 use Rattle.axe_spin.specs.Spinning.{seed_refusal}
 use Rattle.axe_spin.proofs.SeedLaws.{seed_if_not_refused}
 use Rattle.axe_spin.proofs.GeneratedLaws.{generated_matrix}
 use Rattle.axe_spin.proofs.generated.generate.Goals as goal
-use mathlib.Core.Path.{sym, ◌∙◌}
+use mathlib.Core.Path.{◌∙◌}
 
 pub returns-in_err-check_seed-clause-basis : goal.returns-in_err-check_seed-clause-basis
 returns-in_err-check_seed-clause-basis c =

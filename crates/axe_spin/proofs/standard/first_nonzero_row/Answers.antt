@@ -6,8 +6,7 @@ use Rattle.axe_spin.proofs.standard.first_nonzero_row.Goals as goal
 
 pub returns-then-not-is_zero : goal.returns-then-not-is_zero
 returns-then-not-is_zero c =
-    let row : c.row.result.now.entries ≡ get_or c.args.matrix.now.rows c.loop-index.index [] = ap (λ (r : RowValue). r.entries) c.row.ensures.value in
-    (
+    let row : c.row.result.now.entries ≡ get_or c.args.matrix.now.rows c.loop-index.index [] = ap (λ (r : RowValue). r.entries) c.row.ensures.value in (
       c.loop-index.index,
       record {
         below = omega (arith, c.loop-index-test.true, c.rows-index-end.ensures.count);

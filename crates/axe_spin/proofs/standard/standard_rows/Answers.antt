@@ -1,4 +1,4 @@
-use Rattle.std.proofs.Common.{◌≡◌, refl, sym, ◌∙◌, subst, ap}
+use Rattle.std.proofs.Common.{refl, subst}
 use Rattle.axe_row.specs.declared.refusals.Refusal.TheVariants.{ZeroSeed}
 use Rattle.axe_echelon.proofs.Exits.{not_refused, refused_at_once, answers_early}
 use Rattle.axe_echelon.proofs.Exits.{answers_more}

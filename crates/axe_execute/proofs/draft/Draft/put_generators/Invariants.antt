@@ -1,6 +1,6 @@
 use Rattle.std.proofs.Common.{◌≡◌}
 use Rattle.axe_algebra.specs.Lists.{listed}
-use Rattle.axe_execute.specs.Meaning.{put_generator}
+use Rattle.axe_execute.specs.ModuleCommands.{put_generator}
 use Rattle.axe_execute.specs.Drafts.{plan_in, with_steps}
 use Rattle.axe_execute.proofs.draft.Draft.put_generators.Given as goal
 

@@ -1,0 +1,90 @@
+-- What the commands of matrices mean.
+use Rattle.std.specs.Prelude.{◌≡◌, ℕ, List, [], ◌∷◌, Option, Some, None, Ok}
+use Rattle.axe_row.specs.Refusals.{RefusedAs}
+use Rattle.axe_row.specs.declared.refusals.Refusal.TheVariants.{Singular}
+use Rattle.axe_matrix.specs.Matrices.{MatrixValue, IsMatrix, product_refusal, matrix_product, sum_refusal, sum_of_matrices, transpose_refusal, transposed_matrix}
+use Rattle.axe_echelon.specs.Echelons.{null_space_refusal, IsNullSpaceMatrix, inverse_refusal, IsInverseMatrix, IsInvertible}
+use Rattle.axe_file.specs.Packed.{packed}
+use Rattle.axe_file.specs.TextWriting.{text_of}
+use Rattle.axe_folder.specs.Files.{Files}
+use Rattle.axe_execute.specs.Plans.{Put, Plan}
+use Rattle.axe_execute.specs.Meanings.{Meaning, Is, Has, HasOr, UnlessRefused, ◌>>=◌}
+use Rattle.axe_execute.specs.Inputs.{matrix_in, text_matrix_in}
+
+-- the plan that puts a matrix under a name, packed, and shows nothing
+abbrev pub put_packed : List ℕ → MatrixValue → Plan
+put_packed name a = record { steps = Put name (packed a) ∷ []; shown = [] }
+
+-- the plan that puts the text of a matrix under a name, or shows it where there is no name
+abbrev pub put_or_show_text : Option (List ℕ) → MatrixValue → Plan
+put_or_show_text (Some name) a = record { steps = Put name (text_of a) ∷ []; shown = [] }
+put_or_show_text None a = record { steps = []; shown = text_of a }
+
+-- the product of two matrices, unless it refuses them
+unfoldable pub ProductOf : MatrixValue → MatrixValue → Meaning MatrixValue
+ProductOf a b = UnlessRefused (product_refusal a b) (Has (λ product. product ≡ matrix_product a b))
+
+-- the sum of two matrices, unless it refuses them
+unfoldable pub SumOf : MatrixValue → MatrixValue → Meaning MatrixValue
+SumOf a b = UnlessRefused (sum_refusal a b) (Has (λ sum. sum ≡ sum_of_matrices a b))
+
+-- the transpose of a matrix, unless it refuses it
+unfoldable pub TransposeOf : MatrixValue → Meaning MatrixValue
+TransposeOf a = UnlessRefused (transpose_refusal a) (Has (λ transpose. transpose ≡ transposed_matrix a))
+
+-- the inverse of a matrix, which has to be square; where there is none it is refused as singular
+unfoldable pub InverseOf : MatrixValue → Meaning MatrixValue
+InverseOf a = UnlessRefused (inverse_refusal a) (HasOr (IsInverseMatrix a) (RefusedAs Singular (¬ (IsInvertible a))))
+
+-- the reduced basis of the null space of a matrix, unless it has no rows
+unfoldable pub NullSpaceOf : MatrixValue → Meaning MatrixValue
+NullSpaceOf a = UnlessRefused (null_space_refusal a) (Has (λ basis. IsNullSpaceMatrix a basis × IsMatrix basis))
+
+-- `zcv`: the matrix of which a file is a text is put, packed
+unfoldable pub ConversionPlan : List ℕ → List ℕ → Files → Meaning Plan
+ConversionPlan input out files = do
+  a ← Is (text_matrix_in files input)
+  Is (Ok (put_packed out a))
+
+-- `zpr`: the text of a packed matrix is put, or shown
+unfoldable pub PrintingPlan : List ℕ → Option (List ℕ) → Files → Meaning Plan
+PrintingPlan input out files = do
+  a ← Is (matrix_in files input)
+  Is (Ok (put_or_show_text out a))
+
+-- `zmu`: the product of two packed matrices is put, packed
+unfoldable pub ProductPlan : List ℕ → List ℕ → List ℕ → Files → Meaning Plan
+ProductPlan left right out files = do
+  a ← Is (matrix_in files left)
+  b ← Is (matrix_in files right)
+  product ← ProductOf a b
+  Is (Ok (put_packed out product))
+
+-- `zad`: the sum of two packed matrices is put, packed
+unfoldable pub SumPlan : List ℕ → List ℕ → List ℕ → Files → Meaning Plan
+SumPlan left right out files = do
+  a ← Is (matrix_in files left)
+  b ← Is (matrix_in files right)
+  sum ← SumOf a b
+  Is (Ok (put_packed out sum))
+
+-- `ztr`: the transpose of a packed matrix is put, packed
+unfoldable pub TransposePlan : List ℕ → List ℕ → Files → Meaning Plan
+TransposePlan input out files = do
+  a ← Is (matrix_in files input)
+  transpose ← TransposeOf a
+  Is (Ok (put_packed out transpose))
+
+-- `ziv`: the inverse of a packed matrix is put, packed
+unfoldable pub InversePlan : List ℕ → List ℕ → Files → Meaning Plan
+InversePlan input out files = do
+  a ← Is (matrix_in files input)
+  inverse ← InverseOf a
+  Is (Ok (put_packed out inverse))
+
+-- `znu`: the reduced basis of the null space of a packed matrix is put, packed
+unfoldable pub NullSpacePlan : List ℕ → List ℕ → Files → Meaning Plan
+NullSpacePlan input out files = do
+  a ← Is (matrix_in files input)
+  basis ← NullSpaceOf a
+  Is (Ok (put_packed out basis))

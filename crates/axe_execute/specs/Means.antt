@@ -1,0 +1,34 @@
+-- What each command means, and which files it reads.
+use Rattle.std.specs.Prelude.{ℕ, List, [], ◌∷◌, ◌++◌}
+use Rattle.axe_folder.specs.Files.{Files}
+use Rattle.axe_arguments.specs.declared.command.Command.{Command}
+use Rattle.axe_arguments.specs.declared.command.Command.TheVariants.{Zcv, Zpr, Zmu, Zad, Ztr, Ziv, Znu, Zsp, Zqt}
+use Rattle.axe_execute.specs.Plans.{Plan}
+use Rattle.axe_execute.specs.Meanings.{Meaning}
+use Rattle.axe_execute.specs.Inputs.{numbered_names}
+use Rattle.axe_execute.specs.MatrixCommands.{ConversionPlan, PrintingPlan, ProductPlan, SumPlan, TransposePlan, InversePlan, NullSpacePlan}
+use Rattle.axe_execute.specs.ModuleCommands.{SpinPlan, QuotientPlan}
+
+-- the files that a command reads, in order
+abbrev pub names_read : Command → List (List ℕ)
+names_read (Zcv input out) = input ∷ []
+names_read (Zpr input out) = input ∷ []
+names_read (Zmu left right out) = left ∷ right ∷ []
+names_read (Zad left right out) = left ∷ right ∷ []
+names_read (Ztr input out) = input ∷ []
+names_read (Ziv input out) = input ∷ []
+names_read (Znu input out) = input ∷ []
+names_read (Zsp generators standard action name seed out) = numbered_names name generators ++ seed ∷ []
+names_read (Zqt generators subspace name out) = subspace ∷ numbered_names name generators
+
+-- the meaning of a command
+abbrev pub Means : Command → Files → Meaning Plan
+Means (Zcv input out) files = ConversionPlan input out files
+Means (Zpr input out) files = PrintingPlan input out files
+Means (Zmu left right out) files = ProductPlan left right out files
+Means (Zad left right out) files = SumPlan left right out files
+Means (Ztr input out) files = TransposePlan input out files
+Means (Ziv input out) files = InversePlan input out files
+Means (Znu input out) files = NullSpacePlan input out files
+Means (Zsp generators standard action name seed out) files = SpinPlan generators standard action name seed out files
+Means (Zqt generators subspace name out) files = QuotientPlan generators subspace name out files
