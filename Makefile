@@ -2,7 +2,7 @@
 # make demo      proves and builds axe, some 13 minutes on four processors, and runs its commands on examples/
 # make test      everything that CI runs: proofs from nothing, the wrong bodies, the tests and the runs of the program
 # make build     proves and builds crates/axe/out/axe
-# make cases     the runs of the built program alone: cases, disks, sessions of the documents, what is installed
+# make cases     the runs of the built program alone: cases, disks, transcripts of the documents, what is installed
 # make bench     times the built program, beside GAP where that is installed
 # make install   puts the program into PREFIX/bin (PREFIX=/usr/local), man page and completions where such files go
 PREFIX ?= /usr/local
