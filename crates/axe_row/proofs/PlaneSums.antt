@@ -39,8 +39,8 @@ get_or-digits_with_multiples p a f c l q e below =
     let in_second : e < length second = omega (arith, length-digits_with_multiple p first (get_or f 1 0) l) in
     get_or-digits_with_multiple p second (get_or f 2 0) q e in_second
     ∙ ap (λ x. (x + get_or f 2 0 * get_or q e 0) % p)
-      (get_or-digits_with_multiple p first (get_or f 1 0) l e in_first
-      ∙ ap (λ x. (x + get_or f 1 0 * get_or l e 0) % p) (get_or-digits_with_multiple p a (get_or f 0 0) c e below))
+    (get_or-digits_with_multiple p first (get_or f 1 0) l e in_first
+    ∙ ap (λ x. (x + get_or f 1 0 * get_or l e 0) % p) (get_or-digits_with_multiple p a (get_or f 0 0) c e below))
 
 AreDigits-sums : (p : ℕ) (a f c l q : List ℕ) → 0 < p → AreDigits p (digits_with_multiples p a f c l q)
 unfolding digits_with_multiples
@@ -117,12 +117,12 @@ formula : (o : Order) (k a s j x s0 s1 s2 : ℕ) (f : List ℕ) → IsElement o 
 formula o k a s j x s0 s1 s2 f hk ha hs hj column ex e0 e1 e2 =
     ap (λ y. (((y + get_or f 0 0 * s0) % prime_of o + get_or f 1 0 * s1) % prime_of o + get_or f 2 0 * s2) % prime_of o) (sym ex)
     ∙ ap (λ y. (((coefficient o a j + y) % prime_of o + get_or f 1 0 * s1) % prime_of o + get_or f 2 0 * s2) % prime_of o)
-      (ap (λ y. get_or f 0 0 * y) (sym e0) ∙ ap (λ y. y * coefficient o s 0) column.first)
+    (ap (λ y. get_or f 0 0 * y) (sym e0) ∙ ap (λ y. y * coefficient o s 0) column.first)
     ∙ ap (λ y. (((coefficient o a j + entry (matrix_of_multiplication o k) 0 j * coefficient o s 0) % prime_of o + y) % prime_of o + get_or f 2 0 * s2) % prime_of o)
-      (ap (λ y. get_or f 1 0 * y) (sym e1) ∙ ap (λ y. y * coefficient o s 1) column.second)
+    (ap (λ y. get_or f 1 0 * y) (sym e1) ∙ ap (λ y. y * coefficient o s 1) column.second)
     ∙ ap (λ y. (((coefficient o a j + entry (matrix_of_multiplication o k) 0 j * coefficient o s 0) % prime_of o
-        + entry (matrix_of_multiplication o k) 1 j * coefficient o s 1) % prime_of o + y) % prime_of o)
-      (ap (λ y. get_or f 2 0 * y) (sym e2) ∙ ap (λ y. y * coefficient o s 2) column.third)
+    + entry (matrix_of_multiplication o k) 1 j * coefficient o s 1) % prime_of o + y) % prime_of o)
+    (ap (λ y. get_or f 2 0 * y) (sym e2) ∙ ap (λ y. y * coefficient o s 2) column.third)
     ∙ coefficient_of_sum o k a s j hk ha hs hj
 
 -- the digit of a plane that may not be there
@@ -247,28 +247,28 @@ summed_entries o n k c l q c' l' q' c2 l2 q2 f0 f1 f2 h hc hl hq =
         let after : e < length (digits_of c2) = omega (arith, long) in
         let within : e < length (entries_of o c l q) = omega (arith, length-entries o (digits_of c) (digits_of l) (digits_of q)) in
         let constant : get_or (digits_of c2) e 0 ≡ coefficient o sum 0 =
-            ap (λ (x : List ℕ). get_or x e 0) (digits_are c c2 n f0 h.planes.constant hc)
-            ∙ sum_digit (ltb 0 (degree_of o)) p n (digits_of c) f0 (digits_of c') (digits_of l') (digits_of q') e (coefficient o sum 0)
-              (h.planes.constant.long ∙ sym (constant_is_there o n)) small (coefficient-below o sum 0 is_sum (lit< tt))
-              (formula o k a s 0 _ _ _ _ f0 h.scalar ha.element hs.element (lit< tt) h.to_constant ha.first hs.first hs.second hs.third) in
+        ap (λ (x : List ℕ). get_or x e 0) (digits_are c c2 n f0 h.planes.constant hc)
+        ∙ sum_digit (ltb 0 (degree_of o)) p n (digits_of c) f0 (digits_of c') (digits_of l') (digits_of q') e (coefficient o sum 0)
+        (h.planes.constant.long ∙ sym (constant_is_there o n)) small (coefficient-below o sum 0 is_sum (lit< tt))
+        (formula o k a s 0 _ _ _ _ f0 h.scalar ha.element hs.element (lit< tt) h.to_constant ha.first hs.first hs.second hs.third) in
         let linear : get_or (digits_of l2) e 0 ≡ coefficient o sum 1 =
-            ap (λ (x : List ℕ). get_or x e 0) (digits_are l l2 _ f1 h.planes.linear hl)
-            ∙ sum_digit (ltb 1 (degree_of o)) p n (digits_of l) f1 (digits_of c') (digits_of l') (digits_of q') e (coefficient o sum 1)
-              h.planes.linear.long small (coefficient-below o sum 1 is_sum (lit< tt))
-              (formula o k a s 1 _ _ _ _ f1 h.scalar ha.element hs.element (lit< tt) h.to_linear ha.second hs.first hs.second hs.third) in
+        ap (λ (x : List ℕ). get_or x e 0) (digits_are l l2 _ f1 h.planes.linear hl)
+        ∙ sum_digit (ltb 1 (degree_of o)) p n (digits_of l) f1 (digits_of c') (digits_of l') (digits_of q') e (coefficient o sum 1)
+        h.planes.linear.long small (coefficient-below o sum 1 is_sum (lit< tt))
+        (formula o k a s 1 _ _ _ _ f1 h.scalar ha.element hs.element (lit< tt) h.to_linear ha.second hs.first hs.second hs.third) in
         let quadratic : get_or (digits_of q2) e 0 ≡ coefficient o sum 2 =
-            ap (λ (x : List ℕ). get_or x e 0) (digits_are q q2 _ f2 h.planes.quadratic hq)
-            ∙ sum_digit (ltb 2 (degree_of o)) p n (digits_of q) f2 (digits_of c') (digits_of l') (digits_of q') e (coefficient o sum 2)
-              h.planes.quadratic.long small (coefficient-below o sum 2 is_sum (lit< tt))
-              (formula o k a s 2 _ _ _ _ f2 h.scalar ha.element hs.element (lit< tt) h.to_quadratic ha.third hs.first hs.second hs.third) in
+        ap (λ (x : List ℕ). get_or x e 0) (digits_are q q2 _ f2 h.planes.quadratic hq)
+        ∙ sum_digit (ltb 2 (degree_of o)) p n (digits_of q) f2 (digits_of c') (digits_of l') (digits_of q') e (coefficient o sum 2)
+        h.planes.quadratic.long small (coefficient-below o sum 2 is_sum (lit< tt))
+        (formula o k a s 2 _ _ _ _ f2 h.scalar ha.element hs.element (lit< tt) h.to_quadratic ha.third hs.first hs.second hs.third) in
         entries-at o (digits_of c2) (digits_of l2) (digits_of q2) e 0 after
         ∙ ap (λ x. element_of o x (get_or (digits_of l2) e 0) (get_or (digits_of q2) e 0)) constant
         ∙ ap (λ x. element_of o (coefficient o sum 0) x (get_or (digits_of q2) e 0)) linear
         ∙ ap (element_of o (coefficient o sum 0) (coefficient o sum 1)) quadratic
         ∙ element_of-coefficients o sum is_sum
         ∙ sym (get_or-row_with_multiple o (entries_of o c l q) k (entries_of o c' l' q') e within
-          ∙ ap (λ x. field_add o x (field_mul o k (get_or (entries_of o c' l' q') e 0))) (entries-at o (digits_of c) (digits_of l) (digits_of q) e 0 here)
-          ∙ ap (λ x. field_add o a (field_mul o k x)) (entries-at o (digits_of c') (digits_of l') (digits_of q') e 0 there))
+        ∙ ap (λ x. field_add o x (field_mul o k (get_or (entries_of o c' l' q') e 0))) (entries-at o (digits_of c) (digits_of l) (digits_of q) e 0 here)
+        ∙ ap (λ x. field_add o a (field_mul o k x)) (entries-at o (digits_of c') (digits_of l') (digits_of q') e 0 there))
 
 -- the row after
 pub row_after : (o r : Order) (k : ℕ) (c l q c' l' q' : Plane) (after : List ℕ) (self other : RowValue) →
@@ -279,7 +279,7 @@ row_after o r k c l q c' l' q' after self other self_is other_is same e =
     ap (λ (x : List ℕ). record { order = o; entries = x }) e
     ∙ ap (λ (s : RowValue). record { order = s.order; entries = sum_with_multiple (number_field s.order) s.entries k (entries_of o c' l' q') }) self_is
     ∙ ap (λ (x : List ℕ). record { order = self.order; entries = sum_with_multiple (number_field self.order) self.entries k x })
-      (ap (λ w. entries_of w c' l' q') (sym same) ∙ ap (λ (t : RowValue). t.entries) other_is)
+    (ap (λ w. entries_of w c' l' q') (sym same) ∙ ap (λ (t : RowValue). t.entries) other_is)
 
 -- the column j of a matrix of three rows
 abbrev column : List (List ℕ) → ℕ → List ℕ

@@ -189,13 +189,13 @@ set_entries o n i a c l q m h ha em within =
       | inl same ↦
           let inside : i < length (entries_of o c l q) = omega (arith, length-entries o (digits_of c) (digits_of l) (digits_of q)) in
           subst (λ k. element_of o (get_or (set (digits_of c) i (entry m 0 0)) k 0) (get_or (set (digits_of l) i (entry m 0 1)) k 0)
-              (get_or (set (digits_of q) i (entry m 0 2)) k 0) ≡ get_or (set (entries_of o c l q) i a) k 0) (sym same)
+          (get_or (set (digits_of q) i (entry m 0 2)) k 0) ≡ get_or (set (entries_of o c l q) i a) k 0) (sym same)
           (here_is ∙ sym (get_or-set_same (entries_of o c l q) i a 0 inside))
       | inr other ↦
           ap (λ x. element_of o x (get_or (set (digits_of l) i (entry m 0 1)) e 0) (get_or (set (digits_of q) i (entry m 0 2)) e 0))
-              (get_or-set_other (digits_of c) i e (entry m 0 0) 0 other)
+          (get_or-set_other (digits_of c) i e (entry m 0 0) 0 other)
           ∙ ap (λ x. element_of o (get_or (digits_of c) e 0) x (get_or (set (digits_of q) i (entry m 0 2)) e 0))
-              (get_or-set_other (digits_of l) i e (entry m 0 1) 0 other)
+          (get_or-set_other (digits_of l) i e (entry m 0 1) 0 other)
           ∙ ap (element_of o (get_or (digits_of c) e 0) (get_or (digits_of l) e 0)) (get_or-set_other (digits_of q) i e (entry m 0 2) 0 other)
           ∙ sym (entries-at o (digits_of c) (digits_of l) (digits_of q) e 0 below)
           ∙ sym (get_or-set_other (entries_of o c l q) i e a 0 other)
@@ -222,12 +222,12 @@ pub row_set : (o : Order) (n i a : ℕ) (c l q c' l' q' : Plane) (m : List (List
 row_set o n i a c l q c' l' q' m self h self_is ha inside em hc hl hq =
     let element = element_along o a (entries_of o c l q) self self_is ha in
     let within : i < length (digits_of c) =
-        omega (arith, ap (λ (r : RowValue). length r.entries) self_is, length-entries o (digits_of c) (digits_of l) (digits_of q)) in
+    omega (arith, ap (λ (r : RowValue). length r.entries) self_is, length-entries o (digits_of c) (digits_of l) (digits_of q)) in
     let entries : entries_of o c' l' q' ≡ set (entries_of o c l q) i a =
-        ap (λ (x : List ℕ). entries_of_digits o x (digits_of l') (digits_of q')) hc.digits_are
-        ∙ ap (λ (x : List ℕ). entries_of_digits o (set (digits_of c) i (entry m 0 0)) x (digits_of q')) hl.digits_are
-        ∙ ap (entries_of_digits o (set (digits_of c) i (entry m 0 0)) (set (digits_of l) i (entry m 0 1))) hq.digits_are
-        ∙ set_entries o n i a c l q m h element em within in
+    ap (λ (x : List ℕ). entries_of_digits o x (digits_of l') (digits_of q')) hc.digits_are
+    ∙ ap (λ (x : List ℕ). entries_of_digits o (set (digits_of c) i (entry m 0 0)) x (digits_of q')) hl.digits_are
+    ∙ ap (entries_of_digits o (set (digits_of c) i (entry m 0 0)) (set (digits_of l) i (entry m 0 1))) hq.digits_are
+    ∙ set_entries o n i a c l q m h element em within in
     ap (λ (x : List ℕ). record { order = o; entries = x }) entries
     ∙ ap (λ (r : RowValue). record { order = r.order; entries = set r.entries i a }) self_is
 
@@ -300,15 +300,15 @@ pub same_row_planes : (o r : Order) (c l q c' l' q' : Plane) (self other : RowVa
     record { order = r; entries = entries_of r c' l' q' } ≡ other → self ≡ other → AreSamePlanes o r c l q c' l' q'
 same_row_planes o r c l q c' l' q' self other h h' self_is other_is same =
     let whole : ◌≡◌ {A = RowValue} (record { order = o; entries = entries_of o c l q }) (record { order = r; entries = entries_of r c' l' q' }) =
-        self_is ∙ same ∙ sym other_is in
+    self_is ∙ same ∙ sym other_is in
     let orders : o ≡ r = ap (λ (x : RowValue). x.order) whole in
     let entries : entries_of o c l q ≡ entries_of o c' l' q' =
-        ap (λ (x : RowValue). x.entries) whole ∙ ap (λ s. entries_of s c' l' q') (sym orders) in
+    ap (λ (x : RowValue). x.entries) whole ∙ ap (λ s. entries_of s c' l' q') (sym orders) in
     let lengths : length (digits_of c') ≡ length (digits_of c) =
-        sym (length-entries o (digits_of c') (digits_of l') (digits_of q')) ∙ sym (ap length entries)
-        ∙ length-entries o (digits_of c) (digits_of l) (digits_of q) in
+    sym (length-entries o (digits_of c') (digits_of l') (digits_of q')) ∙ sym (ap length entries)
+    ∙ length-entries o (digits_of c) (digits_of l) (digits_of q) in
     let parts = same_parts o (length (digits_of c)) c l q c' l' q' h
-        (along_order o r _ _ c' l' q' (sym orders) lengths h') entries in
+    (along_order o r _ _ c' l' q' (sym orders) lengths h') entries in
     record { order = orders; constant = parts.constant; linear = parts.linear; quadratic = parts.quadratic }
 
 pub same_planes_row : (o r : Order) (c l q c' l' q' : Plane) (self other : RowValue) → record { order = o; entries = entries_of o c l q } ≡ self →

@@ -39,8 +39,9 @@ impl Model for Row {
     ghost Value = { RowValue };
 
     ghost view = { λ a. record {
-        order = a.field;
-        entries = entries_of_digits a.field (digits_of a.constant) (digits_of a.linear) (digits_of a.quadratic) } };
+      order = a.field;
+      entries = entries_of_digits a.field (digits_of a.constant) (digits_of a.linear) (digits_of a.quadratic);
+    } };
 
     ghost invariant = { λ a. ArePlanes a.field (length (digits_of a.constant)) a.constant a.linear a.quadratic };
 }
@@ -168,7 +169,13 @@ impl Row {
         let to_linear = [m[0][1], m[1][1], m[2][1]];
         add_multiples(&mut self.linear, to_linear, constant, linear, quadratic);
         let to_quadratic = [m[0][2], m[1][2], m[2][2]];
-        add_multiples(&mut self.quadratic, to_quadratic, constant, linear, quadratic);
+        add_multiples(
+            &mut self.quadratic,
+            to_quadratic,
+            constant,
+            linear,
+            quadratic,
+        );
     }
 
     /// Multiplies the row by an element: each entry d becomes c d, where c is the scalar.

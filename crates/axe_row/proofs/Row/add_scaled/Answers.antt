@@ -29,7 +29,7 @@ invariant_of-self c =
 pub returns-clause-sum : goal.returns-clause-sum
 returns-clause-sum c =
     let same =
-        ap (λ (r : RowValue). r.order) c.other.view_is ∙ c.requires.field ∙ sym (ap (λ (r : RowValue). r.order) c.self.view_is) in
+    ap (λ (r : RowValue). r.order) c.other.view_is ∙ c.requires.field ∙ sym (ap (λ (r : RowValue). r.order) c.self.view_is) in
     row_after _ _ _ c.self.inside.constant c.self.inside.linear c.self.inside.quadratic
     c.other.inside.constant c.other.inside.linear c.other.inside.quadratic _ _ _ c.self.view_is c.other.view_is same
     (summed_entries _ _ _ _ _ _ _ _ _ _ _ _ _ _ _
