@@ -1,0 +1,74 @@
+-- What a kernel that writes has made after its first entries: the list combined with another up to an index.
+use Rattle.std.proofs.Common.{◌≡◌, ℕ, zero, suc, ◌+◌, ◌<◌, ◌≤◌, List, [], ◌∷◌, length, get_or, set, take, refl, sym, ap, ◌∙◌, arith, add-one}
+use Rattle.std.specs.Simd.Lanes.{chunk, put_chunk, zip2}
+use Rattle.std.specs.List.{All}
+use Rattle.std.proofs.lemmas.List.Elements.{All-nil, All-cons, All-tail}
+
+module _ (f : ℕ → ℕ → ℕ) where
+  -- the first n entries are f of both lists' entries, the others are those of the first list
+  abbrev pub combined_to : ℕ → List ℕ → List ℕ → List ℕ
+  combined_to zero xs ys = xs
+  combined_to (suc n) [] ys = []
+  combined_to (suc n) (x ∷ xs) [] = x ∷ xs
+  combined_to (suc n) (x ∷ xs) (y ∷ ys) = f x y ∷ combined_to n xs ys
+
+  pub length-combined_to : (n : ℕ) (xs ys : List ℕ) → length (combined_to n xs ys) ≡ length xs
+  length-combined_to zero xs ys = refl
+  length-combined_to (suc n) [] ys = refl
+  length-combined_to (suc n) (x ∷ xs) [] = refl
+  length-combined_to (suc n) (x ∷ xs) (y ∷ ys) = ap suc (length-combined_to n xs ys)
+
+  -- all entries
+  pub combined_to_end : (n : ℕ) (xs ys : List ℕ) → length xs ≤ n → length ys ≡ length xs → combined_to n xs ys ≡ zip2 f xs ys
+  combined_to_end zero [] ys h e = refl
+  combined_to_end zero (x ∷ xs) ys h e = absurd (omega arith)
+  combined_to_end (suc n) [] ys h e = refl
+  combined_to_end (suc n) (x ∷ xs) [] h e = absurd (omega arith)
+  combined_to_end (suc n) (x ∷ xs) (y ∷ ys) h e = ap (λ rest. f x y ∷ rest) (combined_to_end n xs ys (omega arith) (omega arith))
+
+  next_entry : (n : ℕ) (xs ys : List ℕ) → n < length xs → length ys ≡ length xs
+      → set (combined_to n xs ys) n (f (get_or (combined_to n xs ys) n 0) (get_or ys n 0)) ≡ combined_to (suc n) xs ys
+  next_entry zero [] ys h e = absurd (omega arith)
+  next_entry zero (x ∷ xs) [] h e = absurd (omega arith)
+  next_entry zero (x ∷ xs) (y ∷ ys) h e = refl
+  next_entry (suc n) [] ys h e = absurd (omega arith)
+  next_entry (suc n) (x ∷ xs) [] h e = absurd (omega arith)
+  next_entry (suc n) (x ∷ xs) (y ∷ ys) h e = ap (λ rest. f x y ∷ rest) (next_entry n xs ys (omega arith) (omega arith))
+
+  -- one entry more
+  pub combined_to_more : (n : ℕ) (xs ys : List ℕ) → n < length xs → length ys ≡ length xs
+      → set (combined_to n xs ys) n (f (get_or (combined_to n xs ys) n 0) (get_or ys n 0)) ≡ combined_to (n + 1) xs ys
+  combined_to_more n xs ys h e = next_entry n xs ys h e ∙ ap (λ m. combined_to m xs ys) (sym (add-one n))
+
+  first_block : (k : ℕ) (xs ys : List ℕ) → k ≤ length xs → length ys ≡ length xs
+      → put_chunk zero xs (zip2 f (take k xs) (take k ys)) ≡ combined_to k xs ys
+  first_block zero [] ys h e = refl
+  first_block zero (x ∷ xs) ys h e = refl
+  first_block (suc k) [] ys h e = absurd (omega arith)
+  first_block (suc k) (x ∷ xs) [] h e = absurd (omega arith)
+  first_block (suc k) (x ∷ xs) (y ∷ ys) h e = ap (λ rest. f x y ∷ rest) (first_block k xs ys (omega arith) (omega arith))
+
+  -- a block more, of k entries
+  pub combined_to_block : (k n m : ℕ) (xs ys : List ℕ) → m ≡ n + k → m ≤ length xs → length ys ≡ length xs
+      → put_chunk n (combined_to n xs ys) (zip2 f (chunk n k (combined_to n xs ys)) (chunk n k ys)) ≡ combined_to m xs ys
+  combined_to_block k zero m xs ys s h e =
+      let all : k ≡ m = omega arith in
+      first_block k xs ys (omega arith) e ∙ ap (λ j. combined_to j xs ys) all
+  combined_to_block k (suc n) zero xs ys s h e = absurd (omega arith)
+  combined_to_block k (suc n) (suc m) [] ys s h e = absurd (omega arith)
+  combined_to_block k (suc n) (suc m) (x ∷ xs) [] s h e = absurd (omega arith)
+  combined_to_block k (suc n) (suc m) (x ∷ xs) (y ∷ ys) s h e =
+      ap (λ rest. f x y ∷ rest) (combined_to_block k n m xs ys (omega arith) (omega arith) (omega arith))
+
+  -- a fact of each entry of the first list, and of each value of f on entries, is one of each combined entry
+  pub All-combined_to : (P : ℕ → Type 0) → ((x y : ℕ) → P (f x y)) → (n : ℕ) (xs ys : List ℕ) → All P xs → All P (combined_to n xs ys)
+  All-combined_to P value zero xs ys all = all
+  All-combined_to P value (suc n) [] ys all = All-nil P
+  All-combined_to P value (suc n) (x ∷ xs) [] all = all
+  All-combined_to P value (suc n) (x ∷ xs) (y ∷ ys) all =
+      All-cons P (f x y) (combined_to n xs ys) (value x y) (All-combined_to P value n xs ys (All-tail P x xs all))
+
+  pub All-zip2 : (P : ℕ → Type 0) → ((x y : ℕ) → P (f x y)) → (xs ys : List ℕ) → All P (zip2 f xs ys)
+  All-zip2 P value [] ys = All-nil P
+  All-zip2 P value (x ∷ xs) [] = All-nil P
+  All-zip2 P value (x ∷ xs) (y ∷ ys) = All-cons P (f x y) (zip2 f xs ys) (value x y) (All-zip2 P value xs ys)

@@ -1,0 +1,27 @@
+-- Lists of bytes as rows over a prime field of order below 8: each byte is a number below the prime.
+use Rattle.std.specs.Prelude.{◌≡◌, ◌⊎◌, ℕ, ◌+◌, ◌-◌, ◌*◌, ◌%◌, ◌<◌, List, map, sum, All, if◌then◌else◌, nat_le}
+use Rattle.std.specs.Simd.Lanes.{zip2}
+
+-- the primes below 8
+abbrev pub IsSmallPrime : ℕ → Type 0
+IsSmallPrime p = (p ≡ 2) ⊎ ((p ≡ 3) ⊎ ((p ≡ 5) ⊎ (p ≡ 7)))
+
+-- each byte is below p
+abbrev pub AreBelow : ℕ → List ℕ → Type 0
+AreBelow p bytes = All (λ byte. byte < p) bytes
+
+-- a row plus m times another, modulo p, entry by entry
+abbrev pub sum_with_multiple : ℕ → List ℕ → ℕ → List ℕ → List ℕ
+sum_with_multiple p a m b = zip2 (λ x y. (x + m * y) % p) a b
+
+-- m times a row, modulo p, entry by entry
+abbrev pub multiple : ℕ → ℕ → List ℕ → List ℕ
+multiple p m a = map (λ x. (m * x) % p) a
+
+-- x less y where x is not below y, and else x
+abbrev pub less_where_not_below : ℕ → ℕ → ℕ
+less_where_not_below y x = if nat_le y x then x - y else x
+
+-- the sum of the products of the entries of two rows at the same index
+abbrev pub sum_of_products : List ℕ → List ℕ → ℕ
+sum_of_products a b = sum (zip2 (λ x y. x * y) a b)

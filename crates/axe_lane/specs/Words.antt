@@ -1,0 +1,26 @@
+-- Lists of 64-bit words as rows of bits: bit i of a list is bit i mod 64 of its word i / 64, the lowest bit being bit 0.
+use Rattle.std.specs.Prelude.{◌≡◌, ℕ, ◌/◌, ◌%◌, ◌<◌, List, length, slice_index, sum, bit_and, bit_xor, count_ones}
+use Rattle.std.specs.Int.{bit_at}
+use Rattle.std.specs.Simd.Lanes.{zip2}
+
+-- the exclusive or of two lists of words, word by word: the sum of two rows over the field of order 2
+abbrev pub xor_of_words : List ℕ → List ℕ → List ℕ
+xor_of_words a b = zip2 bit_xor a b
+
+-- bit i of a list of words
+abbrev pub bit_of_words : List ℕ → ℕ → ℕ
+bit_of_words words i = bit_at (slice_index words (i / 64)) (i % 64)
+
+-- no bit is set
+abbrev pub HasNoSetBit : List ℕ → Type 0
+HasNoSetBit words = (i : ℕ) → bit_of_words words i ≡ 0
+
+-- the set bit of the least index is the one at this index
+pub record IsFirstSetBit (words : List ℕ) (index : ℕ) : Type 0 where
+  pub within : index / 64 < length words
+  pub is_set : bit_of_words words index ≡ 1
+  pub unset_before : (i : ℕ) → i < index → bit_of_words words i ≡ 0
+
+-- how many bits are set in both lists at the same index
+abbrev pub common_bits : List ℕ → List ℕ → ℕ
+common_bits a b = sum (zip2 (λ x y. count_ones (bit_and x y)) a b)

@@ -1,0 +1,261 @@
+//! Kernels on bytes that are entries over a prime field.
+ghost use Rattle.std.specs.Prelude.{◌≡◌, ◌+◌, ◌*◌, ◌%◌, ◌^◌, ◌<◌, ◌≤◌, length, map, All, IsTrue, MatchOption};
+ghost use Rattle.std.specs.Simd.Lanes.{chunk, products, put_chunk, sum_l};
+ghost use Rattle.axe_lane.specs.Bytes.{AreBelow, IsSmallPrime, less_where_not_below, multiple, sum_of_products, sum_with_multiple};
+ghost use Rattle.axe_lane.specs.Entries.{AreZerosBefore, IsFirstNonzero};
+
+use std::simd::prelude::*;
+
+/// How many bytes a block has: one vector.
+const BLOCK: usize = 32;
+
+/// How many bytes are multiplied at once, since their products take more room.
+const HALF_BLOCK: usize = 16;
+
+/// Adds a multiple of a row to another over the field of a prime order p: each byte d of `dst` becomes d + m s modulo p,
+/// where s is the byte of `src` at the same index.
+pub fn add_scaled_bytes(dst: &mut [u8], src: &[u8], m: u8, p: u8)
+    requires prime { IsSmallPrime p }
+    requires factor { m < p }
+    requires fits { length src.now ≡ length dst.old }
+    requires dst_below { AreBelow p dst.old }
+    requires src_below { AreBelow p src.now }
+    ensures sum { dst.new ≡ sum_with_multiple p dst.old m src.now }
+    ensures below { AreBelow p dst.new }
+{
+    match p {
+        2 => add_multiple_over::<2>(dst, src, m),
+        3 => add_multiple_over::<3>(dst, src, m),
+        5 => add_multiple_over::<5>(dst, src, m),
+        _ => add_multiple_over::<7>(dst, src, m),
+    }
+}
+
+/// Multiplies a row by a number over the field of a prime order p: each byte d becomes m d modulo p.
+pub fn scale_bytes(dst: &mut [u8], m: u8, p: u8)
+    requires prime { IsSmallPrime p }
+    requires factor { m < p }
+    requires dst_below { AreBelow p dst.old }
+    ensures multiple { dst.new ≡ multiple p m dst.old }
+    ensures below { AreBelow p dst.new }
+{
+    match p {
+        2 => scale_over::<2>(dst, m),
+        3 => scale_over::<3>(dst, m),
+        5 => scale_over::<5>(dst, m),
+        _ => scale_over::<7>(dst, m),
+    }
+}
+
+/// The least index of a byte other than zero, or `None` where every byte is zero.
+pub fn first_byte(bytes: &[u8]) -> Option<usize>
+    ensures { MatchOption result (All (λ byte. byte ≡ 0) bytes.now) (IsFirstNonzero bytes.now) }
+{
+    for at in zero_bytes(bytes)..bytes.len() {
+        if bytes[at] != 0 {
+            return Some(at);
+        }
+    }
+    None
+}
+
+/// The sum of the products of bytes at one index, modulo p: the dot product of two rows over the field of order p.
+pub fn dot_bytes(a: &[u8], b: &[u8], p: u8) -> u8
+    requires prime { IsSmallPrime p }
+    requires fits { length b.now ≡ length a.now }
+    requires short { length a.now ≤ 4096 }
+    ensures { result ≡ sum_of_products a.now b.now % p }
+{
+    let whole = a.len() / HALF_BLOCK;
+    let mut sums = u32x16::splat(0);
+    for block in 0..whole {
+        sums = with_products(sums, a, b, block * HALF_BLOCK);
+    }
+    let mut sum = sums.strict_reduce_sum();
+    for at in whole * HALF_BLOCK..a.len() {
+        sum += a[at] as u32 * b[at] as u32;
+    }
+    (sum % p as u32) as u8
+}
+
+/// The same over the field of order `P`. The factor is told apart here, outside the loops.
+fn add_multiple_over<const P: u8>(dst: &mut [u8], src: &[u8], m: u8)
+    requires prime { IsSmallPrime P }
+    requires factor { m < P }
+    requires fits { length src.now ≡ length dst.old }
+    requires dst_below { AreBelow P dst.old }
+    requires src_below { AreBelow P src.now }
+    ensures { dst.new ≡ sum_with_multiple P dst.old m src.now }
+{
+    match m {
+        0 => {}
+        1 => add_multiple::<1, P>(dst, src),
+        2 => add_multiple::<2, P>(dst, src),
+        3 => add_multiple::<3, P>(dst, src),
+        4 => add_multiple::<4, P>(dst, src),
+        5 => add_multiple::<5, P>(dst, src),
+        _ => add_multiple::<6, P>(dst, src),
+    }
+}
+
+fn scale_over<const P: u8>(dst: &mut [u8], m: u8)
+    requires prime { IsSmallPrime P }
+    requires factor { m < P }
+    requires dst_below { AreBelow P dst.old }
+    ensures { dst.new ≡ multiple P m dst.old }
+{
+    match m {
+        0 => dst.fill(0),
+        1 => {}
+        2 => scale::<2, P>(dst),
+        3 => scale::<3, P>(dst),
+        4 => scale::<4, P>(dst),
+        5 => scale::<5, P>(dst),
+        _ => scale::<6, P>(dst),
+    }
+}
+
+fn add_multiple<const M: u8, const P: u8>(dst: &mut [u8], src: &[u8])
+    requires prime { IsSmallPrime P }
+    requires factor { (0 < M) × (M < P) }
+    requires fits { length src.now ≡ length dst.old }
+    requires dst_below { AreBelow P dst.old }
+    requires src_below { AreBelow P src.now }
+    ensures { dst.new ≡ sum_with_multiple P dst.old M src.now }
+{
+    let whole = dst.len() / BLOCK;
+    for block in 0..whole {
+        add_block::<M, P>(dst, src, block * BLOCK);
+    }
+    for at in whole * BLOCK..dst.len() {
+        dst[at] = (dst[at] + M * src[at]) % P;
+    }
+}
+
+fn scale<const M: u8, const P: u8>(dst: &mut [u8])
+    requires prime { IsSmallPrime P }
+    requires factor { (0 < M) × (M < P) }
+    requires dst_below { AreBelow P dst.old }
+    ensures { dst.new ≡ multiple P M dst.old }
+{
+    let whole = dst.len() / BLOCK;
+    for block in 0..whole {
+        scale_block::<M, P>(dst, block * BLOCK);
+    }
+    for at in whole * BLOCK..dst.len() {
+        dst[at] = M * dst[at] % P;
+    }
+}
+
+/// The block of a sum from an index on.
+#[inline(always)]
+fn add_block<const M: u8, const P: u8>(dst: &mut [u8], src: &[u8], at: usize)
+    requires prime { IsSmallPrime P }
+    requires factor { (0 < M) × (M < P) }
+    requires dst_has_block { at + BLOCK ≤ length dst.old }
+    requires src_has_block { at + BLOCK ≤ length src.now }
+    requires dst_below { AreBelow P dst.old }
+    requires src_below { AreBelow P src.now }
+    ensures { dst.new ≡ put_chunk at dst.old (sum_with_multiple P (chunk at BLOCK dst.old) M (chunk at BLOCK src.now)) }
+{
+    let sum = sum_of::<M, P>(u8x32::from_slice(&dst[at..]), u8x32::from_slice(&src[at..]));
+    sum.copy_to_slice(&mut dst[at..]);
+}
+
+/// The block of a multiple from an index on.
+#[inline(always)]
+fn scale_block<const M: u8, const P: u8>(dst: &mut [u8], at: usize)
+    requires prime { IsSmallPrime P }
+    requires factor { (0 < M) × (M < P) }
+    requires dst_has_block { at + BLOCK ≤ length dst.old }
+    requires dst_below { AreBelow P dst.old }
+    ensures { dst.new ≡ put_chunk at dst.old (multiple P M (chunk at BLOCK dst.old)) }
+{
+    let product = sum_of::<M, P>(u8x32::splat(0), u8x32::from_slice(&dst[at..]));
+    product.copy_to_slice(&mut dst[at..]);
+}
+
+/// d + M s modulo P for the lanes d and s of two vectors. A sum before its reduction is at most P (P - 1), which is
+/// below 8 P, and below 4 P where M is at most 3.
+#[inline(always)]
+fn sum_of<const M: u8, const P: u8>(d: u8x32, s: u8x32) -> u8x32
+    requires prime { IsSmallPrime P }
+    requires factor { (0 < M) × (M < P) }
+    requires d_below { AreBelow P d }
+    requires s_below { AreBelow P s }
+    ensures { result ≡ sum_with_multiple P d M s }
+{
+    let minus_one = P - 1;
+    if M == 1 {
+        reduced(d + s, P)
+    } else if M == minus_one {
+        let difference = d - s;
+        difference.simd_min(difference + u8x32::splat(P))
+    } else if M < 4 {
+        reduced(reduced(d + times::<M>(s), 2 * P), P)
+    } else {
+        let sum = reduced(d + times::<M>(s), 4 * P);
+        reduced(reduced(sum, 2 * P), P)
+    }
+}
+
+/// M times each lane, by sums. A multiplication of bytes is no operation of the machine.
+#[inline(always)]
+fn times<const M: u8>(v: u8x32) -> u8x32
+    requires { (1 < M) × (M < 6) }
+    ensures { result ≡ map (λ x. (M * x) % 256) v }
+{
+    let twice = v + v;
+    match M {
+        2 => twice,
+        3 => twice + v,
+        4 => twice + twice,
+        _ => twice + twice + v,
+    }
+}
+
+/// Each lane less a number where it is not below it: the difference wraps where it is, and is then the greater one.
+#[inline(always)]
+fn reduced(v: u8x32, by: u8) -> u8x32
+    ensures { result ≡ map (less_where_not_below by) v }
+{
+    v.simd_min(v - u8x32::splat(by))
+}
+
+/// Lanes plus the products of the block from an index on. Sums of 32 bits hold 4,096 products of any bytes.
+#[inline(always)]
+fn with_products(sums: u32x16, a: &[u8], b: &[u8], at: usize) -> u32x16
+    requires a_has_block { at + HALF_BLOCK ≤ length a.now }
+    requires b_has_block { at + HALF_BLOCK ≤ length b.now }
+    requires fits { sum_l sums + 65025 * HALF_BLOCK < 2 ^ 32 }
+    ensures { sum_l result ≡ sum_l sums + sum_l (products (chunk at HALF_BLOCK a.now) (chunk at HALF_BLOCK b.now)) }
+{
+    let left = u8x16::from_slice(&a[at..]).cast::<u32>();
+    let right = u8x16::from_slice(&b[at..]).cast::<u32>();
+    sums.strict_add(left.strict_mul(right))
+}
+
+/// How many bytes the whole blocks of zeros at the start have.
+#[inline(always)]
+fn zero_bytes(bytes: &[u8]) -> usize
+    ensures within { result ≤ length bytes.now }
+    ensures zeros { AreZerosBefore bytes.now result }
+{
+    let whole = bytes.len() / BLOCK;
+    for block in 0..whole {
+        let is_zero = is_zero_block(bytes, block * BLOCK);
+        if !is_zero {
+            return block * BLOCK;
+        }
+    }
+    whole * BLOCK
+}
+
+/// Whether a block from an index on has only zeros.
+#[inline(always)]
+fn is_zero_block(bytes: &[u8], at: usize) -> bool
+    requires { at + BLOCK ≤ length bytes.now }
+    ensures { IsTrue result → AreZerosBefore (chunk at BLOCK bytes.now) BLOCK }
+{
+    u8x32::from_slice(&bytes[at..]).reduce_or() == 0
+}

@@ -1,0 +1,12 @@
+//! Kernels on slices of words and of bytes, by vectors: sums, multiples and products of rows over the prime fields of
+//! order 2, 3, 5 and 7, and the first entry that is not zero. A row over the field of order 2 is a list of 64-bit words
+//! with an entry in each bit, lowest first; a row over another of the fields is a list of bytes below the prime.
+//!
+//! Each kernel takes whole vectors while there are any, and then what is left one by one.
+#![tactic(auto)]
+
+mod bytes;
+mod words;
+
+pub use bytes::{add_scaled_bytes, dot_bytes, first_byte, scale_bytes};
+pub use words::{any_nonzero, first_set, parity_and, xor_into};

@@ -1,0 +1,119 @@
+//! Kernels on 64-bit words.
+ghost use Rattle.std.specs.Prelude.{◌≡◌, ◌↔◌, ◌+◌, ◌*◌, ◌%◌, ◌^◌, ◌<◌, ◌≤◌, bit_and, bit_xor, length, All, IsTrue, MatchOption};
+ghost use Rattle.std.specs.Simd.Lanes.{chunk, put_chunk, zip2};
+ghost use Rattle.axe_lane.specs.Entries.{AreZerosBefore, HasNonzero, IsFirstNonzero};
+ghost use Rattle.axe_lane.specs.Words.{common_bits, xor_of_words, HasNoSetBit, IsFirstSetBit};
+
+use std::simd::prelude::*;
+
+/// How many words a block has: one vector.
+const BLOCK: usize = 8;
+
+/// Makes each word of `dst` its exclusive or with the word of `src` at the same index: the sum of two rows over the
+/// field of order 2.
+pub fn xor_into(dst: &mut [u64], src: &[u64])
+    requires { length src.now ≡ length dst.old }
+    ensures { dst.new ≡ xor_of_words dst.old src.now }
+{
+    let whole = dst.len() / BLOCK;
+    for block in 0..whole {
+        xor_block(dst, src, block * BLOCK);
+    }
+    for at in whole * BLOCK..dst.len() {
+        dst[at] ^= src[at];
+    }
+}
+
+/// Whether some word is other than zero: some bit is set.
+pub fn any_nonzero(words: &[u64]) -> bool
+    ensures { IsTrue result ↔ HasNonzero words.now }
+{
+    first_nonzero_word(words).is_some()
+}
+
+/// The least index of a set bit, or `None` where no bit is set. Bit i of the list is bit i mod 64 of word i / 64.
+pub fn first_set(words: &[u64]) -> Option<usize>
+    requires { 64 * length words.now < 2 ^ 64 }
+    ensures { MatchOption result (HasNoSetBit words.now) (IsFirstSetBit words.now) }
+{
+    match first_nonzero_word(words) {
+        Some(at) => Some(at * 64 + words[at].trailing_zeros() as usize),
+        None => None,
+    }
+}
+
+/// The parity of the number of bits that are set in both lists at the same index: the dot product of two rows over the
+/// field of order 2.
+pub fn parity_and(a: &[u64], b: &[u64]) -> u8
+    requires { length b.now ≡ length a.now }
+    ensures { result ≡ common_bits a.now b.now % 2 }
+{
+    let whole = a.len() / BLOCK;
+    let mut sums = u64x8::splat(0);
+    for block in 0..whole {
+        sums = with_common_bits(sums, a, b, block * BLOCK);
+    }
+    let mut sum = sums.reduce_xor();
+    for at in whole * BLOCK..a.len() {
+        sum ^= a[at] & b[at];
+    }
+    (sum.count_ones() % 2) as u8
+}
+
+/// The block of a sum from an index on.
+#[inline(always)]
+fn xor_block(dst: &mut [u64], src: &[u64], at: usize)
+    requires dst_has_block { at + BLOCK ≤ length dst.old }
+    requires src_has_block { at + BLOCK ≤ length src.now }
+    ensures { dst.new ≡ put_chunk at dst.old (zip2 bit_xor (chunk at BLOCK dst.old) (chunk at BLOCK src.now)) }
+{
+    let sum = u64x8::from_slice(&dst[at..]) ^ u64x8::from_slice(&src[at..]);
+    sum.copy_to_slice(&mut dst[at..]);
+}
+
+/// The exclusive or of lanes and of the bits that the block from an index on has in both lists.
+#[inline(always)]
+fn with_common_bits(sums: u64x8, a: &[u64], b: &[u64], at: usize) -> u64x8
+    requires a_has_block { at + BLOCK ≤ length a.now }
+    requires b_has_block { at + BLOCK ≤ length b.now }
+    ensures { result ≡ zip2 bit_xor sums (zip2 bit_and (chunk at BLOCK a.now) (chunk at BLOCK b.now)) }
+{
+    sums ^ (u64x8::from_slice(&a[at..]) & u64x8::from_slice(&b[at..]))
+}
+
+/// The index of the first word other than zero.
+fn first_nonzero_word(words: &[u64]) -> Option<usize>
+    ensures { MatchOption result (All (λ word. word ≡ 0) words.now) (IsFirstNonzero words.now) }
+{
+    for at in zero_words(words)..words.len() {
+        if words[at] != 0 {
+            return Some(at);
+        }
+    }
+    None
+}
+
+/// How many words the whole blocks of zeros at the start have.
+#[inline(always)]
+fn zero_words(words: &[u64]) -> usize
+    ensures within { result ≤ length words.now }
+    ensures zeros { AreZerosBefore words.now result }
+{
+    let whole = words.len() / BLOCK;
+    for block in 0..whole {
+        let is_zero = is_zero_block(words, block * BLOCK);
+        if !is_zero {
+            return block * BLOCK;
+        }
+    }
+    whole * BLOCK
+}
+
+/// Whether a block from an index on has only zeros.
+#[inline(always)]
+fn is_zero_block(words: &[u64], at: usize) -> bool
+    requires { at + BLOCK ≤ length words.now }
+    ensures { IsTrue result → AreZerosBefore (chunk at BLOCK words.now) BLOCK }
+{
+    u64x8::from_slice(&words[at..]).reduce_or() == 0
+}
