@@ -141,7 +141,7 @@ bit_of-xor a b e same = elim (dec_lt (e / 64) (length a)) [
       let left : get_or a (e / 64) 0 ≡ 0 = get_or_past a (e / 64) 0 (omega arith) in
       let right : get_or b (e / 64) 0 ≡ 0 = get_or_past b (e / 64) 0 (omega (arith, same)) in
       let both : get_or (zip2 bit_xor a b) (e / 64) 0 ≡ 0 =
-          get_or_past (zip2 bit_xor a b) (e / 64) 0 (omega (arith, length-zip2 bit_xor a b (sym same))) in
+      get_or_past (zip2 bit_xor a b) (e / 64) 0 (omega (arith, length-zip2 bit_xor a b (sym same))) in
       let none = bit_at-zero (e % 64) in
       rw (left, right, both, none) refl
 ]
@@ -167,7 +167,7 @@ HoldsBits-xor n a b ha hb = record {
         subst (λ x. x < 2 ^ 64) (sym (get_or-zip2 bit_xor a b k 0 0 0 inside there)) (xor_lt 64 (get_or a k 0) (get_or b k 0) (ha.fits k) (hb.fits k))
     | no outside ↦
         let both : get_or (zip2 bit_xor a b) k 0 ≡ 0 =
-            get_or_past (zip2 bit_xor a b) k 0 (omega (arith, length-zip2 bit_xor a b (ha.long ∙ sym hb.long))) in
+        get_or_past (zip2 bit_xor a b) k 0 (omega (arith, length-zip2 bit_xor a b (ha.long ∙ sym hb.long))) in
         omega (arith, both)
   ];
   long = length-zip2 bit_xor a b (ha.long ∙ sym hb.long) ∙ ha.long;

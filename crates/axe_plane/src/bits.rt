@@ -102,5 +102,9 @@ fn with_bit(word: u64, place: usize, bit: u8) -> u64
     ensures changed { bit_at result place ≡ bit }
     ensures kept { (i : ℕ) → i < 64 → i ≢ place → bit_at result i ≡ bit_at word i }
 {
-    if bit == 0 { word & !(1 << place) } else { word | 1 << place }
+    if bit == 0 {
+        word & !(1 << place)
+    } else {
+        word | 1 << place
+    }
 }

@@ -47,7 +47,11 @@ impl BytePlane {
     pub fn get(&self, index: usize) -> u8
         ensures { result ≡ slice_index self.now.digits index }
     {
-        if index < self.bytes.len() { self.bytes[index] } else { 0 }
+        if index < self.bytes.len() {
+            self.bytes[index]
+        } else {
+            0
+        }
     }
 
     /// Makes a digit the one at an index; all others stay. From the length on there is none to be changed.
@@ -76,8 +80,10 @@ impl BytePlane {
         requires prime { other.now.prime ≡ self.old.prime }
         requires factor { factor < odd_number self.old.prime }
         requires fits { length other.now.digits ≡ length self.old.digits }
-        ensures { self.new ≡ record { prime = self.old.prime;
-            digits = digits_with_multiple (odd_number self.old.prime) self.old.digits factor other.now.digits } }
+        ensures { self.new ≡ record {
+          prime = self.old.prime;
+          digits = digits_with_multiple (odd_number self.old.prime) self.old.digits factor other.now.digits;
+        } }
     {
         let prime = self.prime.number();
         add_scaled_bytes(&mut self.bytes, &other.bytes, factor, prime);

@@ -5,11 +5,10 @@
 ghost use Rattle.std.specs.Prelude.{◌≡◌, ◌≢◌, ◌⊎◌, ◌<◌, ◌↔◌, IsTrue, IfOk, length, replicate, slice_index, slice_set};
 ghost use Rattle.axe_plane.specs.Digits.{AreDigits, digits_with_multiple};
 
-use std::alloc::{AllocError, Global};
-
 pub use bits::BitPlane;
 pub use bytes::BytePlane;
 pub use primes::OddPrime;
+use std::alloc::{AllocError, Global};
 
 mod bits;
 mod bytes;

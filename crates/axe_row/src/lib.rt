@@ -9,28 +9,41 @@ ghost use Rattle.axe_row.specs.Operations.{dot_product, row_with_multiple, multi
 ghost use Rattle.axe_row.specs.Rows.{RowValue, IsRow};
 ghost use Rattle.axe_row.specs.Refusals.{Answers};
 
+mod planes;
 mod refusals;
 
 use axe_field::Field;
+use axe_plane::Plane;
+use planes::{add_multiples, digits_in_plane, element};
 pub use refusals::Refusal;
 use std::alloc::Global;
 use std::marker::Model;
 
-/// A row vector over one of the seven fields. It may have no entries.
+/// A row vector over one of the seven fields. It may have no entries. An entry is a polynomial modulo a prime, and a row
+/// keeps the coefficients of 1, of x and of x^2 of its entries, each as a plane. The planes from the degree of the field
+/// on have no digits.
 #[derive(Drop)]
 pub struct Row {
     field: Field,
-    elements: Vec<u8>,
+    constant: Plane,
+    linear: Plane,
+    quadratic: Plane,
 }
 
 impl Model for Row {
-    ghost use Rattle.axe_row.specs.Rows.{RowValue, IsRow};
+    ghost use Rattle.std.specs.Prelude.{length};
+    ghost use Rattle.axe_plane.specs.Planes.{digits_of};
+    ghost use Rattle.axe_row.specs.Planes.{entries_of_digits, ArePlanes};
+    ghost use Rattle.axe_row.specs.Rows.{RowValue};
 
     ghost Value = { RowValue };
 
-    ghost view = { λ a. record { order = a.field; entries = a.elements.items } };
+    ghost view = { λ a. record {
+      order = a.field;
+      entries = entries_of_digits a.field (digits_of a.constant) (digits_of a.linear) (digits_of a.quadratic);
+    } };
 
-    ghost invariant = { λ a. IsRow (record { order = a.field; entries = a.elements.items }) };
+    ghost invariant = { λ a. ArePlanes a.field (length (digits_of a.constant)) a.constant a.linear a.quadratic };
 }
 
 impl Row {
@@ -39,8 +52,16 @@ impl Row {
         ensures zeros { Answers None (λ row. row ≡ record { order = field; entries = replicate len 0 }) result }
         ensures well_formed { Answers None IsRow result }
     {
-        let elements = vec![in alloc; 0; len]?;
-        Ok(Row { field, elements })
+        let prime = field.prime();
+        let constant = Plane::zero(alloc, prime, len)?;
+        let linear = Plane::zero(alloc, prime, digits_in_plane(&field, 1, len))?;
+        let quadratic = Plane::zero(alloc, prime, digits_in_plane(&field, 2, len))?;
+        Ok(Row {
+            field,
+            constant,
+            linear,
+            quadratic,
+        })
     }
 
     /// The unit vector of a length: 1 at an index, counted from 0, and 0 elsewhere.
@@ -60,8 +81,11 @@ impl Row {
         ensures copied { Answers None (λ row. row ≡ record { order = field; entries = elements.now }) result }
         ensures well_formed { Answers None IsRow result }
     {
-        let elements = Vec::from_slice(alloc, elements)?;
-        Ok(Row { field, elements })
+        let mut row = Row::zero(alloc, field, elements.len())?;
+        for index in 0..elements.len() {
+            row.set(index, elements[index]);
+        }
+        Ok(row)
     }
 
     /// The field of the entries.
@@ -77,14 +101,14 @@ impl Row {
         ensures count { result ≡ length self.now.entries }
         ensures well_formed { IsRow self.now }
     {
-        self.elements.len()
+        self.constant.len()
     }
 
     /// Whether the row has no entries.
     pub fn is_empty(&self) -> bool
         ensures { IsTrue result ↔ (length self.now.entries ≡ 0) }
     {
-        self.elements.is_empty()
+        self.len() == 0
     }
 
     /// The entry at an index, counted from 0.
@@ -93,7 +117,10 @@ impl Row {
         ensures entry { result ≡ slice_index self.now.entries index }
         ensures element { IsElement self.now.order result }
     {
-        self.elements[index]
+        let constant = self.constant.get(index);
+        let linear = self.linear.get(index);
+        let quadratic = self.quadratic.get(index);
+        element(&self.field, constant, linear, quadratic)
     }
 
     /// Makes an element the entry at an index; all other entries stay.
@@ -103,7 +130,10 @@ impl Row {
         ensures replaced { self.new ≡ record { order = self.old.order; entries = slice_set self.old.entries index element } }
         ensures well_formed { IsRow self.new }
     {
-        self.elements[index] = element;
+        let matrix = self.field.plane_matrix(element);
+        self.constant.set(index, matrix[0][0]);
+        self.linear.set(index, matrix[0][1]);
+        self.quadratic.set(index, matrix[0][2]);
     }
 
     /// The same row a second time.
@@ -111,10 +141,14 @@ impl Row {
         ensures copied { Answers None (λ copy. copy ≡ self.now) result }
         ensures well_formed { Answers None IsRow result }
     {
-        let elements = Vec::from_slice(alloc, &self.elements)?;
+        let constant = self.constant.copy(alloc)?;
+        let linear = self.linear.copy(alloc)?;
+        let quadratic = self.quadratic.copy(alloc)?;
         Ok(Row {
             field: self.field,
-            elements,
+            constant,
+            linear,
+            quadratic,
         })
     }
 
@@ -128,11 +162,20 @@ impl Row {
         ensures as_long { length self.new.entries ≡ length self.old.entries }
         ensures well_formed { IsRow self.new }
     {
-        let field = *self.field();
-        for index in 0..self.len() {
-            let added = field.mul(scalar, other.get(index));
-            self.set(index, field.add(self.get(index), added));
-        }
+        let m = self.field.plane_matrix(scalar);
+        let (constant, linear, quadratic) = (&other.constant, &other.linear, &other.quadratic);
+        let to_constant = [m[0][0], m[1][0], m[2][0]];
+        add_multiples(&mut self.constant, to_constant, constant, linear, quadratic);
+        let to_linear = [m[0][1], m[1][1], m[2][1]];
+        add_multiples(&mut self.linear, to_linear, constant, linear, quadratic);
+        let to_quadratic = [m[0][2], m[1][2], m[2][2]];
+        add_multiples(
+            &mut self.quadratic,
+            to_quadratic,
+            constant,
+            linear,
+            quadratic,
+        );
     }
 
     /// Multiplies the row by an element: each entry d becomes c d, where c is the scalar.
@@ -169,20 +212,34 @@ impl Row {
     pub fn first_nonzero(&self) -> Option<usize>
         ensures { MatchOption result (IsZeroVector self.now.entries) (IsFirstNonzero self.now.entries) }
     {
-        self.elements.iter().position(|&element| element != 0)
+        for index in 0..self.len() {
+            if self.get(index) != 0 {
+                return Some(index);
+            }
+        }
+        None
     }
 
     /// Whether every entry is 0.
     pub fn is_zero(&self) -> bool
         ensures { IsTrue result ↔ IsZeroVector self.now.entries }
     {
-        self.elements.iter().all(|&element| element == 0)
+        self.first_nonzero().is_none()
     }
 
     /// Whether two rows are equal: one field, one length, and the same entries.
     pub fn same(&self, other: &Row) -> bool
         ensures { IsTrue result ↔ (self.now ≡ other.now) }
     {
-        self.field == other.field && self.elements == other.elements
+        if self.field != other.field {
+            return false;
+        }
+        if !self.constant.same(&other.constant) {
+            return false;
+        }
+        if !self.linear.same(&other.linear) {
+            return false;
+        }
+        self.quadratic.same(&other.quadratic)
     }
 }

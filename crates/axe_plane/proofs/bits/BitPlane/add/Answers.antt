@@ -36,7 +36,7 @@ returns c =
     let other = subst (λ n. HoldsBits n c.other.inside.words.items) same c.other.invariant in
     let sum : c.xor_into.new.dst ≡ zip2 bit_xor c.self.inside.words.items c.other.inside.words.items = cc in
     let there : bits c.self.inside.len c.other.inside.words.items ≡ c.args.other.now =
-        ap (λ n. bits n c.other.inside.words.items) (sym same) ∙ c.other.view_is in
+    ap (λ n. bits n c.other.inside.words.items) (sym same) ∙ c.other.view_is in
     ap (bits c.self.inside.len) (after _ _ _ _ _ c.self.invariant other c.self.inside.words.ok.0 sum)
     ∙ bits-xor _ _ _ c.self.invariant other ∙ ap (λ (x : List ℕ). digits_with_multiple 2 x 1 (bits c.self.inside.len c.other.inside.words.items)) c.self.view_is
     ∙ ap (digits_with_multiple 2 c.args.self.now 1) there

@@ -12,14 +12,14 @@ after : (k r p m : ℕ) (a b x y dst : List ℕ) → k ≡ length a → x ≡ a 
     dst ≡ zip2 (λ x y. (x + m * y) % r) x y → take k (dst ++ drop (length dst) a) ≡ digits_with_multiple p a m b
 after k r p m a b x y dst all ex ey er same e =
     let sum : dst ≡ zip2 (λ x y. (x + m * y) % p) a b =
-        e ∙ ap (λ s. zip2 (λ x y. (x + m * y) % s) x y) er ∙ ap (λ (s : List ℕ). zip2 (λ x y. (x + m * y) % p) s y) ex
-        ∙ ap (zip2 (λ x y. (x + m * y) % p) a) ey in
+    e ∙ ap (λ s. zip2 (λ x y. (x + m * y) % s) x y) er ∙ ap (λ (s : List ℕ). zip2 (λ x y. (x + m * y) % p) s y) ex
+    ∙ ap (zip2 (λ x y. (x + m * y) % p) a) ey in
     written k dst a all (ap length sum ∙ length-zip2 (λ x y. (x + m * y) % p) a b (sym same)) ∙ sum ∙ zip2-sum p a m b same
 
 pub returns : goal.returns
 returns c =
     let same : length c.other.inside.bytes.items ≡ length c.self.inside.bytes.items =
-        ap (λ (s : OddDigits). length s.digits) c.other.view_is ∙ c.requires.fits ∙ sym (ap (λ (s : OddDigits). length s.digits) c.self.view_is) in
+    ap (λ (s : OddDigits). length s.digits) c.other.view_is ∙ c.requires.fits ∙ sym (ap (λ (s : OddDigits). length s.digits) c.self.view_is) in
     let digits = after _ _ _ _ _ _ _ _ _ c.self.inside.bytes.ok.0 c.deref_mut.ensures.value c.deref.ensures.value c.number-prime.ensures same c.add_scaled_bytes.ensures.sum in
     ap (λ (x : List ℕ). record { prime = c.self.inside.prime; digits = x }) digits
     ∙ ap (λ (s : OddDigits). record { prime = s.prime; digits = digits_with_multiple (odd_number s.prime) s.digits c.args.factor c.other.inside.bytes.items }) c.self.view_is

@@ -1,0 +1,38 @@
+-- What a row keeps: the planes of the coefficients of 1, x and x^2 of its entries.
+use Rattle.std.specs.Prelude.{◌≢◌, ◌≡◌, ℕ, ◌<◌, List, length, slice_index, cond, ltb}
+use Rattle.axe_algebra.specs.Lists.{listed}
+use Rattle.axe_field.specs.Order.{Order, prime_of, degree_of}
+use Rattle.axe_field.specs.Planes.{element_of}
+use Rattle.axe_plane.specs.Digits.{AreDigits, digits_with_multiple}
+use Rattle.axe_plane.specs.Planes.{prime_of_plane, digits_of, IsPlaneOf}
+use Rattle.axe_plane.specs.declared.Plane.{Plane}
+
+-- entry e is the element whose coefficients are the digits at e (0 where there is no digit)
+unfoldable pub entries_of_digits : Order → List ℕ → List ℕ → List ℕ → List ℕ
+entries_of_digits o c l q = listed (length c) (λ e. element_of o (slice_index c e) (slice_index l e) (slice_index q e))
+
+-- the planes of a row of n entries: those from the degree of the field on have no digits
+pub record ArePlanes (o : Order) (n : ℕ) (c l q : Plane) : Type 0 where
+  pub constant : IsPlaneOf (prime_of o) n c
+  pub linear : IsPlaneOf (prime_of o) (cond (ltb 1 (degree_of o)) n 0) l
+  pub quadratic : IsPlaneOf (prime_of o) (cond (ltb 2 (degree_of o)) n 0) q
+
+-- a plane plus multiples of three others
+unfoldable pub digits_with_multiples : ℕ → List ℕ → List ℕ → List ℕ → List ℕ → List ℕ → List ℕ
+digits_with_multiples p a factors c l q =
+    digits_with_multiple p
+    (digits_with_multiple p (digits_with_multiple p a (slice_index factors 0) c) (slice_index factors 1) l)
+    (slice_index factors 2) q
+
+-- a multiple of a plane may be added to this one
+pub record IsAddable (plane : Plane) (factor : ℕ) (other : Plane) : Type 0 where
+  pub prime : prime_of_plane other ≡ prime_of_plane plane
+  pub factor_is_digit : factor < prime_of_plane plane
+  pub fits : factor ≢ 0 → length (digits_of other) ≡ length (digits_of plane)
+
+-- multiples of three planes may be added to this one
+pub record AreAddable (plane : Plane) (factors : List ℕ) (c l q : Plane) : Type 0 where
+  pub digits : AreDigits (prime_of_plane plane) (digits_of plane)
+  pub constant : IsAddable plane (slice_index factors 0) c
+  pub linear : IsAddable plane (slice_index factors 1) l
+  pub quadratic : IsAddable plane (slice_index factors 2) q

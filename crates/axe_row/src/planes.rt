@@ -1,0 +1,47 @@
+//! The planes of a row: the coefficients of 1, of x and of x^2 of its entries.
+ghost use Rattle.std.specs.Prelude.{◌≡◌, ◌<◌, cond, ltb};
+ghost use Rattle.axe_field.specs.Order.{prime_of, degree_of};
+ghost use Rattle.axe_field.specs.Planes.{IsCoefficient, element_of};
+ghost use Rattle.axe_plane.specs.Planes.{prime_of_plane, digits_of, IsPlane};
+ghost use Rattle.axe_row.specs.Planes.{AreAddable, digits_with_multiples};
+
+use axe_field::Field;
+use axe_plane::Plane;
+
+/// How many digits the plane of the coefficients of a power of x has in a row of `len` entries: none from the degree on.
+pub(crate) fn digits_in_plane(field: &Field, power: u8, len: usize) -> usize
+    ensures { result ≡ cond (ltb power (degree_of field.now)) len 0 }
+{
+    if power < field.degree() { len } else { 0 }
+}
+
+/// The element with these coefficients of 1, x and x^2.
+pub(crate) fn element(field: &Field, constant: u8, linear: u8, quadratic: u8) -> u8
+    requires constant { constant < prime_of field.now }
+    requires linear { IsCoefficient field.now 1 linear }
+    requires quadratic { IsCoefficient field.now 2 quadratic }
+    ensures { result ≡ element_of field.now constant linear quadratic }
+{
+    let prime = field.prime();
+    let high = linear + prime * quadratic;
+    constant + prime * high
+}
+
+/// Adds multiples of three planes to one.
+#[inline]
+pub(crate) fn add_multiples(
+    plane: &mut Plane,
+    factors: [u8; 3],
+    constant: &Plane,
+    linear: &Plane,
+    quadratic: &Plane,
+)
+    requires { AreAddable plane.old factors constant.now linear.now quadratic.now }
+    ensures { IsPlane (prime_of_plane plane.old)
+        (digits_with_multiples (prime_of_plane plane.old) (digits_of plane.old) factors
+        (digits_of constant.now) (digits_of linear.now) (digits_of quadratic.now)) plane.new }
+{
+    plane.add_scaled(factors[0], constant);
+    plane.add_scaled(factors[1], linear);
+    plane.add_scaled(factors[2], quadratic);
+}
