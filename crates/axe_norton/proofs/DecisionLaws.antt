@@ -1,0 +1,123 @@
+-- What the steps of the test tell, put together: what a word says, and what words decide.
+use Rattle.std.specs.Prelude.{◌≡◌, ℕ, suc, ◌+◌, ◌<◌, ◌≤◌, length, Bool, true, false, IsTrue, ◌↔◌, Option, None, Result, Ok, Err}
+use Rattle.axe_algebra.specs.WordsOfLists.{IsWordOver}
+use Rattle.axe_field.specs.NumberFields.{number_field}
+use Rattle.axe_field.specs.Order.{Order, order_number}
+use Rattle.axe_row.specs.Rows.{RowValue}
+use Rattle.axe_row.specs.Refusals.{Answers}
+use Rattle.axe_row.specs.declared.refusals.Refusal.{Refusal}
+use Rattle.axe_matrix.specs.Matrices.{MatrixValue, IsMatrix}
+use Rattle.axe_echelon.specs.Echelons.{IsInvertible, IsNullSpaceMatrix, null_space_refusal}
+use Rattle.axe_spin.specs.Modules.{ModuleValue, IsModule}
+use Rattle.axe_word.specs.Words.{WordValue, IsWordIn, IsValueOf}
+use Rattle.axe_word.specs.Drawing.{drawn_word}
+use Rattle.axe_word.specs.PointsOfMatrix.{points_of, point_count}
+use Rattle.axe_norton.specs.declared.verdicts.At.{At}
+use Rattle.axe_norton.specs.declared.verdicts.At.TheVariants.{Irreducible, Reducible, Left}
+use Rattle.axe_norton.specs.Spaces.{most_points, Tested, HasFewPoints, TriedGenerate, TransposeGenerates, point_of}
+use Rattle.axe_norton.specs.Searches.{IsReducedIn, IsSquareIn, IsDualOrNone}
+use Rattle.axe_norton.specs.Verdicts.{Tells, Says, LeavesOpen, LeaveOpenBefore, DecidesAt, word_of_seed, IsTrueOf, ShowsIrreducible, IsLeftWithMany}
+use Rattle.axe_norton.proofs.OpenLaws.{own_square, value_square, invertible_without_rows, no_rows_of_invertible}
+use Rattle.axe_norton.proofs.SearchLaws.{answered_more, null_accepted, null_is_reduced, some_point_in}
+use Rattle.axe_norton.proofs.TruthLaws.{said_is_true}
+use mathlib.Core.Logic.{inl, inr}
+use mathlib.Core.Path.{refl, sym, ◌∙◌, ap, subst}
+use native.Mathlib.Omega.{arith}
+use native.Mathlib.Decide.{dec_lt, ℕ_discrete}
+
+-- ---- a square matrix and its null space
+
+module _ (m : ModuleValue) (matrix null : MatrixValue) (square : IsSquareIn m matrix) (is : IsNullSpaceMatrix matrix null) (well_formed : IsMatrix null) where
+  pub null_in_module : IsReducedIn m null
+  null_in_module = record {
+    field = is.field ∙ square.field;
+    columns = is.columns ∙ square.square.length_is;
+    reduced = null_is_reduced matrix null is;
+  }
+
+  pub left_without_rows : length null.rows ≡ 0 → Tells m matrix null Left
+  left_without_rows none = inl (invertible_without_rows matrix null (own_square m matrix square) is none)
+
+  pub singular_with_rows : 0 < length null.rows → ¬ (IsInvertible matrix)
+  singular_with_rows some invertible =
+      let none : length null.rows ≡ 0 = no_rows_of_invertible matrix null (own_square m matrix square) is invertible in
+      omega arith
+
+  module _ (some : 0 < length null.rows) where
+    pub irreducible_told : (v : RowValue) → HasFewPoints null → TriedGenerate m null → TransposeGenerates m matrix →
+        v ≡ record { order = null.order; entries = point_of null 0 } → Tells m matrix null (Irreducible v)
+    irreducible_told v few generate transpose same = record {
+      few = few;
+      some_point = some_point_in m null null_in_module well_formed some;
+      field = ap (λ (r : RowValue). r.order) same ∙ is.field ∙ square.field;
+      first = ap (λ (r : RowValue). r.entries) same;
+      generate = generate;
+      transpose = transpose;
+    }
+
+    pub left_told : ¬ (HasFewPoints null) → TriedGenerate m null → TransposeGenerates m matrix → Tells m matrix null Left
+    left_told many generate transpose = inr (record {
+      many = by_size (dec_lt most_points (point_count (order_number null.order) (length null.rows)));
+      first = generate 0 (record { below = some_point_in m null null_in_module well_formed some; first_or_few = inl refl });
+      transpose = transpose;
+    })
+      where
+        by_size : Dec (most_points < point_count (order_number null.order) (length null.rows)) →
+            most_points < point_count (order_number null.order) (length null.rows)
+        by_size (yes more) = more
+        by_size (no not_more) = absurd (many (omega arith))
+
+-- ---- a word
+
+-- the null space of a value is not refused
+pub value_null : (m : ModuleValue) (word : WordValue) (matrix : MatrixValue) (result : Result MatrixValue Refusal) → IsMatrix matrix → IsValueOf m word matrix →
+    Answers (null_space_refusal matrix) (IsNullSpaceMatrix matrix) result → Answers None (IsNullSpaceMatrix matrix) result
+value_null m word matrix result formed is_value answer =
+    null_accepted matrix result (omega (arith, is_value.value.square.length_is, is_value.columns, formed.some_column)) answer
+
+pub said_by : (m : ModuleValue) (word : WordValue) (matrix null : MatrixValue) (result : Result At Refusal) → IsValueOf m word matrix →
+    IsNullSpaceMatrix matrix null → IsMatrix null → Answers None (Tells m matrix null) result → Answers None (Says m word) result
+said_by m word matrix null result is_value is well_formed told = answered_more result (Tells m matrix null) (Says m word) told
+    (λ answer tells. record {
+      tested = record { matrix = matrix; is_value = is_value; null_space = null; is_null_space = is; well_formed = well_formed };
+      tells = tells;
+    })
+
+pub truth_told : (m : ModuleValue) (word : WordValue) (result : Result At Refusal) → IsModule m → IsWordIn m word → Answers None (Says m word) result →
+    Answers None (IsTrueOf m) result
+truth_told m word result is is_word said = answered_more result (Says m word) (IsTrueOf m) said
+    (λ answer says. said_is_true m is word answer is_word says)
+
+-- few points are counted by the order of the field and the number of rows
+pub few_is_few : (null : MatrixValue) (q n : ℕ) (few : Bool) → q ≡ order_number null.order → n ≡ length null.rows → (IsTrue few ↔ (point_count q n ≤ most_points)) →
+    IsTrue few ↔ HasFewPoints null
+few_is_few null q n few order rows counted =
+    subst (λ k. IsTrue few ↔ (point_count (order_number null.order) k ≤ most_points)) rows
+    (subst (λ p. IsTrue few ↔ (point_count p n ≤ most_points)) order counted)
+
+-- ---- words of a seed
+
+pub word_drawn : (m : ModuleValue) (seed j q k : ℕ) (word : WordValue) → word ≡ drawn_word seed j q k → q ≡ order_number m.order → k ≡ length m.generators →
+    word ≡ word_of_seed m seed j
+word_drawn m seed j q k word is order count = is ∙ ap (λ p. drawn_word seed j p k) order ∙ ap (drawn_word seed j (order_number m.order)) count
+
+pub none_before : (m : ModuleValue) (seed : ℕ) → LeaveOpenBefore m seed 0
+none_before m seed i before = absurd (omega arith)
+
+-- one more word leaves the module open
+pub open_more : (m : ModuleValue) (seed j next : ℕ) (word : WordValue) → next ≡ suc j → LeaveOpenBefore m seed j → word ≡ word_of_seed m seed j → LeavesOpen m word →
+    LeaveOpenBefore m seed next
+open_more m seed j next word is before same left i below = at (ℕ_discrete i j)
+  where
+    at : Dec (i ≡ j) → LeavesOpen m (word_of_seed m seed i)
+    at (yes here) = subst (LeavesOpen m) (same ∙ ap (word_of_seed m seed) (sym here)) left
+    at (no other) = before i (omega arith)
+
+-- all words leave it open
+pub undecided : (m : ModuleValue) (seed words j : ℕ) → words < j → LeaveOpenBefore m seed j → (i : ℕ) → i ≤ words → LeavesOpen m (word_of_seed m seed i)
+undecided m seed words j all before i within = before i (omega arith)
+
+-- what is kept from word to word
+pub record LeftSoFar (m : ModuleValue) (seed j : ℕ) (transposes : Option ModuleValue) : Type 0 where
+  pub before : LeaveOpenBefore m seed j
+  pub dual : IsDualOrNone m transposes

@@ -1,0 +1,92 @@
+-- Words that leave a module open: word 0 does so only where the module has many points.
+use Rattle.std.specs.Prelude.{◌≡◌, ℕ, ◌<◌, ◌≤◌, ◌⊎◌, List, [], length}
+use Rattle.axe_algebra.specs.Vectors.{Matrix}
+use Rattle.axe_algebra.specs.Spans
+use Rattle.axe_algebra.specs.Words.{word_value}
+use Rattle.axe_algebra.specs.Bridge.{matrix_of, module_of}
+use Rattle.axe_algebra.specs.Lists.{IsSquareOver}
+use Rattle.axe_algebra.specs.ListArithmetic.{IsInverse}
+use Rattle.axe_algebra.specs.WordsOfLists.{IsWordValue}
+use Rattle.axe_algebra.proofs.ListLaws.{inverse_of_lists}
+use Rattle.axe_algebra.proofs.NortonLists.{invertible_without_null_rows, no_null_rows_of_invertible, null_space_of_zero}
+use Rattle.axe_field.specs.Order.{Order, order_number}
+use Rattle.axe_field.specs.NumberFields.{number_field, gf}
+use Rattle.axe_matrix.specs.Matrices.{MatrixValue}
+use Rattle.axe_echelon.specs.Echelons.{IsInvertible, IsNullSpaceMatrix}
+use Rattle.axe_spin.specs.Modules.{ModuleValue, IsModule}
+use Rattle.axe_word.specs.Words.{WordValue, IsValueOf}
+use Rattle.axe_word.specs.Drawing.{drawn_word}
+use Rattle.axe_word.specs.PointsOfMatrix.{point_count}
+use Rattle.axe_norton.specs.Spaces.{most_points, Tested}
+use Rattle.axe_norton.specs.Searches.{IsSquareIn}
+use Rattle.axe_norton.specs.Verdicts.{LeavesOpen, IsLeftWithMany, word_of_seed}
+use Rattle.axe_norton.proofs.SearchLaws.{invertible_matrix}
+use Rattle.axe_norton.proofs.TestedLaws.{IsNullSpaceOver, tested_over}
+use mathlib.Core.Logic.{inl, inr}
+use mathlib.Core.Path.{refl, sym, ◌∙◌, ap, subst}
+use native.Mathlib.Omega.{arith}
+use native.Mathlib.Decide.{dec_lt}
+
+-- a square matrix over the module's field is one over its own
+pub own_square : (m : ModuleValue) (matrix : MatrixValue) → IsSquareIn m matrix → IsSquareOver (number_field matrix.order) matrix.cols matrix.rows
+own_square m matrix is =
+    subst (λ k. IsSquareOver (number_field matrix.order) k matrix.rows) (sym is.columns)
+    (subst (λ o. IsSquareOver (number_field o) m.dim matrix.rows) (sym is.field) is.square)
+
+-- the value of a word is square
+pub value_square : (m : ModuleValue) (word : WordValue) (matrix : MatrixValue) → IsValueOf m word matrix → IsSquareIn m matrix
+value_square m word matrix is_value = record { field = is_value.field; columns = is_value.columns; square = is_value.value.square }
+
+-- a square matrix is invertible exactly where the basis of its null space has no rows
+module _ (matrix null : MatrixValue) (square : IsSquareOver (number_field matrix.order) matrix.cols matrix.rows) (is : IsNullSpaceMatrix matrix null) where
+  pub invertible_without_rows : length null.rows ≡ 0 → IsInvertible matrix
+  invertible_without_rows none =
+      invertible_matrix matrix square
+      (invertible_without_null_rows (number_field matrix.order) matrix.cols matrix.rows null.rows square is.basis_of_null_space none)
+
+  pub no_rows_of_invertible : IsInvertible matrix → length null.rows ≡ 0
+  no_rows_of_invertible (inverse, inverts) =
+      no_null_rows_of_invertible (number_field matrix.order) matrix.cols matrix.rows null.rows square is.basis_of_null_space (record {
+        inverse = matrix_of (number_field matrix.order) inverse.rows;
+        inverts = inverse_of_lists (number_field matrix.order) matrix.cols matrix.rows inverse.rows square inverts.square inverts.inverts;
+      })
+
+-- the null space of the value of the word without terms is everything
+pub null_space_of_no_terms : (m : ModuleValue) (t : Tested m []) → length t.null_space.rows ≡ m.dim
+unfolding word_value
+null_space_of_no_terms m t =
+    null_space_of_zero (number_field m.order) m.dim t.matrix.rows t.null_space.rows t.is_value.value.square t.is_value.value.value (tested_over m [] t).over
+    (tested_over m [] t).basis
+
+-- so this word leaves a module open only where the module has many points
+pub many_where_open : (m : ModuleValue) → IsModule m → LeavesOpen m [] → most_points < point_count (order_number m.order) m.dim
+many_where_open m is open_ = cases open_.tells
+  where
+    rows : length open_.tested.null_space.rows ≡ m.dim
+    rows = null_space_of_no_terms m open_.tested
+
+    field : open_.tested.null_space.order ≡ m.order
+    field = (tested_over m [] open_.tested).field
+
+    cases : IsInvertible open_.tested.matrix ⊎ IsLeftWithMany m open_.tested.matrix open_.tested.null_space →
+        most_points < point_count (order_number m.order) m.dim
+    cases (inl invertible) =
+        let none : length open_.tested.null_space.rows ≡ 0 = no_rows_of_invertible open_.tested.matrix open_.tested.null_space
+        (own_square m open_.tested.matrix (value_square m [] open_.tested.matrix open_.tested.is_value)) open_.tested.is_null_space invertible in
+        absurd (omega (arith, none, rows, is.over.positive))
+    cases (inr left) =
+        subst (λ k. most_points < point_count (order_number m.order) k) rows
+        (subst (λ o. most_points < point_count (order_number o) (length open_.tested.null_space.rows)) field left.many)
+
+-- word 0 of every seed is the word without terms
+pub word_zero : (m : ModuleValue) (seed : ℕ) → word_of_seed m seed 0 ≡ []
+unfolding drawn_word
+word_zero m seed = refl
+
+pub many_where_undecided : (m : ModuleValue) (seed words : ℕ) → IsModule m → ((i : ℕ) → i ≤ words → LeavesOpen m (word_of_seed m seed i)) →
+    most_points < point_count (order_number m.order) m.dim
+many_where_undecided m seed words is each = many_where_open m is (subst (LeavesOpen m) (word_zero m seed) (each 0 (omega arith)))
+
+pub small_is_decided : (m : ModuleValue) (seed words : ℕ) → IsModule m → point_count (order_number m.order) m.dim ≤ most_points →
+    ¬ ((i : ℕ) → i ≤ words → LeavesOpen m (word_of_seed m seed i))
+small_is_decided m seed words is few each = let many = many_where_undecided m seed words is each in omega arith

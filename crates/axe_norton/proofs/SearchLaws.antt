@@ -1,0 +1,248 @@
+-- The steps of the test: seeds of one row, first points, and what points generate.
+use Rattle.std.specs.Prelude.{◌≡◌, ◌≢◌, ℕ, ◌<◌, ◌≤◌, ◌⊎◌, List, [], ◌∷◌, ◌++◌, length, get_or, Option, Some, None, Result, Ok, Err, IfOk, Bool, true, false, IsTrue}
+use Rattle.std.proofs.lemmas.Bool.{ne_eqb}
+use Rattle.axe_algebra.specs.NumberField.{NumberField}
+use Rattle.axe_algebra.specs.Vectors.{Matrix, zero_vector}
+use Rattle.axe_algebra.specs.Spans
+use Rattle.axe_algebra.specs.Reduced
+use Rattle.axe_algebra.specs.Bridge.{vector_of, matrix_of}
+use Rattle.axe_algebra.specs.Lists.{IsMatrixOver, IsSquareOver}
+use Rattle.axe_algebra.specs.ListArithmetic.{transpose, IsInverse}
+use Rattle.axe_algebra.specs.SpansOfLists.{IsIndependent, IsReducedBasis, IsNullSpaceBasis}
+use Rattle.axe_algebra.specs.PointTheorems.{IsNonzeroSpanned}
+use Rattle.axe_algebra.proofs.SquareMatrices.{transpose_criterion}
+use Rattle.axe_algebra.proofs.ReducedBases.{reduced_independent}
+use Rattle.axe_algebra.proofs.ListLaws.{inverse_list}
+use Rattle.axe_algebra.proofs.ListProducts.{matrix_of_transpose}
+use Rattle.axe_algebra.proofs.ListIrreducible.{transpose_length}
+use Rattle.axe_algebra.proofs.NortonLists.{transpose_square, invertible_without_null_rows, generated_basis_is_full}
+use Rattle.axe_field.specs.Order.{Order}
+use Rattle.axe_field.specs.NumberFields.{number_field, gf}
+use Rattle.axe_row.specs.Rows.{RowValue}
+use Rattle.axe_row.specs.Refusals.{Answers}
+use Rattle.axe_row.specs.Operations.{IsZeroVector}
+use Rattle.axe_row.specs.declared.refusals.Refusal.{Refusal}
+use Rattle.axe_row.specs.declared.refusals.Refusal.TheVariants.{Memory}
+use Rattle.axe_matrix.specs.Matrices.{MatrixValue, IsMatrix, transposed_matrix, transpose_refusal}
+use Rattle.axe_matrix.proofs.TransposeLaws.{transpose_refusal-none}
+use Rattle.axe_echelon.specs.Echelons.{IsInvertible, IsNullSpaceMatrix, null_space_refusal}
+use Rattle.axe_echelon.proofs.Exits.{memory_if_accepted}
+use Rattle.axe_echelon.proofs.InverseLaws.{matrix_over}
+use Rattle.axe_echelon.proofs.EliminationLaws.{vector_of_zero_row}
+use Rattle.axe_spin.specs.Modules.{ModuleValue, IsModule}
+use Rattle.axe_spin.specs.Spinning.{seed_refusal, IsGeneratedMatrix}
+use Rattle.axe_spin.proofs.GeneratedLaws.{seed_refusal-none, some_nonzero}
+use Rattle.axe_action.specs.Actions.{dual_module, IsAnnihilatorMatrix}
+use Rattle.axe_word.specs.PointsOfMatrix.{points_of, IsReduced}
+use Rattle.axe_norton.specs.Spaces.{GeneratesModule, GeneratesProper, one_row, point_of, HasFewPoints, IsTried, TriedGenerate, IsFirstProperSpace, TransposedPoint, TransposeGenerates, IsTransposedSpace}
+use Rattle.axe_norton.specs.Searches.{IsReducedIn, IsSquareIn, FindsProper, FindsFirstOf, IsFirstProperOf, FindsFirst, IsTransposedPointRow, FindsTransposed}
+use Rattle.axe_norton.proofs.PointLaws.{point_is, some_point}
+use Rattle.axe_norton.proofs.TruthLaws.{rows_over_field}
+use mathlib.Core.Logic.{inl, inr}
+use mathlib.Core.Path.{refl, sym, ◌∙◌, ap, subst}
+use native.Mathlib.Omega.{arith}
+use native.Mathlib.Decide.{dec_lt}
+
+-- what an answer says, in other words
+pub answered_more : {T : Type 0} (result : Result T Refusal) (P Q : T → Type 0) → Answers None P result → ((value : T) → P value → Q value) → Answers None Q result
+answered_more (Ok value) P Q h f = f value h
+answered_more (Err refusal) P Q h f = h
+
+-- ---- one row as a seed
+
+-- a row that is appended to no rows
+pub seed_of_row : (m : ModuleValue) (o : Order) (n : ℕ) (start seed : MatrixValue) (v : List ℕ) → o ≡ m.order → n ≡ m.dim →
+    start ≡ record { order = o; cols = n; rows = [] } → seed ≡ record start { rows = start.rows ++ v ∷ [] } → seed ≡ one_row m v
+seed_of_row m o n start seed v field dim start_is is =
+    is ∙ ap (λ (s : MatrixValue). record s { rows = s.rows ++ v ∷ [] }) start_is
+    ∙ (λ i. record { order = field i; cols = dim i; rows = v ∷ [] })
+
+-- a seed of one row other than zero is accepted
+pub one_row_accepted : (m : ModuleValue) (v : List ℕ) → ¬ (IsZeroVector v) → seed_refusal m (one_row m v) ≡ None
+one_row_accepted m v nonzero =
+    seed_refusal-none m (one_row m v) refl refl (some_nonzero (v ∷ []) 0 v false (omega arith) refl (λ zeros. absurd (nonzero zeros)) refl)
+
+pub seed_accepted : (m : ModuleValue) (v : List ℕ) (seed : MatrixValue) (result : Result MatrixValue Refusal) → seed ≡ one_row m v → ¬ (IsZeroVector v) →
+    Answers (seed_refusal m seed) (IsGeneratedMatrix m seed) result → Answers None (IsGeneratedMatrix m (one_row m v)) result
+seed_accepted m v seed result is nonzero answer =
+    subst (λ (r : Option Refusal). Answers r (IsGeneratedMatrix m (one_row m v)) result) (one_row_accepted m v nonzero)
+    (subst (λ (s : MatrixValue). Answers (seed_refusal m s) (IsGeneratedMatrix m s) result) is answer)
+
+module _ (m : ModuleValue) (v : List ℕ) (space : MatrixValue) (well_formed : IsMatrix space) (generated : IsGeneratedMatrix m (one_row m v) space) where
+  over_space : IsMatrixOver (number_field m.order) m.dim space.rows
+  over_space = rows_over_field m.order m.dim space generated.field generated.columns well_formed
+
+  pub everything_generated : length space.rows ≡ m.dim → GeneratesModule m v
+  everything_generated full = (generated_basis_is_full (number_field m.order) m.dim m.generators v space.rows over_space generated.basis_of_generated).1 full
+
+  pub proper_generated : length space.rows ≢ m.dim → GeneratesProper m v space
+  proper_generated less = record {
+    generated = generated;
+    well_formed = well_formed;
+    proper = λ all. less ((generated_basis_is_full (number_field m.order) m.dim m.generators v space.rows over_space generated.basis_of_generated).0 all);
+  }
+
+-- ---- points of a space in a module
+
+pub nonzero_row : (o : Order) (v : List ℕ) → vector_of (number_field o) v ≢ zero_vector (gf o) → ¬ (IsZeroVector v)
+nonzero_row o v nonzero zeros = nonzero (vector_of_zero_row (number_field o) v zeros)
+
+module _ (m : ModuleValue) (basis : MatrixValue) (is : IsReducedIn m basis) (well_formed : IsMatrix basis) where
+  over_basis : IsMatrixOver (number_field m.order) m.dim basis.rows
+  over_basis = rows_over_field m.order m.dim basis is.field is.columns well_formed
+
+  pub independent_basis : IsIndependent (number_field m.order) basis.rows
+  independent_basis =
+      reduced_independent (gf m.order) (length basis.rows) (matrix_of (number_field m.order) basis.rows) (length basis.rows)
+      (matrix_of (number_field m.order) basis.rows) (subst (λ o. IsReducedBasis (number_field o) basis.rows basis.rows) is.field is.reduced)
+
+  pub point_in : (i : ℕ) → i < length (points_of basis) → IsNonzeroSpanned (number_field m.order) m.dim basis.rows (point_of basis i)
+  point_in = point_is m.order m.dim basis is.field is.columns over_basis independent_basis
+
+  pub some_point_in : 0 < length basis.rows → 0 < length (points_of basis)
+  some_point_in = some_point m.order m.dim basis is.field is.columns over_basis
+
+  -- a row that is a point is a nonzero vector of the module
+  pub point_fits : (i : ℕ) (v : RowValue) → i < length (points_of basis) → v.entries ≡ point_of basis i → length v.entries ≡ m.dim
+  point_fits i v below is_point = ap length is_point ∙ (point_in i below).over.length_is
+
+  pub point_nonzero : (i : ℕ) (v : RowValue) → i < length (points_of basis) → v.entries ≡ point_of basis i → ¬ (IsZeroVector v.entries)
+  point_nonzero i v below is_point =
+      subst (λ (x : List ℕ). ¬ (IsZeroVector x)) (sym is_point) (nonzero_row m.order (point_of basis i) (point_in i below).nonzero)
+
+-- all points are tried where there are few
+pub found_of_all : (m : ModuleValue) (basis : MatrixValue) (found : Option MatrixValue) → HasFewPoints basis → FindsFirstOf m (points_of basis) found → FindsFirst m basis found
+found_of_all m basis None few each = λ i tried. each i tried.below
+found_of_all m basis (Some space) few first = record {
+  number = first.number;
+  tried = record { below = first.below; first_or_few = inr few };
+  before = first.before;
+  proper = first.proper;
+}
+
+-- the first alone, where there are many
+pub found_of_first : (m : ModuleValue) (basis : MatrixValue) (v : List ℕ) (found : Option MatrixValue) → ¬ (HasFewPoints basis) →
+    0 < length (points_of basis) → v ≡ point_of basis 0 → FindsProper m v found → FindsFirst m basis found
+found_of_first m basis v None many some is generates = λ i tried. at i tried tried.first_or_few
+  where
+    at : (i : ℕ) → IsTried basis i → (i ≡ 0) ⊎ HasFewPoints basis → GeneratesModule m (point_of basis i)
+    at i tried (inl first) = subst (GeneratesModule m) (is ∙ ap (point_of basis) (sym first)) generates
+    at i tried (inr few) = absurd (many few)
+found_of_first m basis v (Some space) many some is proper = record {
+  number = 0;
+  tried = record { below = some; first_or_few = inl refl };
+  before = λ i before. absurd (omega arith);
+  proper = subst (λ (x : List ℕ). GeneratesProper m x space) is proper;
+}
+
+-- ---- the first point of the null space of a transpose
+
+-- a square matrix of lists that is invertible
+pub invertible_matrix : (matrix : MatrixValue) → IsSquareOver (number_field matrix.order) matrix.cols matrix.rows →
+    Spans.IsInvertible (gf matrix.order) matrix.cols (matrix_of (number_field matrix.order) matrix.rows) → IsInvertible matrix
+invertible_matrix matrix square invertible = make (inverse_list (number_field matrix.order) matrix.cols matrix.rows square invertible)
+  where
+    make : (b : List (List ℕ)) × IsSquareOver (number_field matrix.order) matrix.cols b × IsInverse (number_field matrix.order) matrix.cols matrix.rows b → IsInvertible matrix
+    make (b, square_b, inverts) = (
+      record { order = matrix.order; cols = matrix.cols; rows = b },
+      record {
+        field = refl;
+        columns = refl;
+        square = square_b;
+        inverts = inverts;
+      },
+    )
+
+pub transposed_null_rows : (matrix null : MatrixValue) → IsSquareOver (number_field matrix.order) matrix.cols matrix.rows → ¬ (IsInvertible matrix) →
+    IsNullSpaceMatrix (transposed_matrix matrix) null → 0 < length null.rows
+transposed_null_rows matrix null square singular is = by_size (dec_lt 0 (length null.rows))
+  where
+    by_size : Dec (0 < length null.rows) → 0 < length null.rows
+    by_size (yes some) = some
+    by_size (no none) =
+        absurd (singular (invertible_matrix matrix square
+        ((transpose_criterion (gf matrix.order) matrix.cols (matrix_of (number_field matrix.order) matrix.rows)).1
+        (subst (λ (a : Matrix (gf matrix.order)). Spans.IsInvertible (gf matrix.order) matrix.cols a)
+        (matrix_of_transpose (number_field matrix.order) matrix.cols matrix.rows square.matrix)
+        (invertible_without_null_rows (number_field matrix.order) matrix.cols (transpose matrix.cols matrix.rows) null.rows
+        (transpose_square (number_field matrix.order) matrix.cols matrix.rows square) is.basis_of_null_space (omega arith))))))
+
+pub null_is_reduced : (matrix null : MatrixValue) → IsNullSpaceMatrix matrix null → IsReduced null
+null_is_reduced matrix null is = subst (λ o. IsReducedBasis (number_field o) null.rows null.rows) (sym is.field) is.basis_of_null_space.reduced
+
+pub transposed_point_is : (matrix null : MatrixValue) → IsSquareOver (number_field matrix.order) matrix.cols matrix.rows → ¬ (IsInvertible matrix) →
+    IsNullSpaceMatrix (transposed_matrix matrix) null → IsMatrix null → TransposedPoint matrix
+transposed_point_is matrix null square singular is well_formed = record {
+  null_space = null;
+  is_null_space = is;
+  well_formed = well_formed;
+  some_point = some_point null.order null.cols null refl refl (matrix_over null well_formed) (transposed_null_rows matrix null square singular is);
+}
+
+-- it is a nonzero vector of the module
+module _ (m : ModuleValue) (matrix : MatrixValue) (is : IsSquareIn m matrix) (v : RowValue) (found : IsTransposedPointRow matrix v) where
+  null_in : IsReducedIn m found.point.null_space
+  null_in = record {
+    field = found.point.is_null_space.field ∙ is.field;
+    columns = found.point.is_null_space.columns ∙ transpose_length matrix.cols matrix.rows ∙ is.columns;
+    reduced = null_is_reduced (transposed_matrix matrix) found.point.null_space found.point.is_null_space;
+  }
+
+  pub transposed_point_fits : length v.entries ≡ m.dim
+  transposed_point_fits = point_fits m found.point.null_space null_in found.point.well_formed 0 v found.point.some_point found.first
+
+  pub transposed_point_nonzero : ¬ (IsZeroVector v.entries)
+  transposed_point_nonzero = point_nonzero m found.point.null_space null_in found.point.well_formed 0 v found.point.some_point found.first
+
+  pub transpose_generates : (dual : ModuleValue) → dual ≡ dual_module m → GeneratesModule dual v.entries → TransposeGenerates m matrix
+  transpose_generates dual same generates = record {
+    point = found.point;
+    generates = subst (GeneratesModule (dual_module m)) found.first (subst (λ (d : ModuleValue). GeneratesModule d v.entries) same generates);
+  }
+
+  pub transposed_space_is : (dual : ModuleValue) (generated space : MatrixValue) → dual ≡ dual_module m → GeneratesProper dual v.entries generated →
+      IsAnnihilatorMatrix generated space → IsMatrix space → IsTransposedSpace m matrix space
+  transposed_space_is dual generated space same proper annihilator well_formed = record {
+    point = found.point;
+    generated = generated;
+    proper = subst (λ (x : List ℕ). GeneratesProper (dual_module m) x generated) found.first
+        (subst (λ (d : ModuleValue). GeneratesProper d v.entries generated) same proper);
+    annihilator = annihilator;
+    well_formed = well_formed;
+  }
+
+-- ---- the transpose of a matrix that has rows, and its null space
+
+pub transpose_is : (matrix transpose : MatrixValue) → length matrix.rows ≡ matrix.cols → 0 < matrix.cols →
+    Answers (transpose_refusal matrix) (λ x. x ≡ transposed_matrix matrix) (Ok transpose) → transpose ≡ transposed_matrix matrix
+transpose_is matrix transpose square some answer = rw (transpose_refusal-none matrix (λ none. omega (arith, none))) at answer
+
+pub transpose_memory : (matrix : MatrixValue) (refusal : Refusal) → length matrix.rows ≡ matrix.cols → 0 < matrix.cols →
+    Answers (transpose_refusal matrix) (λ x. x ≡ transposed_matrix matrix) (Err refusal) → refusal ≡ Memory
+transpose_memory matrix refusal square some answer =
+    memory_if_accepted (transpose_refusal matrix) (λ x. x ≡ transposed_matrix matrix) refusal
+    (transpose_refusal-none matrix (λ none. omega (arith, none))) answer
+
+pub null_accepted : (matrix : MatrixValue) (result : Result MatrixValue Refusal) → 0 < length matrix.rows →
+    Answers (null_space_refusal matrix) (IsNullSpaceMatrix matrix) result → Answers None (IsNullSpaceMatrix matrix) result
+null_accepted matrix result some answer = rw (ne_eqb (length matrix.rows) 0 (λ none. omega (arith, none))) at answer
+
+pub transposed_null : (matrix transpose : MatrixValue) (result : Result MatrixValue Refusal) → 0 < matrix.cols → transpose ≡ transposed_matrix matrix →
+    Answers (null_space_refusal transpose) (IsNullSpaceMatrix transpose) result → Answers None (IsNullSpaceMatrix (transposed_matrix matrix)) result
+transposed_null matrix transpose result some is answer =
+    null_accepted (transposed_matrix matrix) result (omega (arith, transpose_length matrix.cols matrix.rows))
+    (subst (λ (t : MatrixValue). Answers (null_space_refusal t) (IsNullSpaceMatrix t) result) is answer)
+
+-- a row that is the first point of that null space
+pub transposed_row_is : (matrix null : MatrixValue) (v : RowValue) → IsSquareOver (number_field matrix.order) matrix.cols matrix.rows → ¬ (IsInvertible matrix) →
+    IsNullSpaceMatrix (transposed_matrix matrix) null → IsMatrix null → v ≡ record { order = null.order; entries = point_of null 0 } → IsTransposedPointRow matrix v
+unfolding transposed_point_is
+transposed_row_is matrix null v square singular is well_formed same = record {
+  point = transposed_point_is matrix null square singular is well_formed;
+  field = ap (λ (r : RowValue). r.order) same ∙ is.field;
+  first = ap (λ (r : RowValue). r.entries) same;
+}
+
+-- a test is not both
+pub not_both : (b : Bool) → IsTrue b → b ≡ false → ⊥
+not_both b holds fails = cc

@@ -1,0 +1,68 @@
+-- The tested matrix of a module, the null spaces of it and of its transpose, and their points, over the module's field.
+use Rattle.std.specs.Prelude.{◌≡◌, ℕ, ◌<◌, List, [], length}
+use Rattle.axe_algebra.specs.Bridge.{matrix_of}
+use Rattle.axe_algebra.specs.Lists.{IsMatrixOver, IsSquareOver}
+use Rattle.axe_algebra.specs.ListArithmetic.{transpose}
+use Rattle.axe_algebra.specs.SpansOfLists.{IsIndependent, IsNullSpaceBasis}
+use Rattle.axe_algebra.specs.PointTheorems.{IsNonzeroSpanned}
+use Rattle.axe_algebra.proofs.ListIrreducible.{transpose_length}
+use Rattle.axe_algebra.proofs.ReducedBases.{reduced_independent}
+use Rattle.axe_algebra.proofs.NortonLists.{transpose_square, transposed_null_has_rows}
+use Rattle.axe_field.specs.Order.{Order}
+use Rattle.axe_field.specs.NumberFields.{number_field, gf}
+use Rattle.axe_matrix.specs.Matrices.{MatrixValue, IsMatrix, transposed_matrix}
+use Rattle.axe_echelon.specs.Echelons.{IsNullSpaceMatrix}
+use Rattle.axe_echelon.proofs.InverseLaws.{matrix_over}
+use Rattle.axe_spin.specs.Modules.{ModuleValue}
+use Rattle.axe_word.specs.Words.{WordValue, IsValueOf}
+use Rattle.axe_word.specs.PointsOfMatrix.{points_of}
+use Rattle.axe_norton.specs.Spaces.{Tested, TransposedPoint, point_of}
+use Rattle.axe_norton.proofs.PointLaws.{point_is, some_point}
+use mathlib.Core.Path.{sym, ◌∙◌, subst}
+
+-- the rows of a square matrix and the reduced basis of its null space, over a field
+pub record IsNullSpaceOver (o : Order) (n : ℕ) (matrix : List (List ℕ)) (null : MatrixValue) : Type 0 where
+  pub field : null.order ≡ o
+  pub columns : null.cols ≡ n
+  pub square : IsSquareOver (number_field o) n matrix
+  pub over : IsMatrixOver (number_field o) n null.rows
+  pub basis : IsNullSpaceBasis (number_field o) matrix null.rows
+
+pub null_space_over : (o : Order) (n : ℕ) (matrix null : MatrixValue) → matrix.order ≡ o → IsSquareOver (number_field o) n matrix.rows →
+    IsNullSpaceMatrix matrix null → IsMatrix null → IsNullSpaceOver o n matrix.rows null
+null_space_over o n matrix null field square is well_formed =
+    let same_field : null.order ≡ o = is.field ∙ field in
+    let same_columns : null.cols ≡ n = is.columns ∙ square.length_is in
+    record {
+      field = same_field;
+      columns = same_columns;
+      square = square;
+      over = subst (λ k. IsMatrixOver (number_field o) k null.rows) same_columns
+          (subst (λ p. IsMatrixOver (number_field p) null.cols null.rows) same_field (matrix_over null well_formed));
+      basis = subst (λ p. IsNullSpaceBasis (number_field p) matrix.rows null.rows) field is.basis_of_null_space;
+    }
+
+-- that of the tested matrix
+pub tested_over : (m : ModuleValue) (word : WordValue) (t : Tested m word) → IsNullSpaceOver m.order m.dim t.matrix.rows t.null_space
+tested_over m word t = null_space_over m.order m.dim t.matrix t.null_space t.is_value.field t.is_value.value.square t.is_null_space t.well_formed
+
+-- that of its transpose
+pub transposed_square : (o : Order) (n : ℕ) (rows : List (List ℕ)) → IsSquareOver (number_field o) n rows → IsSquareOver (number_field o) n (transpose n rows)
+transposed_square o n rows square = transpose_square (number_field o) n rows square
+
+pub transposed_over : (m : ModuleValue) (word : WordValue) (matrix null : MatrixValue) → IsValueOf m word matrix →
+    IsNullSpaceMatrix (transposed_matrix matrix) null → IsMatrix null → IsNullSpaceOver m.order m.dim (transpose m.dim matrix.rows) null
+transposed_over m word matrix null is_value is well_formed =
+    subst (λ k. IsNullSpaceOver m.order m.dim (transpose k matrix.rows) null) is_value.columns
+    (null_space_over m.order m.dim (transposed_matrix matrix) null is_value.field
+    (subst (λ k. IsSquareOver (number_field m.order) m.dim (transpose k matrix.rows)) (sym is_value.columns)
+    (transposed_square m.order m.dim matrix.rows is_value.value.square)) is well_formed)
+
+pub independent_null : (o : Order) (n : ℕ) (matrix : List (List ℕ)) (null : MatrixValue) → IsNullSpaceOver o n matrix null → IsIndependent (number_field o) null.rows
+independent_null o n matrix null is =
+    reduced_independent (gf o) (length null.rows) (matrix_of (number_field o) null.rows) (length null.rows) (matrix_of (number_field o) null.rows) is.basis.reduced
+
+-- the points of such a null space
+pub null_point : (o : Order) (n : ℕ) (matrix : List (List ℕ)) (null : MatrixValue) → IsNullSpaceOver o n matrix null → (i : ℕ) →
+    i < length (points_of null) → IsNonzeroSpanned (number_field o) n null.rows (point_of null i)
+null_point o n matrix null is = point_is o n null is.field is.columns is.over (independent_null o n matrix null is)

@@ -1,0 +1,3 @@
+pub mod Spaces
+pub mod Verdicts
+pub mod Searches

@@ -1,0 +1,92 @@
+-- What a word says of a module, and what words of one seed decide (Norton's test: Parker 1984; Holt and Rees 1994).
+use Rattle.std.specs.Prelude.{◌≡◌, ℕ, ◌<◌, ◌≤◌, ◌⊎◌, length, ⊤}
+use Rattle.axe_field.specs.Order.{order_number}
+use Rattle.axe_row.specs.Rows.{RowValue}
+use Rattle.axe_matrix.specs.Matrices.{MatrixValue}
+use Rattle.axe_echelon.specs.Echelons.{IsInvertible}
+use Rattle.axe_spin.specs.Modules.{ModuleValue}
+use Rattle.axe_word.specs.Words.{WordValue}
+use Rattle.axe_word.specs.Drawing.{drawn_word}
+use Rattle.axe_word.specs.PointsOfMatrix.{points_of, point_count}
+use Rattle.axe_norton.specs.declared.verdicts.At.{At}
+use Rattle.axe_norton.specs.declared.verdicts.At.TheVariants.{Irreducible, Reducible, Left}
+use Rattle.axe_norton.specs.declared.verdicts.Verdict
+use Rattle.axe_norton.specs.Spaces.{IsIrreducibleModule, IsProperSubmodule, Tested, HasFewPoints, point_of, TriedGenerate, IsFirstProperSpace, TransposeGenerates, IsTransposedSpace, GeneratesModule, most_points}
+
+-- the greatest number of a last word
+abbrev pub last_word : ℕ
+last_word = 10000
+
+-- the tested matrix shows the module to be irreducible: it is singular, its null space has few points, and all of them
+-- generate everything, as does the first point of the null space of the transpose under the transposes; v is the first
+-- point
+pub record ShowsIrreducible (m : ModuleValue) (matrix null_space : MatrixValue) (v : RowValue) : Type 0 where
+  pub few : HasFewPoints null_space
+  pub some_point : 0 < length (points_of null_space)
+  pub field : v.order ≡ m.order
+  pub first : v.entries ≡ point_of null_space 0
+  pub generate : TriedGenerate m null_space
+  pub transpose : TransposeGenerates m matrix
+
+-- the tested matrix shows it to be reducible: `space` is what the first tried point that generates a proper space
+-- generates; or none does, and it is the annihilator of what the first point of the null space of the transpose
+-- generates under the transposes, which is proper
+abbrev pub ShowsReducible : ModuleValue → MatrixValue → MatrixValue → MatrixValue → Type 0
+ShowsReducible m matrix null_space space =
+    IsFirstProperSpace m null_space space ⊎ (TriedGenerate m null_space × IsTransposedSpace m matrix space)
+
+-- its null space has more points than are all tried; the first generates everything, and so does the transpose's under
+-- the transposes
+pub record IsLeftWithMany (m : ModuleValue) (matrix null_space : MatrixValue) : Type 0 where
+  pub many : most_points < point_count (order_number null_space.order) (length null_space.rows)
+  pub first : GeneratesModule m (point_of null_space 0)
+  pub transpose : TransposeGenerates m matrix
+
+-- what the tested matrix, with its null space, tells of the module; it leaves the module open where it is invertible,
+-- or has many null points
+abbrev pub Tells : ModuleValue → MatrixValue → MatrixValue → At → Type 0
+Tells m matrix null_space (Irreducible v) = ShowsIrreducible m matrix null_space v
+Tells m matrix null_space (Reducible space) = ShowsReducible m matrix null_space space
+Tells m matrix null_space Left = IsInvertible matrix ⊎ IsLeftWithMany m matrix null_space
+
+-- what a word says of a module: what its value tells
+pub record Says (m : ModuleValue) (word : WordValue) (answer : At) : Type 0 where
+  pub tested : Tested m word
+  pub tells : Tells m tested.matrix tested.null_space answer
+
+-- the word leaves the module open
+abbrev pub LeavesOpen : ModuleValue → WordValue → Type 0
+LeavesOpen m word = Says m word Left
+
+-- what is true of the module where a word says so
+abbrev pub IsTrueOf : ModuleValue → At → Type 0
+IsTrueOf m (Irreducible v) = IsIrreducibleModule m
+IsTrueOf m (Reducible space) = IsProperSubmodule m space
+IsTrueOf m Left = ⊤
+
+-- word number j of a seed, for the field and the generators of the module
+abbrev pub word_of_seed : ModuleValue → ℕ → ℕ → WordValue
+word_of_seed m seed j = drawn_word seed j (order_number m.order) (length m.generators)
+
+-- the words before number j leave the module open
+abbrev pub LeaveOpenBefore : ModuleValue → ℕ → ℕ → Type 0
+LeaveOpenBefore m seed j = (i : ℕ) → i < j → LeavesOpen m (word_of_seed m seed i)
+
+-- word number j, the first that does not leave the module open, is at most number `words`, and says this
+pub record DecidesAt (m : ModuleValue) (seed words j : ℕ) (answer : At) : Type 0 where
+  pub within : j ≤ words
+  pub before : LeaveOpenBefore m seed j
+  pub says : Says m (word_of_seed m seed j) answer
+
+-- what the words 0 to `words` of a seed decide: what the first of them says that does not leave the module open;
+-- nothing where each of them does
+abbrev pub Decides : ModuleValue → ℕ → ℕ → Verdict.Verdict → Type 0
+Decides m seed words (Verdict.TheVariants.Irreducible j v) = DecidesAt m seed words j (Irreducible v)
+Decides m seed words (Verdict.TheVariants.Reducible space) = (j : ℕ) × DecidesAt m seed words j (Reducible space)
+Decides m seed words Verdict.TheVariants.Undecided = (i : ℕ) → i ≤ words → LeavesOpen m (word_of_seed m seed i)
+
+-- what is true of the module then; no verdict is missing where the module has at most `most_points` points
+abbrev pub IsTrueVerdict : ModuleValue → Verdict.Verdict → Type 0
+IsTrueVerdict m (Verdict.TheVariants.Irreducible j v) = IsIrreducibleModule m
+IsTrueVerdict m (Verdict.TheVariants.Reducible space) = IsProperSubmodule m space
+IsTrueVerdict m Verdict.TheVariants.Undecided = most_points < point_count (order_number m.order) m.dim

@@ -1,0 +1,115 @@
+//! What a word says of a module, and what words of a seed decide.
+
+ghost use Rattle.std.specs.Prelude.{◌≡◌, ◌<◌, ◌≤◌, length, None};
+ghost use Rattle.axe_row.specs.Refusals.{Answers};
+ghost use Rattle.axe_matrix.specs.Matrices.{IsMatrix};
+ghost use Rattle.axe_echelon.specs.Echelons.{IsNullSpaceMatrix};
+ghost use Rattle.axe_spin.specs.Modules.{IsModule};
+ghost use Rattle.axe_word.specs.Words.{IsWordIn};
+ghost use Rattle.axe_norton.specs.Searches.{IsSquareIn, IsDualOrNone};
+ghost use Rattle.axe_norton.specs.Verdicts.{Tells, Says, IsTrueOf, Decides, IsTrueVerdict};
+
+use crate::spaces::{first_proper_space, transposed_space};
+use crate::verdicts::{At, Verdict};
+use crate::{MAX_WORDS, MOST_POINTS};
+use axe_echelon::null_space;
+use axe_matrix::{Matrix, Refusal};
+use axe_spin::Module;
+use axe_word::{Word, few_points, first_point, nth_word};
+use std::alloc::Global;
+
+/// What a word says of a module, of which it is one as [`Word::is_word_in`] says, by its value x (Norton's test: Parker
+/// 1984; Holt and Rees 1994). Where x is invertible the word leaves the module open. Else the points of the null space
+/// of x are tried in order, or the first alone where there are more than [`MOST_POINTS`]: the first that generates a
+/// proper space shows the module to be reducible, by the reduced basis of that space. Where none does, so does the
+/// first point of the null space of the transpose of x, where it generates a proper space in the transposed module, by
+/// the annihilator of that space. Where that generates everything, too, the module is irreducible if all points were
+/// tried, and else left open.
+pub fn decide_at(alloc: Global, module: &Module, word: &Word) -> Result<At, Refusal>
+    requires word { IsWordIn «module».now word.now }
+    ensures says { Answers None (Says «module».now word.now) result }
+    ensures holds { Answers None (IsTrueOf «module».now) result }
+{
+    let mut transposes = None;
+    test_word(alloc, module, word, &mut transposes)
+}
+
+/// What the words 0 to `words` of a seed decide of a module: what the first of them says that doesn't leave the module
+/// open, as [`decide_at`] tells it, with the number of that word where it shows the module to be irreducible. It is
+/// undecided exactly where each of them leaves it open; word 0, whose value is zero, decides every module with at most
+/// [`MOST_POINTS`] points. There are at most [`MAX_WORDS`] words beside word 0. The transposed module is made at most
+/// once.
+pub fn decide(alloc: Global, module: &Module, seed: u64, words: u32) -> Result<Verdict, Refusal>
+    requires words { words ≤ MAX_WORDS }
+    ensures decides { Answers None (Decides «module».now seed words) result }
+    ensures holds { Answers None (IsTrueVerdict «module».now) result }
+{
+    let order = module.field().order();
+    let gens = module.gens() as u8;
+    let mut transposes = None;
+    for number in 0..words + 1 {
+        let word = nth_word(seed, number, order, gens);
+        match test_word(alloc, module, &word, &mut transposes)? {
+            At::Irreducible(vector) => {
+                return Ok(Verdict::Irreducible {
+                    word: number,
+                    vector,
+                })
+            }
+            At::Reducible(space) => return Ok(Verdict::Reducible(space)),
+            At::Left => {}
+        }
+    }
+    Ok(Verdict::Undecided)
+}
+
+/// What a word says of a module. The transposed module is made where it is asked for and was not made before.
+fn test_word(
+    alloc: Global,
+    module: &Module,
+    word: &Word,
+    transposes: &mut Option<Module>,
+) -> Result<At, Refusal>
+    requires word { IsWordIn «module».now word.now }
+    requires dual { IsDualOrNone «module».now transposes.old }
+    ensures says { Answers None (Says «module».now word.now) result }
+    ensures holds { Answers None (IsTrueOf «module».now) result }
+    ensures dual { IsDualOrNone «module».now transposes.new }
+{
+    let value = word.value(alloc, module)?;
+    let null = null_space(alloc, &value)?;
+    test_matrix(alloc, module, &value, &null, transposes)
+}
+
+/// What a square matrix, the value of a word, and its null space tell of a module.
+fn test_matrix(
+    alloc: Global,
+    module: &Module,
+    value: &Matrix,
+    null: &Matrix,
+    transposes: &mut Option<Module>,
+) -> Result<At, Refusal>
+    requires square { IsSquareIn «module».now value.now }
+    requires null { IsNullSpaceMatrix value.now null.now }
+    requires null_well_formed { IsMatrix null.now }
+    requires dual { IsDualOrNone «module».now transposes.old }
+    ensures tells { Answers None (Tells «module».now value.now null.now) result }
+    ensures dual { IsDualOrNone «module».now transposes.new }
+    ensures well_formed { IsModule «module».now }
+{
+    let few = few_points(module.field().order(), null.rows(), MOST_POINTS);
+    if null.rows() == 0 {
+        return Ok(At::Left);
+    }
+    if let Some(space) = first_proper_space(alloc, module, null, few)? {
+        return Ok(At::Reducible(space));
+    }
+    if let Some(space) = transposed_space(alloc, module, value, transposes)? {
+        return Ok(At::Reducible(space));
+    }
+    if few {
+        Ok(At::Irreducible(first_point(alloc, null)?))
+    } else {
+        Ok(At::Left)
+    }
+}

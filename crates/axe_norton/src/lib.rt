@@ -1,0 +1,16 @@
+//! Norton's test: whether a module is irreducible, and a submodule where it is not.
+#![tactic(auto)]
+
+mod decisions;
+pub mod laws;
+mod spaces;
+mod verdicts;
+
+pub use decisions::{decide, decide_at};
+pub use verdicts::{At, Verdict};
+
+/// The most points of a null space that are all tried. Of a null space with more points the first alone is.
+pub const MOST_POINTS: usize = 1000;
+
+/// The greatest number of a last word.
+pub const MAX_WORDS: u32 = 10_000;

@@ -1,0 +1,135 @@
+//! The spaces that points of null spaces generate in a module and in the transposed one.
+
+ghost use Rattle.std.specs.Prelude.{◌≡◌, ◌<◌, ◌≤◌, ◌↔◌, length, None, IfOk, IsTrue};
+ghost use Rattle.axe_algebra.specs.Lists.{IsSquareOver};
+ghost use Rattle.axe_field.specs.NumberFields.{number_field};
+ghost use Rattle.axe_row.specs.Operations.{IsZeroVector};
+ghost use Rattle.axe_row.specs.Refusals.{Answers};
+ghost use Rattle.axe_matrix.specs.Matrices.{IsMatrix};
+ghost use Rattle.axe_echelon.specs.Echelons.{IsInvertible};
+ghost use Rattle.axe_action.specs.Actions.{dual_module};
+ghost use Rattle.axe_word.specs.PointsOfMatrix.{points_of};
+ghost use Rattle.axe_norton.specs.Spaces.{HasFewPoints};
+ghost use Rattle.axe_norton.specs.Searches.{IsReducedIn, IsSquareIn, FindsProper, FindsFirstOf, FindsFirst, IsTransposedPointRow, FindsTransposed, IsDualOrNone};
+
+use axe_action::{annihilator, dual};
+use axe_echelon::null_space;
+use axe_matrix::{Matrix, Refusal, Row};
+use axe_spin::{Module, generate};
+use axe_word::{Points, first_point};
+use std::alloc::Global;
+
+/// The reduced basis of the space that a vector other than zero generates in a module, or `None` where that is
+/// everything.
+pub(crate) fn proper_space(
+    alloc: Global,
+    module: &Module,
+    vector: Row,
+) -> Result<Option<Matrix>, Refusal>
+    requires field { vector.order ≡ «module».now.order }
+    requires fits { length vector.entries ≡ «module».now.dim }
+    requires nonzero { ¬ (IsZeroVector vector.entries) }
+    ensures { Answers None (FindsProper «module».now vector.entries) result }
+{
+    let mut seed = Matrix::empty(alloc, *module.field(), module.dim());
+    seed.append(vector)?;
+    let space = generate(alloc, module, &seed)?;
+    if space.rows() == module.dim() {
+        Ok(None)
+    } else {
+        Ok(Some(space))
+    }
+}
+
+/// What the first of the points of a space that generates a proper space in a module generates, as its reduced basis,
+/// or `None` where all generate everything. Where there are many points the first alone is tried.
+pub(crate) fn first_proper_space(
+    alloc: Global,
+    module: &Module,
+    basis: &Matrix,
+    few: bool,
+) -> Result<Option<Matrix>, Refusal>
+    requires basis { IsReducedIn «module».now basis.now }
+    requires well_formed { IsMatrix basis.now }
+    requires some_row { 0 < length basis.now.rows }
+    requires few { IsTrue few ↔ HasFewPoints basis.now }
+    ensures { Answers None (FindsFirst «module».now basis.now) result }
+{
+    if few {
+        return first_proper_of_all(alloc, module, basis);
+    }
+    let point = first_point(alloc, basis)?;
+    proper_space(alloc, module, point)
+}
+
+/// What the first of all points of a space that generates a proper space generates.
+fn first_proper_of_all(
+    alloc: Global,
+    module: &Module,
+    basis: &Matrix,
+) -> Result<Option<Matrix>, Refusal>
+    requires basis { IsReducedIn «module».now basis.now }
+    requires well_formed { IsMatrix basis.now }
+    requires few { HasFewPoints basis.now }
+    ensures { Answers None (FindsFirstOf «module».now (points_of basis.now)) result }
+{
+    for point in Points::new(alloc, basis) {
+        let space = proper_space(alloc, module, point?)?;
+        if space.is_some() {
+            return Ok(space);
+        }
+    }
+    Ok(None)
+}
+
+/// The reduced basis of the annihilator of the space that the first point of the null space of the transpose of a
+/// singular matrix generates in the transposed module, or `None` where that point generates everything there. The
+/// transposed module is made where it was not made before.
+pub(crate) fn transposed_space(
+    alloc: Global,
+    module: &Module,
+    matrix: &Matrix,
+    transposes: &mut Option<Module>,
+) -> Result<Option<Matrix>, Refusal>
+    requires square { IsSquareIn «module».now matrix.now }
+    requires singular { ¬ (IsInvertible matrix.now) }
+    requires dual { IsDualOrNone «module».now transposes.old }
+    ensures found { Answers None (FindsTransposed «module».now matrix.now) result }
+    ensures dual { IsDualOrNone «module».now transposes.new }
+{
+    let transposed = transposed_module(alloc, module, transposes.take())?;
+    let point = transposed_point(alloc, matrix)?;
+    let generated = proper_space(alloc, &transposed, point)?;
+    *transposes = Some(transposed);
+    match generated {
+        Some(space) => Ok(Some(annihilator(alloc, &space)?)),
+        None => Ok(None),
+    }
+}
+
+/// The transposed module: the one that was made before, or a new one.
+fn transposed_module(
+    alloc: Global,
+    module: &Module,
+    made: Option<Module>,
+) -> Result<Module, Refusal>
+    requires { IsDualOrNone «module».now made }
+    ensures { Answers None (λ transposed. transposed ≡ dual_module «module».now) result }
+{
+    match made {
+        Some(transposed) => Ok(transposed),
+        None => dual(alloc, module),
+    }
+}
+
+/// The first point of the null space of the transpose of a singular matrix.
+fn transposed_point(alloc: Global, matrix: &Matrix) -> Result<Row, Refusal>
+    requires square { IsSquareOver (number_field matrix.now.order) matrix.now.cols matrix.now.rows }
+    requires some_row { 0 < matrix.now.cols }
+    requires singular { ¬ (IsInvertible matrix.now) }
+    ensures { Answers None (IsTransposedPointRow matrix.now) result }
+{
+    let transpose = matrix.transpose(alloc)?;
+    let null = null_space(alloc, &transpose)?;
+    first_point(alloc, &null)
+}
