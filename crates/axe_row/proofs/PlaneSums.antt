@@ -5,7 +5,7 @@ use Rattle.std.proofs.lemmas.List.{ext_get_or, get_or_past}
 use Rattle.axe_algebra.specs.Lists.{entry}
 use Rattle.axe_field.specs.Arithmetic.{field_add, field_mul}
 use Rattle.axe_field.specs.Order.{Order, Two, Three, Four, Five, Seven, Eight, Nine, prime_of, degree_of, IsElement}
-use Rattle.axe_field.specs.Laws.{field_add-below, field_mul-below}
+use Rattle.axe_field.specs.CheckedLaws.{field_add-below, field_mul-below}
 use Rattle.axe_field.specs.NumberFields.{number_field}
 use Rattle.axe_field.specs.Planes.{coefficient, element_of, matrix_of_multiplication}
 use Rattle.axe_field.proofs.CoefficientLaws.{coefficient-add, coefficient-mul, coefficient-below, element_of-coefficients, matrix_of_multiplication-below, matrix_of_multiplication-outside}

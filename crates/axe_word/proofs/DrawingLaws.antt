@@ -9,7 +9,7 @@ use Rattle.rand_pcg.specs.Pcg.{multiplier_64}
 use Rattle.axe_algebra.specs.WordsOfLists.{IsWordOver}
 use Rattle.axe_field.specs.Order.{Order, order_number}
 use Rattle.axe_field.specs.NumberFields.{number_field}
-use Rattle.axe_field.specs.Laws.{order_number-above}
+use Rattle.axe_field.specs.CheckedLaws.{order_number-above}
 use Rattle.axe_field.proofs.NumberFields.{number_field-order}
 use Rattle.axe_word.specs.Limits.{most_terms, most_numbers}
 use Rattle.axe_word.specs.Words.{WordValue, IsWord}
