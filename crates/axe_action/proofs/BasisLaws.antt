@@ -11,7 +11,7 @@ use Rattle.axe_algebra.specs.SpansOfLists.{IsIndependent, IsPivot}
 use Rattle.axe_algebra.proofs.FreeColumns.{pivot_or_not, free_columns_count}
 use Rattle.axe_algebra.proofs.ListEntries.{rows_length}
 use Rattle.axe_field.specs.NumberFields.{number_field}
-use Rattle.axe_matrix.specs.declared.TheConstants.{MAX_ROWS}
+use Rattle.axe_matrix.specs.Limits.{most_rows}
 use Rattle.axe_matrix.specs.Matrices.{MatrixValue, IsMatrix}
 use Rattle.axe_echelon.specs.Echelons.{EchelonValue}
 use Rattle.axe_echelon.specs.Inserted.{HasAllRows}
@@ -188,7 +188,7 @@ extended_more rows column extended next unit so_far no_pivot unit_is is well_for
 
 -- there is room for its unit vector
 pub extended_has_room : (rows : MatrixValue) (column : ℕ) (extended : MatrixValue) → IsMatrix rows → IsIndependent (number_field rows.order) rows.rows →
-    IsExtendedBefore rows column extended → ¬ (IsPivot (number_field rows.order) rows.rows column) → column < rows.cols → length extended.rows < MAX_ROWS
+    IsExtendedBefore rows column extended → ¬ (IsPivot (number_field rows.order) rows.rows column) → column < rows.cols → length extended.rows < most_rows
 extended_has_room rows column extended h independent so_far no_pivot inside =
     let few : length rows.rows + length (so_far.free ++ column ∷ []) ≤ rows.cols =
     free_are_few (number_field rows.order) rows.rows rows.cols (column + 1) (so_far.free ++ column ∷ []) (matrix_over rows h) independent

@@ -7,7 +7,7 @@ use Rattle.std.proofs.lemmas.List.Elements.{All-nil, All-head, All-tail, All-pus
 use Rattle.axe_field.specs.Order.{Order, order_number}
 use Rattle.axe_row.specs.declared.refusals.Refusal.{Refusal}
 use Rattle.axe_matrix.specs.Matrices.{MatrixValue}
-use Rattle.axe_spin.specs.declared.TheConstants.{MAX_GENERATORS}
+use Rattle.axe_spin.specs.Limits.{most_generators}
 use Rattle.axe_row.specs.Refusals.{first_of, unless_refused}
 use Rattle.axe_spin.specs.Modules.{ModuleValue, IsModule, generator_refusal, generators_refusal, rows_of_each, module_of_matrices}
 use Rattle.axe_spin.specs.Generators.{IsGeneratorMatrix}
@@ -109,5 +109,5 @@ pub some_made : (m : ModuleValue) (order : Order) (dim : ℕ) (P : ℕ → List 
 some_made m order dim P count gens matrices h are same many = omega (arith, are.as_many, h.some_generator)
 
 pub made_fit : (m : ModuleValue) (order : Order) (dim : ℕ) (P : ℕ → List (List ℕ) → Type 0) (count gens : ℕ) (matrices : List MatrixValue) → IsModule m →
-    AreNewGenerators order dim P count matrices → gens ≡ length m.generators → count ≤ gens → length matrices ≤ MAX_GENERATORS
+    AreNewGenerators order dim P count matrices → gens ≡ length m.generators → count ≤ gens → length matrices ≤ most_generators
 made_fit m order dim P count gens matrices h are same few = omega (arith, are.as_many, h.generators_fit)

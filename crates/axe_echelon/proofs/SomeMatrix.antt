@@ -21,7 +21,7 @@ use Rattle.axe_algebra.proofs.ListReduced.{reduced_basis_list}
 use Rattle.axe_field.specs.Order.{Order}
 use Rattle.axe_field.specs.NumberFields.{number_field}
 use Rattle.axe_matrix.specs.Matrices.{MatrixValue, IsMatrix}
-use Rattle.axe_matrix.specs.declared.TheConstants.{MAX_ROWS, MAX_COLUMNS}
+use Rattle.axe_matrix.specs.Limits.{most_rows, most_columns}
 use Rattle.axe_echelon.specs.Echelons.{IsNullSpaceMatrix, IsInvertible as HasInverse}
 use Rattle.axe_echelon.proofs.InverseLaws.{matrix_over}
 
@@ -84,7 +84,7 @@ module _ (K : NumberField) where
       cases (inr (known, few)) = few
 
 -- rows over the field of an order are a matrix
-pub matrix_of_rows_over : (o : Order) (n : ℕ) (rows : List (List ℕ)) → 1 ≤ n → n ≤ MAX_COLUMNS → length rows ≤ MAX_ROWS →
+pub matrix_of_rows_over : (o : Order) (n : ℕ) (rows : List (List ℕ)) → 1 ≤ n → n ≤ most_columns → length rows ≤ most_rows →
     Lists.IsMatrixOver (number_field o) n rows → IsMatrix (record { order = o; cols = n; rows = rows })
 unfolding number_field
 matrix_of_rows_over o n rows some columns_fit rows_fit over = record {

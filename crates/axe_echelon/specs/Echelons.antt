@@ -8,7 +8,7 @@ use Rattle.axe_field.specs.NumberFields.{number_field}
 use Rattle.axe_row.specs.Rows.{RowValue}
 use Rattle.axe_row.specs.declared.refusals.Refusal.{Refusal}
 use Rattle.axe_row.specs.declared.refusals.Refusal.TheVariants.{NotSquare, NoRows}
-use Rattle.axe_matrix.specs.declared.TheConstants.{MAX_COLUMNS}
+use Rattle.axe_matrix.specs.Limits.{most_columns}
 use Rattle.axe_matrix.specs.Matrices.{MatrixValue}
 
 -- the order of the field, the length of the rows, and the rows for which insertion answered true, in their order
@@ -20,7 +20,7 @@ pub record EchelonValue : Type 0 where
 -- there is a column, no more columns than a matrix may have, and the rows are independent vectors of that length
 pub record IsEchelon (e : EchelonValue) : Type 0 where
   pub some_column : 1 ≤ e.cols
-  pub columns_fit : e.cols ≤ MAX_COLUMNS
+  pub columns_fit : e.cols ≤ most_columns
   pub over : IsMatrixOver (number_field e.order) e.cols e.rows
   pub independent : IsIndependent (number_field e.order) e.rows
 

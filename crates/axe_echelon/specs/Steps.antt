@@ -8,7 +8,7 @@ use Rattle.axe_algebra.specs.SpansOfLists.{IsSpanned, IsPivot}
 use Rattle.axe_field.specs.Order.{Order}
 use Rattle.axe_field.specs.NumberFields.{number_field, gf}
 use Rattle.axe_row.specs.Rows.{RowValue}
-use Rattle.axe_matrix.specs.declared.TheConstants.{MAX_COLUMNS}
+use Rattle.axe_matrix.specs.Limits.{most_columns}
 use Rattle.axe_echelon.specs.Echelons.{EchelonValue}
 use Rattle.axe_echelon.specs.Forms.{IsEchelonForm}
 use Rattle.axe_echelon.specs.declared.Step.{Step}
@@ -40,7 +40,7 @@ pub record IsStep (order : Order) (cols : ℕ) (step : Step) : Type 0 where
 -- the steps give an echelon form of the rows that were inserted
 pub record AreSteps (order : Order) (cols : ℕ) (steps : List Step) : Type 0 where
   pub some_column : 1 ≤ cols
-  pub columns_fit : cols ≤ MAX_COLUMNS
+  pub columns_fit : cols ≤ most_columns
   pub each : All (IsStep order cols) steps
   pub form : IsEchelonForm (gf order) cols (length (inserted_rows steps)) (matrix_of (number_field order) (inserted_rows steps))
       (matrix_of (number_field order) (echelon_rows steps)) (matrix_of (number_field order) (coefficient_rows steps)) (λ t. get_or (pivots steps) t 0)

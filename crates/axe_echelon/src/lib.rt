@@ -9,6 +9,7 @@ ghost use Rattle.axe_field.specs.Arithmetic.{field_neg};
 ghost use Rattle.axe_field.specs.NumberFields.{number_field};
 ghost use Rattle.axe_row.specs.Refusals.{Answers};
 ghost use Rattle.axe_row.specs.Rows.{IsRow};
+ghost use Rattle.axe_matrix.specs.Limits.{most_columns};
 ghost use Rattle.axe_matrix.specs.Matrices.{IsMatrix};
 ghost use Rattle.axe_echelon.specs.Echelons.{IsEchelon, with_row_where, AreCoordinates, IsReducedMatrix};
 ghost use Rattle.axe_echelon.specs.Steps.{IsEliminated, IsNextStep, IsPivotRow};
@@ -18,7 +19,7 @@ mod null_spaces;
 mod spans;
 
 use axe_field::Field;
-use axe_matrix::{MAX_COLUMNS, Matrix, Refusal, Row};
+use axe_matrix::{Matrix, Refusal, Row};
 pub use inverses::inverse;
 pub use null_spaces::null_space;
 pub use spans::span_of;
@@ -62,7 +63,7 @@ impl Echelon {
     /// The echelon form of no rows, of so many columns. It takes no memory until a row is inserted.
     pub fn new(alloc: Global, field: Field, cols: usize) -> Echelon
         requires some_column { 1 ≤ cols }
-        requires columns_fit { cols ≤ MAX_COLUMNS }
+        requires columns_fit { cols ≤ most_columns }
         ensures no_rows { result ≡ record { order = field; cols = cols; rows = [] } }
         ensures well_formed { IsEchelon result }
     {

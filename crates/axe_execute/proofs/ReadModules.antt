@@ -9,7 +9,7 @@ use Rattle.axe_field.specs.Order.{Order, order_number}
 use Rattle.axe_field.specs.NumberFields.{number_field}
 use Rattle.axe_row.specs.declared.refusals.Refusal.{Refusal}
 use Rattle.axe_row.specs.declared.refusals.Refusal.TheVariants.{FieldsDiffer, ShapesDiffer, NotSquare, NoRows}
-use Rattle.axe_matrix.specs.declared.TheConstants.{MAX_COLUMNS}
+use Rattle.axe_matrix.specs.Limits.{most_columns}
 use Rattle.axe_matrix.specs.Matrices.{MatrixValue, IsMatrix}
 use Rattle.axe_matrix.proofs.MatrixLaws.{same_order}
 use Rattle.axe_row.specs.Refusals.{unless_refused}
@@ -25,7 +25,7 @@ use mathlib.Core.Path.{refl, sym, ◌∙◌}
 -- a dimension within the limits, and square generators of that dimension
 pub record IsReadModule (m : ModuleValue) : Type 0 where
   pub over : IsModuleOver (number_field m.order) m.dim m.generators
-  pub dim_fits : m.dim ≤ MAX_COLUMNS
+  pub dim_fits : m.dim ≤ most_columns
 
 -- ---- generators
 

@@ -1,5 +1,6 @@
 //! Modules whose generators lie in files of their own, NAME.1 to NAME.N.
 ghost use Rattle.std.specs.Prelude.{◌≡◌, ◌≤◌, IsTrue, [], length, IfOk, string_bytes};
+ghost use Rattle.axe_spin.specs.Limits.{most_generators};
 ghost use Rattle.axe_spin.specs.Modules.{IsModule};
 ghost use Rattle.axe_execute.specs.Inputs.{matrices_in, numbered, numbered_names, checked_module};
 ghost use Rattle.axe_execute.specs.Meanings.{Is};
@@ -10,7 +11,7 @@ use crate::reading::read_matrix_file;
 use axe_arguments::{GeneratorCount, Name};
 use axe_folder::Folder;
 use axe_matrix::Matrix;
-use axe_spin::{MAX_GENERATORS, Module};
+use axe_spin::Module;
 use itoa::Buffer;
 use std::alloc::{AllocError, Global};
 
@@ -51,7 +52,7 @@ pub(crate) fn numbered(alloc: Global, name: &Name, number: usize) -> Result<Stri
 #[tactic(auto, unfolding(crate::specs::Inputs::checked_module))]
 pub(crate) fn module_of(matrices: Vec<Matrix>) -> Result<Module, Fault>
     requires some { 1 ≤ length matrices.items }
-    requires fits { length matrices.items ≤ MAX_GENERATORS }
+    requires fits { length matrices.items ≤ most_generators }
     ensures made { Agrees [] (λ made. made) result (Is (checked_module matrices.items)) }
     ensures well_formed { IfOk result IsModule }
 {

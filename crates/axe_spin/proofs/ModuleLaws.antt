@@ -9,7 +9,7 @@ use Rattle.axe_field.specs.NumberFields.{number_field}
 use Rattle.axe_row.specs.declared.refusals.Refusal.{Refusal}
 use Rattle.axe_matrix.specs.Matrices.{MatrixValue}
 use Rattle.axe_echelon.proofs.InverseLaws.{matrix_over}
-use Rattle.axe_spin.specs.declared.TheConstants.{MAX_GENERATORS}
+use Rattle.axe_spin.specs.Limits.{most_generators}
 use Rattle.axe_row.specs.Refusals.{first_of, unless_refused}
 use Rattle.axe_spin.specs.Modules.{ModuleValue, generator_refusal, generators_refusal, rows_of_each, module_of_matrices}
 use Rattle.axe_spin.specs.Generators.{IsGeneratorMatrix, MakeModule}
@@ -91,7 +91,7 @@ square_over order dim m h = record {
 }
 
 -- generators make a module
-pub MakeModule-of_generators : (order : Order) (dim : ℕ) (matrices : List MatrixValue) → 1 ≤ length matrices → length matrices ≤ MAX_GENERATORS →
+pub MakeModule-of_generators : (order : Order) (dim : ℕ) (matrices : List MatrixValue) → 1 ≤ length matrices → length matrices ≤ most_generators →
     All (IsGeneratorMatrix order dim) matrices → MakeModule order dim matrices
 MakeModule-of_generators order dim matrices some few each =
     let nothing : MatrixValue = record { order = order; cols = dim; rows = [] } in

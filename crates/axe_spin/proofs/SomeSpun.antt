@@ -12,7 +12,7 @@ use Rattle.axe_algebra.proofs.ListSpans.{independent_rows_are_few}
 use Rattle.axe_algebra.proofs.ListExistence.{standard_rows, generated_basis_list}
 use Rattle.axe_field.specs.NumberFields.{number_field}
 use Rattle.axe_row.specs.Operations.{IsZeroVector}
-use Rattle.axe_matrix.specs.declared.TheConstants.{MAX_COLUMNS}
+use Rattle.axe_matrix.specs.Limits.{most_columns}
 use Rattle.axe_matrix.specs.Matrices.{MatrixValue, IsMatrix}
 use Rattle.axe_echelon.proofs.EliminationLaws.{zero_row_of_vector}
 use Rattle.axe_echelon.proofs.SomeMatrix.{matrix_of_rows_over}
@@ -68,7 +68,7 @@ first_nonzero_row m nonzero = cases (first_below m.rows (length m.rows))
 
 -- ---- the rows that spinning gives
 
-pub some_spun_matrix : (standard : Bool) (m : ModuleValue) (seed : MatrixValue) → IsModuleOver (number_field m.order) m.dim m.generators → m.dim ≤ MAX_COLUMNS →
+pub some_spun_matrix : (standard : Bool) (m : ModuleValue) (seed : MatrixValue) → IsModuleOver (number_field m.order) m.dim m.generators → m.dim ≤ most_columns →
     IsMatrix seed → IsSeed m seed →
     (rows : MatrixValue) × (HasSpunRows standard m seed rows × IsMatrix rows)
 some_spun_matrix false m seed is fits well taken =

@@ -13,7 +13,7 @@ use Rattle.axe_algebra.proofs.ListProducts.{combination_over}
 use Rattle.axe_algebra.proofs.ListSpans.{appended_row_spanned, appended_independent, independent_rows_are_few}
 use Rattle.axe_field.specs.NumberFields.{number_field}
 use Rattle.axe_matrix.specs.Matrices.{MatrixValue, IsMatrix}
-use Rattle.axe_matrix.specs.declared.TheConstants.{MAX_ROWS}
+use Rattle.axe_matrix.specs.Limits.{most_rows}
 use Rattle.axe_echelon.specs.Echelons.{EchelonValue, IsEchelon, with_row_where}
 use Rattle.axe_echelon.proofs.EliminationLaws.{room_of_rank}
 use Rattle.axe_echelon.proofs.InverseLaws.{matrix_over, spanned_of_not_new}
@@ -332,7 +332,7 @@ module _ (m : ModuleValue) where
 
 -- a row that was inserted as new leaves room for one more
 pub room_of_new : (span new : EchelonValue) (rows : MatrixValue) (row : List ℕ) (b : Bool) → IsSpanOf span rows → IsEchelon new →
-    new ≡ with_row_where b span row → b ≡ true → length rows.rows < MAX_ROWS
+    new ≡ with_row_where b span row → b ≡ true → length rows.rows < most_rows
 room_of_new span new rows row b is h inserted taken =
     let more : new.rows ≡ rows.rows ++ row ∷ [] =
     ap (λ (e : EchelonValue). e.rows) (inserted ∙ ap (λ x. with_row_where x span row) taken) ∙ ap (λ (x : List (List ℕ)). x ++ row ∷ []) is.same in

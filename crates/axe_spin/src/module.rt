@@ -3,16 +3,16 @@
 ghost use Rattle.std.specs.Prelude.{◌≡◌, ◌<◌, ◌≤◌, length, None, IfOk};
 ghost use Rattle.axe_row.specs.Refusals.{Answers, unless_refused};
 ghost use Rattle.axe_matrix.specs.Matrices.{IsMatrix};
+ghost use Rattle.axe_spin.specs.Limits.{most_generators};
 ghost use Rattle.axe_spin.specs.Modules.{IsModule, generator_of, generator_refusal, module_of_matrices, rows_refusal};
 ghost use Rattle.axe_spin.specs.Generators.{IsGeneratorMatrix};
 
-use crate::MAX_GENERATORS;
 use axe_field::Field;
 use axe_matrix::{Matrix, Refusal};
 use std::alloc::Global;
 use std::marker::Model;
 
-/// A module: 1 to [`MAX_GENERATORS`] square matrices over one field and of one dimension of at least 1, its generators.
+/// A module: 1 to `MAX_GENERATORS` square matrices over one field and of one dimension of at least 1, its generators.
 /// They act from the right on the row vectors of that length. Generators are counted from 0.
 #[derive(Drop)]
 pub struct Module {
@@ -33,13 +33,13 @@ impl Model for Module {
 }
 
 impl Module {
-    /// The module with these matrices as its generators, 1 to [`MAX_GENERATORS`] of them. For each in turn: one without
+    /// The module with these matrices as its generators, 1 to `MAX_GENERATORS` of them. For each in turn: one without
     /// rows is refused as NoRows, one that is not square as NotSquare, one over another field than the first as
     /// FieldsDiffer, and one with another number of rows than the first as ShapesDiffer. On a refusal the matrices are
     /// dropped. It takes no memory.
     pub fn new(matrices: Vec<Matrix>) -> Result<Module, Refusal>
         requires some_generator { 1 ≤ length matrices.items }
-        requires generators_fit { length matrices.items ≤ MAX_GENERATORS }
+        requires generators_fit { length matrices.items ≤ most_generators }
         ensures made { result ≡ module_of_matrices matrices.items }
         ensures well_formed { IfOk result IsModule }
     {

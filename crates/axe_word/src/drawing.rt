@@ -5,7 +5,7 @@ ghost use Rattle.rand_pcg.specs.Lcg.{Lcg};
 ghost use Rattle.axe_algebra.specs.WordsOfLists.{IsWordOver};
 ghost use Rattle.axe_field.specs.Order.{Order, order_number};
 ghost use Rattle.axe_field.specs.NumberFields.{number_field};
-ghost use Rattle.axe_spin.specs.declared.TheConstants.{MAX_GENERATORS};
+ghost use Rattle.axe_spin.specs.Limits.{most_generators};
 ghost use Rattle.axe_word.specs.Limits.{most_numbers};
 ghost use Rattle.axe_word.specs.Words.{IsWord};
 ghost use Rattle.axe_word.specs.Drawing.{draw, drawn_term, word_from, drawn_word, IsOrder};
@@ -24,7 +24,7 @@ use rand_pcg::Lcg64Xsh32;
 pub fn nth_word(seed: u64, number: u32, order: u8, gens: u8) -> Word
     requires order { IsOrder order }
     requires some_generator { 1 ≤ gens }
-    requires generators_fit { gens ≤ MAX_GENERATORS }
+    requires generators_fit { gens ≤ most_generators }
     ensures drawn { result ≡ drawn_word seed number order gens }
     ensures over { (o : Order) → order_number o ≡ order → IsWordOver (number_field o) gens result }
     ensures well_formed { IsWord result }
