@@ -1,4 +1,3 @@
 pub mod BitLaws
 pub mod DigitLaws
-pub mod ChangedLists
 pub mod PlaneLaws

@@ -3,7 +3,7 @@ ghost use Rattle.std.specs.Int.{bit_at};
 ghost use Rattle.std.specs.Prelude.{ℕ, ◌≡◌, ◌≢◌, ◌^◌, ◌<◌, ◌↔◌, IsTrue, IfOk, length, replicate, slice_index, slice_set, All, MatchOption};
 ghost use Rattle.axe_plane.specs.Digits.{AreDigits, digits_with_multiple};
 
-use crate::kernels::xor_into;
+use axe_lane::xor_into;
 use std::alloc::{AllocError, Global};
 use std::marker::Model;
 

@@ -3,8 +3,8 @@ ghost use Rattle.std.specs.Prelude.{◌≡◌, ◌<◌, ◌↔◌, IsTrue, IfOk,
 ghost use Rattle.axe_plane.specs.Digits.{AreDigits, digits_with_multiple};
 ghost use Rattle.axe_plane.specs.Primes.{odd_number, OddDigits};
 
-use crate::kernels::add_scaled_bytes;
 use crate::primes::OddPrime;
+use axe_lane::add_scaled_bytes;
 use std::alloc::{AllocError, Global};
 use std::marker::Model;
 

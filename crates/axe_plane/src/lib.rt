@@ -12,7 +12,6 @@ use std::alloc::{AllocError, Global};
 
 mod bits;
 mod bytes;
-mod kernels;
 mod primes;
 
 /// A list of digits modulo 2, 3, 5 or 7.
