@@ -9,6 +9,8 @@
 #[cfg(test)]
 mod actions;
 #[cfg(test)]
+mod decisions;
+#[cfg(test)]
 mod duals;
 #[cfg(test)]
 mod echelons;

@@ -12,7 +12,9 @@
 //!
 //! A further case of a call is a line. A further call is a function that makes it, and an arm in `answers` of its module.
 
-use crate::{actions, duals, echelons, fields, files, matrices, modules, points, rows, spinning};
+use crate::{
+    actions, decisions, duals, echelons, fields, files, matrices, modules, points, rows, spinning,
+};
 use axe_matrix::Refusal;
 use std::alloc::Global;
 use std::process::Abort;
@@ -21,6 +23,7 @@ use std::process::Abort;
 #[derive(Clone, Copy)]
 pub(crate) enum Topic {
     Actions,
+    Decisions,
     Duals,
     Echelons,
     Fields,
@@ -37,6 +40,7 @@ fn answers(rt: &impl Abort, alloc: Global, topic: Topic, line: &str) -> Result<b
     let (call, line) = first_field(rt, line);
     match topic {
         Topic::Actions => actions::answers(rt, alloc, call, line),
+        Topic::Decisions => decisions::answers(rt, alloc, call, line),
         Topic::Duals => duals::answers(rt, alloc, call, line),
         Topic::Echelons => echelons::answers(rt, alloc, call, line),
         Topic::Fields => Ok(fields::answers(rt, call, line)),

@@ -1,8 +1,6 @@
 -- What the steps of the test tell, put together: what a word says, and what words decide.
-use Rattle.std.specs.Prelude.{◌≡◌, ℕ, suc, ◌+◌, ◌<◌, ◌≤◌, length, Bool, true, false, IsTrue, ◌↔◌, Option, None, Result, Ok, Err}
-use Rattle.axe_algebra.specs.WordsOfLists.{IsWordOver}
-use Rattle.axe_field.specs.NumberFields.{number_field}
-use Rattle.axe_field.specs.Order.{Order, order_number}
+use Rattle.std.specs.Prelude.{◌≡◌, ℕ, suc, ◌<◌, ◌≤◌, length, Bool, IsTrue, ◌↔◌, Option, None, Result}
+use Rattle.axe_field.specs.Order.{order_number}
 use Rattle.axe_row.specs.Rows.{RowValue}
 use Rattle.axe_row.specs.Refusals.{Answers}
 use Rattle.axe_row.specs.declared.refusals.Refusal.{Refusal}
@@ -11,13 +9,13 @@ use Rattle.axe_echelon.specs.Echelons.{IsInvertible, IsNullSpaceMatrix, null_spa
 use Rattle.axe_spin.specs.Modules.{ModuleValue, IsModule}
 use Rattle.axe_word.specs.Words.{WordValue, IsWordIn, IsValueOf}
 use Rattle.axe_word.specs.Drawing.{drawn_word}
-use Rattle.axe_word.specs.PointsOfMatrix.{points_of, point_count}
+use Rattle.axe_word.specs.PointsOfMatrix.{point_count}
 use Rattle.axe_norton.specs.declared.verdicts.At.{At}
-use Rattle.axe_norton.specs.declared.verdicts.At.TheVariants.{Irreducible, Reducible, Left}
-use Rattle.axe_norton.specs.Spaces.{most_points, Tested, HasFewPoints, TriedGenerate, TransposeGenerates, point_of}
+use Rattle.axe_norton.specs.declared.verdicts.At.TheVariants.{Irreducible, Left}
+use Rattle.axe_norton.specs.Spaces.{most_points, HasFewPoints, TriedGenerate, TransposeGenerates, point_of}
 use Rattle.axe_norton.specs.Searches.{IsReducedIn, IsSquareIn, IsDualOrNone}
-use Rattle.axe_norton.specs.Verdicts.{Tells, Says, LeavesOpen, LeaveOpenBefore, DecidesAt, word_of_seed, IsTrueOf, ShowsIrreducible, IsLeftWithMany}
-use Rattle.axe_norton.proofs.OpenLaws.{own_square, value_square, invertible_without_rows, no_rows_of_invertible}
+use Rattle.axe_norton.specs.Verdicts.{Tells, Says, LeavesOpen, LeaveOpenBefore, word_of_seed, IsTrueOf}
+use Rattle.axe_norton.proofs.OpenLaws.{own_square, invertible_without_rows, no_rows_of_invertible}
 use Rattle.axe_norton.proofs.SearchLaws.{answered_more, null_accepted, null_is_reduced, some_point_in}
 use Rattle.axe_norton.proofs.TruthLaws.{said_is_true}
 use mathlib.Core.Logic.{inl, inr}

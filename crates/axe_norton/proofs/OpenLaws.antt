@@ -1,16 +1,12 @@
 -- Words that leave a module open: word 0 does so only where the module has many points.
-use Rattle.std.specs.Prelude.{◌≡◌, ℕ, ◌<◌, ◌≤◌, ◌⊎◌, List, [], length}
-use Rattle.axe_algebra.specs.Vectors.{Matrix}
-use Rattle.axe_algebra.specs.Spans
+use Rattle.std.specs.Prelude.{◌≡◌, ℕ, ◌<◌, ◌≤◌, ◌⊎◌, [], length}
 use Rattle.axe_algebra.specs.Words.{word_value}
-use Rattle.axe_algebra.specs.Bridge.{matrix_of, module_of}
+use Rattle.axe_algebra.specs.Bridge.{matrix_of}
 use Rattle.axe_algebra.specs.Lists.{IsSquareOver}
-use Rattle.axe_algebra.specs.ListArithmetic.{IsInverse}
-use Rattle.axe_algebra.specs.WordsOfLists.{IsWordValue}
 use Rattle.axe_algebra.proofs.ListLaws.{inverse_of_lists}
 use Rattle.axe_algebra.proofs.NortonLists.{invertible_without_null_rows, no_null_rows_of_invertible, null_space_of_zero}
-use Rattle.axe_field.specs.Order.{Order, order_number}
-use Rattle.axe_field.specs.NumberFields.{number_field, gf}
+use Rattle.axe_field.specs.Order.{order_number}
+use Rattle.axe_field.specs.NumberFields.{number_field}
 use Rattle.axe_matrix.specs.Matrices.{MatrixValue}
 use Rattle.axe_echelon.specs.Echelons.{IsInvertible, IsNullSpaceMatrix}
 use Rattle.axe_spin.specs.Modules.{ModuleValue, IsModule}
@@ -21,11 +17,10 @@ use Rattle.axe_norton.specs.Spaces.{most_points, Tested}
 use Rattle.axe_norton.specs.Searches.{IsSquareIn}
 use Rattle.axe_norton.specs.Verdicts.{LeavesOpen, IsLeftWithMany, word_of_seed}
 use Rattle.axe_norton.proofs.SearchLaws.{invertible_matrix}
-use Rattle.axe_norton.proofs.TestedLaws.{IsNullSpaceOver, tested_over}
+use Rattle.axe_norton.proofs.TestedLaws.{tested_over}
 use mathlib.Core.Logic.{inl, inr}
-use mathlib.Core.Path.{refl, sym, ◌∙◌, ap, subst}
+use mathlib.Core.Path.{refl, sym, subst}
 use native.Mathlib.Omega.{arith}
-use native.Mathlib.Decide.{dec_lt}
 
 -- a square matrix over the module's field is one over its own
 pub own_square : (m : ModuleValue) (matrix : MatrixValue) → IsSquareIn m matrix → IsSquareOver (number_field matrix.order) matrix.cols matrix.rows

@@ -2,7 +2,7 @@
 use Rattle.std.specs.Prelude.{◌≡◌, ◌≢◌, ℕ, ◌<◌, List, [], length, get_or}
 use Rattle.axe_algebra.specs.Vectors.{zero_vector}
 use Rattle.axe_algebra.specs.Bridge.{vector_of}
-use Rattle.axe_algebra.specs.Lists.{IsVectorOver, IsMatrixOver}
+use Rattle.axe_algebra.specs.Lists.{IsMatrixOver}
 use Rattle.axe_algebra.specs.SpansOfLists.{IsSpanned, IsIndependent}
 use Rattle.axe_algebra.specs.PointsOfLists.{points}
 use Rattle.axe_algebra.specs.PointTheorems.{IsNonzeroSpanned, IsMultipleOfPoint}

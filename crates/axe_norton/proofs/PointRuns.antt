@@ -1,13 +1,13 @@
 -- The points of a space that were tried so far, while they are gone over.
-use Rattle.std.specs.Prelude.{◌≡◌, ℕ, ◌+◌, ◌<◌, List, [], ◌∷◌, ◌++◌, length, get_or, Option, Some, None, Bool, true, false}
+use Rattle.std.specs.Prelude.{◌≡◌, ℕ, ◌+◌, ◌<◌, List, [], ◌∷◌, ◌++◌, length, get_or, Option, Some, None, true, false}
 use Rattle.std.proofs.lemmas.List.{length-append, get_or_append_left, get_or-append-add, append_assoc}
 use Rattle.std.specs.Option.{is_some}
 use Rattle.axe_matrix.specs.Matrices.{MatrixValue}
 use Rattle.axe_spin.specs.Modules.{ModuleValue}
 use Rattle.axe_word.specs.PointsOfMatrix.{PointsLeft, points_of}
 use Rattle.axe_norton.specs.Spaces.{GeneratesModule, GeneratesProper, point_of}
-use Rattle.axe_norton.specs.Searches.{FindsProper, FindsFirstOf, IsFirstProperOf}
-use mathlib.Core.Path.{refl, sym, ◌∙◌, ap, subst}
+use Rattle.axe_norton.specs.Searches.{FindsProper, FindsFirstOf}
+use mathlib.Core.Path.{sym, ◌∙◌, ap, subst}
 use native.Mathlib.Omega.{arith}
 use native.Mathlib.Decide.{dec_lt}
 

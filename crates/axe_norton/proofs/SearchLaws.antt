@@ -1,14 +1,12 @@
 -- The steps of the test: seeds of one row, first points, and what points generate.
-use Rattle.std.specs.Prelude.{◌≡◌, ◌≢◌, ℕ, ◌<◌, ◌≤◌, ◌⊎◌, List, [], ◌∷◌, ◌++◌, length, get_or, Option, Some, None, Result, Ok, Err, IfOk, Bool, true, false, IsTrue}
+use Rattle.std.specs.Prelude.{◌≡◌, ◌≢◌, ℕ, ◌<◌, ◌⊎◌, List, [], ◌∷◌, ◌++◌, length, Option, Some, None, Result, Ok, Err, Bool, false, IsTrue}
 use Rattle.std.proofs.lemmas.Bool.{ne_eqb}
-use Rattle.axe_algebra.specs.NumberField.{NumberField}
 use Rattle.axe_algebra.specs.Vectors.{Matrix, zero_vector}
 use Rattle.axe_algebra.specs.Spans
-use Rattle.axe_algebra.specs.Reduced
 use Rattle.axe_algebra.specs.Bridge.{vector_of, matrix_of}
 use Rattle.axe_algebra.specs.Lists.{IsMatrixOver, IsSquareOver}
 use Rattle.axe_algebra.specs.ListArithmetic.{transpose, IsInverse}
-use Rattle.axe_algebra.specs.SpansOfLists.{IsIndependent, IsReducedBasis, IsNullSpaceBasis}
+use Rattle.axe_algebra.specs.SpansOfLists.{IsIndependent, IsReducedBasis}
 use Rattle.axe_algebra.specs.PointTheorems.{IsNonzeroSpanned}
 use Rattle.axe_algebra.proofs.SquareMatrices.{transpose_criterion}
 use Rattle.axe_algebra.proofs.ReducedBases.{reduced_independent}
@@ -29,13 +27,13 @@ use Rattle.axe_echelon.specs.Echelons.{IsInvertible, IsNullSpaceMatrix, null_spa
 use Rattle.axe_echelon.proofs.Exits.{memory_if_accepted}
 use Rattle.axe_echelon.proofs.InverseLaws.{matrix_over}
 use Rattle.axe_echelon.proofs.EliminationLaws.{vector_of_zero_row}
-use Rattle.axe_spin.specs.Modules.{ModuleValue, IsModule}
+use Rattle.axe_spin.specs.Modules.{ModuleValue}
 use Rattle.axe_spin.specs.Spinning.{seed_refusal, IsGeneratedMatrix}
 use Rattle.axe_spin.proofs.GeneratedLaws.{seed_refusal-none, some_nonzero}
 use Rattle.axe_action.specs.Actions.{dual_module, IsAnnihilatorMatrix}
 use Rattle.axe_word.specs.PointsOfMatrix.{points_of, IsReduced}
-use Rattle.axe_norton.specs.Spaces.{GeneratesModule, GeneratesProper, one_row, point_of, HasFewPoints, IsTried, TriedGenerate, IsFirstProperSpace, TransposedPoint, TransposeGenerates, IsTransposedSpace}
-use Rattle.axe_norton.specs.Searches.{IsReducedIn, IsSquareIn, FindsProper, FindsFirstOf, IsFirstProperOf, FindsFirst, IsTransposedPointRow, FindsTransposed}
+use Rattle.axe_norton.specs.Spaces.{GeneratesModule, GeneratesProper, one_row, point_of, HasFewPoints, IsTried, TransposedPoint, TransposeGenerates, IsTransposedSpace}
+use Rattle.axe_norton.specs.Searches.{IsReducedIn, IsSquareIn, FindsProper, FindsFirstOf, FindsFirst, IsTransposedPointRow}
 use Rattle.axe_norton.proofs.PointLaws.{point_is, some_point}
 use Rattle.axe_norton.proofs.TruthLaws.{rows_over_field}
 use mathlib.Core.Logic.{inl, inr}

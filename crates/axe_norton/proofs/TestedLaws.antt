@@ -1,13 +1,12 @@
 -- The tested matrix of a module, the null spaces of it and of its transpose, and their points, over the module's field.
-use Rattle.std.specs.Prelude.{◌≡◌, ℕ, ◌<◌, List, [], length}
+use Rattle.std.specs.Prelude.{◌≡◌, ℕ, ◌<◌, List, length}
 use Rattle.axe_algebra.specs.Bridge.{matrix_of}
 use Rattle.axe_algebra.specs.Lists.{IsMatrixOver, IsSquareOver}
 use Rattle.axe_algebra.specs.ListArithmetic.{transpose}
 use Rattle.axe_algebra.specs.SpansOfLists.{IsIndependent, IsNullSpaceBasis}
 use Rattle.axe_algebra.specs.PointTheorems.{IsNonzeroSpanned}
-use Rattle.axe_algebra.proofs.ListIrreducible.{transpose_length}
 use Rattle.axe_algebra.proofs.ReducedBases.{reduced_independent}
-use Rattle.axe_algebra.proofs.NortonLists.{transpose_square, transposed_null_has_rows}
+use Rattle.axe_algebra.proofs.NortonLists.{transpose_square}
 use Rattle.axe_field.specs.Order.{Order}
 use Rattle.axe_field.specs.NumberFields.{number_field, gf}
 use Rattle.axe_matrix.specs.Matrices.{MatrixValue, IsMatrix, transposed_matrix}
@@ -16,8 +15,8 @@ use Rattle.axe_echelon.proofs.InverseLaws.{matrix_over}
 use Rattle.axe_spin.specs.Modules.{ModuleValue}
 use Rattle.axe_word.specs.Words.{WordValue, IsValueOf}
 use Rattle.axe_word.specs.PointsOfMatrix.{points_of}
-use Rattle.axe_norton.specs.Spaces.{Tested, TransposedPoint, point_of}
-use Rattle.axe_norton.proofs.PointLaws.{point_is, some_point}
+use Rattle.axe_norton.specs.Spaces.{Tested, point_of}
+use Rattle.axe_norton.proofs.PointLaws.{point_is}
 use mathlib.Core.Path.{sym, ◌∙◌, subst}
 
 -- the rows of a square matrix and the reduced basis of its null space, over a field

@@ -1,17 +1,15 @@
 -- What a word says of a module is true of it: Norton's criterion, and the submodules that are found.
-use Rattle.std.specs.Prelude.{◌≡◌, ◌≢◌, ℕ, ◌<◌, ◌≤◌, ◌⊎◌, List, [], length, get_or}
+use Rattle.std.specs.Prelude.{◌≡◌, ◌≢◌, ℕ, ◌<◌, ◌⊎◌, List, length, get_or}
 use Rattle.std.proofs.lemmas.List.{length-map, get_or-map}
 use Rattle.axe_algebra.specs.NumberField.{NumberField}
 use Rattle.axe_algebra.specs.Field.{Field}
 use Rattle.axe_algebra.specs.Vectors.{Vector, zero_vector, scale}
-use Rattle.axe_algebra.specs.Modules.{Module, InGenerated, VectorGeneratesAll}
-use Rattle.axe_algebra.specs.Bridge.{field_of, vector_of, module_of}
+use Rattle.axe_algebra.specs.Modules.{Module, InGenerated}
+use Rattle.axe_algebra.specs.Bridge.{vector_of, module_of}
 use Rattle.axe_algebra.specs.Lists.{listed, IsVectorOver, IsMatrixOver, IsSquareOver}
-use Rattle.axe_algebra.specs.ListArithmetic.{transpose, transposed_generators}
+use Rattle.axe_algebra.specs.ListArithmetic.{transpose}
 use Rattle.axe_algebra.specs.SpansOfLists.{IsNullVector, IsAnnihilatorBasis}
-use Rattle.axe_algebra.specs.ModulesOfLists.{IsGeneratedBasis, GeneratesEverything}
 use Rattle.axe_algebra.specs.PointTheorems.{IsNonzeroSpanned, IsMultipleOfPoint}
-use Rattle.axe_algebra.specs.PointsOfLists.{points}
 use Rattle.axe_algebra.proofs.Generated.{multiple_generates}
 use Rattle.axe_algebra.proofs.ListEntries.{vector_length, same_vector}
 use Rattle.axe_algebra.proofs.ListSpans.{independent_rows_are_few}
@@ -28,12 +26,12 @@ use Rattle.axe_spin.specs.Modules.{ModuleValue, IsModule}
 use Rattle.axe_action.specs.Actions.{dual_module}
 use Rattle.axe_word.specs.Words.{WordValue, IsWordIn, IsValueOf}
 use Rattle.axe_word.specs.PointsOfMatrix.{points_of}
-use Rattle.axe_norton.specs.Spaces.{Tested, IsIrreducibleModule, IsProperSubmodule, GeneratesModule, GeneratesProper, one_row, point_of, TriedGenerate, IsFirstProperSpace, IsTransposedSpace}
+use Rattle.axe_norton.specs.Spaces.{Tested, IsIrreducibleModule, IsProperSubmodule, GeneratesModule, GeneratesProper, point_of, TriedGenerate, IsFirstProperSpace, IsTransposedSpace}
 use Rattle.axe_norton.specs.Verdicts.{ShowsIrreducible, ShowsReducible, Says, IsTrueOf}
 use Rattle.axe_norton.specs.declared.verdicts.At.{At}
 use Rattle.axe_norton.specs.declared.verdicts.At.TheVariants.{Irreducible, Reducible, Left}
 use Rattle.axe_norton.proofs.PointLaws.{points_over, point_at, multiple_of_point}
-use Rattle.axe_norton.proofs.TestedLaws.{IsNullSpaceOver, tested_over, transposed_over, independent_null, null_point}
+use Rattle.axe_norton.proofs.TestedLaws.{IsNullSpaceOver, tested_over, transposed_over, null_point}
 use mathlib.Core.Logic.{inl, inr}
 use mathlib.Core.Path.{sym, ◌∙◌, ap, subst}
 use native.Mathlib.Omega.{arith}

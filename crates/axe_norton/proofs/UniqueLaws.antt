@@ -1,5 +1,5 @@
 -- A word says one thing of a module, and the words of a seed decide one thing.
-use Rattle.std.specs.Prelude.{◌≡◌, ◌≢◌, ℕ, ◌<◌, ◌≤◌, ◌⊎◌, List, [], length, get_or}
+use Rattle.std.specs.Prelude.{◌≡◌, ◌≢◌, ℕ, ◌<◌, ◌≤◌, ◌⊎◌, List, length}
 use Rattle.axe_algebra.specs.Vectors.{Vector, Matrix}
 use Rattle.axe_algebra.specs.Spans
 use Rattle.axe_algebra.specs.Reduced
@@ -30,7 +30,7 @@ use Rattle.axe_word.proofs.ValueLaws.{value-is_unique}
 use Rattle.axe_norton.specs.declared.verdicts.Verdict
 use Rattle.axe_norton.specs.declared.verdicts.At.{At}
 use Rattle.axe_norton.specs.declared.verdicts.At.TheVariants.{Irreducible, Reducible, Left}
-use Rattle.axe_norton.specs.Spaces.{Tested, HasFewPoints, IsTried, GeneratesModule, GeneratesProper, one_row, point_of, TriedGenerate, IsFirstProperSpace, TransposedPoint, TransposeGenerates, IsTransposedSpace}
+use Rattle.axe_norton.specs.Spaces.{HasFewPoints, GeneratesModule, GeneratesProper, one_row, point_of, TriedGenerate, IsFirstProperSpace, TransposedPoint, TransposeGenerates, IsTransposedSpace}
 use Rattle.axe_norton.specs.Verdicts.{Tells, Says, LeavesOpen, DecidesAt, Decides, word_of_seed, ShowsIrreducible, ShowsReducible, IsLeftWithMany}
 use Rattle.axe_norton.proofs.OpenLaws.{own_square, value_square, no_rows_of_invertible}
 use Rattle.axe_norton.proofs.TruthLaws.{rows_over_field}

@@ -79,6 +79,7 @@ fn first_proper_of_all(
             return Ok(space);
         }
     }
+    // Each of them generates everything.
     Ok(None)
 }
 

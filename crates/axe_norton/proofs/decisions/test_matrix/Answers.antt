@@ -1,4 +1,4 @@
-use Rattle.std.proofs.Common.{◌≡◌, ◌<◌, length, sym, ◌∙◌, ap, arith, IsTrue, ◌↔◌}
+use Rattle.std.proofs.Common.{◌<◌, length, sym, ◌∙◌, ap, arith, IsTrue, ◌↔◌}
 use Rattle.axe_field.specs.Order.{order_number}
 use Rattle.axe_norton.specs.Spaces.{HasFewPoints}
 use Rattle.axe_norton.proofs.SearchLaws.{not_both, null_is_reduced}

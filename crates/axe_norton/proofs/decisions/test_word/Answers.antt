@@ -1,4 +1,3 @@
-use Rattle.axe_norton.proofs.OpenLaws.{value_square}
 use Rattle.axe_norton.proofs.DecisionLaws.{value_null, said_by, truth_told}
 use Rattle.axe_norton.proofs.decisions.test_word.Goals as goal
 

@@ -1,4 +1,4 @@
-use Rattle.std.proofs.Common.{◌≡◌, ◌<◌, length, sym, ◌∙◌, ap}
+use Rattle.std.proofs.Common.{ap}
 use Rattle.axe_row.specs.Rows.{RowValue}
 use Rattle.axe_norton.proofs.SearchLaws.{answered_more, some_point_in, point_fits, point_nonzero, found_of_all, found_of_first, not_both}
 use Rattle.axe_norton.proofs.spaces.first_proper_space.Goals as goal

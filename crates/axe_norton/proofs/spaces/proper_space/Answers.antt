@@ -1,4 +1,4 @@
-use Rattle.std.proofs.Common.{◌≡◌, length, sym, ◌∙◌}
+use Rattle.std.proofs.Common.{sym, ◌∙◌}
 use Rattle.axe_spin.specs.Spinning.{IsGeneratedMatrix}
 use Rattle.axe_norton.specs.Spaces.{one_row}
 use Rattle.axe_norton.proofs.SearchLaws.{seed_of_row, seed_accepted, everything_generated, proper_generated}

@@ -1,6 +1,4 @@
-use Rattle.std.proofs.Common.{◌≡◌}
 use Rattle.axe_matrix.specs.Matrices.{transposed_matrix}
-use Rattle.axe_echelon.specs.Echelons.{IsNullSpaceMatrix}
 use Rattle.axe_echelon.proofs.Exits.{no_memory}
 use Rattle.axe_norton.proofs.SearchLaws.{answered_more, transpose_is, transpose_memory, transposed_null, null_is_reduced, transposed_null_rows, transposed_row_is}
 use Rattle.axe_norton.proofs.spaces.transposed_point.Goals as goal

@@ -1,4 +1,4 @@
-use Rattle.std.proofs.Common.{◌≡◌, sym, ◌∙◌, ap}
+use Rattle.std.proofs.Common.{sym, ◌∙◌, ap}
 use Rattle.axe_spin.specs.Modules.{ModuleValue}
 use Rattle.axe_norton.proofs.SearchLaws.{transposed_point_fits, transposed_point_nonzero, transpose_generates, transposed_space_is}
 use Rattle.axe_norton.proofs.spaces.transposed_space.Goals as goal

@@ -1,0 +1,115 @@
+//! Norton's test: what a word says of a module, and what the words of a seed decide.
+
+use crate::tables::{Topic, each_call, four_fields, three_fields};
+use crate::values::{is_matrix, is_row, module_of, number_of, small_number_of};
+use axe_matrix::{Matrix, Refusal, Row};
+use axe_norton::{At, MAX_WORDS, Verdict, decide, decide_at};
+use axe_spin::Module;
+use axe_word::{Term, Word};
+use std::alloc::Global;
+use std::process::Abort;
+
+/// A module, a seed, the number of the last word, and the verdict.
+const DECIDED: &str = "\
+# Each vector spans a submodule; the first point of everything is the last unit vector.
+decide | 2: 1000000000/0100000000/0010000000/0001000000/0000100000/0000010000/0000001000/0000000100/0000000010/0000000001 | 1 | 0 | reducible: 2: 0000000001
+# The companion matrix of x^10 + x^3 + 1, which is irreducible: there are 1,023 points, and each value is zero or invertible.
+decide | 2: 0100000000/0010000000/0001000000/0000100000/0000010000/0000001000/0000000100/0000000010/0000000001/1001000000 | 1 | 0 | undecided
+decide | 2: 0100000000/0010000000/0001000000/0000100000/0000010000/0000001000/0000000100/0000000010/0000000001/1001000000 | 1 | 400 | undecided
+decide | 2: 10/01 | 1 | 0 | reducible: 2: 01
+decide | 2: 01/11 | 1 | 0 | irreducible: 0 and 2: 01
+# The first point generates everything on both sides, and the last one does not.
+decide | 2: 01/10 | 1 | 0 | reducible: 2: 11
+";
+
+/// A module, the number of a generator, and what the word says that is this generator.
+const SAID: &str = "\
+# The one null point 10 generates everything; under the transposes that of the transpose generates 10, to which 01 is orthogonal.
+decide_at | 2: 00/01, 2: 11/01 | 0 | reducible: 2: 01
+decide_at | 2: 01/11 | 0 | open
+";
+
+/// Whether the reduced basis of a submodule is the one that is written so.
+fn is_space(rt: &impl Abort, alloc: Global, space: Matrix, text: &str) -> Result<bool, Refusal> {
+    match text.split_once(": ") {
+        Some(("reducible", wanted)) => is_matrix(rt, alloc, Ok(space), wanted),
+        _ => Ok(false),
+    }
+}
+
+/// Whether the word that shows a module to be irreducible, and the point, are those that are written so.
+fn is_proof(
+    rt: &impl Abort,
+    alloc: Global,
+    word: u32,
+    vector: &Row,
+    text: &str,
+) -> Result<bool, Refusal> {
+    let Some(("irreducible", wanted)) = text.split_once(": ") else {
+        return Ok(false);
+    };
+    let (number, point) = wanted.split_once(" and ").expect(rt, text);
+    Ok(number_of(rt, number) == word as usize && is_row(rt, alloc, vector, point)?)
+}
+
+fn decides(rt: &impl Abort, alloc: Global, line: &str) -> Result<bool, Refusal> {
+    let (module, seed, words, wanted) = four_fields(rt, line);
+    let module = module_of(rt, alloc, module)?;
+    let words = words.parse::<u32>().ok().expect(rt, words);
+    assert!(rt; words <= MAX_WORDS);
+    match decide(alloc, &module, number_of(rt, seed) as u64, words)? {
+        Verdict::Irreducible { word, vector } => is_proof(rt, alloc, word, &vector, wanted),
+        Verdict::Reducible(space) => is_space(rt, alloc, space, wanted),
+        Verdict::Undecided => Ok(wanted == "undecided"),
+    }
+}
+
+/// What the word says that is a generator of a module.
+fn said_by_generator(
+    rt: &impl Abort,
+    alloc: Global,
+    module: &Module,
+    number: u8,
+) -> Result<At, Refusal> {
+    let word = Word::from_terms(&[Term {
+        coefficient: 1,
+        gens: &[number],
+    }]);
+    let word = word.expect(rt, "a word of one term");
+    assert!(rt; word.is_word_in(module));
+    decide_at(alloc, module, &word)
+}
+
+fn says(rt: &impl Abort, alloc: Global, line: &str) -> Result<bool, Refusal> {
+    let (module, number, wanted) = three_fields(rt, line);
+    let module = module_of(rt, alloc, module)?;
+    match said_by_generator(rt, alloc, &module, small_number_of(rt, number))? {
+        At::Irreducible(vector) => is_proof(rt, alloc, 0, &vector, wanted),
+        At::Reducible(space) => is_space(rt, alloc, space, wanted),
+        At::Left => Ok(wanted == "open"),
+    }
+}
+
+/// Whether a call answers what its line says.
+pub(crate) fn answers(
+    rt: &impl Abort,
+    alloc: Global,
+    call: &str,
+    line: &str,
+) -> Result<bool, Refusal> {
+    match call {
+        "decide" => decides(rt, alloc, line),
+        "decide_at" => says(rt, alloc, line),
+        _ => panic!(rt; "no such call: {call}"),
+    }
+}
+
+#[test]
+fn words_of_a_seed_decide_modules(rt: HostRuntime) -> Result<(), Refusal> {
+    each_call(&rt, rt.alloc(), Topic::Decisions, DECIDED)
+}
+
+#[test]
+fn a_word_says_what_its_value_tells(rt: HostRuntime) -> Result<(), Refusal> {
+    each_call(&rt, rt.alloc(), Topic::Decisions, SAID)
+}
