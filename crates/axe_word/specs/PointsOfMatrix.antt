@@ -16,6 +16,10 @@ use Rattle.axe_matrix.specs.Matrices.{MatrixValue}
 abbrev pub point_count : ℕ → ℕ → ℕ
 point_count q m = length (point_coordinates q m)
 
+-- the most points of a null space that are gone over: "few" points are no more
+abbrev pub most_points : ℕ
+most_points = 1000
+
 -- the rows are the reduced basis of their span
 abbrev pub IsReduced : MatrixValue → Type 0
 IsReduced b = IsReducedBasis (number_field b.order) b.rows b.rows

@@ -1,0 +1,6 @@
+pub mod ActionRows
+pub mod MatchLaws
+pub mod FormLaws
+pub mod Forming
+pub mod Matched
+pub mod FormAnswers
