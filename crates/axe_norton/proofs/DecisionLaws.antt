@@ -9,10 +9,10 @@ use Rattle.axe_echelon.specs.Echelons.{IsInvertible, IsNullSpaceMatrix, null_spa
 use Rattle.axe_spin.specs.Modules.{ModuleValue, IsModule}
 use Rattle.axe_word.specs.Words.{WordValue, IsWordIn, IsValueOf}
 use Rattle.axe_word.specs.Drawing.{drawn_word}
-use Rattle.axe_word.specs.PointsOfMatrix.{point_count}
+use Rattle.axe_word.specs.PointsOfMatrix.{most_points, point_count}
 use Rattle.axe_norton.specs.declared.verdicts.At.{At}
 use Rattle.axe_norton.specs.declared.verdicts.At.TheVariants.{Irreducible, Left}
-use Rattle.axe_norton.specs.Spaces.{most_points, HasFewPoints, TriedGenerate, TransposeGenerates, point_of}
+use Rattle.axe_norton.specs.Spaces.{HasFewPoints, TriedGenerate, TransposeGenerates, point_of}
 use Rattle.axe_norton.specs.Searches.{IsReducedIn, IsSquareIn, IsDualOrNone}
 use Rattle.axe_norton.specs.Verdicts.{Tells, Says, LeavesOpen, LeaveOpenBefore, word_of_seed, IsTrueOf}
 use Rattle.axe_norton.proofs.OpenLaws.{own_square, invertible_without_rows, no_rows_of_invertible}

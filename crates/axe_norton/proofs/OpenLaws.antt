@@ -12,8 +12,8 @@ use Rattle.axe_echelon.specs.Echelons.{IsInvertible, IsNullSpaceMatrix}
 use Rattle.axe_spin.specs.Modules.{ModuleValue, IsModule}
 use Rattle.axe_word.specs.Words.{WordValue, IsValueOf}
 use Rattle.axe_word.specs.Drawing.{drawn_word}
-use Rattle.axe_word.specs.PointsOfMatrix.{point_count}
-use Rattle.axe_norton.specs.Spaces.{most_points, Tested}
+use Rattle.axe_word.specs.PointsOfMatrix.{most_points, point_count}
+use Rattle.axe_norton.specs.Spaces.{Tested}
 use Rattle.axe_norton.specs.Searches.{IsSquareIn}
 use Rattle.axe_norton.specs.Verdicts.{LeavesOpen, IsLeftWithMany, word_of_seed}
 use Rattle.axe_norton.proofs.SearchLaws.{invertible_matrix}

@@ -11,11 +11,7 @@ use Rattle.axe_spin.specs.Modules.{ModuleValue}
 use Rattle.axe_spin.specs.Spinning.{IsGeneratedMatrix}
 use Rattle.axe_action.specs.Actions.{dual_module, IsAnnihilatorMatrix}
 use Rattle.axe_word.specs.Words.{WordValue, IsValueOf}
-use Rattle.axe_word.specs.PointsOfMatrix.{points_of, point_count}
-
--- the most points of a null space that are all tried
-abbrev pub most_points : ℕ
-most_points = 1000
+use Rattle.axe_word.specs.PointsOfMatrix.{points_of, point_count, most_points}
 
 -- the module is irreducible (Holt and Rees 1994)
 abbrev pub IsIrreducibleModule : ModuleValue → Type 0

@@ -7,11 +7,11 @@ use Rattle.axe_echelon.specs.Echelons.{IsInvertible}
 use Rattle.axe_spin.specs.Modules.{ModuleValue}
 use Rattle.axe_word.specs.Words.{WordValue}
 use Rattle.axe_word.specs.Drawing.{drawn_word}
-use Rattle.axe_word.specs.PointsOfMatrix.{points_of, point_count}
+use Rattle.axe_word.specs.PointsOfMatrix.{points_of, point_count, most_points}
 use Rattle.axe_norton.specs.declared.verdicts.At.{At}
 use Rattle.axe_norton.specs.declared.verdicts.At.TheVariants.{Irreducible, Reducible, Left}
 use Rattle.axe_norton.specs.declared.verdicts.Verdict
-use Rattle.axe_norton.specs.Spaces.{IsIrreducibleModule, IsProperSubmodule, Tested, HasFewPoints, point_of, TriedGenerate, IsFirstProperSpace, TransposeGenerates, IsTransposedSpace, GeneratesModule, most_points}
+use Rattle.axe_norton.specs.Spaces.{IsIrreducibleModule, IsProperSubmodule, Tested, HasFewPoints, point_of, TriedGenerate, IsFirstProperSpace, TransposeGenerates, IsTransposedSpace, GeneratesModule}
 
 -- the greatest number of a last word
 abbrev pub last_word : ℕ

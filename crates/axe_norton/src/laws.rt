@@ -4,8 +4,7 @@ ghost use Rattle.std.specs.Prelude.{◌≡◌, ◌≤◌, ℕ};
 ghost use Rattle.axe_field.specs.Order.{order_number};
 ghost use Rattle.axe_spin.specs.Modules.{ModuleValue, IsModule};
 ghost use Rattle.axe_word.specs.Words.{WordValue, IsWordIn};
-ghost use Rattle.axe_word.specs.PointsOfMatrix.{point_count};
-ghost use Rattle.axe_norton.specs.Spaces.{most_points};
+ghost use Rattle.axe_word.specs.PointsOfMatrix.{point_count, most_points};
 ghost use Rattle.axe_norton.specs.Verdicts.{last_word, Says, IsTrueOf, Decides, IsTrueVerdict};
 
 use crate::verdicts::{At, Verdict};

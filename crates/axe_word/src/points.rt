@@ -6,6 +6,7 @@ ghost use Rattle.axe_field.specs.Order.{order_number};
 ghost use Rattle.axe_row.specs.Rows.{IsRow};
 ghost use Rattle.axe_row.specs.Refusals.{Answers};
 ghost use Rattle.axe_word.specs.Drawing.{IsOrder};
+ghost use Rattle.axe_word.specs.Limits.{most_points_in_turn};
 ghost use Rattle.axe_word.specs.PointsOfMatrix.{point_count, IsReduced, points_of, GivesNext, point_with_number};
 
 use axe_matrix::{Matrix, Refusal, Row};
@@ -71,7 +72,7 @@ impl<'a> Points<'a> {
     /// The points of the span of a reduced basis, of which there are at most [`MAX_POINTS`].
     pub fn new(alloc: Global, basis: &'a Matrix) -> Points<'a>
         requires reduced { IsReduced basis.now }
-        requires few { point_count (order_number basis.now.order) (length basis.now.rows) ≤ MAX_POINTS }
+        requires few { point_count (order_number basis.now.order) (length basis.now.rows) ≤ most_points_in_turn }
         ensures { result ≡ record { order = basis.now.order; left = points_of basis.now } }
     {
         let order = usize::from(basis.field().order());
