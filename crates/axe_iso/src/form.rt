@@ -80,7 +80,13 @@ impl Form {
 
 /// The standard form of a module from a vector that generates everything and is a null vector of the value of a word, whose
 /// null space has few points. The word is named by its seed and its number.
-pub fn form_of(alloc: Global, module: &Module, seed: u64, word: u32, vector: &Row) -> Result<Form, Refusal>
+pub fn form_of(
+    alloc: Global,
+    module: &Module,
+    seed: u64,
+    word: u32,
+    vector: &Row,
+) -> Result<Form, Refusal>
     requires vector { IsVectorOf «module».now vector.now }
     requires null { IsNullVectorOf «module».now seed word vector.now.entries }
     requires generates { GeneratesEverything (number_field «module».now.order) «module».now.dim «module».now.generators vector.now.entries }

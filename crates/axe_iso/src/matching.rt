@@ -39,7 +39,12 @@ pub fn matches(alloc: Global, form: &Form, module: &Module) -> Result<Option<Mat
 
 /// Whether matrices are the action of a module on the rows of a basis, and there are as many of these as the dimension. It
 /// stops at the first row that differs.
-fn is_action(alloc: Global, module: &Module, basis: &Matrix, matrices: &Module) -> Result<bool, Refusal>
+fn is_action(
+    alloc: Global,
+    module: &Module,
+    basis: &Matrix,
+    matrices: &Module,
+) -> Result<bool, Refusal>
     requires field { basis.now.order ≡ «module».now.order }
     requires columns { basis.now.cols ≡ «module».now.dim }
     requires matrices_field { matrices.now.order ≡ «module».now.order }
@@ -51,7 +56,12 @@ fn is_action(alloc: Global, module: &Module, basis: &Matrix, matrices: &Module) 
         return Ok(false);
     }
     for index in 0..matrices.gens() {
-        if !acts_by(alloc, module.generator(index), basis, matrices.generator(index))? {
+        if !acts_by(
+            alloc,
+            module.generator(index),
+            basis,
+            matrices.generator(index),
+        )? {
             return Ok(false);
         }
     }
@@ -59,7 +69,12 @@ fn is_action(alloc: Global, module: &Module, basis: &Matrix, matrices: &Module) 
 }
 
 /// Whether each row of a basis times a generator is the combination of the basis with the same row of a matrix.
-fn acts_by(alloc: Global, generator: &Matrix, basis: &Matrix, matrix: &Matrix) -> Result<bool, Refusal>
+fn acts_by(
+    alloc: Global,
+    generator: &Matrix,
+    basis: &Matrix,
+    matrix: &Matrix,
+) -> Result<bool, Refusal>
     requires field { basis.now.order ≡ generator.now.order }
     requires matrix_field { matrix.now.order ≡ generator.now.order }
     requires columns { basis.now.cols ≡ length generator.now.rows }

@@ -40,7 +40,7 @@ IsAddedBelow-more n a c b m next row h below row_is e well_formed = record {
   count = ap (λ (x : MatrixValue). length x.rows) e ∙ length-set m.rows n new_row ∙ h.count;
   added = below_more _ _
       (λ i lower. let other : i ≢ n = omega arith in
-          ap (λ (x : MatrixValue). get_or x.rows i []) e ∙ get_or-set_other m.rows n i new_row [] other ∙ h.added i lower)
+      ap (λ (x : MatrixValue). get_or x.rows i []) e ∙ get_or-set_other m.rows n i new_row [] other ∙ h.added i lower)
       (ap (λ (x : MatrixValue). get_or x.rows n []) e ∙ get_or-set_same m.rows n new_row [] (omega (arith, h.count))
       ∙ ap (λ o. sum_with_multiple (number_field o) (get_or m.rows n []) c row) h.field
       ∙ ap₂ (λ (x y : List ℕ). sum_with_multiple (number_field a.order) x c y) (h.kept n (omega arith)) row_is);

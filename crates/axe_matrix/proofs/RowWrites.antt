@@ -49,13 +49,17 @@ MakeMatrix-add o n rows i old new c row h below old_is new_is as_long well_forme
 pub matrix_from_added_rows : (o : Order) (n : ℕ) (rows : List RowValue) (i : ℕ) (old new : RowValue) (c : ℕ) (row : RowValue) → MakeMatrix o n rows →
     i < length rows → old ≡ get_or rows i old → new ≡ row_with_multiple old c row →
     matrix_from_rows o n (set rows i new)
-    ≡ record { order = o; cols = n; rows = set (map (λ (r : RowValue). r.entries) rows) i
-        (sum_with_multiple (number_field o) (get_or (map (λ (r : RowValue). r.entries) rows) i []) c row.entries) }
+    ≡ record {
+      order = o;
+      cols = n;
+      rows = set (map (λ (r : RowValue). r.entries) rows) i
+          (sum_with_multiple (number_field o) (get_or (map (λ (r : RowValue). r.entries) rows) i []) c row.entries);
+    }
 matrix_from_added_rows o n rows i old new c row h below old_is new_is =
     ap (λ list. record { order = o; cols = n; rows = list }) (
-      map-set (λ (r : RowValue). r.entries) rows i new
-      ∙ ap (set (map (λ (r : RowValue). r.entries) rows) i) (
-        ap (λ (r : RowValue). r.entries) new_is
-        ∙ ap (λ p. sum_with_multiple (number_field p) old.entries c row.entries) (order-at o n rows i old h below old_is)
-        ∙ ap (λ x. sum_with_multiple (number_field o) x c row.entries)
-            (ap (λ (r : RowValue). r.entries) old_is ∙ sym (get_or-map (λ (r : RowValue). r.entries) rows i old [] below))))
+    map-set (λ (r : RowValue). r.entries) rows i new
+    ∙ ap (set (map (λ (r : RowValue). r.entries) rows) i) (
+    ap (λ (r : RowValue). r.entries) new_is
+    ∙ ap (λ p. sum_with_multiple (number_field p) old.entries c row.entries) (order-at o n rows i old h below old_is)
+    ∙ ap (λ x. sum_with_multiple (number_field o) x c row.entries)
+    (ap (λ (r : RowValue). r.entries) old_is ∙ sym (get_or-map (λ (r : RowValue). r.entries) rows i old [] below))))

@@ -148,7 +148,12 @@ impl<'a> Iterator for Points<'a> {
 }
 
 /// The combination of the rows of a matrix with the digits of a number as coefficients, given q to the number of rows.
-fn combination_with_number(alloc: Global, basis: &Matrix, number: usize, end: usize) -> Result<Row, Refusal>
+fn combination_with_number(
+    alloc: Global,
+    basis: &Matrix,
+    number: usize,
+    end: usize,
+) -> Result<Row, Refusal>
     requires { end ≡ order_number basis.now.order ^ length basis.now.rows }
     ensures combination { Answers None (λ point. point ≡ record { order = basis.now.order; entries = point_with_number basis.now number }) result }
     ensures well_formed { Answers None IsRow result }
