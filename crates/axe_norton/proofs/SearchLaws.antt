@@ -1,6 +1,6 @@
 -- The steps of the test: seeds of one row, first points, and what points generate.
 use Rattle.std.specs.Prelude.{◌≡◌, ◌≢◌, ℕ, ◌<◌, ◌⊎◌, List, [], ◌∷◌, ◌++◌, length, Option, Some, None, Result, Ok, Err, Bool, false, IsTrue}
-use Rattle.std.proofs.lemmas.Bool.{ne_eqb}
+use Rattle.std.proofs.lemmas.Bool.{ne_eqb, eq-eqb}
 use Rattle.axe_algebra.specs.Vectors.{Matrix, zero_vector}
 use Rattle.axe_algebra.specs.Spans
 use Rattle.axe_algebra.specs.Bridge.{vector_of, matrix_of}
@@ -14,7 +14,7 @@ use Rattle.axe_algebra.proofs.ListLaws.{inverse_list}
 use Rattle.axe_algebra.proofs.ListProducts.{matrix_of_transpose}
 use Rattle.axe_algebra.proofs.ListIrreducible.{transpose_length}
 use Rattle.axe_algebra.proofs.NortonLists.{transpose_square, invertible_without_null_rows, generated_basis_is_full}
-use Rattle.axe_field.specs.Order.{Order}
+use Rattle.axe_field.specs.Order.{Order, order_number}
 use Rattle.axe_field.specs.NumberFields.{number_field, gf}
 use Rattle.axe_row.specs.Rows.{RowValue}
 use Rattle.axe_row.specs.Refusals.{Answers}
@@ -28,8 +28,8 @@ use Rattle.axe_echelon.proofs.Exits.{memory_if_accepted}
 use Rattle.axe_echelon.proofs.InverseLaws.{matrix_over}
 use Rattle.axe_echelon.proofs.EliminationLaws.{vector_of_zero_row}
 use Rattle.axe_spin.specs.Modules.{ModuleValue}
-use Rattle.axe_spin.specs.Spinning.{seed_refusal, IsGeneratedMatrix}
-use Rattle.axe_spin.proofs.GeneratedLaws.{seed_refusal-none, some_nonzero}
+use Rattle.axe_spin.specs.Spinning.{has_only_zeros, seed_refusal, IsGeneratedMatrix}
+use Rattle.axe_spin.proofs.GeneratedLaws.{some_nonzero}
 use Rattle.axe_action.specs.Actions.{dual_module, IsAnnihilatorMatrix}
 use Rattle.axe_word.specs.PointsOfMatrix.{points_of, IsReduced}
 use Rattle.axe_norton.specs.Spaces.{GeneratesModule, GeneratesProper, one_row, point_of, HasFewPoints, IsTried, TransposedPoint, TransposeGenerates, IsTransposedSpace}
@@ -54,6 +54,11 @@ pub seed_of_row : (m : ModuleValue) (o : Order) (n : ℕ) (start seed : MatrixVa
 seed_of_row m o n start seed v field dim start_is is =
     is ∙ ap (λ (s : MatrixValue). record s { rows = s.rows ++ v ∷ [] }) start_is
     ∙ (λ i. record { order = field i; cols = dim i; rows = v ∷ [] })
+
+-- a seed over the field, with the dimension's columns and a nonzero row is not refused
+seed_refusal-none : (m : ModuleValue) (seed : MatrixValue) → order_number seed.order ≡ order_number m.order → seed.cols ≡ m.dim →
+    has_only_zeros seed.rows ≡ false → seed_refusal m seed ≡ None
+seed_refusal-none m seed fields shapes nonzero = rw (eq-eqb _ _ fields, eq-eqb _ _ shapes, nonzero) refl
 
 -- a seed of one row other than zero is accepted
 pub one_row_accepted : (m : ModuleValue) (v : List ℕ) → ¬ (IsZeroVector v) → seed_refusal m (one_row m v) ≡ None
