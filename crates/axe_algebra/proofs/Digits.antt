@@ -30,8 +30,8 @@ digits_of_sum q zero k y positive = refl
 digits_of_sum q (suc m) k y positive =
     ap (λ x. (x / q ^ m % q) ∷ digits q m x) regrouped
     ∙ ap₂ (λ (a : ℕ) (b : List ℕ). a ∷ b)
-      (ap (λ n. n % q) (mul-add-div_right (pow-positive q m positive) (k * q) y) ∙ mul-add-mod_self_right k q (y / q ^ m))
-      (digits_of_sum q m (k * q) y positive)
+    (ap (λ n. n % q) (mul-add-div_right (pow-positive q m positive) (k * q) y) ∙ mul-add-mod_self_right k q (y / q ^ m))
+    (digits_of_sum q m (k * q) y positive)
   where
     regrouped : k * q ^ suc m + y ≡ k * q * q ^ m + y
     regrouped = ap (λ n. n + y) (ap (λ n. k * n) (pow-suc q m ∙ mul_comm (q ^ m) q) ∙ sym (mul_assoc k q (q ^ m)))
@@ -50,7 +50,7 @@ number_with_digits-below q [] all = subst (λ n. 0 < n) (sym (pow-zero q)) (omeg
 number_with_digits-below q (d ∷ ds) all =
     let rest : number_with_digits q ds < q ^ length ds = number_with_digits-below q ds (All-tail (λ (digit : ℕ). digit < q) d ds all) in
     let whole : d * q ^ length ds + number_with_digits q ds < q ^ length ds * q =
-          mul-add-lt d (q ^ length ds) (number_with_digits q ds) q (All-head (λ (digit : ℕ). digit < q) d ds all) rest in
+    mul-add-lt d (q ^ length ds) (number_with_digits q ds) q (All-head (λ (digit : ℕ). digit < q) d ds all) rest in
     subst (λ n. d * q ^ length ds + number_with_digits q ds < n) (sym (pow-suc q (length ds))) whole
 
 pub digits_of_their_number : (q : ℕ) (ds : List ℕ) → All (λ digit. digit < q) ds → digits q (length ds) (number_with_digits q ds) ≡ ds

@@ -16,7 +16,7 @@ pub filter_of_map : {X Y : Type 0} (p : X → Bool) (f : Y → X) (xs : List Y) 
 filter_of_map p f [] = refl
 filter_of_map p f (x ∷ xs) =
     elim (p (f x)) as (λ b. cond b (f x ∷ filter p (map f xs)) (filter p (map f xs))
-        ≡ map f (cond b (x ∷ filter (λ y. p (f y)) xs) (filter (λ y. p (f y)) xs)))
+    ≡ map f (cond b (x ∷ filter (λ y. p (f y)) xs) (filter (λ y. p (f y)) xs)))
     [ true ↦ ap (λ ys. f x ∷ ys) (filter_of_map p f xs) | false ↦ filter_of_map p f xs ]
 
 -- a filter that everything passes
@@ -39,7 +39,7 @@ range_append a zero n = ap₂ range_with_len (sym (add-zero a)) (zero-add n)
 range_append a (suc m) n =
     ap (range_with_len a) (suc-add m n)
     ∙ ap (λ (xs : List ℕ). a ∷ xs)
-      (range_append (a + 1) m n ∙ ap (λ b. range_with_len (a + 1) m ++ range_with_len b n) (let e : a + 1 + m ≡ a + suc m = omega arith in e))
+    (range_append (a + 1) m n ∙ ap (λ b. range_with_len (a + 1) m ++ range_with_len b n) (let e : a + 1 + m ≡ a + suc m = omega arith in e))
 
 -- what a function gives at numbers in a row, as a list from 0 on
 pub range_as_listed : {X : Type 0} (f g : ℕ → X) (a n : ℕ) (d : X) → ((y : ℕ) → y < n → f (a + y) ≡ g y) → map f (range_with_len a n) ≡ listed n g

@@ -117,7 +117,7 @@ high_block : (q m n : ℕ) → 2 ≤ q → 2 * q ^ m + n ≤ q ^ suc m → filte
 high_block q m n large room =
     filter_of_map leads_with_one (digits q (suc m)) (range_with_len (2 * q ^ m) n)
     ∙ ap (map (digits q (suc m))) (filter_skips (λ x. leads_with_one (digits q (suc m) x)) (2 * q ^ m) n (λ x from to.
-      leads_not_past_block q (suc m) m x large (omega arith) from (omega arith)))
+    leads_not_past_block q (suc m) m x large (omega arith) from (omega arith)))
 
 -- the coordinates over one row more: 0 before those over the others, then 1 before any digits
 pub more_coordinates : (q m : ℕ) → 2 ≤ q →
@@ -126,14 +126,14 @@ unfolding point_coordinates
 more_coordinates q m large =
     ap (λ k. filter leads_with_one (map f (range_with_len 0 k))) whole
     ∙ ap (λ xs. filter leads_with_one (map f xs))
-      (range_append 0 n (n + rest) ∙ ap (λ xs. range_with_len 0 n ++ xs) (range_append (0 + n) n rest))
+    (range_append 0 n (n + rest) ∙ ap (λ xs. range_with_len 0 n ++ xs) (range_append (0 + n) n rest))
     ∙ ap (filter leads_with_one)
-      (map-append f (range_with_len 0 n) (range_with_len (0 + n) n ++ range_with_len (0 + n + n) rest)
-      ∙ ap (λ xs. map f (range_with_len 0 n) ++ xs) (map-append f (range_with_len (0 + n) n) (range_with_len (0 + n + n) rest)))
+    (map-append f (range_with_len 0 n) (range_with_len (0 + n) n ++ range_with_len (0 + n + n) rest)
+    ∙ ap (λ xs. map f (range_with_len 0 n) ++ xs) (map-append f (range_with_len (0 + n) n) (range_with_len (0 + n + n) rest)))
     ∙ filter-append leads_with_one (map f (range_with_len 0 n)) (map f (range_with_len (0 + n) n) ++ map f (range_with_len (0 + n + n) rest))
     ∙ ap₂ (λ (a b : List (List ℕ)). a ++ b) first
-      (filter-append leads_with_one (map f (range_with_len (0 + n) n)) (map f (range_with_len (0 + n + n) rest))
-      ∙ ap₂ (λ (a b : List (List ℕ)). a ++ b) second third ∙ append-nil (map (λ c. 1 ∷ c) (listed n (digits q m))))
+    (filter-append leads_with_one (map f (range_with_len (0 + n) n)) (map f (range_with_len (0 + n + n) rest))
+    ∙ ap₂ (λ (a b : List (List ℕ)). a ++ b) second third ∙ append-nil (map (λ c. 1 ∷ c) (listed n (digits q m))))
   where
     n : ℕ
     n = q ^ m
@@ -172,7 +172,7 @@ count_more q m large =
     ap length (more_coordinates q m large)
     ∙ length-append (map (λ c. 0 ∷ c) (point_coordinates q m)) (map (λ c. 1 ∷ c) (listed (q ^ m) (digits q m)))
     ∙ ap₂ (λ (a b : ℕ). a + b) (length-map (point_coordinates q m) (λ (c : List ℕ). 0 ∷ c))
-      (length-map (listed (q ^ m) (digits q m)) (λ (c : List ℕ). 1 ∷ c) ∙ listed_length (q ^ m) (digits q m))
+    (length-map (listed (q ^ m) (digits q m)) (λ (c : List ℕ). 1 ∷ c) ∙ listed_length (q ^ m) (digits q m))
 
 pub count_times : CoordinatesAreCounted
 count_times q zero large =
@@ -181,19 +181,19 @@ count_times q (suc m) large =
     ap (λ n. n * (q - 1) + 1) (count_more q m large)
     ∙ ap (λ n. n + 1) (add-mul (length (point_coordinates q m)) (q ^ m) (q - 1))
     ∙ (let below = count_times q m large in
-      let whole : q ^ m * q ≡ q ^ m * (q - 1) + q ^ m =
-            ap (λ k. q ^ m * k) (let e : q ≡ q - 1 + 1 = omega arith in e) ∙ mul-add (q ^ m) (q - 1) 1 ∙ ap (λ k. q ^ m * (q - 1) + k) (mul-one (q ^ m)) in
-      let e : length (point_coordinates q m) * (q - 1) + q ^ m * (q - 1) + 1 ≡ q ^ m * q = omega arith in e)
+    let whole : q ^ m * q ≡ q ^ m * (q - 1) + q ^ m =
+    ap (λ k. q ^ m * k) (let e : q ≡ q - 1 + 1 = omega arith in e) ∙ mul-add (q ^ m) (q - 1) 1 ∙ ap (λ k. q ^ m * (q - 1) + k) (mul-one (q ^ m)) in
+    let e : length (point_coordinates q m) * (q - 1) + q ^ m * (q - 1) + 1 ≡ q ^ m * q = omega arith in e)
     ∙ sym (pow-suc q m)
 
 pub count_next : (q m : ℕ) → 2 ≤ q → length (point_coordinates q (suc m)) ≡ length (point_coordinates q m) * q + 1
 count_next q m large =
     count_more q m large
     ∙ (let below = count_times q m large in
-      let c = length (point_coordinates q m) in
-      let whole : c * q ≡ c * (q - 1) + c =
-            ap (λ k. c * k) (let e : q ≡ q - 1 + 1 = omega arith in e) ∙ mul-add c (q - 1) 1 ∙ ap (λ k. c * (q - 1) + k) (mul-one c) in
-      omega arith)
+    let c = length (point_coordinates q m) in
+    let whole : c * q ≡ c * (q - 1) + c =
+    ap (λ k. c * k) (let e : q ≡ q - 1 + 1 = omega arith in e) ∙ mul-add c (q - 1) 1 ∙ ap (λ k. c * (q - 1) + k) (mul-one c) in
+    omega arith)
 
 pub count_grows : CoordinatesGrow
 count_grows q m zero large most = omega (arith, ap (λ k. length (point_coordinates q k)) (let e : m ≡ 0 = omega arith in e))

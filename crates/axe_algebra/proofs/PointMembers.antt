@@ -156,6 +156,6 @@ first_coordinates q zero large =
 first_coordinates q (suc m) large =
     ap (λ (xs : List (List ℕ)). get_or xs 0 []) (more_coordinates q (suc m) large)
     ∙ get_or_append_left (map (λ c. 0 ∷ c) (point_coordinates q (suc m))) (map (λ c. 1 ∷ c) (listed (q ^ suc m) (digits q (suc m)))) [] 0
-      (omega (arith, some_coordinates q m large, length-map (point_coordinates q (suc m)) (λ (c : List ℕ). 0 ∷ c)))
+    (omega (arith, some_coordinates q m large, length-map (point_coordinates q (suc m)) (λ (c : List ℕ). 0 ∷ c)))
     ∙ get_or-map (λ c. 0 ∷ c) (point_coordinates q (suc m)) 0 [] [] (some_coordinates q m large)
     ∙ ap (λ (c : List ℕ). 0 ∷ c) (first_coordinates q m large) ∙ unit_row_next (suc m) m (omega arith)

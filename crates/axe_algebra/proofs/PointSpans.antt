@@ -91,7 +91,7 @@ module _ (K : NumberField) where
       nonzero vanishes (p, at) = F.one-not-zero
           (sym (leading_element c p at)
           ∙ independent.only_zero (vector_of K c) (sym (vector_of_point n basis i inside over) ∙ vanishes) p
-            (let h = at.inside in omega (arith, over_c.length_is)))
+          (let h = at.inside in omega (arith, over_c.length_is)))
 
   pub points_are_nonzero_spanned : PointsAreNonzeroSpanned K
   points_are_nonzero_spanned n basis over independent =
@@ -160,9 +160,9 @@ module _ (K : NumberField) where
                     combines ∙ ap (λ (d : Vector F). times F m d (matrix_of K basis)) normal.equals
                     ∙ times-scale F m normal.factor normal.vector (matrix_of K basis)
                     ∙ ap (scale F normal.factor)
-                      (ap (λ (d : Vector F). times F m d (matrix_of K basis)) (sym (vector_of_entries K m normal.vector lengths))
-                      ∙ ap (λ (d : List ℕ). times F m (vector_of K d) (matrix_of K basis)) (sym same)
-                      ∙ sym (vector_of_point n basis i here over));
+                    (ap (λ (d : Vector F). times F m d (matrix_of K basis)) (sym (vector_of_entries K m normal.vector lengths))
+                    ∙ ap (λ (d : List ℕ). times F m (vector_of K d) (matrix_of K basis)) (sym same)
+                    ∙ sym (vector_of_point n basis i here over));
               }
 
   -- ---- and, of independent rows, of only one
@@ -261,15 +261,22 @@ module _ (K : NumberField) where
       unit_over = unit_row_over (length rows) i
 
   pub first_point_is_last_row : FirstPointIsLastRow K
-  first_point_is_last_row n basis over some = (here, point_is_combination n basis 0 here ∙ ap (λ c. combination K n c basis) coordinates
-      ∙ combination_with_unit n (length basis - 1) basis over (omega arith))
+  first_point_is_last_row n basis over some = (
+    here,
+    point_is_combination n basis 0 here ∙ ap (λ c. combination K n c basis) coordinates
+        ∙ combination_with_unit n (length basis - 1) basis over (omega arith),
+  )
     where
       next : suc (length basis - 1) ≡ length basis
       next = omega arith
 
       here : 0 < length (points K n basis)
-      here = omega (arith, points_length n basis, subst (λ k. 0 < length (point_coordinates K.order k)) next
-          (some_coordinates K.order (length basis - 1) K.one-below))
+      here = omega (
+        arith,
+        points_length n basis,
+        subst (λ k. 0 < length (point_coordinates K.order k)) next
+            (some_coordinates K.order (length basis - 1) K.one-below),
+      )
 
       coordinates : get_or (point_coordinates K.order (length basis)) 0 [] ≡ unit_row (length basis) (length basis - 1)
       coordinates =

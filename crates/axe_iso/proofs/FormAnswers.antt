@@ -55,8 +55,8 @@ module _ (F : Field) (M : Module F) where
   zero_generates_zero v x zero generated =
       generated.in_span.combines
       ∙ times_zero_rows F generated.size generated.in_span.coefficients generated.vectors (λ s below.
-        let each = generated.each s below in
-        each.equals ∙ ap (λ (y : Vector F). times F M.dimension y (path_product F M each.path)) zero ∙ times_zero F M.dimension (path_product F M each.path))
+      let each = generated.each s below in
+      each.equals ∙ ap (λ (y : Vector F). times F M.dimension y (path_product F M each.path)) zero ∙ times_zero F M.dimension (path_product F M each.path))
 
   pub generator_is_nonzero : (v : Vector F) → 0 < M.dimension → VectorGeneratesAll F M v → v ≢ zero_vector F
   generator_is_nonzero v positive all zero =

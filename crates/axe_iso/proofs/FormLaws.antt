@@ -103,7 +103,7 @@ few_of_form form m space is_form field is_space same =
     let few : point_count (order_number form.matrices.order) form.nullity ≤ 1000 = is_form.over.few in
     let fields : space.order ≡ form.matrices.order = (space_of_word m form.seed form.word (length m.generators) space refl is_space).field ∙ field in
     let e : point_count (order_number space.order) (length space.rows) ≡ point_count (order_number form.matrices.order) form.nullity =
-          ap (λ o. point_count (order_number o) (length space.rows)) fields ∙ ap (point_count (order_number form.matrices.order)) same in
+    ap (λ o. point_count (order_number o) (length space.rows)) fields ∙ ap (point_count (order_number form.matrices.order)) same in
     omega arith
 
 -- the same null space, by equal numbers of a word

@@ -118,7 +118,7 @@ module _ (m : ModuleValue) (v : RowValue) (basis : MatrixValue) (is_module : Val
       form_over : IsFormOver m.order action.dim action.generators seed number (length space.rows)
       form_over =
           let (e, e_spans, e_independent) = standard_matrices_keep_null_space F M A (vector_of K v.entries) (matrix_of K basis.rows) M_is_module long shape whole acts_on
-                (word_of K word) of_word (length space.rows) (matrix_of K space.rows) spans independent in
+          (word_of K word) of_word (length space.rows) (matrix_of K space.rows) spans independent in
           record {
             standard = standard_matrices_of_unit F M (vector_of K v.entries) M_is_module long (matrix_of K basis.rows) A shape whole acts_on;
             null = subst (λ k. IsNullVector F action.dim (word_value F A (word_of K (drawn_word seed number (order_number m.order) k))) (unit_vector F 0))

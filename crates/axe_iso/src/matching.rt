@@ -14,8 +14,8 @@ use axe_word::Points;
 use std::alloc::Global;
 
 /// The isomorphism from a module to a form's matrices that the form gives, or none where they are not isomorphic: the
-/// standard basis of the first point, of the null space of the value of the form's word in the module, whose standard matrices
-/// are the form's. The module is over the form's field and has as many generators.
+/// standard basis of the first point, of the null space of the value of the form's word in the module, whose standard
+/// matrices are the form's. The module is over the form's field and has as many generators.
 pub fn matches(alloc: Global, form: &Form, module: &Module) -> Result<Option<Matrix>, Refusal>
     requires field { «module».now.order ≡ form.now.matrices.order }
     requires generators { length «module».now.generators ≡ length form.now.matrices.generators }
@@ -37,9 +37,14 @@ pub fn matches(alloc: Global, form: &Form, module: &Module) -> Result<Option<Mat
     Ok(None)
 }
 
-/// Whether matrices are the action of a module on the rows of a basis, and there are as many of these as the dimension. It
-/// stops at the first row that differs.
-fn is_action(alloc: Global, module: &Module, basis: &Matrix, matrices: &Module) -> Result<bool, Refusal>
+/// Whether matrices are the action of a module on the rows of a basis, and there are as many of these as the
+/// dimension. It stops at the first row that differs.
+fn is_action(
+    alloc: Global,
+    module: &Module,
+    basis: &Matrix,
+    matrices: &Module,
+) -> Result<bool, Refusal>
     requires field { basis.now.order ≡ «module».now.order }
     requires columns { basis.now.cols ≡ «module».now.dim }
     requires matrices_field { matrices.now.order ≡ «module».now.order }
@@ -51,7 +56,12 @@ fn is_action(alloc: Global, module: &Module, basis: &Matrix, matrices: &Module) 
         return Ok(false);
     }
     for index in 0..matrices.gens() {
-        if !acts_by(alloc, module.generator(index), basis, matrices.generator(index))? {
+        if !acts_by(
+            alloc,
+            module.generator(index),
+            basis,
+            matrices.generator(index),
+        )? {
             return Ok(false);
         }
     }
@@ -59,7 +69,12 @@ fn is_action(alloc: Global, module: &Module, basis: &Matrix, matrices: &Module) 
 }
 
 /// Whether each row of a basis times a generator is the combination of the basis with the same row of a matrix.
-fn acts_by(alloc: Global, generator: &Matrix, basis: &Matrix, matrix: &Matrix) -> Result<bool, Refusal>
+fn acts_by(
+    alloc: Global,
+    generator: &Matrix,
+    basis: &Matrix,
+    matrix: &Matrix,
+) -> Result<bool, Refusal>
     requires field { basis.now.order ≡ generator.now.order }
     requires matrix_field { matrix.now.order ≡ generator.now.order }
     requires columns { basis.now.cols ≡ length generator.now.rows }

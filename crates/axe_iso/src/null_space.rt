@@ -11,7 +11,12 @@ use axe_word::nth_word;
 use std::alloc::Global;
 
 /// The reduced basis of the null space of the value of the word of a seed and a number in a module.
-pub(crate) fn null_space_of(alloc: Global, module: &Module, seed: u64, word: u32) -> Result<Matrix, Refusal>
+pub(crate) fn null_space_of(
+    alloc: Global,
+    module: &Module,
+    seed: u64,
+    word: u32,
+) -> Result<Matrix, Refusal>
     ensures { Answers None (IsNullSpaceOf «module».now seed word) result }
 {
     let word = nth_word(seed, word, module.field().order(), module.gens() as u8);

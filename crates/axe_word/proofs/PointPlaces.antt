@@ -60,7 +60,7 @@ left_at_start b =
     ap (map (point_with_number b)) (sym (numbers_all q m (order_number-at_least b.order)))
     ∙ sym (map_after (digits q m) (λ c. combination (number_field b.order) b.cols c b.rows) (point_numbers q m))
     ∙ ap (map (λ c. combination (number_field b.order) b.cols c b.rows))
-      (sym (coordinates_are_digits q m) ∙ ap (λ k. point_coordinates k m) (sym (number_field-order b.order)))
+    (sym (coordinates_are_digits q m) ∙ ap (λ k. point_coordinates k m) (sym (number_field-order b.order)))
   where
     q : ℕ
     q = order_number b.order
@@ -95,9 +95,9 @@ module _ (b : MatrixValue) (number leading end : ℕ) (place : IsPlaceOfPoint b 
     leading_times =
         let (p, inside, power, from, to) = place.leads below in
         let most : order_number b.order ^ suc p ≤ order_number b.order ^ length b.rows =
-              pow-le-pow_right {n = order_number b.order} (omega (arith, order_number-at_least b.order)) inside in
+        pow-le-pow_right {n = order_number b.order} (omega (arith, order_number-at_least b.order)) inside in
         let same : leading * order_number b.order ≡ order_number b.order ^ suc p =
-              ap (λ k. k * order_number b.order) power ∙ sym (pow-suc (order_number b.order) p) in
+        ap (λ k. k * order_number b.order) power ∙ sym (pow-suc (order_number b.order) p) in
         omega (arith, place.end_is)
 
     pub leading-below : leading < 2 ^ 32
@@ -110,7 +110,7 @@ module _ (b : MatrixValue) (number leading end : ℕ) (place : IsPlaceOfPoint b 
     left_skipped twice =
         let (p, inside, power, from, to) = place.leads below in
         let same : leading * order_number b.order ≡ order_number b.order ^ suc p =
-              ap (λ k. k * order_number b.order) power ∙ sym (pow-suc (order_number b.order) p) in
+        ap (λ k. k * order_number b.order) power ∙ sym (pow-suc (order_number b.order) p) in
         let more : leading * 2 ≤ leading * order_number b.order = mul-le-mul_left leading (order_number-at_least b.order) in
         ap (map (point_with_number b)) (numbers_skip (order_number b.order) (length b.rows) (number + 1) (leading * order_number b.order)
         (omega arith) (omega (arith, leading_times, place.end_is))
@@ -190,7 +190,7 @@ pub power_small : (b : MatrixValue) → point_count (order_number b.order) (leng
 power_small b few =
     let counted = count_times (order_number b.order) (length b.rows) (order_number-at_least b.order) in
     let most : point_count (order_number b.order) (length b.rows) * (order_number b.order - 1) ≤ point_count (order_number b.order) (length b.rows) * 8 =
-          mul-le-mul_left (point_count (order_number b.order) (length b.rows)) (omega (arith, order_number-at_most b.order)) in
+    mul-le-mul_left (point_count (order_number b.order) (length b.rows)) (omega (arith, order_number-at_most b.order)) in
     omega arith
 
 -- the place at the start

@@ -31,9 +31,9 @@ returns-in_err-matrices-clause-form c =
 pub invariant_of-result : goal.invariant_of-result
 invariant_of-result c =
     let acts = action_given (sub_action_refusal c.args.module.now c.in_ok-basis.basis) (IsInvariantIn c.args.module.now c.in_ok-basis.basis)
-          (IsBasisAction c.args.module.now c.in_ok-basis.basis) c.in_ok-matrices.matrices
-          (basis_accepted c.args.module.now c.args.vector.now c.dim.ensures.well_formed c.requires.generates c.in_ok-basis.basis c.in_ok-basis.ensures.basis)
-          c.in_ok-matrices.ensures.action in
+    (IsBasisAction c.args.module.now c.in_ok-basis.basis) c.in_ok-matrices.matrices
+    (basis_accepted c.args.module.now c.args.vector.now c.dim.ensures.well_formed c.requires.generates c.in_ok-basis.basis c.in_ok-basis.ensures.basis)
+    c.in_ok-matrices.ensures.action in
     record {
       well_formed = c.in_ok-matrices.ensures.well_formed;
       over = subst (λ r. IsFormOver c.in_ok-matrices.matrices.order c.in_ok-matrices.matrices.dim c.in_ok-matrices.matrices.generators c.args.seed c.args.word r)
@@ -46,9 +46,9 @@ invariant_of-result c =
 pub returns-clause-well_formed : goal.returns-clause-well_formed
 returns-clause-well_formed c =
     let acts = action_given (sub_action_refusal c.args.module.now c.in_ok-basis.basis) (IsInvariantIn c.args.module.now c.in_ok-basis.basis)
-          (IsBasisAction c.args.module.now c.in_ok-basis.basis) c.in_ok-matrices.matrices
-          (basis_accepted c.args.module.now c.args.vector.now c.dim.ensures.well_formed c.requires.generates c.in_ok-basis.basis c.in_ok-basis.ensures.basis)
-          c.in_ok-matrices.ensures.action in
+    (IsBasisAction c.args.module.now c.in_ok-basis.basis) c.in_ok-matrices.matrices
+    (basis_accepted c.args.module.now c.args.vector.now c.dim.ensures.well_formed c.requires.generates c.in_ok-basis.basis c.in_ok-basis.ensures.basis)
+    c.in_ok-matrices.ensures.action in
     record {
       well_formed = c.in_ok-matrices.ensures.well_formed;
       over = subst (λ r. IsFormOver c.in_ok-matrices.matrices.order c.in_ok-matrices.matrices.dim c.in_ok-matrices.matrices.generators c.args.seed c.args.word r)
@@ -61,9 +61,9 @@ returns-clause-well_formed c =
 pub returns-clause-form : goal.returns-clause-form
 returns-clause-form c =
     let acts = action_given (sub_action_refusal c.args.module.now c.in_ok-basis.basis) (IsInvariantIn c.args.module.now c.in_ok-basis.basis)
-          (IsBasisAction c.args.module.now c.in_ok-basis.basis) c.in_ok-matrices.matrices
-          (basis_accepted c.args.module.now c.args.vector.now c.dim.ensures.well_formed c.requires.generates c.in_ok-basis.basis c.in_ok-basis.ensures.basis)
-          c.in_ok-matrices.ensures.action in
+    (IsBasisAction c.args.module.now c.in_ok-basis.basis) c.in_ok-matrices.matrices
+    (basis_accepted c.args.module.now c.args.vector.now c.dim.ensures.well_formed c.requires.generates c.in_ok-basis.basis c.in_ok-basis.ensures.basis)
+    c.in_ok-matrices.ensures.action in
     record {
       standard = c.in_ok-basis.ensures.basis;
       well_formed = c.in_ok-basis.ensures.well_formed;

@@ -10,8 +10,7 @@ pub returns-then-not-branch : goal.returns-then-not-branch
 returns-then-not-branch c =
     let square : length c.args.basis.now.rows ≡ c.args.module.now.dim = sym c.rows.ensures.count ∙ c.if-rows-dim.false ∙ c.dim.ensures.count in
     let below : c.loop-index.index < length c.args.module.now.generators = omega (arith, c.loop-index-test.true, c.gens-index-end.ensures.count, c.requires.generators) in
-    let not_acting : c.in_ok-acts_by.field-0 ≡ false = search rules in
-    (
+    let not_acting : c.in_ok-acts_by.field-0 ≡ false = search rules in (
       λ none. absurd (false≢true none),
       λ action. absurd (false≢true (sym not_acting ∙ c.in_ok-acts_by.ensures.1
           (subst (λ (g : MatrixValue). MatrixActs g c.args.basis.now c.generator-in-loop-index.result.now) (sym c.generator.ensures.value)
@@ -23,8 +22,7 @@ returns-then-not-branch c =
 pub returns : goal.returns
 returns c =
     let square : length c.args.basis.now.rows ≡ c.args.module.now.dim = sym c.rows.ensures.count ∙ c.if-rows-dim.false ∙ c.dim.ensures.count in
-    let all : length c.args.module.now.generators ≤ c.loop-index.index = omega (arith, c.loop-index-test.false, c.gens-index-end.ensures.count, c.requires.generators) in
-    (
+    let all : length c.args.module.now.generators ≤ c.loop-index.index = omega (arith, c.loop-index-test.false, c.gens-index-end.ensures.count, c.requires.generators) in (
       λ _. acts_by_rows c.args.module.now c.args.basis.now c.args.matrices.now c.dim.ensures.well_formed c.rows.ensures.well_formed c.gens-index-end.ensures.well_formed
           c.requires.field c.requires.columns c.requires.matrices_field c.requires.dimension c.requires.generators square
           (λ i below. c.loop-index.invariant i (omega arith)),

@@ -20,9 +20,9 @@ value-requires c = record {
 pub returns : goal.returns
 returns c =
     let drawn : c.nth_word-word.result ≡ drawn_word c.args.seed c.args.word (order_number c.args.module.now.order) (length c.args.module.now.generators) =
-          c.nth_word-word.ensures.drawn
-          ∙ ap (λ q. drawn_word c.args.seed c.args.word q c.gens.result) (c.order.ensures.value ∙ ap order_number c.field.ensures.order)
-          ∙ ap (λ k. drawn_word c.args.seed c.args.word (order_number c.args.module.now.order) k) c.gens.ensures.count in
+    c.nth_word-word.ensures.drawn
+    ∙ ap (λ q. drawn_word c.args.seed c.args.word q c.gens.result) (c.order.ensures.value ∙ ap order_number c.field.ensures.order)
+    ∙ ap (λ k. drawn_word c.args.seed c.args.word (order_number c.args.module.now.order) k) c.gens.ensures.count in
     null_space_answered c.args.module.now c.args.seed c.args.word c.in_ok-value.value c.null_space.result c.gens.ensures.well_formed
     (subst (λ w. IsValueOf c.args.module.now w c.in_ok-value.value) drawn c.in_ok-value.ensures.value)
     c.null_space.ensures.basis c.null_space.ensures.well_formed

@@ -34,15 +34,15 @@ loop-index-preserved c =
     let sum = c.add_scaled.ensures.sum in
     let order : c.from-order.result ≡ order_number c.args.basis.now.order = c.from-order.ensures ∙ c.order.ensures.value ∙ ap order_number c.field.ensures.order in
     let next : c.loop-index.place / c.from-order.result ≡ order_number c.args.basis.now.order ^ (length c.args.basis.now.rows - (c.loop-index.index + 1)) =
-          place_step (order_number c.args.basis.now.order) (length c.args.basis.now.rows) c.loop-index.index c.loop-index.place c.from-order.result
-          (order_number-at_least c.args.basis.now.order) (omega (arith, c.rows-index-end.ensures.count)) c.loop-index.invariant.place order in
+    place_step (order_number c.args.basis.now.order) (length c.args.basis.now.rows) c.loop-index.index c.loop-index.place c.from-order.result
+    (order_number-at_least c.args.basis.now.order) (omega (arith, c.rows-index-end.ensures.count)) c.loop-index.invariant.place order in
     let digit : c.args.number / (c.loop-index.place / c.from-order.result) % c.from-order.result
-          ≡ get_or (digits (order_number c.args.basis.now.order) (length c.args.basis.now.rows) c.args.number) c.loop-index.index 0 =
-          ap₂ (λ a b. c.args.number / a % b) next order
-          ∙ sym (digit_at (order_number c.args.basis.now.order) (length c.args.basis.now.rows) c.args.number c.loop-index.index
-          (length c.args.basis.now.rows - (c.loop-index.index + 1)) (omega (arith, c.rows-index-end.ensures.count))) in
+    ≡ get_or (digits (order_number c.args.basis.now.order) (length c.args.basis.now.rows) c.args.number) c.loop-index.index 0 =
+    ap₂ (λ a b. c.args.number / a % b) next order
+    ∙ sym (digit_at (order_number c.args.basis.now.order) (length c.args.basis.now.rows) c.args.number c.loop-index.index
+    (length c.args.basis.now.rows - (c.loop-index.index + 1)) (omega (arith, c.rows-index-end.ensures.count))) in
     let more = partial_combination-more (number_field c.args.basis.now.order) c.args.basis.now.cols
-          (digits (order_number c.args.basis.now.order) (length c.args.basis.now.rows) c.args.number) c.args.basis.now.rows c.loop-index.index in
+    (digits (order_number c.args.basis.now.order) (length c.args.basis.now.rows) c.args.number) c.args.basis.now.rows c.loop-index.index in
     record {
       field = ap (λ (r : RowValue). r.order) sum ∙ c.loop-index.invariant.field;
       so_far =

@@ -6,8 +6,7 @@ use Rattle.axe_word.proofs.points.Points.is_over.Goals as goal
 
 pub returns : goal.returns
 returns c =
-    let seen = ap (λ (v : PointsLeft). length v.left) c.self.view_is in
-    (
+    let seen = ap (λ (v : PointsLeft). length v.left) c.self.view_is in (
       λ past. sym seen ∙ none_is_left _ _ _ _ c.self.invariant (leb-true c.self.inside.end c.self.inside.number past),
       λ none. le-leb c.self.inside.end c.self.inside.number (past_end _ _ _ _ c.self.invariant (seen ∙ none)),
     )

@@ -8,7 +8,7 @@ pub pow-end-requires : goal.pow-end-requires
 pow-end-requires c =
     let order : c.from-order.result ≡ order_number c.args.basis.now.order = c.from-order.ensures ∙ c.order.ensures.value ∙ ap order_number c.field.ensures.order in
     let power : c.from-order.result ^ c.rows.result ≡ order_number c.args.basis.now.order ^ length c.args.basis.now.rows =
-          ap (λ k. k ^ c.rows.result) order ∙ ap (λ k. order_number c.args.basis.now.order ^ k) c.rows.ensures.count in
+    ap (λ k. k ^ c.rows.result) order ∙ ap (λ k. order_number c.args.basis.now.order ^ k) c.rows.ensures.count in
     let small = power_small c.args.basis.now c.requires.few in
     omega arith
 
