@@ -4,7 +4,9 @@ ghost use Rattle.std.specs.Prelude.{IfOk};
 ghost use Rattle.axe_word.specs.PointsOfMatrix.{IsReduced};
 
 use crate::tables::{Topic, each_call, four_fields, two_fields};
-use crate::values::{assert_shape, field_of, is_matrix, is_row_answer, matrix_of, number_of, truth_of};
+use crate::values::{
+    assert_shape, field_of, is_matrix, is_row_answer, matrix_of, number_of, truth_of,
+};
 use axe_echelon::null_space;
 use axe_matrix::{MAX_ROWS, Matrix, Refusal};
 use axe_word::{MAX_POINTS, Points, few_points, first_point};
