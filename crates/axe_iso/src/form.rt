@@ -14,9 +14,9 @@ use axe_spin::{Module, standard_basis};
 use std::alloc::Global;
 use std::marker::Model;
 
-/// The standard form of a module from a null vector of a word's value: the standard matrices of that vector, as a module.
-/// They are the standard matrices of their own first unit vector, which is a null vector of the word's value in them, and
-/// the null space of that value has few points.
+/// The standard form of a module from a null vector of a word's value: the standard matrices of that vector, as a
+/// module. They are the standard matrices of their own first unit vector, which is a null vector of the word's value
+/// in them, and the null space of that value has few points.
 #[derive(Drop)]
 pub struct Form {
     matrices: Module,
@@ -31,9 +31,11 @@ impl Model for Form {
 
     ghost Value = { FormValue };
 
-    ghost view = { λ a. record { matrices = a.matrices; basis = a.basis; word = a.word; seed = a.seed; nullity = a.nullity } };
+    ghost view = { λ a.
+        record { matrices = a.matrices; basis = a.basis; word = a.word; seed = a.seed; nullity = a.nullity } };
 
-    ghost invariant = { λ a. IsForm (record { matrices = a.matrices; basis = a.basis; word = a.word; seed = a.seed; nullity = a.nullity }) };
+    ghost invariant = { λ a.
+        IsForm (record { matrices = a.matrices; basis = a.basis; word = a.word; seed = a.seed; nullity = a.nullity }) };
 }
 
 impl Form {
@@ -78,8 +80,8 @@ impl Form {
     }
 }
 
-/// The standard form of a module from a vector that generates everything and is a null vector of the value of a word, whose
-/// null space has few points. The word is named by its seed and its number.
+/// The standard form of a module from a vector that generates everything and is a null vector of the value of a word,
+/// whose null space has few points. The word is named by its seed and its number.
 pub fn form_of(
     alloc: Global,
     module: &Module,
@@ -89,7 +91,8 @@ pub fn form_of(
 ) -> Result<Form, Refusal>
     requires vector { IsVectorOf «module».now vector.now }
     requires null { IsNullVectorOf «module».now seed word vector.now.entries }
-    requires generates { GeneratesEverything (number_field «module».now.order) «module».now.dim «module».now.generators vector.now.entries }
+    requires generates { GeneratesEverything (number_field «module».now.order) «module».now.dim
+        «module».now.generators vector.now.entries }
     requires few { HasFewNullPoints «module».now seed word }
     ensures form { Answers None (IsFormFrom «module».now seed word vector.now) result }
     ensures well_formed { IfOk result IsForm }

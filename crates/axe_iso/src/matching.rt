@@ -14,8 +14,8 @@ use axe_word::Points;
 use std::alloc::Global;
 
 /// The isomorphism from a module to a form's matrices that the form gives, or none where they are not isomorphic: the
-/// standard basis of the first point, of the null space of the value of the form's word in the module, whose standard matrices
-/// are the form's. The module is over the form's field and has as many generators.
+/// standard basis of the first point, of the null space of the value of the form's word in the module, whose standard
+/// matrices are the form's. The module is over the form's field and has as many generators.
 pub fn matches(alloc: Global, form: &Form, module: &Module) -> Result<Option<Matrix>, Refusal>
     requires field { «module».now.order ≡ form.now.matrices.order }
     requires generators { length «module».now.generators ≡ length form.now.matrices.generators }
@@ -37,8 +37,8 @@ pub fn matches(alloc: Global, form: &Form, module: &Module) -> Result<Option<Mat
     Ok(None)
 }
 
-/// Whether matrices are the action of a module on the rows of a basis, and there are as many of these as the dimension. It
-/// stops at the first row that differs.
+/// Whether matrices are the action of a module on the rows of a basis, and there are as many of these as the
+/// dimension. It stops at the first row that differs.
 fn is_action(
     alloc: Global,
     module: &Module,

@@ -37,15 +37,18 @@ pub fn few_points(order: u8, dimension: usize, bound: usize) -> bool
 pub fn first_point(alloc: Global, basis: &Matrix) -> Result<Row, Refusal>
     requires reduced { IsReduced basis.now }
     requires some_row { 0 < length basis.now.rows }
-    ensures first { Answers None (λ point. point ≡ record { order = basis.now.order; entries = slice_index_or (points_of basis.now) 0 [] }) result }
+    ensures first { Answers None (λ point. point ≡ record {
+      order = basis.now.order;
+      entries = slice_index_or (points_of basis.now) 0 [];
+    }) result }
     ensures well_formed { Answers None IsRow result }
 {
     basis.row(basis.rows() - 1).copy(alloc)
 }
 
-/// The points of the span of a reduced basis, in ascending order of their coordinates over it, read as numbers in base q,
-/// first coordinate most significant. It gives them up to their end, or up to a first Memory, after which it gives no
-/// more. It takes memory for the point that it gives, and for nothing else.
+/// The points of the span of a reduced basis, in ascending order of their coordinates over it, read as numbers in base
+/// q, first coordinate most significant. It gives them up to their end, or up to a first Memory, after which it gives
+/// no more. It takes memory for the point that it gives, and for nothing else.
 #[derive(Drop)]
 pub struct Points<'a> {
     alloc: Global,
@@ -96,7 +99,8 @@ impl<'a> Points<'a> {
     /// The first point that is left.
     fn first(&self) -> Result<Row, Refusal>
         requires { 0 < length self.now.left }
-        ensures first { Answers None (λ point. point ≡ record { order = self.now.order; entries = slice_index_or self.now.left 0 [] }) result }
+        ensures first { Answers None
+            (λ point. point ≡ record { order = self.now.order; entries = slice_index_or self.now.left 0 [] }) result }
         ensures well_formed { Answers None IsRow result }
     {
         combination_with_number(self.alloc, self.basis, self.number, self.end)
@@ -155,7 +159,8 @@ fn combination_with_number(
     end: usize,
 ) -> Result<Row, Refusal>
     requires { end ≡ order_number basis.now.order ^ length basis.now.rows }
-    ensures combination { Answers None (λ point. point ≡ record { order = basis.now.order; entries = point_with_number basis.now number }) result }
+    ensures combination { Answers None
+        (λ point. point ≡ record { order = basis.now.order; entries = point_with_number basis.now number }) result }
     ensures well_formed { Answers None IsRow result }
 {
     let order = usize::from(basis.field().order());
