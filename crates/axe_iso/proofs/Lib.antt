@@ -1,6 +1,0 @@
-pub mod ActionRows
-pub mod MatchLaws
-pub mod FormLaws
-pub mod Forming
-pub mod Matched
-pub mod FormAnswers

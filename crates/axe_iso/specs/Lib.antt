@@ -1,3 +1,0 @@
-pub mod Forms
-pub mod Rows
-pub mod Matches
