@@ -1,9 +1,8 @@
 -- Matrices that act row by row are the action.
-use Rattle.std.proofs.Common.{◌≡◌, ℕ, ◌+◌, ◌<◌, ◌↔◌, Bool, true, IsTrue, List, [], length, get_or, sym, ap, subst, ◌∙◌, arith, below_more}
+use Rattle.std.proofs.Common.{◌≡◌, ℕ, ◌+◌, ◌<◌, ◌↔◌, Bool, true, IsTrue, List, [], length, get_or, sym, ap, subst, ◌∙◌, below_more}
 use Rattle.std.specs.List.{All}
 use Rattle.axe_algebra.specs.Lists.{IsMatrixOver, IsSquareOver}
 use Rattle.axe_algebra.specs.ListArithmetic.{combination}
-use Rattle.axe_algebra.specs.ModulesOfLists.{IsSubAction}
 use Rattle.axe_algebra.specs.NumberField.{NumberField}
 use Rattle.axe_algebra.proofs.ListModules.{sub_action_by_rows, rows_of_sub_action}
 use Rattle.axe_field.specs.NumberFields.{number_field}

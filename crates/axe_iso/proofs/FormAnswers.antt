@@ -1,12 +1,12 @@
 -- What the calls that make a form answer: operands that are not refused, and what is left but Memory.
-use Rattle.std.proofs.Common.{◌≡◌, ◌≢◌, ℕ, ◌<◌, ◌≤◌, ◌==◌, false, true, cond, List, [], length, get_or, Option, Some, None, Result, Ok, Err, refl, sym, ap, subst, ◌∙◌, arith}
+use Rattle.std.proofs.Common.{◌≡◌, ◌≢◌, ℕ, ◌<◌, false, cond, [], length, get_or, Some, None, Result, Ok, Err, refl, sym, ap, subst, ◌∙◌, arith}
 use Rattle.std.specs.Prelude.{IfOk}
 use Rattle.std.proofs.lemmas.Bool.{eq-eqb, ne_eqb}
 use Rattle.axe_algebra.specs.Field.{Field}
 use Rattle.axe_algebra.specs.NumberField.{NumberField}
-use Rattle.axe_algebra.specs.Vectors.{Vector, Matrix, zero_vector, unit_vector, times}
+use Rattle.axe_algebra.specs.Vectors.{Vector, zero_vector, unit_vector, times}
 use Rattle.axe_algebra.specs.Modules.{Module, VectorGeneratesAll, InGenerated, path_product}
-use Rattle.axe_algebra.specs.Bridge.{field_of, vector_of, matrix_of, module_of}
+use Rattle.axe_algebra.specs.Bridge.{vector_of, matrix_of, module_of}
 use Rattle.axe_algebra.specs.ModulesOfLists.{GeneratesEverything}
 use Rattle.axe_algebra.proofs.ProductLaws.{times_zero, times_zero_rows, unit_at, unit_length}
 use Rattle.axe_algebra.proofs.StandardBases.{standard_basis_is_invariant}

@@ -1,18 +1,17 @@
 -- Null spaces of drawn words, their points in turn, and what a match and no match show of a form and a module.
-use Rattle.std.proofs.Common.{◌≡◌, ◌≢◌, ℕ, suc, ◌+◌, ◌<◌, ◌≤◌, List, [], ◌∷◌, length, get_or, drop, Some, Ok, refl, sym, ap, subst, ◌∙◌, arith, add-one}
+use Rattle.std.proofs.Common.{◌≡◌, ◌≢◌, ℕ, suc, ◌<◌, ◌≤◌, List, [], ◌∷◌, length, get_or, drop, Some, Ok, refl, sym, ap, subst, ◌∙◌, arith}
 use Rattle.std.proofs.Math.Seq.{drop-cons}
 use Rattle.std.proofs.lemmas.List.{length-drop}
 use Rattle.axe_algebra.specs.Field.{Field}
 use Rattle.axe_algebra.specs.NumberField.{NumberField}
 use Rattle.axe_algebra.specs.Vectors.{Vector, zero_vector, unit_vector}
-use Rattle.axe_algebra.specs.Spans.{InSpan, IsIndependent, IsNullVector}
+use Rattle.axe_algebra.specs.Spans.{IsIndependent, IsNullVector}
 use Rattle.axe_algebra.specs.Modules.{Module}
 use Rattle.axe_algebra.specs.Modules
 use Rattle.axe_algebra.specs.Reduced.{IsReducedBasisOf}
 use Rattle.axe_algebra.specs.Standard.{AreStandardMatrices}
-use Rattle.axe_algebra.specs.Words.{Word, IsWordOf, word_value}
-use Rattle.axe_algebra.specs.NortonTheorems.{SpansNullSpace}
-use Rattle.axe_algebra.specs.Bridge.{field_of, vector_of, matrix_of, module_of, word_of}
+use Rattle.axe_algebra.specs.Words.{IsWordOf, word_value}
+use Rattle.axe_algebra.specs.Bridge.{vector_of, matrix_of, module_of, word_of}
 use Rattle.axe_algebra.specs.Lists.{IsMatrixOver, IsModuleOver}
 use Rattle.axe_algebra.specs.SpansOfLists.{IsReducedBasis}
 use Rattle.axe_algebra.specs.ModulesOfLists.{AreIsomorphic}
@@ -26,10 +25,10 @@ use Rattle.axe_algebra.proofs.ListWords.{is_word}
 use Rattle.axe_algebra.proofs.Matching.{isomorphism_keeps_nullity}
 use Rattle.axe_algebra.proofs.PointSpans.{point_nonzero_spanned}
 use Rattle.axe_algebra.proofs.FormMatches.{no_point_matches}
-use Rattle.axe_field.specs.Order.{Order, order_number}
+use Rattle.axe_field.specs.Order.{order_number}
 use Rattle.axe_field.specs.NumberFields.{number_field, gf}
 use Rattle.axe_row.specs.Rows.{RowValue}
-use Rattle.axe_matrix.specs.Matrices.{MatrixValue, IsMatrix}
+use Rattle.axe_matrix.specs.Matrices.{MatrixValue}
 use Rattle.axe_echelon.proofs.InverseLaws.{matrix_over}
 use Rattle.axe_spin.specs.Modules.{ModuleValue, IsModule}
 use Rattle.axe_word.specs.Words.{WordValue}

@@ -1,8 +1,8 @@
 -- The form of a module from a vector keeps what a form has to.
-use Rattle.std.proofs.Common.{◌≡◌, ◌≢◌, ℕ, ◌<◌, ◌≤◌, List, [], length, get_or, refl, sym, ap, subst, ◌∙◌, arith}
+use Rattle.std.proofs.Common.{◌≡◌, ℕ, ◌≤◌, length, refl, sym, subst, ◌∙◌}
 use Rattle.axe_algebra.specs.NumberField.{NumberField}
 use Rattle.axe_algebra.specs.Field.{Field}
-use Rattle.axe_algebra.specs.Vectors.{Vector, Matrix, HasLength, IsMatrix, unit_vector}
+use Rattle.axe_algebra.specs.Vectors.{HasLength, IsMatrix, unit_vector}
 use Rattle.axe_algebra.specs.Spans.{IsIndependent, IsNullVector, IsInvertible}
 use Rattle.axe_algebra.specs.Modules.{Module}
 use Rattle.axe_algebra.specs.Modules
@@ -23,7 +23,7 @@ use Rattle.axe_algebra.proofs.IsomorphismLaws.{isomorphic_refl}
 use Rattle.axe_algebra.proofs.Matching.{standard_matrices_of_unit, unit_is_null_vector, isomorphism_keeps_nullity}
 use Rattle.axe_algebra.proofs.FormMatches.{standard_matrices_keep_null_space}
 use Rattle.axe_echelon.proofs.InverseLaws.{matrix_over}
-use Rattle.axe_field.specs.Order.{Order, order_number}
+use Rattle.axe_field.specs.Order.{order_number}
 use Rattle.axe_field.specs.NumberFields.{number_field, gf}
 use Rattle.axe_row.specs.Rows.{RowValue}
 use Rattle.axe_matrix.specs.Matrices.{MatrixValue}
@@ -37,7 +37,7 @@ use Rattle.axe_word.specs.Words.{WordValue}
 use Rattle.axe_word.specs.Drawing.{drawn_word}
 use Rattle.axe_word.specs.PointsOfMatrix.{point_count, most_points}
 use Rattle.axe_word.proofs.DrawingLaws.{drawn_word-over}
-use Rattle.axe_iso.specs.Forms.{FormValue, drawn_value, HasNullity, HasFewNullPoints, IsNullVectorOf, IsNullSpaceOf, IsFormOver, IsForm}
+use Rattle.axe_iso.specs.Forms.{HasFewNullPoints, IsNullVectorOf, IsNullSpaceOf, IsFormOver}
 use Rattle.axe_iso.proofs.FormLaws.{IsSpaceOfWord, space_of_word, space_independent}
 
 module _ (m : ModuleValue) (v : RowValue) (basis : MatrixValue) (is_module : Values.IsModule m) (of : IsVectorOf m v)

@@ -6,3 +6,4 @@ pub mod Matched
 pub mod FormAnswers
 pub mod PointForms
 pub mod OneForm
+pub mod SomeForm

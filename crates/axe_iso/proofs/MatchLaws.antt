@@ -1,17 +1,15 @@
 -- When the standard basis of a point gives a form's matrices; what a match and no match show.
-use Rattle.std.proofs.Common.{◌≡◌, ◌≢◌, ℕ, ◌<◌, ◌≤◌, List, [], length, get_or, refl, sym, ap, subst, ◌∙◌, arith}
+use Rattle.std.proofs.Common.{◌≡◌, ℕ, List, length, sym, subst, ◌∙◌}
 use Rattle.axe_algebra.specs.Field.{Field}
 use Rattle.axe_algebra.specs.NumberField.{NumberField}
-use Rattle.axe_algebra.specs.Vectors.{Vector, HasLength, zero_vector, unit_vector}
-use Rattle.axe_algebra.specs.Spans.{InSpan, IsIndependent, IsNullVector}
+use Rattle.axe_algebra.specs.Vectors.{HasLength}
 use Rattle.axe_algebra.specs.Modules.{Module}
 use Rattle.axe_algebra.specs.Actions
-use Rattle.axe_algebra.specs.Irreducible
 use Rattle.axe_algebra.specs.Standard
 use Rattle.axe_algebra.specs.Standard.{AreStandardMatrices}
 use Rattle.axe_algebra.specs.Bridge.{field_of, vector_of, matrix_of, module_of}
 use Rattle.axe_algebra.specs.Lists.{IsMatrixOver, IsSquareOver}
-use Rattle.axe_algebra.specs.ModulesOfLists.{IsStandardBasis, IsSubAction, IsIsomorphism, AreIsomorphic}
+use Rattle.axe_algebra.specs.ModulesOfLists.{IsStandardBasis, IsSubAction, IsIsomorphism}
 use Rattle.axe_algebra.proofs.FormMatches.{standard_matrices_act}
 use Rattle.axe_algebra.proofs.Isomorphisms.{standard_basis_is_isomorphism}
 use Rattle.axe_algebra.proofs.StandardBases.{standard_basis_size_is_unique}

@@ -1,28 +1,25 @@
 -- What holds of the point that an iterator gives: it is a vector of the module, and its standard basis matches the form or doesn't.
-use Rattle.std.proofs.Common.{◌≡◌, ◌≢◌, ℕ, ◌<◌, List, [], length, get_or, Some, Ok, Result, refl, sym, ap, subst, ◌∙◌, arith}
+use Rattle.std.proofs.Common.{◌≡◌, ℕ, List, [], length, get_or, Some, Ok, Result, refl, sym, subst, ◌∙◌}
 use Rattle.axe_algebra.specs.NumberField.{NumberField}
-use Rattle.axe_algebra.specs.Bridge.{vector_of}
 use Rattle.axe_algebra.specs.Lists.{IsMatrixOver}
 use Rattle.axe_algebra.specs.ModulesOfLists.{IsIsomorphism, IsStandardBasis}
 use Rattle.axe_algebra.specs.PointTheorems.{IsNonzeroSpanned}
 use Rattle.axe_algebra.proofs.ListEntries.{vector_length}
 use Rattle.axe_echelon.proofs.EliminationLaws.{vector_of_zero_row}
 use Rattle.axe_echelon.proofs.InverseLaws.{matrix_over}
-use Rattle.axe_field.specs.Order.{Order, order_number}
-use Rattle.axe_field.specs.NumberFields.{number_field, gf}
+use Rattle.axe_field.specs.Order.{order_number}
+use Rattle.axe_field.specs.NumberFields.{number_field}
 use Rattle.axe_row.specs.Rows.{RowValue}
 use Rattle.axe_row.specs.Operations.{IsZeroVector}
 use Rattle.axe_row.specs.declared.refusals.Refusal.{Refusal}
 use Rattle.axe_matrix.specs.Matrices.{MatrixValue, IsMatrix}
 use Rattle.axe_spin.specs.Modules.{ModuleValue, IsModule}
 use Rattle.axe_spin.specs.Spinning.{IsStandardMatrix}
-use Rattle.axe_spin.specs.SpinLaws.{IsIsomorphismMatrix}
-use Rattle.axe_word.specs.Words.{WordValue}
 use Rattle.axe_word.specs.Drawing.{drawn_word}
 use Rattle.axe_word.specs.PointsOfMatrix.{PointsLeft, points_of, GivesNext}
-use Rattle.axe_iso.specs.Forms.{FormValue, IsNullSpaceOf, IsForm}
+use Rattle.axe_iso.specs.Forms.{FormValue, IsNullSpaceOf}
 use Rattle.axe_iso.specs.Rows.{IsSquareAction}
-use Rattle.axe_iso.specs.Matches.{HasStandardMatrices, point_row, IsFirstMatch}
+use Rattle.axe_iso.specs.Matches.{HasStandardMatrices, IsFirstMatch}
 use Rattle.axe_iso.proofs.FormLaws.{IsSpaceOfWord, space_of_word, point_in_module, AreTried, AreTriedOfWord, tried_inside, tried_point, tried_more}
 use Rattle.axe_iso.proofs.MatchLaws.{standard_matrices_of_action, rows_of_standard_matrices, action_of_standard_matrices, isomorphism_of_action}
 

@@ -1,6 +1,6 @@
 -- What a word's value and the reduced basis of its null space show: the points of the null space are null vectors of the
 -- value and vectors of the module, and few of them are few null points. This is what a form asks for.
-use Rattle.std.proofs.Common.{◌≡◌, ℕ, ◌<◌, ◌≤◌, List, [], All, length, get_or, refl, sym, subst, ◌∙◌}
+use Rattle.std.proofs.Common.{◌≡◌, ℕ, ◌<◌, ◌≤◌, List, [], All, length, get_or, refl, sym, subst}
 use Rattle.axe_algebra.specs.NumberField.{NumberField}
 use Rattle.axe_algebra.specs.Bridge.{vector_of}
 use Rattle.axe_algebra.specs.SpansOfLists.{IsSpanned}

@@ -1,5 +1,5 @@
 -- What a module is matched with: the form of another, by the points of the null space of the form's word (Parker 1984).
-use Rattle.std.specs.Prelude.{◌≡◌, ℕ, ◌<◌, List, [], length, get_or, Option, Some, None}
+use Rattle.std.specs.Prelude.{ℕ, ◌<◌, List, [], length, get_or, Option, Some, None}
 use Rattle.axe_algebra.specs.Standard.{AreStandardMatrices}
 use Rattle.axe_algebra.specs.Bridge.{vector_of, module_of}
 use Rattle.axe_algebra.specs.ModulesOfLists.{AreIsomorphic}

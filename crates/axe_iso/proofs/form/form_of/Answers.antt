@@ -1,4 +1,4 @@
-use Rattle.std.proofs.Common.{◌≡◌, length, refl, sym, ap, subst, ◌∙◌}
+use Rattle.std.proofs.Common.{length, refl, sym, subst}
 use Rattle.axe_algebra.specs.Spans.{IsIndependent}
 use Rattle.axe_algebra.specs.Bridge.{field_of, matrix_of}
 use Rattle.axe_field.specs.NumberFields.{number_field}
