@@ -21,6 +21,8 @@ mod files;
 #[cfg(test)]
 mod folders;
 #[cfg(test)]
+mod forms;
+#[cfg(test)]
 mod lanes;
 #[cfg(test)]
 mod matrices;

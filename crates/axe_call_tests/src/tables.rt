@@ -13,7 +13,8 @@
 //! A further case of a call is a line. A further call is a function that makes it, and an arm in `answers` of its module.
 
 use crate::{
-    actions, decisions, duals, echelons, fields, files, matrices, modules, points, rows, spinning,
+    actions, decisions, duals, echelons, fields, files, forms, matrices, modules, points, rows,
+    spinning,
 };
 use axe_matrix::Refusal;
 use std::alloc::Global;
@@ -28,6 +29,7 @@ pub(crate) enum Topic {
     Echelons,
     Fields,
     Files,
+    Forms,
     Matrices,
     Modules,
     Points,
@@ -45,6 +47,7 @@ fn answers(rt: &impl Abort, alloc: Global, topic: Topic, line: &str) -> Result<b
         Topic::Echelons => echelons::answers(rt, alloc, call, line),
         Topic::Fields => Ok(fields::answers(rt, call, line)),
         Topic::Files => files::answers(rt, alloc, call, line),
+        Topic::Forms => forms::answers(rt, alloc, call, line),
         Topic::Matrices => matrices::answers(rt, alloc, call, line),
         Topic::Modules => modules::answers(rt, alloc, call, line),
         Topic::Points => points::answers(rt, alloc, call, line),
