@@ -34,13 +34,14 @@ use Rattle.axe_word.specs.Words.{WordValue, IsWordIn, IsValueOf}
 use Rattle.axe_word.specs.Drawing.{drawn_word}
 use Rattle.axe_word.specs.PointsOfMatrix.{points_of, PointsLeft, GivesNext}
 use Rattle.axe_word.proofs.ValueLaws.{drawn_word-in}
-use Rattle.axe_iso.specs.Forms.{FormValue, HasFewNullPoints, IsNullSpaceOf, IsForm, IsFormFrom}
+use Rattle.axe_iso.specs.Forms.{FormValue, IsNullVectorOf, HasFewNullPoints, IsNullSpaceOf, IsFormOver, IsForm, IsFormFrom}
 use Rattle.axe_iso.specs.Matches.{HasStandardMatrices, point_row, IsFirstMatch, IsMatch}
 use Rattle.axe_iso.proofs.FormAnswers.{generator_is_nonzero}
-use Rattle.axe_iso.proofs.FormLaws.{IsSpaceOfWord, space_of_word, point_in_module, other_dimension, no_match}
-use Rattle.axe_iso.proofs.Forming.{basis_is_square, basis_is_invertible}
+use Rattle.axe_iso.proofs.FormLaws.{IsSpaceOfWord, space_of_word, point_in_module, nullity_of_space, other_dimension, no_match}
+use Rattle.axe_iso.proofs.Forming.{basis_is_square, basis_is_invertible, form_over_action}
 use Rattle.axe_iso.proofs.MatchLaws.{standard_matrices_of_action, rows_of_standard_matrices, action_of_standard_matrices}
 use Rattle.axe_iso.proofs.Matched.{matched}
+use Rattle.axe_iso.proofs.OneForm.{nullity_is_one}
 use Rattle.axe_iso.proofs.PointForms.{point_is_vector}
 use mathlib.Core.List.{List-discrete}
 use native.Mathlib.Decide.{ℕ_discrete}
@@ -161,6 +162,23 @@ some_form m seed number v is_module of_module generates few =
             is_nullity = few.is_nullity;
           },
         )
+
+-- such a form is one: what its type keeps holds of it
+pub form_is_kept : (m : ModuleValue) (seed number : ℕ) (v : RowValue) (form : FormValue) → IsModule m → IsVectorOf m v →
+    GeneratesEverything (number_field m.order) m.dim m.generators v.entries → IsNullVectorOf m seed number v.entries → HasFewNullPoints m seed number →
+    IsFormFrom m seed number v form → IsForm form
+form_is_kept m seed number v form is_module of_module generates null few from =
+    let (space, is_space) = some_space m seed number is_module in
+    let over : IsFormOver form.matrices.order form.matrices.dim form.matrices.generators seed number (length space.rows) =
+    form_over_action m v form.basis is_module of_module from.standard from.well_formed generates form.matrices from.acts seed number null few space is_space in
+    record {
+      well_formed = from.matrices_well_formed;
+      over =
+          subst (λ k. IsFormOver form.matrices.order form.matrices.dim form.matrices.generators k form.word form.nullity) (sym from.seed_is)
+          (subst (λ k. IsFormOver form.matrices.order form.matrices.dim form.matrices.generators seed k form.nullity) (sym from.word_is)
+          (subst (λ k. IsFormOver form.matrices.order form.matrices.dim form.matrices.generators seed number k)
+          (nullity_is_one m seed number (length space.rows) form.nullity (nullity_of_space m seed number space is_space) from.is_nullity) over));
+    }
 
 -- ---- matches
 

@@ -15,16 +15,16 @@ use Rattle.axe_iso.specs.Forms.{FormValue, IsNullSpaceOf}
 -- the matrices are the standard matrices of v in the module
 abbrev pub HasStandardMatrices : ModuleValue → List ℕ → ModuleValue → Type 0
 HasStandardMatrices m v matrices =
-    AreStandardMatrices (gf m.order) (module_of (number_field m.order) m.dim m.generators) (vector_of (number_field m.order) v)
-    (module_of (number_field m.order) matrices.dim matrices.generators)
+    AreStandardMatrices (gf m.order) (module_of (number_field m.order) m.dim m.generators)
+    (vector_of (number_field m.order) v) (module_of (number_field m.order) matrices.dim matrices.generators)
 
 -- point number j of the space, as a row
 abbrev pub point_row : MatrixValue → ℕ → RowValue
 point_row space j = record { order = space.order; entries = get_or (points_of space) j [] }
 
--- t is the standard basis of the first point, of the null space of the form's word in the module, that has the form's matrices
--- as its standard matrices; and it is an isomorphism: invertible, and t g' = g t for each of the module's generators g' and of
--- the form's matrices g
+-- t is the standard basis of the first point, of the null space of the form's word in the module, that has the form's
+-- matrices as its standard matrices; and it is an isomorphism: invertible, and t g' = g t for each of the module's
+-- generators g' and of the form's matrices g
 pub record IsFirstMatch (form : FormValue) (m : ModuleValue) (t : MatrixValue) : Type 0 where
   pub well_formed : IsMatrix t
   pub isomorphism : IsIsomorphismMatrix form.matrices m t
