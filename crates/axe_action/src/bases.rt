@@ -11,8 +11,8 @@ use axe_echelon::span_of;
 use axe_matrix::{Matrix, Refusal, Row};
 use std::alloc::Global;
 
-/// Independent rows, extended to a basis of all vectors of their length: these rows, then the unit vectors of the columns
-/// that are no pivots of their span, ascending.
+/// Independent rows, extended to a basis of all vectors of their length: these rows, then the unit vectors of the
+/// columns that are no pivots of their span, ascending.
 pub fn extend_basis(alloc: Global, rows: &Matrix) -> Result<Matrix, Refusal>
     requires independent { IsIndependent (number_field rows.now.order) rows.now.rows }
     ensures extended { Answers None (IsExtendedMatrix rows.now) result }

@@ -35,7 +35,7 @@ pub fn conjugate(alloc: Global, module: &Module, basis: &Matrix) -> Result<Modul
 fn check_basis(module: &Module, basis: &Matrix) -> Result<(), Refusal>
     ensures { result ≡ unless_refused (conjugate_refusal «module».now basis.now) tt }
 {
-    if basis.field().order() != module.field().order() {
+    if basis.field() != module.field() {
         return Err(Refusal::FieldsDiffer);
     }
     if basis.rows() != module.dim() || basis.cols() != module.dim() {
@@ -55,7 +55,8 @@ fn triple_product(
     requires third_field { third.now.order ≡ first.now.order }
     requires second_fits { length second.now.rows ≡ first.now.cols }
     requires third_fits { length third.now.rows ≡ second.now.cols }
-    ensures product { Answers None (λ product. product ≡ matrix_product (matrix_product first.now second.now) third.now) result }
+    ensures product { Answers None
+        (λ product. product ≡ matrix_product (matrix_product first.now second.now) third.now) result }
     ensures well_formed { IfOk result IsMatrix }
 {
     first.mul(alloc, second)?.mul(alloc, third)

@@ -14,11 +14,11 @@ use axe_matrix::{Matrix, Refusal, Row};
 use axe_spin::Module;
 use std::alloc::Global;
 
-/// The action of a module modulo the span of the rows of a matrix, which may be zero, over the unit vectors of the columns
-/// that are no pivots, ascending: such a unit vector times a generator is the combination of these unit vectors with the
-/// coefficients in its row of the action's matrix, plus a vector of the span. Rows over another field than the module are
-/// refused as FieldsDiffer, else rows of another length than the dimension as ShapesDiffer, else rows that span everything
-/// as WholeSpace, and else rows whose span is not invariant as NotInvariant.
+/// The action of a module modulo the span of the rows of a matrix, which may be zero, over the unit vectors of the
+/// columns that are no pivots, ascending: such a unit vector times a generator is the combination of these unit vectors
+/// with the coefficients in its row of the action's matrix, plus a vector of the span. Rows over another field than the
+/// module are refused as FieldsDiffer, else rows of another length than the dimension as ShapesDiffer, else rows that
+/// span everything as WholeSpace, and else rows whose span is not invariant as NotInvariant.
 pub fn quotient_action(alloc: Global, module: &Module, rows: &Matrix) -> Result<Module, Refusal>
     ensures action { AnswersOr (rows_refusal «module».now rows.now) (IsProperActionModulo «module».now rows.now)
         (quotient_late «module».now rows.now) result }
@@ -85,7 +85,11 @@ fn action_modulo(alloc: Global, module: &Module, span: &Echelon) -> Result<Modul
     requires field { span.now.order ≡ «module».now.order }
     requires fits { span.now.cols ≡ «module».now.dim }
     requires proper { length span.now.rows < «module».now.dim }
-    ensures action { Answers None (IsActionModulo «module».now (record { order = span.now.order; cols = span.now.cols; rows = span.now.rows })) result }
+    ensures action { Answers None (IsActionModulo «module».now (record {
+      order = span.now.order;
+      cols = span.now.cols;
+      rows = span.now.rows;
+    })) result }
     ensures well_formed { IfOk result IsModule }
 {
     let columns = free_columns(alloc, span)?;
@@ -158,7 +162,10 @@ fn row_modulo(alloc: Global, row: &Row, span: &Echelon, columns: &[usize]) -> Re
 /// The entries of a row at some columns.
 fn entries_at(alloc: Global, row: &Row, columns: &[usize]) -> Result<Row, Refusal>
     requires within { All (λ column. column < length row.now.entries) columns.now }
-    ensures { Answers None (λ entries. entries ≡ record { order = row.now.order; entries = map (slice_index row.now.entries) columns.now }) result }
+    ensures { Answers None (λ entries. entries ≡ record {
+      order = row.now.order;
+      entries = map (slice_index row.now.entries) columns.now;
+    }) result }
 {
     let mut entries = Row::zero(alloc, *row.field(), columns.len())?;
     for (index, column) in columns.iter().enumerate() {

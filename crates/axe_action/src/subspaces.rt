@@ -15,9 +15,9 @@ use axe_matrix::{Matrix, Refusal};
 use axe_spin::{Module, has_only_zeros};
 use std::alloc::Global;
 
-/// The action of a module on the span of the rows of a matrix, over the reduced basis of that span. Rows over another field
-/// than the module are refused as FieldsDiffer, else rows of another length than the dimension as ShapesDiffer, else rows
-/// that are all zero, or none, as ZeroSpace, and else rows whose span is not invariant as NotInvariant.
+/// The action of a module on the span of the rows of a matrix, over the reduced basis of that span. Rows over another
+/// field than the module are refused as FieldsDiffer, else rows of another length than the dimension as ShapesDiffer,
+/// else rows that are all zero, or none, as ZeroSpace, and else rows whose span is not invariant as NotInvariant.
 pub fn sub_action(alloc: Global, module: &Module, rows: &Matrix) -> Result<Module, Refusal>
     ensures action { AnswersOr (sub_action_refusal «module».now rows.now)
         (λ action. IsInvariantIn «module».now rows.now × IsActionOnSpan «module».now rows.now action)
@@ -29,8 +29,8 @@ pub fn sub_action(alloc: Global, module: &Module, rows: &Matrix) -> Result<Modul
     action_over(alloc, module, &basis)
 }
 
-/// The action of a module on the span of independent rows, over these rows as they stand: a row times a generator is the
-/// combination of the rows with the coefficients in that row of the action's matrix. The refusals are those of
+/// The action of a module on the span of independent rows, over these rows as they stand: a row times a generator is
+/// the combination of the rows with the coefficients in that row of the action's matrix. The refusals are those of
 /// [`sub_action`].
 pub fn basis_action(alloc: Global, module: &Module, rows: &Matrix) -> Result<Module, Refusal>
     requires independent { IsIndependent (number_field rows.now.order) rows.now.rows }
@@ -60,7 +60,8 @@ fn action_over(alloc: Global, module: &Module, rows: &Matrix) -> Result<Module, 
     requires some_row { 1 ≤ length rows.now.rows }
     requires field { rows.now.order ≡ «module».now.order }
     requires fits { rows.now.cols ≡ «module».now.dim }
-    ensures action { AnswersOr None (IsActionOverRows «module».now rows.now) (action_late «module».now rows.now) result }
+    ensures action { AnswersOr None (IsActionOverRows «module».now rows.now)
+        (action_late «module».now rows.now) result }
     ensures well_formed { IfOk result IsModule }
 {
     let span = span_of(alloc, rows)?;
@@ -72,8 +73,8 @@ fn action_over(alloc: Global, module: &Module, rows: &Matrix) -> Result<Module, 
     Module::new(actions)
 }
 
-/// The matrix by which a generator acts on independent rows, whose span is given too: row t has the coefficients of row t
-/// times the generator.
+/// The matrix by which a generator acts on independent rows, whose span is given too: row t has the coefficients of row
+/// t times the generator.
 fn generator_action(
     alloc: Global,
     generator: &Matrix,

@@ -2,7 +2,9 @@
 
 ghost use Rattle.axe_algebra.specs.NumberField.{NumberField};
 ghost use Rattle.axe_algebra.specs.Bridge.{field_of};
-ghost use Rattle.axe_algebra.specs.Theorems.{InverseIsUnique, RightInverseIsInverse, LeftInverseIsInverse, InvertibleExactlyWhenNullSpaceIsZero, InvertibleExactlyWhenRowsAreIndependent, InvertibleExactlyWhenTransposeIs};
+ghost use Rattle.axe_algebra.specs.Theorems.{InverseIsUnique, RightInverseIsInverse, LeftInverseIsInverse};
+ghost use Rattle.axe_algebra.specs.Theorems.{InvertibleExactlyWhenNullSpaceIsZero};
+ghost use Rattle.axe_algebra.specs.Theorems.{InvertibleExactlyWhenRowsAreIndependent, InvertibleExactlyWhenTransposeIs};
 
 /// A square matrix has at most one inverse.
 pub fn inverse_is_unique()

@@ -1,7 +1,10 @@
 //! Lists of element numbers, as contracts of code see them, are vectors and matrices over the field.
 
 ghost use Rattle.axe_algebra.specs.NumberField.{NumberField};
-ghost use Rattle.axe_algebra.specs.ListTheorems.{ListsAreTheirMatrices, ProductOfListsIsProduct, SumOfListsIsSum, TransposeOfListIsTranspose, IdentityOfListsIsIdentity, InverseOfListsIsInverse, SpannedIsCombination, ReducedBasisOfListExists, ReducedBasisOfListIsUnique};
+ghost use Rattle.axe_algebra.specs.ListTheorems.{ListsAreTheirMatrices, ProductOfListsIsProduct, SumOfListsIsSum};
+ghost use Rattle.axe_algebra.specs.ListTheorems.{TransposeOfListIsTranspose, IdentityOfListsIsIdentity};
+ghost use Rattle.axe_algebra.specs.ListTheorems.{InverseOfListsIsInverse, SpannedIsCombination};
+ghost use Rattle.axe_algebra.specs.ListTheorems.{ReducedBasisOfListExists, ReducedBasisOfListIsUnique};
 
 /// A list of rows of element numbers is determined by its matrix.
 pub fn lists_are_their_matrices()

@@ -2,7 +2,12 @@
 
 ghost use Rattle.axe_algebra.specs.NumberField.{NumberField};
 ghost use Rattle.axe_algebra.specs.Bridge.{field_of};
-ghost use Rattle.axe_algebra.specs.ModuleTheorems.{GeneratedSpaceIsInvariant, GeneratedSpaceHasTheRows, GeneratedSpaceIsLeast, RowsSpanGeneratedSpace, SubActionExists, SubActionIsUnique, QuotientActionExists, QuotientSizeIsUnique, QuotientActionIsUnique, ChainIsBlockLowerTriangular, BlockLowerTriangularIsChain, DiagonalBlocksAreSectionActions, SectionActionsAreDiagonalBlocks};
+ghost use Rattle.axe_algebra.specs.ModuleTheorems.{GeneratedSpaceIsInvariant, GeneratedSpaceHasTheRows};
+ghost use Rattle.axe_algebra.specs.ModuleTheorems.{GeneratedSpaceIsLeast, RowsSpanGeneratedSpace, SubActionExists};
+ghost use Rattle.axe_algebra.specs.ModuleTheorems.{SubActionIsUnique, QuotientActionExists, QuotientSizeIsUnique};
+ghost use Rattle.axe_algebra.specs.ModuleTheorems.{QuotientActionIsUnique, ChainIsBlockLowerTriangular};
+ghost use Rattle.axe_algebra.specs.ModuleTheorems.{BlockLowerTriangularIsChain, DiagonalBlocksAreSectionActions};
+ghost use Rattle.axe_algebra.specs.ModuleTheorems.{SectionActionsAreDiagonalBlocks};
 
 /// The space that rows generate is the least invariant space with these rows.
 pub fn generated_space_is_least()
@@ -25,8 +30,8 @@ pub fn span_has_one_quotient_action()
     ensures only { (K : NumberField) → QuotientActionIsUnique (field_of K) }
 {}
 
-/// The first rows of a basis, up to each block, have invariant spans exactly when the conjugates of the generators by it are
-/// block lower triangular.
+/// The first rows of a basis, up to each block, have invariant spans exactly when the conjugates of the generators by
+/// it are block lower triangular.
 pub fn chain_is_block_lower_triangular()
     ensures forth { (K : NumberField) → ChainIsBlockLowerTriangular (field_of K) }
     ensures back { (K : NumberField) → BlockLowerTriangularIsChain (field_of K) }

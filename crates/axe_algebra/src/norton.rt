@@ -2,7 +2,12 @@
 
 ghost use Rattle.axe_algebra.specs.NumberField.{NumberField};
 ghost use Rattle.axe_algebra.specs.Bridge.{field_of};
-ghost use Rattle.axe_algebra.specs.NortonTheorems.{NullVectorOfTransposeIsOrthogonal, NullSpaceHasBasis, AnnihilatorHasBasis, AnnihilatorIsInvariant, AnnihilatorOfTransposedSpanIsInvariant, AnnihilatorOfProperIsNonzero, AnnihilatorOfNonzeroIsProper, NortonsCriterion, MultipleGeneratesTheSame, NonzeroVectorGeneratesAll, TransposesAreIrreducible};
+ghost use Rattle.axe_algebra.specs.NortonTheorems.{NullVectorOfTransposeIsOrthogonal, NullSpaceHasBasis};
+ghost use Rattle.axe_algebra.specs.NortonTheorems.{AnnihilatorHasBasis, AnnihilatorIsInvariant};
+ghost use Rattle.axe_algebra.specs.NortonTheorems.{AnnihilatorOfTransposedSpanIsInvariant};
+ghost use Rattle.axe_algebra.specs.NortonTheorems.{AnnihilatorOfProperIsNonzero, AnnihilatorOfNonzeroIsProper};
+ghost use Rattle.axe_algebra.specs.NortonTheorems.{NortonsCriterion, MultipleGeneratesTheSame};
+ghost use Rattle.axe_algebra.specs.NortonTheorems.{NonzeroVectorGeneratesAll, TransposesAreIrreducible};
 
 /// A `w` with `w x^T = 0` is orthogonal to every `v x`.
 pub fn null_vector_of_transpose_is_orthogonal()
@@ -31,8 +36,8 @@ pub fn annihilator_of_proper_is_nonzero()
     ensures proper { (K : NumberField) → AnnihilatorOfNonzeroIsProper (field_of K) }
 {}
 
-/// Norton's criterion: where every nonzero null vector of a word's value generates everything, and one null vector of its
-/// transpose generates everything under the transposes, the module is irreducible.
+/// Norton's criterion: where every nonzero null vector of a word's value generates everything, and one null vector of
+/// its transpose generates everything under the transposes, the module is irreducible.
 pub fn nortons_criterion()
     ensures { (K : NumberField) → NortonsCriterion (field_of K) }
 {}

@@ -1,7 +1,11 @@
 //! Digits of numbers, and the points of the span of a basis: one vector of each of its subspaces of dimension 1.
 
 ghost use Rattle.axe_algebra.specs.NumberField.{NumberField};
-ghost use Rattle.axe_algebra.specs.PointTheorems.{DigitsAreBelow, DigitsTellTheNumber, ListsAreDigits, CoordinatesAreMonic, MonicListsAreCoordinates, CoordinatesAscend, CoordinatesAreCounted, CoordinatesGrow, PointsAreNonzeroSpanned, SpannedAreMultiplesOfPoints, MultiplesAreOfOnePoint, FirstPointIsLastRow};
+ghost use Rattle.axe_algebra.specs.PointTheorems.{DigitsAreBelow, DigitsTellTheNumber, ListsAreDigits};
+ghost use Rattle.axe_algebra.specs.PointTheorems.{CoordinatesAreMonic, MonicListsAreCoordinates, CoordinatesAscend};
+ghost use Rattle.axe_algebra.specs.PointTheorems.{CoordinatesAreCounted, CoordinatesGrow, PointsAreNonzeroSpanned};
+ghost use Rattle.axe_algebra.specs.PointTheorems.{SpannedAreMultiplesOfPoints, MultiplesAreOfOnePoint};
+ghost use Rattle.axe_algebra.specs.PointTheorems.{FirstPointIsLastRow};
 
 /// The numbers below `q^m` and the lists of `m` digits below `q` correspond one to one.
 pub fn numbers_are_their_digits()
@@ -28,7 +32,8 @@ pub fn points_are_nonzero_vectors()
     ensures { (K : NumberField) → PointsAreNonzeroSpanned K }
 {}
 
-/// Every nonzero vector of the span of rows is a nonzero multiple of a point, and of only one where they are independent.
+/// Every nonzero vector of the span of rows is a nonzero multiple of a point, and of only one where they are
+/// independent.
 pub fn nonzero_vector_is_a_multiple_of_one_point()
     ensures some { (K : NumberField) → SpannedAreMultiplesOfPoints K }
     ensures only { (K : NumberField) → MultiplesAreOfOnePoint K }

@@ -2,7 +2,8 @@
 
 ghost use Rattle.axe_algebra.specs.NumberField.{NumberField};
 ghost use Rattle.axe_algebra.specs.Bridge.{field_of};
-ghost use Rattle.axe_algebra.specs.Theorems.{ProductsAreAssociative, SumsTimesDistribute, TimesSumsDistribute, IdentityIsLeftNeutral, IdentityIsRightNeutral, TransposeReversesProducts};
+ghost use Rattle.axe_algebra.specs.Theorems.{ProductsAreAssociative, SumsTimesDistribute, TimesSumsDistribute};
+ghost use Rattle.axe_algebra.specs.Theorems.{IdentityIsLeftNeutral, IdentityIsRightNeutral, TransposeReversesProducts};
 
 /// Products of matrices are associative: `(a b) c = a (b c)`.
 pub fn products_are_associative()

@@ -2,7 +2,9 @@
 
 ghost use Rattle.axe_algebra.specs.NumberField.{NumberField};
 ghost use Rattle.axe_algebra.specs.Bridge.{field_of};
-ghost use Rattle.axe_algebra.specs.Theorems.{ReducedBasisExists, ReducedBasisSpans, ReducedBasisIsIndependent, ReducedBasisSizeIsUnique, ReducedBasisRowsAreUnique, ZeroAtPivotsIsZero, RepresentativeExists, RepresentativeIsUnique};
+ghost use Rattle.axe_algebra.specs.Theorems.{ReducedBasisExists, ReducedBasisSpans, ReducedBasisIsIndependent};
+ghost use Rattle.axe_algebra.specs.Theorems.{ReducedBasisSizeIsUnique, ReducedBasisRowsAreUnique, ZeroAtPivotsIsZero};
+ghost use Rattle.axe_algebra.specs.Theorems.{RepresentativeExists, RepresentativeIsUnique};
 
 /// Every span has a reduced basis.
 pub fn every_span_has_a_reduced_basis()

@@ -2,7 +2,8 @@
 
 ghost use Rattle.axe_algebra.specs.NumberField.{NumberField};
 ghost use Rattle.axe_algebra.specs.Bridge.{field_of};
-ghost use Rattle.axe_algebra.specs.Theorems.{RowsAreDependentOrFew, Exchange, EnoughRowsSpanEverything, BasisExists, MembershipIsDecidable};
+ghost use Rattle.axe_algebra.specs.Theorems.{RowsAreDependentOrFew, Exchange, EnoughRowsSpanEverything, BasisExists};
+ghost use Rattle.axe_algebra.specs.Theorems.{MembershipIsDecidable};
 
 /// Rows of length n are dependent, or independent and at most n.
 pub fn rows_are_dependent_or_few()

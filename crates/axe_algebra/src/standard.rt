@@ -2,7 +2,18 @@
 
 ghost use Rattle.axe_algebra.specs.NumberField.{NumberField};
 ghost use Rattle.axe_algebra.specs.Bridge.{field_of};
-ghost use Rattle.axe_algebra.specs.StandardTheorems.{IsomorphismKeepsNonzero, IsomorphismKeepsNullity, NoMatchIsNotIsomorphic, StandardMatricesOfUnitVector, UnitVectorIsNullVector, StandardBasisExists, StandardBasisSizeIsUnique, StandardBasisRowsAreUnique, StandardDimensionIsUnique, StandardMatricesAreUnique, StandardBasisSpansGeneratedSpace, StandardBasisIsSquare, IsomorphismCarriesStandardBasis, IsomorphismKeepsStandardMatrices, IsomorphismCarriesNullVectors, MultipleHasTheSameStandardMatrices, SameStandardMatricesAreIsomorphic, BasesGiveIsomorphism, StandardBasisIsIsomorphism, InverseIsIsomorphism, ProductIsIsomorphism, IsomorphismIsReflexive, IsomorphismIsSymmetric, IsomorphismIsTransitive};
+ghost use Rattle.axe_algebra.specs.StandardTheorems.{IsomorphismKeepsNonzero, IsomorphismKeepsNullity};
+ghost use Rattle.axe_algebra.specs.StandardTheorems.{NoMatchIsNotIsomorphic, StandardMatricesOfUnitVector};
+ghost use Rattle.axe_algebra.specs.StandardTheorems.{UnitVectorIsNullVector, StandardBasisExists};
+ghost use Rattle.axe_algebra.specs.StandardTheorems.{StandardBasisSizeIsUnique, StandardBasisRowsAreUnique};
+ghost use Rattle.axe_algebra.specs.StandardTheorems.{StandardDimensionIsUnique, StandardMatricesAreUnique};
+ghost use Rattle.axe_algebra.specs.StandardTheorems.{StandardBasisSpansGeneratedSpace, StandardBasisIsSquare};
+ghost use Rattle.axe_algebra.specs.StandardTheorems.{IsomorphismCarriesStandardBasis, IsomorphismKeepsStandardMatrices};
+ghost use Rattle.axe_algebra.specs.StandardTheorems.{IsomorphismCarriesNullVectors, MultipleHasTheSameStandardMatrices};
+ghost use Rattle.axe_algebra.specs.StandardTheorems.{SameStandardMatricesAreIsomorphic, BasesGiveIsomorphism};
+ghost use Rattle.axe_algebra.specs.StandardTheorems.{StandardBasisIsIsomorphism, InverseIsIsomorphism};
+ghost use Rattle.axe_algebra.specs.StandardTheorems.{ProductIsIsomorphism, IsomorphismIsReflexive};
+ghost use Rattle.axe_algebra.specs.StandardTheorems.{IsomorphismIsSymmetric, IsomorphismIsTransitive};
 
 /// A nonzero vector has exactly one standard basis.
 pub fn vector_has_one_standard_basis()
@@ -17,7 +28,8 @@ pub fn vector_has_one_family_of_standard_matrices()
     ensures matrices { (K : NumberField) → StandardMatricesAreUnique (field_of K) }
 {}
 
-/// A standard basis spans the space that its vector generates; where that is everything, it has as many rows as the dimension.
+/// A standard basis spans the space that its vector generates; where that is everything, it has as many rows as the
+/// dimension.
 pub fn standard_basis_spans_generated_space()
     ensures spans { (K : NumberField) → StandardBasisSpansGeneratedSpace (field_of K) }
     ensures square { (K : NumberField) → StandardBasisIsSquare (field_of K) }
@@ -39,8 +51,8 @@ pub fn multiple_has_the_same_standard_matrices()
     ensures { (K : NumberField) → MultipleHasTheSameStandardMatrices (field_of K) }
 {}
 
-/// Two modules whose vectors, each generating everything, have the same standard matrices are isomorphic, by the inverse of the
-/// one standard basis times the other.
+/// Two modules whose vectors, each generating everything, have the same standard matrices are isomorphic, by the
+/// inverse of the one standard basis times the other.
 pub fn same_standard_matrices_are_isomorphic()
     ensures isomorphic { (K : NumberField) → SameStandardMatricesAreIsomorphic (field_of K) }
     ensures by_bases { (K : NumberField) → BasesGiveIsomorphism (field_of K) }
@@ -76,8 +88,8 @@ pub fn no_match_is_not_isomorphic()
     ensures { (K : NumberField) → NoMatchIsNotIsomorphic (field_of K) }
 {}
 
-/// Standard matrices of a basis with as many rows as the dimension are the standard matrices of their own first unit vector,
-/// which is a null vector of a word's value where the vector is.
+/// Standard matrices of a basis with as many rows as the dimension are the standard matrices of their own first unit
+/// vector, which is a null vector of a word's value where the vector is.
 pub fn standard_matrices_of_unit_vector()
     ensures standard { (K : NumberField) → StandardMatricesOfUnitVector (field_of K) }
     ensures null { (K : NumberField) → UnitVectorIsNullVector (field_of K) }

@@ -39,6 +39,7 @@ fn unit_coordinates(alloc: Global, rows: &Echelon, index: usize) -> Result<Row, 
     let unit = Row::unit(alloc, *rows.field(), rows.cols(), index)?;
     match rows.coordinates(alloc, &unit)? {
         Some(coordinates) => Ok(coordinates),
+        // As many independent rows as columns span every row.
         None => unreachable!(),
     }
 }

@@ -1,8 +1,9 @@
-//! Echelon forms over a small finite field: independent rows one by one, their span, and the null spaces and inverses of
-//! matrices.
+//! Echelon forms over a small finite field: independent rows one by one, their span, and the null spaces and inverses
+//! of matrices.
 #![tactic(auto)]
 
-ghost use Rattle.std.specs.Prelude.{◌≡◌, ◌<◌, ◌≤◌, ◌↔◌, ◌++◌, ◌∷◌, [], length, replicate, slice_index, IsTrue, None, IfOk, OnErr, MatchOption};
+ghost use Rattle.std.specs.Prelude.{◌≡◌, ◌<◌, ◌≤◌, ◌↔◌, ◌++◌, ◌∷◌, [], length, replicate, slice_index, IsTrue, None};
+ghost use Rattle.std.specs.Prelude.{IfOk, OnErr, MatchOption};
 ghost use Rattle.axe_algebra.specs.Lists.{listed};
 ghost use Rattle.axe_algebra.specs.SpansOfLists.{IsPivot, IsRepresentative, IsSpanned};
 ghost use Rattle.axe_field.specs.Arithmetic.{field_neg};
@@ -36,7 +37,8 @@ struct Step {
     coefficients: Row,
 }
 
-/// Independent rows of one length over one field, in the order in which they were inserted, with an echelon form of them.
+/// Independent rows of one length over one field, in the order in which they were inserted, with an echelon form of
+/// them.
 #[derive(Drop)]
 pub struct Echelon {
     alloc: Global,
@@ -105,11 +107,13 @@ impl Echelon {
     pub fn insert(&mut self, row: Row) -> Result<bool, Refusal>
         requires field { row.order ≡ self.old.order }
         requires fits { length row.entries ≡ self.old.cols }
-        ensures exactly { IfOk result (λ new. IsTrue new ↔ ¬ (IsSpanned (number_field self.old.order) self.old.rows row.entries)) }
+        ensures exactly { IfOk result
+            (λ new. IsTrue new ↔ ¬ (IsSpanned (number_field self.old.order) self.old.rows row.entries)) }
         ensures inserted { Answers None (λ new. self.new ≡ with_row_where new self.old row.entries) result }
         ensures unchanged { OnErr result (self.new ≡ self.old) }
         ensures well_formed { IsEchelon self.new }
     {
+        // As many independent rows as columns span every row.
         if self.rank() == self.cols() {
             return Ok(false);
         }
@@ -117,6 +121,7 @@ impl Echelon {
             return Ok(false);
         };
         let pivot = step.pivot;
+        // The table is made first: a longer one tells the same, so where the push finds no memory nothing has changed.
         self.pivots.resize(self.cols, false)?;
         self.steps.push(step)?;
         self.pivots[pivot] = true;
@@ -139,6 +144,7 @@ impl Echelon {
             return Ok(None);
         };
         let scalar = self.field().inv(rest.get(pivot));
+        // What is left is the row itself plus a combination of the rows before it: hence the 1 in the row's own place.
         coefficients.set(self.rank(), 1);
         coefficients.scale(scalar);
         rest.scale(scalar);
@@ -204,11 +210,12 @@ impl Echelon {
         if !rest.is_zero() {
             return Ok(None);
         }
+        // The row plus the combination with these coefficients is zero, so their negatives combine to the row.
         Ok(Some(negated_start(alloc, &coefficients, self.rank())?))
     }
 
-    /// The reduced basis of the span: for each pivot, in ascending order, the vector of the span that is 1 there and 0 at
-    /// all other pivots.
+    /// The reduced basis of the span: for each pivot, in ascending order, the vector of the span that is 1 there and 0
+    /// at all other pivots.
     pub fn reduced(&self, alloc: Global) -> Result<Matrix, Refusal>
         ensures basis { Answers None (IsReducedMatrix self.now) result }
         ensures matrix_well_formed { Answers None IsMatrix result }
@@ -233,6 +240,8 @@ impl Echelon {
         let field = *self.field();
         let mut row = Row::unit(alloc, field, self.cols(), pivot)?;
         self.reduce(&mut row);
+        // The unit vector less what is left of it is in the span, and 0 at every other pivot, since what is left is 0 at
+        // each pivot. It is the negative of what is left, but for the 1 at the pivot.
         row.scale(field.neg(1));
         row.set(pivot, 1);
         Ok(row)

@@ -66,8 +66,10 @@ fn null_vector(
     ensures { Answers None (IsRelation image.now units.now row.now.entries unit.entries) result }
 {
     let Some(coordinates) = image.coordinates(alloc, row)? else {
+        // The caller gives only rows that were not new, so they are in the span.
         unreachable!()
     };
+    // The images of the rows of `units` are the rows of `image`, in the same order: so this has the row as its image.
     let combination = units.vec_mul(alloc, &coordinates)?;
     let mut vector = unit;
     let minus_one = vector.field().neg(1);

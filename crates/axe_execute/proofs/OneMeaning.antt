@@ -18,9 +18,9 @@ use Rattle.axe_echelon.proofs.SomeMatrix.{some_null_space, inverse_or_none}
 use Rattle.axe_row.specs.declared.refusals.Refusal.{Refusal}
 use Rattle.axe_row.specs.Refusals.{RefusedAs}
 use Rattle.axe_execute.specs.Plans.{Refuses}
-use Rattle.axe_execute.specs.Meanings.{Meaning, Answered, AtMostOne, Is, Has, HasOr, UnlessRefused, ◌>>=◌}
-use Rattle.axe_execute.specs.Inputs.{matrix_in, text_matrix_in}
-use Rattle.axe_execute.specs.MatrixCommands.{put_packed, put_or_show_text, ProductOf, SumOf, TransposeOf, InverseOf, NullSpaceOf, ConversionPlan, PrintingPlan, ProductPlan, SumPlan, TransposePlan, InversePlan, NullSpacePlan}
+use Rattle.axe_execute.specs.Meanings.{Meaning, Answered, AtMostOne, Is, Has, HasOr, UnlessRefused}
+use Rattle.axe_execute.specs.Inputs.{text_matrix_in}
+use Rattle.axe_execute.specs.MatrixCommands.{put_or_show_text, ProductOf, SumOf, TransposeOf, InverseOf, NullSpaceOf, ConversionPlan, PrintingPlan, PlanOfOne, PlanOfTwo}
 use Rattle.axe_execute.specs.Means.{Means}
 
 square_of_test : (test : Bool) (m n : ℕ) → (m == n) ≡ test → (if test then None else Some NotSquare) ≡ None → m ≡ n
@@ -80,25 +80,16 @@ equal_some refusal value = unless_refused_some refusal (Has (λ answer. answer �
 
 -- ---- commands
 
-inverse_plan_one : (input out : List ℕ) (files : Files) → AtMostOne (InversePlan input out files)
-unfolding InversePlan
-inverse_plan_one input out files =
-    matrix_then_one files input (λ a. InverseOf a >>= λ inverse. Is (Ok (put_packed out inverse))) (λ a well. put_one out (InverseOf a) (inverse_one a well))
+-- the result of an operation is put
+one_then_one : (operation : MatrixValue → Meaning MatrixValue) (input out : List ℕ) (files : Files) → ((a : MatrixValue) → IsMatrix a → AtMostOne (operation a)) →
+    AtMostOne (PlanOfOne operation input out files)
+unfolding PlanOfOne
+one_then_one operation input out files one = matrix_then_one files input _ (λ a well. put_one out (operation a) (one a well))
 
-inverse_plan_some : (input out : List ℕ) (files : Files) → Answered (InversePlan input out files)
-unfolding InversePlan
-inverse_plan_some input out files =
-    matrix_then_some files input (λ a. InverseOf a >>= λ inverse. Is (Ok (put_packed out inverse))) (λ a well. put_some out (InverseOf a) (inverse_some a well))
-
-null_space_plan_one : (input out : List ℕ) (files : Files) → AtMostOne (NullSpacePlan input out files)
-unfolding NullSpacePlan
-null_space_plan_one input out files =
-    matrix_then_one files input (λ a. NullSpaceOf a >>= λ basis. Is (Ok (put_packed out basis))) (λ a well. put_one out (NullSpaceOf a) (null_space_one a))
-
-null_space_plan_some : (input out : List ℕ) (files : Files) → Answered (NullSpacePlan input out files)
-unfolding NullSpacePlan
-null_space_plan_some input out files =
-    matrix_then_some files input (λ a. NullSpaceOf a >>= λ basis. Is (Ok (put_packed out basis))) (λ a well. put_some out (NullSpaceOf a) (null_space_some a well))
+one_then_some : (operation : MatrixValue → Meaning MatrixValue) (input out : List ℕ) (files : Files) → ((a : MatrixValue) → IsMatrix a → Answered (operation a)) →
+    Answered (PlanOfOne operation input out files)
+unfolding PlanOfOne
+one_then_some operation input out files some = matrix_then_some files input _ (λ a well. put_some out (operation a) (some a well))
 
 conversion_plan_one : (input out : List ℕ) (files : Files) → AtMostOne (ConversionPlan input out files)
 unfolding ConversionPlan
@@ -116,61 +107,60 @@ printing_plan_some : (input : List ℕ) (out : Option (List ℕ)) (files : Files
 unfolding PrintingPlan
 printing_plan_some input out files = matrix_then_some files input (λ a. Is (Ok (put_or_show_text out a))) (λ a well. (Ok (put_or_show_text out a), refl))
 
--- the result of an operation on two matrices is put
 two_then_one : (operation : MatrixValue → MatrixValue → Meaning MatrixValue) (left right out : List ℕ) (files : Files) →
-    ((a b : MatrixValue) → AtMostOne (operation a b)) →
-    AtMostOne (Is (matrix_in files left) >>= λ a. Is (matrix_in files right) >>= λ b. operation a b >>= λ c. Is (Ok (put_packed out c)))
+    ((a b : MatrixValue) → AtMostOne (operation a b)) → AtMostOne (PlanOfTwo operation left right out files)
+unfolding PlanOfTwo
 two_then_one operation left right out files one =
     matrix_then_one files left _ (λ a well. matrix_then_one files right _ (λ b well. put_one out (operation a b) (one a b)))
 
 two_then_some : (operation : MatrixValue → MatrixValue → Meaning MatrixValue) (left right out : List ℕ) (files : Files) →
-    ((a b : MatrixValue) → Answered (operation a b)) →
-    Answered (Is (matrix_in files left) >>= λ a. Is (matrix_in files right) >>= λ b. operation a b >>= λ c. Is (Ok (put_packed out c)))
+    ((a b : MatrixValue) → Answered (operation a b)) → Answered (PlanOfTwo operation left right out files)
+unfolding PlanOfTwo
 two_then_some operation left right out files some =
     matrix_then_some files left _ (λ a well. matrix_then_some files right _ (λ b well. put_some out (operation a b) (some a b)))
 
-product_plan_one : (left right out : List ℕ) (files : Files) → AtMostOne (ProductPlan left right out files)
-unfolding ProductPlan ProductOf
-product_plan_one left right out files = two_then_one ProductOf left right out files (λ a b. equal_one _ _)
+product_one : (a b : MatrixValue) → AtMostOne (ProductOf a b)
+unfolding ProductOf
+product_one a b = equal_one _ _
 
-product_plan_some : (left right out : List ℕ) (files : Files) → Answered (ProductPlan left right out files)
-unfolding ProductPlan ProductOf
-product_plan_some left right out files = two_then_some ProductOf left right out files (λ a b. equal_some _ _)
+product_some : (a b : MatrixValue) → Answered (ProductOf a b)
+unfolding ProductOf
+product_some a b = equal_some _ _
 
-sum_plan_one : (left right out : List ℕ) (files : Files) → AtMostOne (SumPlan left right out files)
-unfolding SumPlan SumOf
-sum_plan_one left right out files = two_then_one SumOf left right out files (λ a b. equal_one _ _)
+sum_one : (a b : MatrixValue) → AtMostOne (SumOf a b)
+unfolding SumOf
+sum_one a b = equal_one _ _
 
-sum_plan_some : (left right out : List ℕ) (files : Files) → Answered (SumPlan left right out files)
-unfolding SumPlan SumOf
-sum_plan_some left right out files = two_then_some SumOf left right out files (λ a b. equal_some _ _)
+sum_some : (a b : MatrixValue) → Answered (SumOf a b)
+unfolding SumOf
+sum_some a b = equal_some _ _
 
-transpose_plan_one : (input out : List ℕ) (files : Files) → AtMostOne (TransposePlan input out files)
-unfolding TransposePlan TransposeOf
-transpose_plan_one input out files = matrix_then_one files input _ (λ a well. put_one out (TransposeOf a) (equal_one _ _))
+transpose_one : (a : MatrixValue) → IsMatrix a → AtMostOne (TransposeOf a)
+unfolding TransposeOf
+transpose_one a well = equal_one _ _
 
-transpose_plan_some : (input out : List ℕ) (files : Files) → Answered (TransposePlan input out files)
-unfolding TransposePlan TransposeOf
-transpose_plan_some input out files = matrix_then_some files input _ (λ a well. put_some out (TransposeOf a) (equal_some _ _))
+transpose_some : (a : MatrixValue) → IsMatrix a → Answered (TransposeOf a)
+unfolding TransposeOf
+transpose_some a well = equal_some _ _
 
 pub at_most_one_meaning : (command : Command) (files : Files) → AtMostOne (Means command files)
 at_most_one_meaning (Zcv input out) files = conversion_plan_one input out files
 at_most_one_meaning (Zpr input out) files = printing_plan_one input out files
-at_most_one_meaning (Zmu left right out) files = product_plan_one left right out files
-at_most_one_meaning (Zad left right out) files = sum_plan_one left right out files
-at_most_one_meaning (Ztr input out) files = transpose_plan_one input out files
-at_most_one_meaning (Ziv input out) files = inverse_plan_one input out files
-at_most_one_meaning (Znu input out) files = null_space_plan_one input out files
+at_most_one_meaning (Zmu left right out) files = two_then_one ProductOf left right out files product_one
+at_most_one_meaning (Zad left right out) files = two_then_one SumOf left right out files sum_one
+at_most_one_meaning (Ztr input out) files = one_then_one TransposeOf input out files transpose_one
+at_most_one_meaning (Ziv input out) files = one_then_one InverseOf input out files inverse_one
+at_most_one_meaning (Znu input out) files = one_then_one NullSpaceOf input out files (λ a well. null_space_one a)
 at_most_one_meaning (Zsp generators standard action name seed out) files = spin_plan_one generators standard action name seed out files
 at_most_one_meaning (Zqt generators subspace name out) files = quotient_plan_one generators subspace name out files
 
 pub some_meaning : (command : Command) (files : Files) → Answered (Means command files)
 some_meaning (Zcv input out) files = conversion_plan_some input out files
 some_meaning (Zpr input out) files = printing_plan_some input out files
-some_meaning (Zmu left right out) files = product_plan_some left right out files
-some_meaning (Zad left right out) files = sum_plan_some left right out files
-some_meaning (Ztr input out) files = transpose_plan_some input out files
-some_meaning (Ziv input out) files = inverse_plan_some input out files
-some_meaning (Znu input out) files = null_space_plan_some input out files
+some_meaning (Zmu left right out) files = two_then_some ProductOf left right out files product_some
+some_meaning (Zad left right out) files = two_then_some SumOf left right out files sum_some
+some_meaning (Ztr input out) files = one_then_some TransposeOf input out files transpose_some
+some_meaning (Ziv input out) files = one_then_some InverseOf input out files inverse_some
+some_meaning (Znu input out) files = one_then_some NullSpaceOf input out files null_space_some
 some_meaning (Zsp generators standard action name seed out) files = spin_plan_some generators standard action name seed out files
 some_meaning (Zqt generators subspace name out) files = quotient_plan_some generators subspace name out files

@@ -12,6 +12,9 @@ use Rattle.axe_execute.specs.Outcome.{Agrees}
 pub record AreAmong (names more : List (List ℕ)) : Type 0 where
   pub each : (name : List ℕ) → IsOneOf names name → IsOneOf more name
 
+pub among_same : (names : List (List ℕ)) → AreAmong names names
+among_same names = record { each = λ name is. is }
+
 pub among_before : (names rest : List (List ℕ)) → AreAmong names (names ++ rest)
 among_before names rest = record { each = at names }
   where

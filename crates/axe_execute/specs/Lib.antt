@@ -6,5 +6,6 @@ pub mod ModuleCommands
 pub mod Means
 pub mod Outcome
 pub mod Drafts
+pub mod Operations
 pub mod Faults
 pub mod Printed

@@ -52,39 +52,38 @@ PrintingPlan input out files = do
   a ← Is (matrix_in files input)
   Is (Ok (put_or_show_text out a))
 
--- `zmu`: the product of two packed matrices is put, packed
-unfoldable pub ProductPlan : List ℕ → List ℕ → List ℕ → Files → Meaning Plan
-ProductPlan left right out files = do
+-- what an operation makes of a packed matrix is put, packed
+unfoldable pub PlanOfOne : (MatrixValue → Meaning MatrixValue) → List ℕ → List ℕ → Files → Meaning Plan
+PlanOfOne operation input out files = do
+  a ← Is (matrix_in files input)
+  made ← operation a
+  Is (Ok (put_packed out made))
+
+-- what an operation makes of two packed matrices is put, packed
+unfoldable pub PlanOfTwo : (MatrixValue → MatrixValue → Meaning MatrixValue) → List ℕ → List ℕ → List ℕ → Files →
+    Meaning Plan
+PlanOfTwo operation left right out files = do
   a ← Is (matrix_in files left)
   b ← Is (matrix_in files right)
-  product ← ProductOf a b
-  Is (Ok (put_packed out product))
+  made ← operation a b
+  Is (Ok (put_packed out made))
+
+-- `zmu`: the product of two packed matrices is put, packed
+abbrev pub ProductPlan : List ℕ → List ℕ → List ℕ → Files → Meaning Plan
+ProductPlan left right out files = PlanOfTwo ProductOf left right out files
 
 -- `zad`: the sum of two packed matrices is put, packed
-unfoldable pub SumPlan : List ℕ → List ℕ → List ℕ → Files → Meaning Plan
-SumPlan left right out files = do
-  a ← Is (matrix_in files left)
-  b ← Is (matrix_in files right)
-  sum ← SumOf a b
-  Is (Ok (put_packed out sum))
+abbrev pub SumPlan : List ℕ → List ℕ → List ℕ → Files → Meaning Plan
+SumPlan left right out files = PlanOfTwo SumOf left right out files
 
 -- `ztr`: the transpose of a packed matrix is put, packed
-unfoldable pub TransposePlan : List ℕ → List ℕ → Files → Meaning Plan
-TransposePlan input out files = do
-  a ← Is (matrix_in files input)
-  transpose ← TransposeOf a
-  Is (Ok (put_packed out transpose))
+abbrev pub TransposePlan : List ℕ → List ℕ → Files → Meaning Plan
+TransposePlan input out files = PlanOfOne TransposeOf input out files
 
 -- `ziv`: the inverse of a packed matrix is put, packed
-unfoldable pub InversePlan : List ℕ → List ℕ → Files → Meaning Plan
-InversePlan input out files = do
-  a ← Is (matrix_in files input)
-  inverse ← InverseOf a
-  Is (Ok (put_packed out inverse))
+abbrev pub InversePlan : List ℕ → List ℕ → Files → Meaning Plan
+InversePlan input out files = PlanOfOne InverseOf input out files
 
 -- `znu`: the reduced basis of the null space of a packed matrix is put, packed
-unfoldable pub NullSpacePlan : List ℕ → List ℕ → Files → Meaning Plan
-NullSpacePlan input out files = do
-  a ← Is (matrix_in files input)
-  basis ← NullSpaceOf a
-  Is (Ok (put_packed out basis))
+abbrev pub NullSpacePlan : List ℕ → List ℕ → Files → Meaning Plan
+NullSpacePlan input out files = PlanOfOne NullSpaceOf input out files

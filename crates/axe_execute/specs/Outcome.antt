@@ -135,3 +135,13 @@ BlamesDevice (Err (Folder name folder.Memory)) old new = ⊤
 BlamesDevice (Err (Refused refusal)) old new = ⊤
 BlamesDevice (Err (Usage text)) old new = ⊤
 BlamesDevice (Err Memory) old new = ⊤
+
+-- ---- reading, the files and the device with it
+
+-- how a call ends that reads the files of these names in a folder, of which `files` tells the files and `failures` how
+-- often its device failed: its answer is right, no file has changed, and a failure is counted just where one is answered
+pub record Reads {S T V : Type 0} (files : S → Files) (failures : S → ℕ) (old new : S) (names : List (List ℕ))
+    (view : T → V) (result : Result T Fault) (meaning : Files → Meaning V) : Type 0 where
+  pub agrees : Agrees names view result (meaning (files old))
+  pub kept : files new ≡ files old
+  pub counted : Counted result (failures old) (failures new)

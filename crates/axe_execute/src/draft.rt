@@ -1,7 +1,7 @@
 //! What a command is about to do, with everything made that it takes.
 ghost use Rattle.std.specs.Prelude.{IsTrue, map};
 ghost use Rattle.axe_execute.specs.Drafts.{step_in};
-ghost use Rattle.axe_execute.specs.Outcome.{Carries, Counted};
+ghost use Rattle.axe_execute.specs.Outcome.{Agrees, Carries, Counted};
 
 use crate::fault::Fault;
 use crate::modules::numbered;
@@ -52,11 +52,13 @@ impl Change {
 }
 
 impl Draft {
-    ghost use Rattle.std.specs.Prelude.{◌≡◌, [], OnOk, IfErr, string_bytes};
+    ghost use Rattle.std.specs.Prelude.{◌≡◌, [], Ok, OnOk, IfErr, option_copied, string_bytes};
     ghost use Rattle.axe_file.specs.Packed.{packed};
     ghost use Rattle.axe_file.specs.TextWriting.{text_of};
     ghost use Rattle.axe_execute.specs.declared.fault.Fault.TheVariants.{Memory};
     ghost use Rattle.axe_execute.specs.Plans.{Put};
+    ghost use Rattle.axe_execute.specs.Meanings.{Is};
+    ghost use Rattle.axe_execute.specs.MatrixCommands.{put_packed, put_or_show_text};
     ghost use Rattle.axe_execute.specs.ModuleCommands.{put_generators};
     ghost use Rattle.axe_execute.specs.Drafts.{plan_in, with_step, with_steps, with_text};
 
@@ -68,6 +70,41 @@ impl Draft {
             changes: Vec::new(alloc),
             text: Vec::new(alloc),
         }
+    }
+
+    /// The draft that gives the name the packed spelling of a matrix, and shows nothing.
+    pub(crate) fn of_packed(alloc: Global, name: &Name, matrix: &Matrix) -> Result<Draft, Fault>
+        ensures { Agrees [] plan_in result (Is (Ok (put_packed name.now matrix.now))) }
+    {
+        let mut draft = Draft::new(alloc);
+        draft.put_packed(alloc, name, matrix)?;
+        Ok(draft)
+    }
+
+    /// The draft that gives the name the text of a matrix, or shows that text where there is no name.
+    pub(crate) fn of_text(
+        alloc: Global,
+        name: Option<&Name>,
+        matrix: &Matrix,
+    ) -> Result<Draft, Fault>
+        ensures { Agrees [] plan_in result (Is (Ok (put_or_show_text (option_copied name.entry) matrix.now))) }
+    {
+        let mut draft = Draft::new(alloc);
+        match name {
+            Some(name) => draft.put_text(alloc, name, matrix)?,
+            None => draft.show_text(alloc, matrix)?,
+        }
+        Ok(draft)
+    }
+
+    /// The draft that gives the files NAME.1, NAME.2 and so on the packed spellings of a module's generators, in order.
+    pub(crate) fn of_generators(alloc: Global, name: &Name, module: &Module) -> Result<Draft, Fault>
+        ensures { Agrees [] plan_in result
+            (Is (Ok (record { steps = put_generators name.now «module».now; shown = [] }))) }
+    {
+        let mut draft = Draft::new(alloc);
+        draft.put_generators(alloc, name, module)?;
+        Ok(draft)
     }
 
     /// Adds that the name is given the packed spelling of a matrix.
@@ -91,7 +128,8 @@ impl Draft {
         name: &Name,
         module: &Module,
     ) -> Result<(), Fault>
-        ensures put { OnOk result (plan_in self.new ≡ with_steps (plan_in self.old) (put_generators name.now «module».now)) }
+        ensures put { OnOk result
+            (plan_in self.new ≡ with_steps (plan_in self.old) (put_generators name.now «module».now)) }
         ensures memory { IfErr result (λ fault. fault ≡ Memory) }
     {
         for index in 0..module.gens() {
@@ -101,9 +139,10 @@ impl Draft {
         Ok(())
     }
 
-    // Adds that the file of this name is given the packed spelling of a matrix.
+    /// Adds that the file of this name is given the packed spelling of a matrix.
     fn put_packed_file(&mut self, alloc: Global, name: String, matrix: &Matrix) -> Result<(), Fault>
-        ensures put { OnOk result (plan_in self.new ≡ with_step (plan_in self.old) (Put (string_bytes name) (packed matrix.now))) }
+        ensures put { OnOk result
+            (plan_in self.new ≡ with_step (plan_in self.old) (Put (string_bytes name) (packed matrix.now))) }
         ensures memory { IfErr result (λ fault. fault ≡ Memory) }
     {
         match write_packed(alloc, matrix) {
@@ -119,7 +158,8 @@ impl Draft {
         name: &Name,
         matrix: &Matrix,
     ) -> Result<(), Fault>
-        ensures put { OnOk result (plan_in self.new ≡ with_step (plan_in self.old) (Put name.now (text_of matrix.now))) }
+        ensures put { OnOk result
+            (plan_in self.new ≡ with_step (plan_in self.old) (Put name.now (text_of matrix.now))) }
         ensures memory { IfErr result (λ fault. fault ≡ Memory) }
     {
         let name = String::from_str(alloc, name.as_str())?;
@@ -129,9 +169,10 @@ impl Draft {
         }
     }
 
-    // Adds that the name is given these bytes.
+    /// Adds that the name is given these bytes.
     fn put(&mut self, name: String, bytes: Vec<u8>) -> Result<(), Fault>
-        ensures put { OnOk result (plan_in self.new ≡ with_step (plan_in self.old) (Put (string_bytes name) bytes.items)) }
+        ensures put { OnOk result
+            (plan_in self.new ≡ with_step (plan_in self.old) (Put (string_bytes name) bytes.items)) }
         ensures memory { IfErr result (λ fault. fault ≡ Memory) }
     {
         self.changes.push(Change::Put { name, bytes })?;

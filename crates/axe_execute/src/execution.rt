@@ -21,8 +21,8 @@ pub struct Shown {
 /// Executes a command on the files of a folder.
 ///
 /// Everything that it writes and shows is made before its first change of the folder. So a fault of a file, a file that
-/// is missing or too long, and a refusal leave every file as it was, and only a device that fails or want of memory at a
-/// change can leave the changes before it. A fault of the device is answered only where the folder counted one. Where
+/// is missing or too long, and a refusal leave every file as it was, and only a device that fails or want of memory at
+/// a change can leave the changes before it. A fault of the device is answered only where the folder counted one. Where
 /// the folder doesn't tell its files nothing is promised but that the call returns.
 pub fn execute<F: Folder>(alloc: Global, command: &Command, folder: &mut F) -> Result<Shown, Fault>
     ensures outcome { IsTrue F.tells →

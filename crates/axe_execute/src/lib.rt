@@ -9,6 +9,7 @@ mod execution;
 mod fault;
 mod laws;
 mod modules;
+mod operations;
 mod planning;
 mod printed;
 mod quotients;

@@ -4,7 +4,7 @@ ghost use Rattle.axe_spin.specs.Limits.{most_generators};
 ghost use Rattle.axe_spin.specs.Modules.{IsModule};
 ghost use Rattle.axe_execute.specs.Inputs.{matrices_in, numbered, numbered_names, checked_module};
 ghost use Rattle.axe_execute.specs.Meanings.{Is};
-ghost use Rattle.axe_execute.specs.Outcome.{Agrees, Counted};
+ghost use Rattle.axe_execute.specs.Outcome.{Agrees, Reads};
 
 use crate::fault::Fault;
 use crate::reading::read_matrix_file;
@@ -22,11 +22,8 @@ pub(crate) fn read_generators<F: Folder>(
     name: &Name,
     count: GeneratorCount,
 ) -> Result<Vec<Matrix>, Fault>
-    ensures means { IsTrue F.tells →
-        Agrees (numbered_names name.now count) (λ matrices. matrices.items) result
-        (Is (matrices_in (F.files folder.old) (numbered_names name.now count))) }
-    ensures kept { IsTrue F.tells → F.files folder.new ≡ F.files folder.old }
-    ensures counted { IsTrue F.tells → Counted result (F.failures folder.old) (F.failures folder.new) }
+    ensures reads { IsTrue F.tells → Reads F.files F.failures folder.old folder.new (numbered_names name.now count)
+        (λ matrices. matrices.items) result (λ files. Is (matrices_in files (numbered_names name.now count))) }
     ensures many { IfOk result (λ matrices. length matrices.items ≡ count) }
 {
     let mut matrices = Vec::new(alloc);

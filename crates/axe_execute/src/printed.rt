@@ -2,7 +2,8 @@
 ghost use Rattle.std.specs.Prelude.{◌≡◌, IfOk, IfErr};
 ghost use Rattle.axe_execute.specs.Printed.{file_status, folder_status, refusal_status, status_of};
 ghost use Rattle.axe_execute.specs.Printed.{file_number, folder_number, refusal_number, number_of};
-ghost use Rattle.axe_execute.specs.Printed.{file_text, folder_text, refusal_text, file_offset, program_line, file_line, line_of};
+ghost use Rattle.axe_execute.specs.Printed.{file_text, folder_text, refusal_text, file_offset, program_line, file_line};
+ghost use Rattle.axe_execute.specs.Printed.{line_of};
 
 use crate::fault::Fault;
 use axe_file::FileFault;
@@ -25,7 +26,7 @@ pub fn status(fault: &Fault) -> u8
     }
 }
 
-// The exit status for a fault in the bytes of a file.
+/// The exit status for a fault in the bytes of a file.
 fn file_status(fault: FileFault) -> u8
     ensures { result ≡ file_status fault }
 {
@@ -35,7 +36,7 @@ fn file_status(fault: FileFault) -> u8
     }
 }
 
-// The exit status for a folder's fault.
+/// The exit status for a folder's fault.
 fn folder_status(fault: FolderFault) -> u8
     ensures { result ≡ folder_status fault }
 {
@@ -45,7 +46,7 @@ fn folder_status(fault: FolderFault) -> u8
     }
 }
 
-// The exit status for a refusal.
+/// The exit status for a refusal.
 fn refusal_status(refusal: Refusal) -> u8
     ensures { result ≡ refusal_status refusal }
 {
@@ -68,7 +69,7 @@ pub fn number(fault: &Fault) -> u8
     }
 }
 
-// The number of a fault in a file's bytes.
+/// The number of a fault in a file's bytes.
 fn file_number(fault: FileFault) -> u8
     ensures { result ≡ file_number fault }
 {
@@ -92,7 +93,7 @@ fn file_number(fault: FileFault) -> u8
     }
 }
 
-// The number of a refusal.
+/// The number of a refusal.
 fn refusal_number(refusal: Refusal) -> u8
     ensures { result ≡ refusal_number refusal }
 {
@@ -110,7 +111,7 @@ fn refusal_number(refusal: Refusal) -> u8
     }
 }
 
-// The number of a folder's fault.
+/// The number of a folder's fault.
 fn folder_number(fault: FolderFault) -> u8
     ensures { result ≡ folder_number fault }
 {
@@ -142,7 +143,7 @@ pub fn line(alloc: Global, fault: &Fault) -> Result<Vec<u8>, Fault>
     Ok(line)
 }
 
-// A line of the program.
+/// A line of the program.
 fn program_line(alloc: Global, text: &str) -> Result<Vec<u8>, AllocError>
     ensures { IfOk result (λ line. line.items ≡ program_line text.now) }
 {
@@ -152,7 +153,7 @@ fn program_line(alloc: Global, text: &str) -> Result<Vec<u8>, AllocError>
     Ok(line)
 }
 
-// A line of the program on a file.
+/// A line of the program on a file.
 fn file_line(
     alloc: Global,
     name: &str,
@@ -173,7 +174,7 @@ fn file_line(
     Ok(line)
 }
 
-// The printed name of a fault in a file's bytes.
+/// The printed name of a fault in a file's bytes.
 fn file_text(fault: FileFault) -> &'static str
     ensures { result.now ≡ file_text fault }
 {
@@ -197,7 +198,7 @@ fn file_text(fault: FileFault) -> &'static str
     }
 }
 
-// The place in a file's bytes where a fault stands.
+/// The place in a file's bytes where a fault stands.
 fn file_offset(fault: FileFault) -> Option<usize>
     ensures { result ≡ file_offset fault }
 {
@@ -211,7 +212,7 @@ fn file_offset(fault: FileFault) -> Option<usize>
     }
 }
 
-// The printed name of a folder's fault.
+/// The printed name of a folder's fault.
 fn folder_text(fault: FolderFault) -> &'static str
     ensures { result.now ≡ folder_text fault }
 {
@@ -223,7 +224,7 @@ fn folder_text(fault: FolderFault) -> &'static str
     }
 }
 
-// The printed name of a refusal.
+/// The printed name of a refusal.
 fn refusal_text(refusal: Refusal) -> &'static str
     ensures { result.now ≡ refusal_text refusal }
 {

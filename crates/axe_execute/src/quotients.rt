@@ -1,9 +1,8 @@
 //! `zqt`: the action of a module modulo an invariant space.
-ghost use Rattle.std.specs.Prelude.{◌≡◌, IsTrue, [], ◌∷◌, IfOk};
-ghost use Rattle.axe_spin.specs.Modules.{IsModule};
+ghost use Rattle.std.specs.Prelude.{IsTrue, [], ◌∷◌};
 ghost use Rattle.axe_execute.specs.Inputs.{numbered_names};
 ghost use Rattle.axe_execute.specs.ModuleCommands.{ActionModulo, QuotientPlan};
-ghost use Rattle.axe_execute.specs.Outcome.{Agrees, Counted};
+ghost use Rattle.axe_execute.specs.Outcome.{Agrees, Reads};
 ghost use Rattle.axe_execute.specs.Drafts.{plan_in};
 
 use crate::draft::Draft;
@@ -18,7 +17,6 @@ use axe_spin::Module;
 use std::alloc::Global;
 
 /// The draft of `zqt`: the quotient of a module by the space that rows span.
-#[tactic(auto, unfolding(crate::specs::ModuleCommands::QuotientPlan))]
 pub(crate) fn quotient_draft<F: Folder>(
     alloc: Global,
     generators: GeneratorCount,
@@ -27,22 +25,18 @@ pub(crate) fn quotient_draft<F: Folder>(
     out: &Name,
     folder: &mut F,
 ) -> Result<Draft, Fault>
-    ensures means { IsTrue F.tells →
-        Agrees (subspace.now ∷ numbered_names name.now generators) plan_in result
-        (QuotientPlan generators subspace.now name.now out.now (F.files folder.old)) }
-    ensures kept { IsTrue F.tells → F.files folder.new ≡ F.files folder.old }
-    ensures counted { IsTrue F.tells → Counted result (F.failures folder.old) (F.failures folder.new) }
+    ensures { IsTrue F.tells → Reads F.files F.failures folder.old folder.new
+        (subspace.now ∷ numbered_names name.now generators) plan_in result
+        (QuotientPlan generators subspace.now name.now out.now) }
 {
     let rows = read_matrix(alloc, folder, subspace)?;
     let matrices = read_generators(alloc, folder, name, generators)?;
     let module = module_of(matrices)?;
     let quotient = action_modulo(alloc, &module, &rows)?;
-    let mut draft = Draft::new(alloc);
-    draft.put_generators(alloc, out, &quotient)?;
-    Ok(draft)
+    Draft::of_generators(alloc, out, &quotient)
 }
 
-// The quotient action of a module modulo the space that rows span.
+/// The quotient action of a module modulo the space that rows span.
 #[tactic(auto, unfolding(crate::specs::ModuleCommands::ActionModulo))]
 fn action_modulo(alloc: Global, module: &Module, rows: &Matrix) -> Result<Module, Fault>
     ensures { Agrees [] (λ action. action) result (ActionModulo «module».now rows.now) }

@@ -1,9 +1,9 @@
 //! Files, fetched from a folder and read.
-ghost use Rattle.std.specs.Prelude.{◌≡◌, IsTrue, [], ◌∷◌, IfOk};
+ghost use Rattle.std.specs.Prelude.{IsTrue, [], ◌∷◌, IfOk};
 ghost use Rattle.axe_matrix.specs.Matrices.{IsMatrix};
 ghost use Rattle.axe_execute.specs.Inputs.{bytes_in, matrix_in, text_matrix_in};
 ghost use Rattle.axe_execute.specs.Meanings.{Is};
-ghost use Rattle.axe_execute.specs.Outcome.{Agrees, Counted};
+ghost use Rattle.axe_execute.specs.Outcome.{Reads};
 
 use crate::fault::Fault;
 use axe_arguments::Name;
@@ -18,11 +18,8 @@ pub(crate) fn read_matrix<F: Folder>(
     folder: &mut F,
     name: &Name,
 ) -> Result<Matrix, Fault>
-    ensures means { IsTrue F.tells →
-        Agrees (name.now ∷ []) (λ matrix. matrix) result
-        (Is (matrix_in (F.files folder.old) name.now)) }
-    ensures kept { IsTrue F.tells → F.files folder.new ≡ F.files folder.old }
-    ensures counted { IsTrue F.tells → Counted result (F.failures folder.old) (F.failures folder.new) }
+    ensures reads { IsTrue F.tells → Reads F.files F.failures folder.old folder.new (name.now ∷ [])
+        (λ matrix. matrix) result (λ files. Is (matrix_in files name.now)) }
     ensures well_formed { IfOk result IsMatrix }
 {
     read_matrix_file(alloc, folder, name.as_str())
@@ -35,11 +32,8 @@ pub(crate) fn read_matrix_file<F: Folder>(
     folder: &mut F,
     file: &str,
 ) -> Result<Matrix, Fault>
-    ensures means { IsTrue F.tells →
-        Agrees (file.now ∷ []) (λ matrix. matrix) result
-        (Is (matrix_in (F.files folder.old) file.now)) }
-    ensures kept { IsTrue F.tells → F.files folder.new ≡ F.files folder.old }
-    ensures counted { IsTrue F.tells → Counted result (F.failures folder.old) (F.failures folder.new) }
+    ensures reads { IsTrue F.tells → Reads F.files F.failures folder.old folder.new (file.now ∷ [])
+        (λ matrix. matrix) result (λ files. Is (matrix_in files file.now)) }
     ensures well_formed { IfOk result IsMatrix }
 {
     let bytes = fetch(alloc, folder, file, PACKED_LIMIT)?;
@@ -56,11 +50,8 @@ pub(crate) fn read_text_matrix<F: Folder>(
     folder: &mut F,
     name: &Name,
 ) -> Result<Matrix, Fault>
-    ensures means { IsTrue F.tells →
-        Agrees (name.now ∷ []) (λ matrix. matrix) result
-        (Is (text_matrix_in (F.files folder.old) name.now)) }
-    ensures kept { IsTrue F.tells → F.files folder.new ≡ F.files folder.old }
-    ensures counted { IsTrue F.tells → Counted result (F.failures folder.old) (F.failures folder.new) }
+    ensures { IsTrue F.tells → Reads F.files F.failures folder.old folder.new (name.now ∷ [])
+        (λ matrix. matrix) result (λ files. Is (text_matrix_in files name.now)) }
 {
     let bytes = fetch(alloc, folder, name.as_str(), TEXT_LIMIT)?;
     match read_text(alloc, &bytes) {
@@ -69,7 +60,7 @@ pub(crate) fn read_text_matrix<F: Folder>(
     }
 }
 
-// The bytes of a file that has at most `limit` of them.
+/// The bytes of a file that has at most `limit` of them.
 #[tactic(auto, unfolding(crate::specs::Inputs::bytes_in))]
 fn fetch<F: Folder>(
     alloc: Global,
@@ -77,11 +68,8 @@ fn fetch<F: Folder>(
     file: &str,
     limit: usize,
 ) -> Result<Vec<u8>, Fault>
-    ensures means { IsTrue F.tells →
-        Agrees (file.now ∷ []) (λ bytes. bytes.items) result
-        (Is (bytes_in (F.files folder.old) file.now limit)) }
-    ensures kept { IsTrue F.tells → F.files folder.new ≡ F.files folder.old }
-    ensures counted { IsTrue F.tells → Counted result (F.failures folder.old) (F.failures folder.new) }
+    ensures { IsTrue F.tells → Reads F.files F.failures folder.old folder.new (file.now ∷ [])
+        (λ bytes. bytes.items) result (λ files. Is (bytes_in files file.now limit)) }
 {
     // The name is copied before the call, so that want of memory can't hide a fault of the device.
     let name = String::from_str(alloc, file)?;

@@ -1,12 +1,12 @@
 //! `zsp`: the spaces that rows generate in a module, and standard bases.
-ghost use Rattle.std.specs.Prelude.{◌≡◌, ◌++◌, IsTrue, [], ◌∷◌, IfOk, option_copied};
+ghost use Rattle.std.specs.Prelude.{◌++◌, IsTrue, [], ◌∷◌, IfOk, option_copied};
 ghost use Rattle.axe_matrix.specs.Matrices.{IsMatrix};
 ghost use Rattle.axe_spin.specs.Modules.{IsModule};
 ghost use Rattle.axe_execute.specs.Inputs.{numbered_names, seeded_module};
 ghost use Rattle.axe_execute.specs.Meanings.{Is};
 ghost use Rattle.axe_spin.specs.Spinning.{IsSubmoduleBasis};
 ghost use Rattle.axe_execute.specs.ModuleCommands.{RowsOf, ActionOn, SpunPlan};
-ghost use Rattle.axe_execute.specs.Outcome.{Agrees, Counted};
+ghost use Rattle.axe_execute.specs.Outcome.{Agrees, Reads};
 ghost use Rattle.axe_execute.specs.Drafts.{plan_in};
 
 use crate::draft::Draft;
@@ -36,11 +36,9 @@ impl SeededModule {
         name: &Name,
         seed: &Name,
     ) -> Result<SeededModule, Fault>
-        ensures means { IsTrue F.tells →
-            Agrees (numbered_names name.now generators ++ seed.now ∷ []) (λ seeded. (seeded.«module», seeded.seed)) result
-            (Is (seeded_module generators name.now seed.now (F.files folder.old))) }
-        ensures kept { IsTrue F.tells → F.files folder.new ≡ F.files folder.old }
-        ensures counted { IsTrue F.tells → Counted result (F.failures folder.old) (F.failures folder.new) }
+        ensures reads { IsTrue F.tells → Reads F.files F.failures folder.old folder.new
+            (numbered_names name.now generators ++ seed.now ∷ []) (λ seeded. (seeded.«module», seeded.seed)) result
+            (λ files. Is (seeded_module generators name.now seed.now files)) }
         ensures module_well_formed { IfOk result (λ seeded. IsModule seeded.«module») }
         ensures seed_well_formed { IfOk result (λ seeded. IsMatrix seeded.seed) }
     {
@@ -65,8 +63,7 @@ impl SeededModule {
             (SpunPlan standard (option_copied action.entry) out.now (self.now.«module», self.now.seed)) }
     {
         let rows = spun_rows(alloc, &self.module, &self.seed, standard)?;
-        let mut draft = Draft::new(alloc);
-        draft.put_packed(alloc, out, &rows)?;
+        let mut draft = Draft::of_packed(alloc, out, &rows)?;
         if let Some(action) = action {
             let action_on_rows = action_on(alloc, &self.module, &rows)?;
             draft.put_generators(alloc, action, &action_on_rows)?;
@@ -75,7 +72,7 @@ impl SeededModule {
     }
 }
 
-// The rows that spinning a seed gives.
+/// The rows that spinning a seed gives.
 #[tactic(auto, unfolding(crate::specs::ModuleCommands::RowsOf))]
 fn spun_rows(alloc: Global, module: &Module, seed: &Matrix, standard: bool) -> Result<Matrix, Fault>
     requires is_module { IsModule «module».now }
@@ -90,7 +87,7 @@ fn spun_rows(alloc: Global, module: &Module, seed: &Matrix, standard: bool) -> R
     }
 }
 
-// The action of a module on the span of a submodule's basis, over its rows.
+/// The action of a module on the span of a submodule's basis, over its rows.
 #[tactic(auto, unfolding(crate::specs::ModuleCommands::ActionOn))]
 fn action_on(alloc: Global, module: &Module, rows: &Matrix) -> Result<Module, Fault>
     requires submodule { IsSubmoduleBasis «module».now rows.now }

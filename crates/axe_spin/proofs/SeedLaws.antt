@@ -1,5 +1,5 @@
 -- Rows that are vectors of a module, and seeds.
-use Rattle.std.specs.Prelude.{◌≡◌, ℕ, ◌==◌, not, if◌then◌else◌, length, Bool, true, false, Option, Some, None, Ok, Err}
+use Rattle.std.specs.Prelude.{◌≡◌, ℕ, ◌==◌, not, if◌then◌else◌, Bool, true, false, Option, Some, None, Ok, Err}
 use Rattle.std.proofs.lemmas.Bool.{eq-eqb, eqb-true}
 use Rattle.axe_algebra.specs.Lists.{IsMatrixOver}
 use Rattle.axe_field.specs.Order.{order_number}

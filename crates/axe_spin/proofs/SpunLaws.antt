@@ -15,14 +15,14 @@ use Rattle.axe_field.specs.NumberFields.{number_field}
 use Rattle.axe_matrix.specs.Matrices.{MatrixValue, IsMatrix}
 use Rattle.axe_matrix.specs.Limits.{most_rows}
 use Rattle.axe_echelon.specs.Echelons.{EchelonValue, IsEchelon, with_row_where}
-use Rattle.axe_echelon.proofs.EliminationLaws.{room_of_rank}
+use Rattle.axe_echelon.proofs.EliminationLaws.{room_of_rank, full_echelon_spans}
 use Rattle.axe_echelon.proofs.InverseLaws.{matrix_over, spanned_of_not_new}
 use Rattle.axe_spin.specs.Modules.{ModuleValue, IsModule}
 use Rattle.axe_spin.specs.Spun.{IsSpanOf, with_row, IsOffered, image_of_row, IsReached, AreSpinning, AreSpun, IsSpunMatrix, IsSpinningUpTo, SpinsOn}
 use mathlib.Core.Logic.{inl, inr}
 use mathlib.Core.Path.{refl, sym, ◌∙◌, ap, ap₂, subst}
 use native.Mathlib.Omega.{arith}
-use native.Mathlib.Decide.{ℕ_discrete}
+use native.Mathlib.Decide.{ℕ_discrete, dec_lt}
 
 -- a function changed at one place
 with_value : (ℕ → ℕ) → ℕ → ℕ → ℕ → ℕ
@@ -72,6 +72,11 @@ precedes_before_row : (a b c count : ℕ) → Precedes a b (c + 1) 0 → b < cou
 precedes_before_row a b c count (inl e) below =
     elim (ℕ_discrete a c) [ yes same ↦ inr (same, below) | no other ↦ inl (omega (arith, other)) ]
 precedes_before_row a b c count (inr e) below = absurd (omega (arith, e.1))
+
+-- what precedes the first pair of a row precedes each pair of this row and of a later one
+precedes_from_row : (a b c r i : ℕ) → Precedes a b c 0 → c ≤ r → Precedes a b r i
+precedes_from_row a b c r i (inl e) more = inl (omega arith)
+precedes_from_row a b c r i (inr e) more = absurd (omega (arith, e.1))
 
 -- the row of a pair that precedes another
 row_of_preceding : (a b c d n : ℕ) → Precedes a b c d → c < n → a < n
@@ -330,6 +335,23 @@ module _ (m : ModuleValue) where
     reached = λ r i below inside. h.reached r i below inside (inl (omega (arith, below, all)));
   }
 
+  -- where the rows span all of their images, none is new
+  taken_full : (first rows : List (List ℕ)) (source : ℕ) →
+      ((r i : ℕ) → r < length rows → i < length m.generators → IsSpanned (number_field m.order) rows (image_of_row m rows r i)) →
+      IsSpinningUpTo m first rows source 0 → AreSpun m first rows
+  taken_full first rows source spanned h = record {
+    sources = h.sources;
+    numbers = h.numbers;
+    spinning = h.spinning;
+    reached = λ r i below inside. at r i below inside (dec_lt r source);
+  }
+    where
+      at : (r i : ℕ) → r < length rows → i < length m.generators → Dec (r < source) → IsReached m (length first) rows h.sources h.numbers r i
+      at r i below inside (yes earlier) = h.reached r i below inside (inl earlier)
+      at r i below inside (no later) =
+          reached_by_all (length first) rows h.sources h.numbers r i (spanned r i below inside)
+          (λ t from small. precedes_from_row _ _ source r i (h.before t from small) (omega (arith, later)))
+
 -- a row that was inserted as new leaves room for one more
 pub room_of_new : (span new : EchelonValue) (rows : MatrixValue) (row : List ℕ) (b : Bool) → IsSpanOf span rows → IsEchelon new →
     new ≡ with_row_where b span row → b ≡ true → length rows.rows < most_rows
@@ -459,3 +481,26 @@ module _ (m : ModuleValue) where
       let spinning = (begun span old new source h is old_is field fits spins).spinning in
       spun_of_taken span old new source h is old_is field fits spins
       (omega (arith, independent_rows_are_few (number_field m.order) m.dim new.rows spinning.over spinning.independent, is.columns, fits, all))
+
+  -- at the end, where the rows span everything
+  pub spun_of_full : (span now : EchelonValue) (old new : MatrixValue) (source : ℕ) → IsModule m → IsEchelon span → IsSpanOf span old → IsMatrix old →
+      old.order ≡ m.order → old.cols ≡ m.dim → SpinsOn m old new 0 0 source 0 → IsEchelon now → IsSpanOf now new → length now.rows ≡ m.dim →
+      IsSpunMatrix m old new
+  spun_of_full span now old new source module_is h is old_is field fits spins now_h now_is full = record {
+    field = spins.field;
+    columns = spins.columns;
+    spun = taken_full m old.rows new.rows source spanned begins;
+  }
+    where
+      columns : now.cols ≡ m.dim
+      columns = now_is.columns ∙ spins.columns ∙ fits
+
+      begins : IsSpinningUpTo m old.rows new.rows source 0
+      begins = begun span old new source h is old_is field fits spins
+
+      spanned : (r i : ℕ) → r < length new.rows → i < length m.generators → IsSpanned (number_field m.order) new.rows (image_of_row m new.rows r i)
+      spanned r i below inside =
+          let long = (image_over m new.rows r i module_is begins.spinning.over below inside).length_is in
+          subst (λ o. IsSpanned (number_field o) new.rows (image_of_row m new.rows r i)) (spins.field ∙ field)
+          (spanned_by_rows now new (image_of_row m new.rows r i) now_is
+          (full_echelon_spans now (image_of_row m new.rows r i) now_h (full ∙ sym columns) (long ∙ sym columns)))

@@ -12,9 +12,9 @@ use axe_echelon::Echelon;
 use axe_matrix::{Matrix, Refusal};
 use std::alloc::Global;
 
-/// The space that the rows of a matrix, the seed, generate in a module, as its reduced basis: the span of these rows times
-/// all products of generators, which is the least invariant space with these rows. A seed over another field than the
-/// module is refused as FieldsDiffer, else one with another number of columns than the module's dimension as
+/// The space that the rows of a matrix, the seed, generate in a module, as its reduced basis: the span of these rows
+/// times all products of generators, which is the least invariant space with these rows. A seed over another field than
+/// the module is refused as FieldsDiffer, else one with another number of columns than the module's dimension as
 /// ShapesDiffer, else one without a row other than zero as ZeroSeed.
 pub fn generate(alloc: Global, module: &Module, seed: &Matrix) -> Result<Matrix, Refusal>
     ensures basis { Answers (seed_refusal «module».now seed.now) (IsGeneratedMatrix «module».now seed.now) result }
@@ -52,7 +52,8 @@ pub fn has_only_zeros(matrix: &Matrix) -> bool
     true
 }
 
-/// Offers the rows of a matrix, in order, to no rows: those that are not in the span of the rows before them are appended.
+/// Offers the rows of a matrix, in order, to no rows: those that are not in the span of the rows before them are
+/// appended.
 fn offer_all(
     alloc: Global,
     span: &mut Echelon,

@@ -7,7 +7,8 @@ pub fn isomorphism_carries_standard_basis()
     ensures { IsomorphismCarriesStandardBasis }
 {}
 
-/// A nonzero multiple of a vector has the same standard matrices: the matrices by which the module acts on its standard basis.
+/// A nonzero multiple of a vector has the same standard matrices: the matrices by which the module acts on its standard
+/// basis.
 pub fn multiple_has_the_same_standard_matrices()
     ensures { MultipleHasTheSameStandardMatrices }
 {}

@@ -91,13 +91,13 @@ impl Module {
         &self.generators[index]
     }
 
-    /// Refuses a matrix whose rows are no vectors of the module: one over another field as FieldsDiffer, and else one with
-    /// another number of columns than the dimension as ShapesDiffer. It takes no memory.
+    /// Refuses a matrix whose rows are no vectors of the module: one over another field as FieldsDiffer, and else one
+    /// with another number of columns than the dimension as ShapesDiffer. It takes no memory.
     pub fn check_rows(&self, rows: &Matrix) -> Result<(), Refusal>
         ensures refusal { result ≡ unless_refused (rows_refusal self.now rows.now) tt }
         ensures rows_well_formed { IsMatrix rows.now }
     {
-        if rows.field().order() != self.field().order() {
+        if rows.field() != self.field() {
             return Err(Refusal::FieldsDiffer);
         }
         if rows.cols() != self.dim() {
@@ -135,7 +135,7 @@ fn check_generator(matrix: &Matrix, field: &Field, dim: usize) -> Result<(), Ref
     if matrix.rows() != matrix.cols() {
         return Err(Refusal::NotSquare);
     }
-    if matrix.field().order() != field.order() {
+    if matrix.field() != field {
         return Err(Refusal::FieldsDiffer);
     }
     if matrix.cols() != dim {

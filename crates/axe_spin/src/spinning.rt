@@ -1,4 +1,5 @@
-//! Spinning: rows and the images of rows under the generators of a module, taken in order, until their span is invariant.
+//! Spinning: rows and the images of rows under the generators of a module, taken in order, until their span is
+//! invariant.
 
 ghost use Rattle.std.specs.Prelude.{◌≡◌, ◌+◌, ◌<◌, length, None};
 ghost use Rattle.axe_row.specs.Refusals.{Answers};
@@ -32,8 +33,8 @@ pub(crate) fn offer(
     Ok(())
 }
 
-/// Spins independent rows in a module: takes the rows in turn, and for each the generators in order; an image that is not
-/// in the span so far is appended.
+/// Spins independent rows in a module: takes the rows in turn, and for each the generators in order; an image that is
+/// not in the span so far is appended.
 pub(crate) fn spin(
     alloc: Global,
     module: &Module,
@@ -50,7 +51,8 @@ pub(crate) fn spin(
 {
     // There are no more independent rows than columns.
     for source in 0..span.cols() {
-        if source == rows.rows() {
+        // Once the rows span everything, no image is new.
+        if source == rows.rows() || span.rank() == module.dim() {
             break;
         }
         take_images(alloc, module, span, rows, source)?;

@@ -4,7 +4,8 @@ ghost use Rattle.std.specs.Prelude.{◌≡◌, true, length, None, IfOk, MatchOp
 ghost use Rattle.axe_row.specs.Operations.{IsZeroVector};
 ghost use Rattle.axe_row.specs.Refusals.{Answers};
 ghost use Rattle.axe_matrix.specs.Matrices.{IsMatrix};
-ghost use Rattle.axe_spin.specs.Spinning.{has_only_zeros, seed_refusal, IsStandardMatrix, HasFirstNonzeroRow, HasSpunRows};
+ghost use Rattle.axe_spin.specs.Spinning.{has_only_zeros, seed_refusal, IsStandardMatrix, HasFirstNonzeroRow};
+ghost use Rattle.axe_spin.specs.Spinning.{HasSpunRows};
 
 use crate::module::Module;
 use crate::spinning::{offer, spin};
@@ -12,8 +13,8 @@ use axe_echelon::Echelon;
 use axe_matrix::{Matrix, Refusal, Row};
 use std::alloc::Global;
 
-/// The standard basis of a vector other than zero in a module: it begins with the vector, and takes its rows in turn and
-/// for each the generators in order; an image that is not in the span so far is appended.
+/// The standard basis of a vector other than zero in a module: it begins with the vector, and takes its rows in turn
+/// and for each the generators in order; an image that is not in the span so far is appended.
 pub fn standard_basis(alloc: Global, module: &Module, vector: &Row) -> Result<Matrix, Refusal>
     requires field { vector.now.order ≡ «module».now.order }
     requires fits { length vector.now.entries ≡ «module».now.dim }
@@ -45,7 +46,8 @@ pub fn standard_rows(alloc: Global, module: &Module, seed: &Matrix) -> Result<Ma
 
 /// The first row of a matrix that is not zero, or `None` where it has only zeros.
 pub fn first_nonzero_row(matrix: &Matrix) -> Option<&Row>
-    ensures { MatchOption (option_copied result) (has_only_zeros matrix.now.rows ≡ true) (HasFirstNonzeroRow matrix.now) }
+    ensures { MatchOption (option_copied result) (has_only_zeros matrix.now.rows ≡ true)
+        (HasFirstNonzeroRow matrix.now) }
 {
     for index in 0..matrix.rows() {
         if !matrix.row(index).is_zero() {

@@ -1,5 +1,5 @@
 use Rattle.std.proofs.Common.{ap, sym, ◌∙◌}
-use Rattle.axe_matrix.proofs.MatrixLaws.{same_fields}
+use Rattle.axe_matrix.proofs.MatrixLaws.{one_field}
 use Rattle.axe_row.specs.Refusals.{unless_refused}
 use Rattle.axe_action.proofs.ConjugateLaws.{IsBasisFor, conjugate_accepted}
 use Rattle.axe_action.proofs.conjugates.check_basis.Goals as goal
@@ -7,7 +7,7 @@ use Rattle.axe_action.proofs.conjugates.check_basis.Goals as goal
 pub returns : goal.returns
 returns c =
     let fits : IsBasisFor c.args.module.now c.args.basis.now = record {
-      field = same_fields _ _ _ _ _ _ c.field.ensures.order c.order.ensures.value c.if-order.false c.order-2.ensures.value c.field-2.ensures.order;
+      field = one_field _ _ _ _ c.field.ensures.order c.if-ne.ensures c.field-2.ensures.order;
       rows = sym c.rows.ensures.count ∙ c.if-rows-dim.false ∙ c.dim.ensures.count;
       columns = sym c.cols.ensures.count ∙ c.if-cols-dim.false ∙ c.dim-else-rows-dim.ensures.count;
     } in

@@ -1,35 +1,42 @@
-use Rattle.std.proofs.Common.{rules}
+use Rattle.std.proofs.lemmas.Result.{err_from_is_err_and}
+use Rattle.axe_execute.proofs.Sequences.{among_same}
+use Rattle.axe_execute.proofs.ReadCalls.{reads_no_more, reads_all}
 use Rattle.axe_execute.proofs.planning.draft_of.Goals as goal
 
-pub returns-in-Zcv-clause-means : goal.returns-in-Zcv-clause-means
-returns-in-Zcv-clause-means g c = search rules
+pub returns-in-Zcv : goal.returns-in-Zcv
+returns-in-Zcv g c = λ tells. rw (c.in-Zcv.is) (c.conversion_draft.ensures tells)
 
-pub returns-in-Zpr-clause-means : goal.returns-in-Zpr-clause-means
-returns-in-Zpr-clause-means g c = search rules
+pub returns-in-Zpr : goal.returns-in-Zpr
+returns-in-Zpr g c = λ tells.
+    let right = c.printing_draft.ensures tells in
+    rw (c.in-Zpr.is) (rw c.as_ref.ensures.value at right)
 
-pub returns-in-Zmu-clause-means : goal.returns-in-Zmu-clause-means
-returns-in-Zmu-clause-means g c = search rules
+pub returns-in-Zmu : goal.returns-in-Zmu
+returns-in-Zmu g c = λ tells. rw (c.in-Zmu.is) (c.draft_of_two.ensures tells)
 
-pub returns-in-Zmu-clause-kept : goal.returns-in-Zmu-clause-kept
-returns-in-Zmu-clause-kept g c = search rules
+pub returns-in-Zad : goal.returns-in-Zad
+returns-in-Zad g c = λ tells. rw (c.in-Zad.is) (c.draft_of_two-in-Zad.ensures tells)
 
-pub returns-in-Zmu-clause-counted : goal.returns-in-Zmu-clause-counted
-returns-in-Zmu-clause-counted g c = search rules
+pub returns-in-Ztr : goal.returns-in-Ztr
+returns-in-Ztr g c = λ tells. rw (c.in-Ztr.is) (c.draft_of_one.ensures tells)
 
-pub returns-in-Zad-clause-means : goal.returns-in-Zad-clause-means
-returns-in-Zad-clause-means g c = search rules
+pub returns-in-Ziv : goal.returns-in-Ziv
+returns-in-Ziv g c = λ tells. rw (c.in-Ziv.is) (c.draft_of_one-in-Ziv.ensures tells)
 
-pub returns-in-Ztr-clause-means : goal.returns-in-Ztr-clause-means
-returns-in-Ztr-clause-means g c = search rules
+pub returns-in-Znu : goal.returns-in-Znu
+returns-in-Znu g c = λ tells. rw (c.in-Znu.is) (c.draft_of_one-in-Znu.ensures tells)
 
-pub returns-in-Ziv-clause-means : goal.returns-in-Ziv-clause-means
-returns-in-Ziv-clause-means g c = search rules
+pub returns-in-Zqt : goal.returns-in-Zqt
+returns-in-Zqt g c = λ tells. rw (c.in-Zqt.is) (c.quotient_draft.ensures tells)
 
-pub returns-in-Znu-clause-means : goal.returns-in-Znu-clause-means
-returns-in-Znu-clause-means g c = search rules
+pub returns-in_err-seeded-in-Zsp : goal.returns-in_err-seeded-in-Zsp
+returns-in_err-seeded-in-Zsp g c = λ tells.
+    let p = err_from_is_err_and c.from_residual.result c.from_residual.ensures.1 in
+    rw (p.1, p.2, c.in-Zsp.is) (reads_no_more g.F.Folder.files g.F.Folder.failures _ _ _ _ _ _ _ _ _ (among_same _)
+    (c.in_err-seeded-in-Zsp.ensures.reads tells))
 
-pub returns-in-Zqt-clause-means : goal.returns-in-Zqt-clause-means
-returns-in-Zqt-clause-means g c = search rules
-
-pub returns-in_ok-seeded-in-Zsp-clause-means : goal.returns-in_ok-seeded-in-Zsp-clause-means
-returns-in_ok-seeded-in-Zsp-clause-means g c = search rules
+pub returns-in_ok-seeded-in-Zsp : goal.returns-in_ok-seeded-in-Zsp
+returns-in_ok-seeded-in-Zsp g c = λ tells.
+    let right = c.draft.ensures in
+    rw (c.in-Zsp.is) (reads_all g.F.Folder.files g.F.Folder.failures _ _ _ _ _ _ _ _ _ (c.in_ok-seeded-in-Zsp.ensures.reads tells)
+    (record { agrees = rw c.as_ref-in-Zsp.ensures.value at right }))
