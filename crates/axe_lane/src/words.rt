@@ -33,7 +33,7 @@ pub fn any_nonzero(words: &[u64]) -> bool
 
 /// The least index of a set bit, or `None` where no bit is set. Bit i of the list is bit i mod 64 of word i / 64.
 pub fn first_set(words: &[u64]) -> Option<usize>
-    requires { 64 * length words.now < 2 ^ 64 }
+    requires { 64 * length words.now ≤ 2 ^ 64 }
     ensures { MatchOption result (HasNoSetBit words.now) (IsFirstSetBit words.now) }
 {
     match first_nonzero_word(words) {

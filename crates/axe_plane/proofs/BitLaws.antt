@@ -57,8 +57,9 @@ bits-zeros n k =
     let inside : e < n = omega (arith, length-bits n (zeros k)) in
     get_or-bits n (zeros k) e inside ∙ bit_of-zeros k e ∙ sym (get_or-replicate n e 0 0 inside))
 
-pub HoldsBits-zeros : (n k : ℕ) → k ≡ (n + 63) / 64 → HoldsBits n (zeros k)
-HoldsBits-zeros n k e = record {
+pub HoldsBits-zeros : (n k : ℕ) → n < 2 ^ 64 → k ≡ (n + 63) / 64 → HoldsBits n (zeros k)
+HoldsBits-zeros n k h e = record {
+  counted = h;
   long = length-replicate k 0 ∙ e;
   fits = λ i. let none = get_or-zeros k i in omega (arith, none);
   unused = λ i _. bit_of-zeros k i;
@@ -118,6 +119,7 @@ bits-set n words i d w below h =
 pub HoldsBits-set : (n : ℕ) (words : List ℕ) (i d w : ℕ) → i < n → IsWordWith words i d w → HoldsBits n words →
     HoldsBits n (set words (i / 64) w)
 HoldsBits-set n words i d w below h held = record {
+  counted = held.counted;
   fits = λ k. elim (cases_eq k (i / 64)) [
     | inl same ↦
         subst (λ x. x < 2 ^ 64) (sym (ap (λ j. get_or (set words (i / 64) w) j 0) same ∙ get_or-set_same words (i / 64) w 0 h.within)) h.fits
@@ -161,6 +163,7 @@ bits-xor n a b ha hb =
 
 pub HoldsBits-xor : (n : ℕ) (a b : List ℕ) → HoldsBits n a → HoldsBits n b → HoldsBits n (zip2 bit_xor a b)
 HoldsBits-xor n a b ha hb = record {
+  counted = ha.counted;
   fits = λ k. elim (dec_lt k (length a)) [
     | yes inside ↦
         let there : k < length b = omega (arith, ha.long, hb.long) in

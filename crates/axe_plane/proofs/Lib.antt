@@ -1,3 +1,5 @@
 pub mod BitLaws
 pub mod DigitLaws
 pub mod PlaneLaws
+pub mod DotLaws
+pub mod ZeroDigits

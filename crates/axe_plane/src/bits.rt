@@ -1,9 +1,11 @@
 //! Planes of digits modulo 2.
 ghost use Rattle.std.specs.Int.{bit_at};
-ghost use Rattle.std.specs.Prelude.{ℕ, ◌≡◌, ◌≢◌, ◌^◌, ◌<◌, ◌↔◌, IsTrue, IfOk, length, replicate, slice_index, slice_set, All, MatchOption};
+ghost use Rattle.std.specs.Prelude.{ℕ, ◌≡◌, ◌≢◌, ◌^◌, ◌%◌, ◌<◌, ◌↔◌, IsTrue, IfOk, length, replicate, slice_index, slice_set, All, MatchOption};
+ghost use Rattle.axe_lane.specs.Bytes.{multiple, sum_of_products};
+ghost use Rattle.axe_lane.specs.Entries.{IsFirstNonzero};
 ghost use Rattle.axe_plane.specs.Digits.{AreDigits, digits_with_multiple};
 
-use axe_lane::xor_into;
+use axe_lane::{any_nonzero, first_set, parity_and, xor_into};
 use std::alloc::{AllocError, Global};
 use std::marker::Model;
 
@@ -84,6 +86,38 @@ impl BitPlane {
         ensures { self.new ≡ digits_with_multiple 2 self.old 1 other.now }
     {
         xor_into(&mut self.words, &other.words);
+    }
+
+    /// Multiplies each digit by a factor modulo 2: the factor 0 makes zeros, and 1 changes nothing.
+    pub fn scale(&mut self, factor: u8)
+        requires { factor < 2 }
+        ensures { self.new ≡ multiple 2 factor self.old }
+    {
+        if factor == 0 {
+            self.words.fill(0);
+        }
+    }
+
+    /// The sum modulo 2 of the products of digits at one index, for another plane of the same length.
+    pub fn dot(&self, other: &BitPlane) -> u8
+        requires { length other.now ≡ length self.now }
+        ensures { result ≡ sum_of_products self.now other.now % 2 }
+    {
+        parity_and(&self.words, &other.words)
+    }
+
+    /// The index of the first digit other than 0, or `None` where every digit is 0.
+    pub fn first_nonzero(&self) -> Option<usize>
+        ensures { MatchOption result (All (λ digit. digit ≡ 0) self.now) (IsFirstNonzero self.now) }
+    {
+        first_set(&self.words)
+    }
+
+    /// Whether every digit is 0.
+    pub fn is_zero(&self) -> bool
+        ensures { IsTrue result ↔ All (λ digit. digit ≡ 0) self.now }
+    {
+        !any_nonzero(&self.words)
     }
 
     /// Whether two planes are equal.

@@ -1,12 +1,17 @@
 //! Planes of digits modulo an odd prime.
-ghost use Rattle.std.specs.Prelude.{◌≡◌, ◌<◌, ◌↔◌, IsTrue, IfOk, length, replicate, slice_index, slice_set};
+ghost use Rattle.std.specs.Prelude.{◌≡◌, ◌%◌, ◌<◌, ◌↔◌, IsTrue, IfOk, length, replicate, slice_index, slice_set, All, MatchOption};
+ghost use Rattle.axe_lane.specs.Bytes.{multiple, sum_of_products};
+ghost use Rattle.axe_lane.specs.Entries.{IsFirstNonzero};
 ghost use Rattle.axe_plane.specs.Digits.{AreDigits, digits_with_multiple};
 ghost use Rattle.axe_plane.specs.Primes.{odd_number, OddDigits};
 
 use crate::primes::OddPrime;
-use axe_lane::add_scaled_bytes;
+use axe_lane::{add_scaled_bytes, dot_bytes, first_byte, scale_bytes};
 use std::alloc::{AllocError, Global};
 use std::marker::Model;
+
+/// How many bytes a piece of a dot product has at most.
+const PIECE: usize = 4096;
 
 /// A list of digits modulo an odd prime, a byte for each.
 #[derive(Drop)]
@@ -87,6 +92,51 @@ impl BytePlane {
     {
         let prime = self.prime.number();
         add_scaled_bytes(&mut self.bytes, &other.bytes, factor, prime);
+    }
+
+    /// Multiplies each digit by a factor modulo the prime.
+    pub fn scale(&mut self, factor: u8)
+        requires { factor < odd_number self.old.prime }
+        ensures { self.new ≡ record {
+          prime = self.old.prime;
+          digits = multiple (odd_number self.old.prime) factor self.old.digits;
+        } }
+    {
+        let prime = self.prime.number();
+        scale_bytes(&mut self.bytes, factor, prime);
+    }
+
+    /// The sum modulo the prime of the products of digits at one index, for another plane modulo this prime and of the
+    /// same length.
+    pub fn dot(&self, other: &BytePlane) -> u8
+        requires prime { other.now.prime ≡ self.now.prime }
+        requires fits { length other.now.digits ≡ length self.now.digits }
+        ensures { result ≡ sum_of_products self.now.digits other.now.digits % odd_number self.now.prime }
+    {
+        let prime = self.prime.number();
+        let whole = self.bytes.len() / PIECE;
+        let mut sum = 0;
+        for piece in 0..whole {
+            let from = piece * PIECE;
+            let to = from + PIECE;
+            sum = (sum + dot_bytes(&self.bytes[from..to], &other.bytes[from..to], prime)) % prime;
+        }
+        let from = whole * PIECE;
+        (sum + dot_bytes(&self.bytes[from..], &other.bytes[from..], prime)) % prime
+    }
+
+    /// The index of the first digit other than 0, or `None` where every digit is 0.
+    pub fn first_nonzero(&self) -> Option<usize>
+        ensures { MatchOption result (All (λ digit. digit ≡ 0) self.now.digits) (IsFirstNonzero self.now.digits) }
+    {
+        first_byte(&self.bytes)
+    }
+
+    /// Whether every digit is 0.
+    pub fn is_zero(&self) -> bool
+        ensures { IsTrue result ↔ All (λ digit. digit ≡ 0) self.now.digits }
+    {
+        first_byte(&self.bytes).is_none()
     }
 
     /// Whether two planes are equal: one prime, and the same digits.

@@ -2,7 +2,9 @@
 //! has a byte for each digit.
 #![tactic(auto)]
 
-ghost use Rattle.std.specs.Prelude.{◌≡◌, ◌≢◌, ◌⊎◌, ◌<◌, ◌↔◌, IsTrue, IfOk, length, replicate, slice_index, slice_set};
+ghost use Rattle.std.specs.Prelude.{◌≡◌, ◌≢◌, ◌⊎◌, ◌%◌, ◌<◌, ◌↔◌, IsTrue, IfOk, length, replicate, slice_index, slice_set, All, MatchOption};
+ghost use Rattle.axe_lane.specs.Bytes.{multiple, sum_of_products};
+ghost use Rattle.axe_lane.specs.Entries.{IsFirstNonzero};
 ghost use Rattle.axe_plane.specs.Digits.{AreDigits, digits_with_multiple};
 
 pub use bits::BitPlane;
@@ -99,6 +101,51 @@ impl Plane {
                 (Plane::Bytes(plane), Plane::Bytes(other)) => plane.add_scaled(factor, other),
                 _ => {}
             }
+        }
+    }
+
+    /// Multiplies each digit by a factor modulo the prime.
+    pub fn scale(&mut self, factor: u8)
+        requires { factor < prime_of_plane self.old }
+        ensures { IsPlane (prime_of_plane self.old) (multiple (prime_of_plane self.old) factor (digits_of self.old)) self.new }
+    {
+        match self {
+            Plane::Bits(plane) => plane.scale(factor),
+            Plane::Bytes(plane) => plane.scale(factor),
+        }
+    }
+
+    /// The sum modulo the prime of the products of digits at one index, for another plane modulo the same prime and of
+    /// the same length.
+    pub fn dot(&self, other: &Plane) -> u8
+        requires prime { prime_of_plane other.now ≡ prime_of_plane self.now }
+        requires fits { length (digits_of other.now) ≡ length (digits_of self.now) }
+        ensures { result ≡ sum_of_products (digits_of self.now) (digits_of other.now) % prime_of_plane self.now }
+    {
+        match (self, other) {
+            (Plane::Bits(plane), Plane::Bits(other)) => plane.dot(other),
+            (Plane::Bytes(plane), Plane::Bytes(other)) => plane.dot(other),
+            _ => 0,
+        }
+    }
+
+    /// The index of the first digit other than 0, or `None` where every digit is 0.
+    pub fn first_nonzero(&self) -> Option<usize>
+        ensures { MatchOption result (All (λ digit. digit ≡ 0) (digits_of self.now)) (IsFirstNonzero (digits_of self.now)) }
+    {
+        match self {
+            Plane::Bits(plane) => plane.first_nonzero(),
+            Plane::Bytes(plane) => plane.first_nonzero(),
+        }
+    }
+
+    /// Whether every digit is 0.
+    pub fn is_zero(&self) -> bool
+        ensures { IsTrue result ↔ All (λ digit. digit ≡ 0) (digits_of self.now) }
+    {
+        match self {
+            Plane::Bits(plane) => plane.is_zero(),
+            Plane::Bytes(plane) => plane.is_zero(),
         }
     }
 

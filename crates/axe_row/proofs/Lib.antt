@@ -3,3 +3,5 @@ pub mod OperationLaws
 pub mod UnitRows
 pub mod RowPlanes
 pub mod PlaneSums
+pub mod PrimeRows
+pub mod FirstEntries

@@ -95,7 +95,7 @@ zero_planes o n c l q hc hl hq = record {
   quadratic = plane_of_zeros (prime_of o) _ q (prime-positive o) hq;
 }
 
-element_of-zeros : (o : Order) → element_of o 0 0 0 ≡ 0
+pub element_of-zeros : (o : Order) → element_of o 0 0 0 ≡ 0
 unfolding number_of
 element_of-zeros Two = refl
 element_of-zeros Three = refl
@@ -230,6 +230,12 @@ row_set o n i a c l q c' l' q' m self h self_is ha inside em hc hl hq =
     ∙ set_entries o n i a c l q m h element em within in
     ap (λ (x : List ℕ). record { order = o; entries = x }) entries
     ∙ ap (λ (r : RowValue). record { order = r.order; entries = set r.entries i a }) self_is
+
+-- how many entries a row of these planes has
+pub length_of_row : (o : Order) (c l q : Plane) (self : RowValue) → record { order = o; entries = entries_of o c l q } ≡ self →
+    length self.entries ≡ length (digits_of c)
+length_of_row o c l q self self_is =
+    sym (ap (λ (r : RowValue). length r.entries) self_is) ∙ length-entries o (digits_of c) (digits_of l) (digits_of q)
 
 -- copies
 pub copied_planes : (o : Order) (c l q c' l' q' : Plane) → c' ≡ c → l' ≡ l → q' ≡ q → ArePlanes o (length (digits_of c)) c l q →

@@ -14,7 +14,7 @@ mod refusals;
 
 use axe_field::Field;
 use axe_plane::Plane;
-use planes::{add_multiples, digits_in_plane, element};
+use planes::{add_multiples, digits_in_plane, earlier, element};
 pub use refusals::Refusal;
 use std::alloc::Global;
 use std::marker::Model;
@@ -162,20 +162,11 @@ impl Row {
         ensures as_long { length self.new.entries ≡ length self.old.entries }
         ensures well_formed { IsRow self.new }
     {
-        let m = self.field.plane_matrix(scalar);
-        let (constant, linear, quadratic) = (&other.constant, &other.linear, &other.quadratic);
-        let to_constant = [m[0][0], m[1][0], m[2][0]];
-        add_multiples(&mut self.constant, to_constant, constant, linear, quadratic);
-        let to_linear = [m[0][1], m[1][1], m[2][1]];
-        add_multiples(&mut self.linear, to_linear, constant, linear, quadratic);
-        let to_quadratic = [m[0][2], m[1][2], m[2][2]];
-        add_multiples(
-            &mut self.quadratic,
-            to_quadratic,
-            constant,
-            linear,
-            quadratic,
-        );
+        if self.field.degree() == 1 {
+            self.constant.add_scaled(scalar, &other.constant);
+        } else {
+            self.add_by_planes(scalar, other);
+        }
     }
 
     /// Multiplies the row by an element: each entry d becomes c d, where c is the scalar.
@@ -185,9 +176,10 @@ impl Row {
         ensures as_long { length self.new.entries ≡ length self.old.entries }
         ensures well_formed { IsRow self.new }
     {
-        let field = *self.field();
-        for index in 0..self.len() {
-            self.set(index, field.mul(scalar, self.get(index)));
+        if self.field.degree() == 1 {
+            self.constant.scale(scalar);
+        } else if scalar != 1 {
+            self.scale_by_entries(scalar);
         }
     }
 
@@ -199,32 +191,32 @@ impl Row {
         ensures value { result ≡ dot_product (number_field self.now.order) self.now.entries other.now.entries }
         ensures element { IsElement self.now.order result }
     {
-        let field = self.field();
-        let mut sum = 0;
-        for index in 0..self.len() {
-            let product = field.mul(self.get(index), other.get(index));
-            sum = field.add(sum, product);
+        if self.field.degree() == 1 {
+            self.constant.dot(&other.constant)
+        } else {
+            self.dot_by_entries(other)
         }
-        sum
     }
 
     /// The index of the first entry other than 0, counted from 0, or `None` where every entry is 0.
     pub fn first_nonzero(&self) -> Option<usize>
         ensures { MatchOption result (IsZeroVector self.now.entries) (IsFirstNonzero self.now.entries) }
     {
-        for index in 0..self.len() {
-            if self.get(index) != 0 {
-                return Some(index);
-            }
-        }
-        None
+        let high = earlier(self.linear.first_nonzero(), self.quadratic.first_nonzero());
+        earlier(self.constant.first_nonzero(), high)
     }
 
     /// Whether every entry is 0.
     pub fn is_zero(&self) -> bool
         ensures { IsTrue result ↔ IsZeroVector self.now.entries }
     {
-        self.first_nonzero().is_none()
+        if !self.constant.is_zero() {
+            return false;
+        }
+        if !self.linear.is_zero() {
+            return false;
+        }
+        self.quadratic.is_zero()
     }
 
     /// Whether two rows are equal: one field, one length, and the same entries.
@@ -241,5 +233,59 @@ impl Row {
             return false;
         }
         self.quadratic.same(&other.quadratic)
+    }
+}
+
+impl Row {
+    /// Adds a multiple of another row, plane by plane.
+    fn add_by_planes(&mut self, scalar: u8, other: &Row)
+        requires field { other.now.order ≡ self.old.order }
+        requires fits { length other.now.entries ≡ length self.old.entries }
+        requires element { IsElement self.old.order scalar }
+        ensures sum { self.new ≡ row_with_multiple self.old scalar other.now }
+        ensures well_formed { IsRow self.new }
+    {
+        let m = self.field.plane_matrix(scalar);
+        let (constant, linear, quadratic) = (&other.constant, &other.linear, &other.quadratic);
+        let to_constant = [m[0][0], m[1][0], m[2][0]];
+        add_multiples(&mut self.constant, to_constant, constant, linear, quadratic);
+        let to_linear = [m[0][1], m[1][1], m[2][1]];
+        add_multiples(&mut self.linear, to_linear, constant, linear, quadratic);
+        let to_quadratic = [m[0][2], m[1][2], m[2][2]];
+        add_multiples(
+            &mut self.quadratic,
+            to_quadratic,
+            constant,
+            linear,
+            quadratic,
+        );
+    }
+
+    /// Multiplies the row by an element, entry by entry.
+    fn scale_by_entries(&mut self, scalar: u8)
+        requires { IsElement self.old.order scalar }
+        ensures multiple { self.new ≡ multiple_row scalar self.old }
+        ensures well_formed { IsRow self.new }
+    {
+        let field = *self.field();
+        for index in 0..self.len() {
+            self.set(index, field.mul(scalar, self.get(index)));
+        }
+    }
+
+    /// The dot product with another row, entry by entry.
+    fn dot_by_entries(&self, other: &Row) -> u8
+        requires field { other.now.order ≡ self.now.order }
+        requires fits { length other.now.entries ≡ length self.now.entries }
+        ensures value { result ≡ dot_product (number_field self.now.order) self.now.entries other.now.entries }
+        ensures element { IsElement self.now.order result }
+    {
+        let field = self.field();
+        let mut sum = 0;
+        for index in 0..self.len() {
+            let product = field.mul(self.get(index), other.get(index));
+            sum = field.add(sum, product);
+        }
+        sum
     }
 }

@@ -2,42 +2,33 @@ use Rattle.std.proofs.Common.{length, ap, sym, ◌∙◌}
 use Rattle.axe_row.specs.Rows.{RowValue}
 use Rattle.axe_row.proofs.OperationLaws.{length-sum_with_multiple}
 use Rattle.axe_row.proofs.RowPlanes.{IsRow-of_planes, with_length}
-use Rattle.axe_row.proofs.PlaneSums.{summands, addable_constant, addable_linear, addable_quadratic, summed_planes, summed_entries, row_after}
+use Rattle.axe_row.proofs.PrimeRows.{other_length, prime_planes_sum, prime_row_sum, scalar_is_digit}
 use Rattle.axe_row.proofs.Row.add_scaled.Goals as goal
 
-pub add_multiples-requires : goal.add_multiples-requires
-add_multiples-requires c =
-    addable_constant _ _ _ _ _ _ _ _ _ _ _ _
-    (summands _ _ _ _ _ _ _ _ _ _ _ _ c.self.invariant c.other.invariant c.self.view_is c.other.view_is c.requires.field c.requires.fits c.requires.element c.plane_matrix-m.ensures.value)
+pub add_scaled-requires-clause-factor : goal.add_scaled-requires-clause-factor
+add_scaled-requires-clause-factor c =
+    scalar_is_digit _ _ _ _ _ _ _ c.degree.ensures c.if-degree-eq1.true c.self.invariant.constant c.self.view_is c.requires.element
 
-pub add_multiples-requires-2 : goal.add_multiples-requires-2
-add_multiples-requires-2 c =
-    addable_linear _ _ _ _ _ _ _ _ _ _ _ _
-    (summands _ _ _ _ _ _ _ _ _ _ _ _ c.self.invariant c.other.invariant c.self.view_is c.other.view_is c.requires.field c.requires.fits c.requires.element c.plane_matrix-m.ensures.value)
-
-pub add_multiples-requires-3 : goal.add_multiples-requires-3
-add_multiples-requires-3 c =
-    addable_quadratic _ _ _ _ _ _ _ _ _ _ _ _
-    (summands _ _ _ _ _ _ _ _ _ _ _ _ c.self.invariant c.other.invariant c.self.view_is c.other.view_is c.requires.field c.requires.fits c.requires.element c.plane_matrix-m.ensures.value)
+pub add_scaled-requires-clause-fits : goal.add_scaled-requires-clause-fits
+add_scaled-requires-clause-fits c =
+    λ _. other_length _ _ c.self.inside.constant c.self.inside.linear c.self.inside.quadratic
+    c.other.inside.constant c.other.inside.linear c.other.inside.quadratic _ _ c.self.view_is c.other.view_is c.requires.fits
 
 pub invariant_of-self : goal.invariant_of-self
 invariant_of-self c =
-    with_length _ _ _ _ _ (summed_planes _ _ _ _ _ _ _ _ _ _ _ _ _ _ _
-    (summands _ _ _ _ _ _ _ _ _ _ _ _ c.self.invariant c.other.invariant c.self.view_is c.other.view_is c.requires.field c.requires.fits c.requires.element c.plane_matrix-m.ensures.value)
-    c.add_multiples.ensures c.add_multiples-2.ensures c.add_multiples-3.ensures)
+    with_length _ _ _ _ _
+    (prime_planes_sum _ _ _ _ _ _ c.other.inside.constant _ (sym c.degree.ensures ∙ c.if-degree-eq1.true) c.self.invariant c.add_scaled.ensures)
 
-pub returns-clause-sum : goal.returns-clause-sum
-returns-clause-sum c =
-    let same =
-    ap (λ (r : RowValue). r.order) c.other.view_is ∙ c.requires.field ∙ sym (ap (λ (r : RowValue). r.order) c.self.view_is) in
-    row_after _ _ _ c.self.inside.constant c.self.inside.linear c.self.inside.quadratic
-    c.other.inside.constant c.other.inside.linear c.other.inside.quadratic _ _ _ c.self.view_is c.other.view_is same
-    (summed_entries _ _ _ _ _ _ _ _ _ _ _ _ _ _ _
-    (summands _ _ _ _ _ _ _ _ _ _ _ _ c.self.invariant c.other.invariant c.self.view_is c.other.view_is c.requires.field c.requires.fits c.requires.element c.plane_matrix-m.ensures.value)
-    c.add_multiples.ensures c.add_multiples-2.ensures c.add_multiples-3.ensures)
+pub returns-then-degree-eq1-clause-sum : goal.returns-then-degree-eq1-clause-sum
+returns-then-degree-eq1-clause-sum c =
+    prime_row_sum _ _ _ _ _ _ _ _ _ _ _ _ _ c.degree.ensures c.if-degree-eq1.true c.self.invariant c.other.invariant c.self.view_is c.other.view_is
+    c.requires.field c.requires.element c.add_scaled.ensures
 
-pub returns-clause-as_long : goal.returns-clause-as_long
-returns-clause-as_long c = ap (λ (r : RowValue). length r.entries) (returns-clause-sum c) ∙ length-sum_with_multiple _ _ _ _
+pub returns-then-degree-eq1-clause-as_long : goal.returns-then-degree-eq1-clause-as_long
+returns-then-degree-eq1-clause-as_long c = ap (λ (r : RowValue). length r.entries) (returns-then-degree-eq1-clause-sum c) ∙ length-sum_with_multiple _ _ _ _
 
-pub returns-clause-well_formed : goal.returns-clause-well_formed
-returns-clause-well_formed c = IsRow-of_planes _ _ _ _ _ (invariant_of-self c)
+pub returns-then-degree-eq1-clause-well_formed : goal.returns-then-degree-eq1-clause-well_formed
+returns-then-degree-eq1-clause-well_formed c = IsRow-of_planes _ _ _ _ _ (invariant_of-self c)
+
+pub returns-else-degree-eq1-clause-as_long : goal.returns-else-degree-eq1-clause-as_long
+returns-else-degree-eq1-clause-as_long c = ap (λ (r : RowValue). length r.entries) c.add_by_planes.ensures.sum ∙ length-sum_with_multiple _ _ _ _

@@ -1,23 +1,14 @@
-use Rattle.std.proofs.Common.{◌≡◌, length, sym, ◌∙◌, arith}
-use Rattle.axe_row.proofs.RowLaws.{zero-IsElement}
-use Rattle.axe_row.proofs.OperationLaws.{sum_of_products-none, sum_of_products-more, sum_of_products-all}
+use Rattle.std.proofs.Common.{◌∙◌}
+use Rattle.axe_row.proofs.PrimeRows.{other_length, prime_row_dot}
 use Rattle.axe_row.proofs.Row.dot.Goals as goal
 
-pub loop-index-init : goal.loop-index-init
-loop-index-init c = record {
-  so_far = sym (sum_of_products-none _ _ _);
-  element = zero-IsElement _;
-}
+pub dot-requires-clause-fits : goal.dot-requires-clause-fits
+dot-requires-clause-fits c =
+    other_length _ _ c.self.inside.constant c.self.inside.linear c.self.inside.quadratic
+    c.other.inside.constant c.other.inside.linear c.other.inside.quadratic _ _ c.self.view_is c.other.view_is c.requires.fits
 
-pub loop-index-preserved : goal.loop-index-preserved
-loop-index-preserved c =
-    let more = sum_of_products-more c.args.self.now.order c.args.self.now.entries c.args.other.now.entries c.loop-index.index in
-    record {
-      so_far = cc;
-      element = rw (← c.field-field.ensures.order) c.add-sum.ensures.element;
-    }
-
-pub returns-clause-value : goal.returns-clause-value
-returns-clause-value c =
-    let all : c.loop-index.index ≡ length c.args.self.now.entries = omega (arith, c.len-index-end.ensures.count, c.loop-index-test.false, c.loop-index.auto.index-end) in
-    c.loop-index.invariant.so_far ∙ sum_of_products-all _ _ _ _ all
+pub returns-then-degree-eq1-clause-value : goal.returns-then-degree-eq1-clause-value
+returns-then-degree-eq1-clause-value c =
+    c.dot.ensures
+    ∙ prime_row_dot _ _ _ _ _ _ _ _ _ _ _ c.degree.ensures c.if-degree-eq1.true c.self.invariant c.other.invariant c.self.view_is c.other.view_is
+    c.requires.field c.requires.fits

@@ -1,17 +1,35 @@
-use Rattle.std.proofs.Common.{◌≡◌, ◌<◌, ◌≤◌, length, get_or, refl, sym, arith}
-use Rattle.axe_row.specs.Operations.{multiple_row}
-use Rattle.axe_row.proofs.OperationLaws.{get_or-multiple_row, length-multiple, IsChangedBelow-more, IsChangedBelow-all}
+use Rattle.std.proofs.Common.{length, ap, subst, sym, ◌∙◌, arith}
+use Rattle.axe_row.specs.Rows.{RowValue, IsRow}
+use Rattle.axe_row.proofs.OperationLaws.{length-multiple}
+use Rattle.axe_row.proofs.RowPlanes.{IsRow-of_planes, with_length, element_along}
+use Rattle.axe_row.proofs.PrimeRows.{prime_planes_multiple, prime_row_multiple, row_by_one, scalar_is_digit}
 use Rattle.axe_row.proofs.Row.scale.Goals as goal
 
-pub loop-index-preserved : goal.loop-index-preserved
-loop-index-preserved c =
-    let below : c.loop-index.index < length c.args.self.now.entries = omega (arith, c.loop-index-test.true, c.len-index-end.ensures.count) in
-    let kept = c.loop-index.invariant.kept c.loop-index.index (omega arith) in
-    let entry = get_or-multiple_row c.args.self.now.order c.args.scalar c.args.self.now.entries c.loop-index.index below in
-    let is : c.mul.result ≡ get_or (multiple_row c.args.scalar c.args.self.now).entries c.loop-index.index 0 = cc in
-    IsChangedBelow-more _ _ _ _ _ c.mul.result c.loop-index.invariant c.set.ensures.replaced c.set.ensures.well_formed below is
+pub scale-requires : goal.scale-requires
+scale-requires c =
+    scalar_is_digit _ _ _ _ _ _ _ c.degree.ensures c.if-degree-eq1.true c.self.invariant.constant c.self.view_is c.requires
 
-pub returns-clause-multiple : goal.returns-clause-multiple
-returns-clause-multiple c =
-    let all : length c.args.self.now.entries ≤ c.loop-index.index = rw (← c.len-index-end.ensures.count) c.loop-index-test.false in
-    IsChangedBelow-all _ _ _ _ c.loop-index.invariant refl (sym (length-multiple _ _ _)) all
+pub invariant_of-self : goal.invariant_of-self
+invariant_of-self c =
+    with_length _ _ _ _ _
+    (prime_planes_multiple _ _ _ _ _ _ _ (sym c.degree.ensures ∙ c.if-degree-eq1.true) c.self.invariant c.scale.ensures)
+
+pub returns-then-degree-eq1-clause-multiple : goal.returns-then-degree-eq1-clause-multiple
+returns-then-degree-eq1-clause-multiple c =
+    prime_row_multiple _ _ _ _ _ _ _ _ c.degree.ensures c.if-degree-eq1.true c.self.invariant c.self.view_is c.requires c.scale.ensures
+
+pub returns-then-degree-eq1-clause-as_long : goal.returns-then-degree-eq1-clause-as_long
+returns-then-degree-eq1-clause-as_long c = ap (λ (r : RowValue). length r.entries) (returns-then-degree-eq1-clause-multiple c) ∙ length-multiple _ _ _
+
+pub returns-then-degree-eq1-clause-well_formed : goal.returns-then-degree-eq1-clause-well_formed
+returns-then-degree-eq1-clause-well_formed c = IsRow-of_planes _ _ _ _ _ (invariant_of-self c)
+
+pub returns-then-scalar-ne1-clause-as_long : goal.returns-then-scalar-ne1-clause-as_long
+returns-then-scalar-ne1-clause-as_long c = ap (λ (r : RowValue). length r.entries) c.scale_by_entries.ensures.multiple ∙ length-multiple _ _ _
+
+pub returns-else-scalar-ne1-clause-multiple : goal.returns-else-scalar-ne1-clause-multiple
+returns-else-scalar-ne1-clause-multiple c =
+    row_by_one c.args.self.now c.args.scalar (subst IsRow c.self.view_is (IsRow-of_planes _ _ _ _ _ c.self.invariant)) (omega arith)
+
+pub returns-else-scalar-ne1-clause-well_formed : goal.returns-else-scalar-ne1-clause-well_formed
+returns-else-scalar-ne1-clause-well_formed c = subst IsRow c.self.view_is (IsRow-of_planes _ _ _ _ _ c.self.invariant)

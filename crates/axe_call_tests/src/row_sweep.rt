@@ -1,0 +1,143 @@
+//! Each call of a row over each field, by each scalar and at lengths around those of words and of whole vectors, against
+//! sums and products that are taken entry by entry; and matrices of multiplications.
+use crate::values::{assert_alike, assert_shape};
+use axe_field::Field;
+use axe_row::{Refusal, Row};
+use std::alloc::Global;
+use std::process::Abort;
+
+/// The orders of the fields.
+const ORDERS: [u8; 7] = [2, 3, 4, 5, 7, 8, 9];
+
+/// Lengths around those of a word of bits, of a vector of bytes and of a vector of words.
+const LENGTHS: [usize; 22] = [
+    0, 1, 2, 15, 16, 17, 31, 32, 33, 63, 64, 65, 127, 128, 129, 200, 511, 512, 513, 1025, 2047, 2048,
+];
+
+fn field_of_order(rt: &impl Abort, order: u8) -> Field {
+    Field::new(order).ok().expect(rt, "no field")
+}
+
+/// A row whose entries follow no rule. The rows of two seeds differ.
+fn row_of_seed(rt: &impl Abort, alloc: Global, field: Field, len: usize, seed: u8) -> Result<Row, Refusal> {
+    let mut entries = Vec::new(alloc);
+    let mut state = seed;
+    for _ in 0..len {
+        state = state.wrapping_mul(77).wrapping_add(41);
+        entries.push(state / 8 % field.order())?;
+    }
+    assert!(rt; entries.iter().all(|&entry| field.is_element(entry)));
+    let row = Row::from_elements(alloc, field, &entries)?;
+    for (index, &entry) in entries.iter().enumerate() {
+        assert!(rt; entry_of(rt, &row, index) == entry);
+    }
+    Ok(row)
+}
+
+fn entry_of(rt: &impl Abort, row: &Row, index: usize) -> u8 {
+    assert!(rt; index < row.len());
+    row.get(index)
+}
+
+/// An element plus the product of two.
+fn sum_with_product(rt: &impl Abort, field: &Field, a: u8, b: u8, c: u8) -> u8 {
+    assert!(rt; field.is_element(a) && field.is_element(b) && field.is_element(c));
+    field.add(a, field.mul(b, c))
+}
+
+/// Asserts that each entry of a row is that of another plus a scalar times that of a third.
+fn assert_sums(rt: &impl Abort, sum: &Row, row: &Row, scalar: u8, other: &Row) {
+    assert!(rt; sum.len() == row.len());
+    for index in 0..sum.len() {
+        let (left, right) = (entry_of(rt, row, index), entry_of(rt, other, index));
+        let wanted = sum_with_product(rt, sum.field(), left, scalar, right);
+        assert!(rt; entry_of(rt, sum, index) == wanted, "{scalar} {index}");
+    }
+}
+
+/// A sum with a multiple, and the multiple.
+fn combines(rt: &impl Abort, alloc: Global, row: &Row, scalar: u8, other: &Row) -> Result<(), Refusal> {
+    let mut sum = row.copy(alloc)?;
+    let mut multiple = other.copy(alloc)?;
+    let zero = Row::zero(alloc, *row.field(), row.len())?;
+    assert!(rt; row.field().is_element(scalar));
+    assert_alike(rt, other, &sum);
+    assert_shape(rt, &multiple, row.field(), row.len());
+    sum.add_scaled(scalar, other);
+    multiple.scale(scalar);
+    assert_sums(rt, &sum, row, scalar, other);
+    assert_sums(rt, &multiple, &zero, scalar, other);
+    Ok(())
+}
+
+fn multiplies(rt: &impl Abort, row: &Row, other: &Row) {
+    assert_alike(rt, other, row);
+    let mut product = 0;
+    for index in 0..row.len() {
+        let (left, right) = (entry_of(rt, row, index), entry_of(rt, other, index));
+        product = sum_with_product(rt, row.field(), product, left, right);
+    }
+    assert!(rt; row.dot(other) == product);
+}
+
+/// A row that has one entry other than zero is found to have it, and is zero no more when its copy is taken away.
+fn finds(rt: &impl Abort, alloc: Global, field: Field, len: usize, index: usize, entry: u8) -> Result<(), Refusal> {
+    let mut row = Row::zero(alloc, field, len)?;
+    assert!(rt; row.is_zero() && row.first_nonzero().is_none());
+    assert_shape(rt, &row, &field, len);
+    assert!(rt; index < len && field.is_element(entry) && field.is_element(1));
+    row.set(index, entry);
+    assert!(rt; !row.is_zero() && row.first_nonzero() == Some(index));
+    let copy = row.copy(alloc)?;
+    assert!(rt; row.same(&copy));
+    assert_alike(rt, &copy, &row);
+    row.add_scaled(field.neg(1), &copy);
+    assert!(rt; row.is_zero() && row.first_nonzero().is_none() && !row.same(&copy));
+    Ok(())
+}
+
+/// All calls over a field at a length.
+fn each_call_at(rt: &impl Abort, alloc: Global, order: u8, len: usize) -> Result<(), Refusal> {
+    let field = field_of_order(rt, order);
+    let row = row_of_seed(rt, alloc, field, len, order)?;
+    let other = row_of_seed(rt, alloc, field, len, 100)?;
+    multiplies(rt, &row, &other);
+    for scalar in 0..order {
+        combines(rt, alloc, &row, scalar, &other)?;
+        if scalar != 0 && len != 0 {
+            finds(rt, alloc, field, len, 0, scalar)?;
+            finds(rt, alloc, field, len, len / 2, scalar)?;
+            finds(rt, alloc, field, len, len - 1, scalar)?;
+        }
+    }
+    Ok(())
+}
+
+#[test]
+fn each_call_is_the_sum_of_its_entries(rt: HostRuntime) -> Result<(), Refusal> {
+    for order in ORDERS {
+        for len in LENGTHS {
+            each_call_at(&rt, rt.alloc(), order, len)?;
+        }
+    }
+    Ok(())
+}
+
+#[test]
+fn a_row_without_entries_is_zero(rt: HostRuntime) -> Result<(), Refusal> {
+    let row = Row::from_elements(rt.alloc(), field_of_order(&rt, 3), &[])?;
+    assert!(rt; row.is_zero() && row.first_nonzero().is_none() && row.dot(&row) == 0);
+    Ok(())
+}
+
+/// The multiples of 1 and x by 3, which is x, are x and x + 1 over the field of nine elements, where x^2 is x + 1. Those of
+/// 1, x and x^2 by 5, which is x^2 + 1, are x^2 + 1, 1 and x over the field of eight, where x^3 is x + 1.
+#[test]
+fn matrices_of_multiplications_have_the_multiples(rt: HostRuntime) {
+    let nine = field_of_order(&rt, 9);
+    assert!(rt; nine.is_element(3));
+    assert_eq!(rt; nine.plane_matrix(3), [[0, 1, 0], [1, 1, 0], [0, 0, 0]]);
+    let eight = field_of_order(&rt, 8);
+    assert!(rt; eight.is_element(5));
+    assert_eq!(rt; eight.plane_matrix(5), [[1, 0, 1], [1, 0, 0], [0, 1, 0]]);
+}
