@@ -1,10 +1,13 @@
 //! Norton's test: what a word says of a module, and what the words of a seed decide.
 
-use crate::tables::{Topic, each_call, four_fields, three_fields};
-use crate::values::{is_matrix, is_row, module_of, number_of, small_number_of};
+use crate::tables::{Topic, each_call};
+use crate::values::module_of;
 use axe_matrix::{Matrix, Refusal, Row};
 use axe_norton::{At, MAX_WORDS, Verdict, decide, decide_at};
 use axe_spin::Module;
+use axe_test_values::{
+    TableFault, four_fields, is_matrix, is_row, number_of, small_number_of, three_fields,
+};
 use axe_word::{Term, Word};
 use std::alloc::Global;
 use std::process::Abort;
@@ -30,36 +33,37 @@ decide_at | 2: 01/11 | 0 | open
 ";
 
 /// Whether the reduced basis of a submodule is the one that is written so.
-fn is_space(rt: &impl Abort, alloc: Global, space: Matrix, text: &str) -> Result<bool, Refusal> {
+fn is_space(alloc: Global, space: Matrix, text: &str) -> Result<bool, TableFault> {
     match text.split_once(": ") {
-        Some(("reducible", wanted)) => is_matrix(rt, alloc, Ok(space), wanted),
+        Some(("reducible", wanted)) => is_matrix(alloc, Ok(space), wanted),
         _ => Ok(false),
     }
 }
 
 /// Whether the word that shows a module to be irreducible, and the point, are those that are written so.
-fn is_proof(
-    rt: &impl Abort,
-    alloc: Global,
-    word: u32,
-    vector: &Row,
-    text: &str,
-) -> Result<bool, Refusal> {
+fn is_proof(alloc: Global, word: u32, vector: &Row, text: &str) -> Result<bool, TableFault> {
     let Some(("irreducible", wanted)) = text.split_once(": ") else {
         return Ok(false);
     };
-    let (number, point) = wanted.split_once(" and ").expect(rt, text);
-    Ok(number_of(rt, number) == word as usize && is_row(rt, alloc, vector, point)?)
+    let (number, point) = wanted.split_once(" and ").ok_or(TableFault::NotWritten)?;
+    let number = number_of(number)?;
+    Ok(number == word as usize && is_row(alloc, vector, point)?)
 }
 
-fn decides(rt: &impl Abort, alloc: Global, line: &str) -> Result<bool, Refusal> {
-    let (module, seed, words, wanted) = four_fields(rt, line);
-    let module = module_of(rt, alloc, module)?;
-    let words = words.parse::<u32>().ok().expect(rt, words);
+/// The number of the last word that is written so.
+fn words_of(text: &str) -> Result<u32, TableFault> {
+    text.parse::<u32>().map_err(|_| TableFault::NotWritten)
+}
+
+fn decides(rt: &impl Abort, alloc: Global, line: &str) -> Result<bool, TableFault> {
+    let (module, seed, words, wanted) = four_fields(line)?;
+    let seed = number_of(seed)? as u64;
+    let words = words_of(words)?;
     assert!(rt; words <= MAX_WORDS);
-    match decide(alloc, &module, number_of(rt, seed) as u64, words)? {
-        Verdict::Irreducible { word, vector } => is_proof(rt, alloc, word, &vector, wanted),
-        Verdict::Reducible(space) => is_space(rt, alloc, space, wanted),
+    let module = module_of(alloc, module)?;
+    match decide(alloc, &module, seed, words)? {
+        Verdict::Irreducible { word, vector } => is_proof(alloc, word, &vector, wanted),
+        Verdict::Reducible(space) => is_space(alloc, space, wanted),
         Verdict::Undecided => Ok(wanted == "undecided"),
     }
 }
@@ -80,12 +84,13 @@ fn said_by_generator(
     decide_at(alloc, module, &word)
 }
 
-fn says(rt: &impl Abort, alloc: Global, line: &str) -> Result<bool, Refusal> {
-    let (module, number, wanted) = three_fields(rt, line);
-    let module = module_of(rt, alloc, module)?;
-    match said_by_generator(rt, alloc, &module, small_number_of(rt, number))? {
-        At::Irreducible(vector) => is_proof(rt, alloc, 0, &vector, wanted),
-        At::Reducible(space) => is_space(rt, alloc, space, wanted),
+fn says(rt: &impl Abort, alloc: Global, line: &str) -> Result<bool, TableFault> {
+    let (module, number, wanted) = three_fields(line)?;
+    let number = small_number_of(number)?;
+    let module = module_of(alloc, module)?;
+    match said_by_generator(rt, alloc, &module, number)? {
+        At::Irreducible(vector) => is_proof(alloc, 0, &vector, wanted),
+        At::Reducible(space) => is_space(alloc, space, wanted),
         At::Left => Ok(wanted == "open"),
     }
 }
@@ -96,20 +101,20 @@ pub(crate) fn answers(
     alloc: Global,
     call: &str,
     line: &str,
-) -> Result<bool, Refusal> {
+) -> Result<bool, TableFault> {
     match call {
         "decide" => decides(rt, alloc, line),
         "decide_at" => says(rt, alloc, line),
-        _ => panic!(rt; "no such call: {call}"),
+        _ => Err(TableFault::NotWritten),
     }
 }
 
 #[test]
-fn words_of_a_seed_decide_modules(rt: HostRuntime) -> Result<(), Refusal> {
+fn words_of_a_seed_decide_modules(rt: HostRuntime) -> Result<(), TableFault> {
     each_call(&rt, rt.alloc(), Topic::Decisions, DECIDED)
 }
 
 #[test]
-fn a_word_says_what_its_value_tells(rt: HostRuntime) -> Result<(), Refusal> {
+fn a_word_says_what_its_value_tells(rt: HostRuntime) -> Result<(), TableFault> {
     each_call(&rt, rt.alloc(), Topic::Decisions, SAID)
 }

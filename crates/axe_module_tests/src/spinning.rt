@@ -1,8 +1,10 @@
 //! Generated spaces and standard bases, in modules that were worked through by hand.
-use crate::tables::{Topic, each_call, three_fields, two_fields};
-use crate::values::{assert_shape, is_matrix, is_row, matrix_of, module_of, row_of};
-use axe_matrix::Refusal;
+use crate::tables::{Topic, each_call};
+use crate::values::module_of;
 use axe_spin::{first_nonzero_row, generate, standard_basis, standard_rows};
+use axe_test_values::{
+    TableFault, is_matrix, is_row, matrix_of, row_of_shape, three_fields, two_fields,
+};
 use std::alloc::Global;
 use std::process::Abort;
 
@@ -50,47 +52,43 @@ standard_rows | 2: 01/10 | 2: 00 | the seed has no nonzero row
 standard_rows | 2: 01/10 | 3: 00 | the operands are over different fields
 ";
 
-fn generates(rt: &impl Abort, alloc: Global, line: &str) -> Result<bool, Refusal> {
-    let (module, seed, wanted) = three_fields(rt, line);
-    let module = module_of(rt, alloc, module)?;
-    let seed = matrix_of(rt, alloc, seed)?;
-    is_matrix(rt, alloc, generate(alloc, &module, &seed), wanted)
+/// The calls that are given a module and a seed.
+fn spins(alloc: Global, call: &str, line: &str) -> Result<bool, TableFault> {
+    let (module, seed, wanted) = three_fields(line)?;
+    let module = module_of(alloc, module)?;
+    let seed = matrix_of(alloc, seed)?;
+    let answer = match call {
+        "generate" => generate(alloc, &module, &seed),
+        _ => standard_rows(alloc, &module, &seed),
+    };
+    is_matrix(alloc, answer, wanted)
 }
 
-fn finds_standard_basis(rt: &impl Abort, alloc: Global, line: &str) -> Result<bool, Refusal> {
-    let (module, vector, wanted) = three_fields(rt, line);
-    let module = module_of(rt, alloc, module)?;
-    let vector = row_of(rt, alloc, vector)?;
-    assert_shape(rt, &vector, module.field(), module.dim());
+fn finds_standard_basis(rt: &impl Abort, alloc: Global, line: &str) -> Result<bool, TableFault> {
+    let (module, vector, wanted) = three_fields(line)?;
+    let module = module_of(alloc, module)?;
+    let vector = row_of_shape(alloc, vector, module.field(), module.dim())?;
     assert!(rt; !vector.is_zero());
-    is_matrix(rt, alloc, standard_basis(alloc, &module, &vector), wanted)
+    is_matrix(alloc, standard_basis(alloc, &module, &vector), wanted)
 }
 
-fn finds_first_nonzero_row(rt: &impl Abort, alloc: Global, line: &str) -> Result<bool, Refusal> {
-    let (matrix, wanted) = two_fields(rt, line);
-    let matrix = matrix_of(rt, alloc, matrix)?;
+fn finds_first_nonzero_row(alloc: Global, line: &str) -> Result<bool, TableFault> {
+    let (matrix, wanted) = two_fields(line)?;
+    let matrix = matrix_of(alloc, matrix)?;
     match first_nonzero_row(&matrix) {
-        Some(row) => is_row(rt, alloc, row, wanted),
+        Some(row) => is_row(alloc, row, wanted),
         None => Ok(wanted == "none"),
     }
 }
 
-fn checks_rows(rt: &impl Abort, alloc: Global, line: &str) -> Result<bool, Refusal> {
-    let (module, rows, wanted) = three_fields(rt, line);
-    let module = module_of(rt, alloc, module)?;
-    let rows = matrix_of(rt, alloc, rows)?;
-    let answer = match module.check_rows(&rows) {
-        Ok(()) => Ok(rows),
-        Err(refusal) => Err(refusal),
-    };
-    is_matrix(rt, alloc, answer, wanted)
-}
-
-fn finds_standard_rows(rt: &impl Abort, alloc: Global, line: &str) -> Result<bool, Refusal> {
-    let (module, seed, wanted) = three_fields(rt, line);
-    let module = module_of(rt, alloc, module)?;
-    let seed = matrix_of(rt, alloc, seed)?;
-    is_matrix(rt, alloc, standard_rows(alloc, &module, &seed), wanted)
+fn checks_rows(alloc: Global, line: &str) -> Result<bool, TableFault> {
+    let (module, rows, wanted) = three_fields(line)?;
+    let module = module_of(alloc, module)?;
+    let rows = matrix_of(alloc, rows)?;
+    match module.check_rows(&rows) {
+        Ok(()) => is_matrix(alloc, Ok(rows), wanted),
+        Err(refusal) => is_matrix(alloc, Err(refusal), wanted),
+    }
 }
 
 /// Whether a call answers what its line says.
@@ -99,33 +97,32 @@ pub(crate) fn answers(
     alloc: Global,
     call: &str,
     line: &str,
-) -> Result<bool, Refusal> {
+) -> Result<bool, TableFault> {
     match call {
-        "generate" => generates(rt, alloc, line),
+        "generate" | "standard_rows" => spins(alloc, call, line),
         "standard_basis" => finds_standard_basis(rt, alloc, line),
-        "first_nonzero_row" => finds_first_nonzero_row(rt, alloc, line),
-        "check_rows" => checks_rows(rt, alloc, line),
-        "standard_rows" => finds_standard_rows(rt, alloc, line),
-        _ => panic!(rt; "no such call: {call}"),
+        "first_nonzero_row" => finds_first_nonzero_row(alloc, line),
+        "check_rows" => checks_rows(alloc, line),
+        _ => Err(TableFault::NotWritten),
     }
 }
 
 #[test]
-fn rows_generate_spaces(rt: HostRuntime) -> Result<(), Refusal> {
+fn rows_generate_spaces(rt: HostRuntime) -> Result<(), TableFault> {
     each_call(&rt, rt.alloc(), Topic::Spinning, GENERATED)
 }
 
 #[test]
-fn seeds_are_refused(rt: HostRuntime) -> Result<(), Refusal> {
+fn seeds_are_refused(rt: HostRuntime) -> Result<(), TableFault> {
     each_call(&rt, rt.alloc(), Topic::Spinning, REFUSED)
 }
 
 #[test]
-fn vectors_have_standard_bases(rt: HostRuntime) -> Result<(), Refusal> {
+fn vectors_have_standard_bases(rt: HostRuntime) -> Result<(), TableFault> {
     each_call(&rt, rt.alloc(), Topic::Spinning, STANDARD_BASES)
 }
 
 #[test]
-fn seeds_are_looked_at(rt: HostRuntime) -> Result<(), Refusal> {
+fn seeds_are_looked_at(rt: HostRuntime) -> Result<(), TableFault> {
     each_call(&rt, rt.alloc(), Topic::Spinning, SEEDS)
 }

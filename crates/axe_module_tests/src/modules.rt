@@ -1,10 +1,11 @@
 //! Modules of matrices: which matrices make one, and what it then tells.
-use crate::tables::{Topic, each_call, four_fields, three_fields, two_fields};
-use crate::values::{
-    is_fault, is_module, matrix_of, module_of, module_with, number_of, small_number_of,
-};
-use axe_matrix::Refusal;
+use crate::tables::{Topic, each_call};
+use crate::values::{is_module, module_of, module_with};
 use axe_spin::Module;
+use axe_test_values::{
+    TableFault, four_fields, is_fault, is_matrix, number_of, small_number_of, three_fields,
+    two_fields,
+};
 use std::alloc::Global;
 use std::process::Abort;
 
@@ -37,11 +38,12 @@ generator | 2: 010/100/001, 2: 010/001/100 | 0 | 2: 010/100/001
 generator | 2: 010/100/001, 2: 010/001/100 | 1 | 2: 010/001/100
 ";
 
-fn is_refused(rt: &impl Abort, alloc: Global, line: &str) -> Result<bool, Refusal> {
-    let (matrices, refusal) = two_fields(rt, line);
-    match module_with(rt, alloc, matrices) {
+fn is_refused(alloc: Global, line: &str) -> Result<bool, TableFault> {
+    let (matrices, refusal) = two_fields(line)?;
+    match module_with(alloc, matrices) {
+        Err(TableFault::Refused(refused)) => is_fault(alloc, &refused, refusal),
+        Err(fault) => Err(fault),
         Ok(_) => Ok(false),
-        Err(refused) => Ok(is_fault(alloc, &refused, refusal)?),
     }
 }
 
@@ -51,30 +53,29 @@ fn has_shape(module: &Module, shape: (u8, usize, usize)) -> bool {
     module.field().order() == order && module.dim() == dimension && module.gens() == generators
 }
 
-fn describes(rt: &impl Abort, alloc: Global, line: &str) -> Result<bool, Refusal> {
-    let (module, order, dimension, generators) = four_fields(rt, line);
+fn describes(alloc: Global, line: &str) -> Result<bool, TableFault> {
+    let (module, order, dimension, generators) = four_fields(line)?;
     let shape = (
-        small_number_of(rt, order),
-        number_of(rt, dimension),
-        number_of(rt, generators),
+        small_number_of(order)?,
+        number_of(dimension)?,
+        number_of(generators)?,
     );
-    let module = module_of(rt, alloc, module)?;
+    let module = module_of(alloc, module)?;
     Ok(has_shape(&module, shape) && has_shape(&module.copy(alloc)?, shape))
 }
 
-fn gives_generator(rt: &impl Abort, alloc: Global, line: &str) -> Result<bool, Refusal> {
-    let (module, index, wanted) = three_fields(rt, line);
-    let module = module_of(rt, alloc, module)?;
-    let wanted = matrix_of(rt, alloc, wanted)?;
-    let index = number_of(rt, index);
+fn gives_generator(rt: &impl Abort, alloc: Global, line: &str) -> Result<bool, TableFault> {
+    let (module, index, wanted) = three_fields(line)?;
+    let index = number_of(index)?;
+    let module = module_of(alloc, module)?;
     assert!(rt; index < module.gens());
-    Ok(module.generator(index).same(&wanted))
+    is_matrix(alloc, module.generator(index).copy(alloc), wanted)
 }
 
-fn copies(rt: &impl Abort, alloc: Global, line: &str) -> Result<bool, Refusal> {
-    let (module, wanted) = two_fields(rt, line);
-    let module = module_of(rt, alloc, module)?;
-    is_module(rt, alloc, module.copy(alloc), wanted)
+fn copies(alloc: Global, line: &str) -> Result<bool, TableFault> {
+    let (module, wanted) = two_fields(line)?;
+    let module = module_of(alloc, module)?;
+    is_module(alloc, module.copy(alloc), wanted)
 }
 
 /// Whether a call answers what its line says.
@@ -83,22 +84,22 @@ pub(crate) fn answers(
     alloc: Global,
     call: &str,
     line: &str,
-) -> Result<bool, Refusal> {
+) -> Result<bool, TableFault> {
     match call {
-        "new" => is_refused(rt, alloc, line),
-        "shape" => describes(rt, alloc, line),
-        "copy" => copies(rt, alloc, line),
+        "new" => is_refused(alloc, line),
+        "shape" => describes(alloc, line),
+        "copy" => copies(alloc, line),
         "generator" => gives_generator(rt, alloc, line),
-        _ => panic!(rt; "no such call: {call}"),
+        _ => Err(TableFault::NotWritten),
     }
 }
 
 #[test]
-fn matrices_that_are_no_generators_are_refused(rt: HostRuntime) -> Result<(), Refusal> {
+fn matrices_that_are_no_generators_are_refused(rt: HostRuntime) -> Result<(), TableFault> {
     each_call(&rt, rt.alloc(), Topic::Modules, REFUSED)
 }
 
 #[test]
-fn modules_and_their_copies_tell_their_generators(rt: HostRuntime) -> Result<(), Refusal> {
+fn modules_and_their_copies_tell_their_generators(rt: HostRuntime) -> Result<(), TableFault> {
     each_call(&rt, rt.alloc(), Topic::Modules, MODULES)
 }

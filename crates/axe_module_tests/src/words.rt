@@ -1,7 +1,8 @@
 //! Words in the generators of modules: those that terms make, those that are drawn, and their values.
-use crate::values::{is_matrix, module_of};
+use crate::values::module_of;
 use axe_matrix::{Matrix, Refusal};
 use axe_spin::Module;
+use axe_test_values::{TableFault, is_matrix};
 use axe_word::{Term, Word, nth_word};
 use rand_core::Rng;
 use rand_pcg::Lcg64Xsh32;
@@ -91,7 +92,7 @@ fn is_drawn_word(
     alloc: Global,
     module: &Module,
     number: u32,
-) -> Result<bool, Refusal> {
+) -> Result<bool, TableFault> {
     let terms = drawn_terms(rt, alloc, 42, u64::from(number))?;
     let wanted = value_of(rt, alloc, &word_of_drawn(rt, alloc, &terms)?, module)?;
     let word = nth_word(42, number, 9, 2);
@@ -100,9 +101,9 @@ fn is_drawn_word(
 }
 
 #[test]
-fn a_value_is_the_sum_of_multiples_of_products(rt: HostRuntime) -> Result<(), Refusal> {
+fn a_value_is_the_sum_of_multiples_of_products(rt: HostRuntime) -> Result<(), TableFault> {
     let alloc = rt.alloc();
-    let module = module_of(&rt, alloc, "3: 12/01")?;
+    let module = module_of(alloc, "3: 12/01")?;
     let generator = Term {
         coefficient: 2,
         gens: &[0],
@@ -113,14 +114,14 @@ fn a_value_is_the_sum_of_multiples_of_products(rt: HostRuntime) -> Result<(), Re
     };
     let word = word_of(&rt, &[generator, one]);
     let value = value_of(&rt, alloc, &word, &module);
-    assert!(&rt; is_matrix(&rt, alloc, value, "3: 01/00")?);
+    assert!(&rt; is_matrix(alloc, value, "3: 01/00")?);
     Ok(())
 }
 
 #[test]
-fn words_are_drawn_by_number(rt: HostRuntime) -> Result<(), Refusal> {
+fn words_are_drawn_by_number(rt: HostRuntime) -> Result<(), TableFault> {
     let alloc = rt.alloc();
-    let module = module_of(&rt, alloc, "9: 12/01, 9: 10/31")?;
+    let module = module_of(alloc, "9: 12/01, 9: 10/31")?;
     for number in 1..=100 {
         assert!(&rt;
             is_drawn_word(&rt, alloc, &module, number)?,

@@ -3,12 +3,13 @@
 ghost use Rattle.std.specs.Prelude.{IfOk};
 ghost use Rattle.axe_word.specs.PointsOfMatrix.{IsReduced};
 
-use crate::tables::{Topic, each_call, four_fields, two_fields};
-use crate::values::{
-    assert_shape, field_of, is_matrix, is_row_answer, matrix_of, number_of, truth_of,
-};
+use crate::tables::{Topic, each_call};
 use axe_echelon::null_space;
 use axe_matrix::{MAX_ROWS, Matrix, Refusal};
+use axe_test_values::{
+    TableFault, field_of, four_fields, is_matrix, is_row_answer, matrix_of, number_of, truth_of,
+    two_fields,
+};
 use axe_word::{MAX_POINTS, Points, few_points, first_point};
 use std::alloc::Global;
 use std::process::Abort;
@@ -57,12 +58,11 @@ few_points | 9 | 1 | 0 | no
 few_points | 9 | 1 | 1 | yes
 ";
 
-/// The reduced basis of the null space of the matrix that is written so.
-fn basis_of(rt: &impl Abort, alloc: Global, matrix: &str) -> Result<Matrix, Refusal>
+/// The reduced basis of the null space of a matrix.
+fn basis_of(alloc: Global, matrix: &Matrix) -> Result<Matrix, Refusal>
     ensures { IfOk result IsReduced }
 {
-    let matrix = matrix_of(rt, alloc, matrix)?;
-    null_space(alloc, &matrix)
+    null_space(alloc, matrix)
 }
 
 /// The points of the span of a reduced basis, as the rows of a matrix.
@@ -74,32 +74,34 @@ fn rows_of_points(rt: &impl Abort, alloc: Global, basis: &Matrix) -> Result<Matr
     assert!(rt; few_points(order, basis.rows(), MAX_POINTS));
     for point in Points::new(alloc, basis) {
         let point = point?;
-        assert_shape(rt, &point, rows.field(), rows.cols());
+        assert!(rt; point.field() == rows.field() && point.len() == rows.cols());
         assert!(rt; rows.rows() < MAX_ROWS);
         rows.append(point)?;
     }
     Ok(rows)
 }
 
-fn gives_points(rt: &impl Abort, alloc: Global, line: &str) -> Result<bool, Refusal> {
-    let (matrix, wanted) = two_fields(rt, line);
-    let basis = basis_of(rt, alloc, matrix)?;
-    is_matrix(rt, alloc, rows_of_points(rt, alloc, &basis), wanted)
+fn gives_points(rt: &impl Abort, alloc: Global, line: &str) -> Result<bool, TableFault> {
+    let (matrix, wanted) = two_fields(line)?;
+    let basis = basis_of(alloc, &matrix_of(alloc, matrix)?)?;
+    is_matrix(alloc, rows_of_points(rt, alloc, &basis), wanted)
 }
 
-fn gives_first_point(rt: &impl Abort, alloc: Global, line: &str) -> Result<bool, Refusal> {
-    let (matrix, wanted) = two_fields(rt, line);
-    let basis = basis_of(rt, alloc, matrix)?;
+fn gives_first_point(rt: &impl Abort, alloc: Global, line: &str) -> Result<bool, TableFault> {
+    let (matrix, wanted) = two_fields(line)?;
+    let basis = basis_of(alloc, &matrix_of(alloc, matrix)?)?;
     assert!(rt; 0 < basis.rows());
-    is_row_answer(rt, alloc, first_point(alloc, &basis), wanted)
+    is_row_answer(alloc, first_point(alloc, &basis), wanted)
 }
 
-fn tells_few(rt: &impl Abort, line: &str) -> bool {
-    let (order, dimension, bound, wanted) = four_fields(rt, line);
-    let dimension = number_of(rt, dimension);
+fn tells_few(rt: &impl Abort, line: &str) -> Result<bool, TableFault> {
+    let (order, dimension, bound, wanted) = four_fields(line)?;
+    let dimension = number_of(dimension)?;
+    let bound = number_of(bound)?;
+    let wanted = truth_of(wanted)?;
     assert!(rt; dimension <= 4_096);
-    let field = field_of(rt, order);
-    few_points(field.order(), dimension, number_of(rt, bound)) == truth_of(rt, wanted)
+    let field = field_of(order)?;
+    Ok(few_points(field.order(), dimension, bound) == wanted)
 }
 
 /// Whether a call answers what its line says.
@@ -108,21 +110,21 @@ pub(crate) fn answers(
     alloc: Global,
     call: &str,
     line: &str,
-) -> Result<bool, Refusal> {
+) -> Result<bool, TableFault> {
     match call {
         "points" => gives_points(rt, alloc, line),
         "first_point" => gives_first_point(rt, alloc, line),
-        "few_points" => Ok(tells_few(rt, line)),
-        _ => panic!(rt; "no such call: {call}"),
+        "few_points" => tells_few(rt, line),
+        _ => Err(TableFault::NotWritten),
     }
 }
 
 #[test]
-fn null_spaces_have_these_points(rt: HostRuntime) -> Result<(), Refusal> {
+fn null_spaces_have_these_points(rt: HostRuntime) -> Result<(), TableFault> {
     each_call(&rt, rt.alloc(), Topic::Points, POINTS)
 }
 
 #[test]
-fn few_points_are_told_from_many(rt: HostRuntime) -> Result<(), Refusal> {
+fn few_points_are_told_from_many(rt: HostRuntime) -> Result<(), TableFault> {
     each_call(&rt, rt.alloc(), Topic::Points, COUNTS)
 }
