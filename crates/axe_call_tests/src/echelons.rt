@@ -1,12 +1,12 @@
 //! Echelon forms: rows that are inserted, reduced and taken apart, null spaces, and inverses.
-use crate::tables::{Topic, each_call, four_fields, three_fields, two_fields};
-use crate::values::{
-    assert_shape, field_of, is_matrix, is_row, matrix_of, number_of, row_of, truth_of,
-};
+use crate::tables::{Topic, each_call};
 use axe_echelon::{Echelon, inverse, null_space, span_of};
-use axe_matrix::{Refusal, Row};
+use axe_matrix::Row;
+use axe_test_values::{
+    TableFault, field_of, four_fields, is_matrix, is_row, matrix_of, number_of, row_of_shape,
+    three_fields, truth_of, two_fields,
+};
 use std::alloc::Global;
-use std::process::Abort;
 
 /// Rows that are inserted one after the other, and
 /// - `insert`: another row, whether it is new, and the rank with it;
@@ -45,109 +45,97 @@ inverse | 3: 000/000 | the matrix is not square
 ";
 
 /// The echelon form in which each row of a matrix was inserted.
-fn form_of(rt: &impl Abort, alloc: Global, text: &str) -> Result<Echelon, Refusal> {
-    let matrix = matrix_of(rt, alloc, text)?;
-    span_of(alloc, &matrix)
+fn form_of(alloc: Global, text: &str) -> Result<Echelon, TableFault> {
+    let matrix = matrix_of(alloc, text)?;
+    Ok(span_of(alloc, &matrix)?)
 }
 
-fn inserts(rt: &impl Abort, alloc: Global, line: &str) -> Result<bool, Refusal> {
-    let (rows, row, new, rank) = four_fields(rt, line);
-    let mut form = form_of(rt, alloc, rows)?;
-    let row = row_of(rt, alloc, row)?;
-    assert_shape(rt, &row, form.field(), form.cols());
-    Ok(form.insert(row)? == truth_of(rt, new) && form.rank() == number_of(rt, rank))
+fn inserts(alloc: Global, line: &str) -> Result<bool, TableFault> {
+    let (rows, row, new, rank) = four_fields(line)?;
+    let new = truth_of(new)?;
+    let rank = number_of(rank)?;
+    let mut form = form_of(alloc, rows)?;
+    let row = row_of_shape(alloc, row, form.field(), form.cols())?;
+    Ok(form.insert(row)? == new && form.rank() == rank)
 }
 
-fn describes(rt: &impl Abort, alloc: Global, line: &str) -> Result<bool, Refusal> {
-    let (rows, order, rank, columns) = four_fields(rt, line);
-    let form = form_of(rt, alloc, rows)?;
-    Ok(
-        form.field() == &field_of(rt, order)
-            && form.rank() == number_of(rt, rank)
-            && form.cols() == number_of(rt, columns),
-    )
+fn describes(alloc: Global, line: &str) -> Result<bool, TableFault> {
+    let (rows, order, rank, columns) = four_fields(line)?;
+    let field = field_of(order)?;
+    let rank = number_of(rank)?;
+    let columns = number_of(columns)?;
+    let form = form_of(alloc, rows)?;
+    Ok(form.field() == &field && form.rank() == rank && form.cols() == columns)
 }
 
-fn tells_pivots(rt: &impl Abort, alloc: Global, line: &str) -> Result<bool, Refusal> {
-    let (rows, column, wanted) = three_fields(rt, line);
-    let form = form_of(rt, alloc, rows)?;
-    Ok(form.is_pivot(number_of(rt, column)) == truth_of(rt, wanted))
+fn tells_pivots(alloc: Global, line: &str) -> Result<bool, TableFault> {
+    let (rows, column, wanted) = three_fields(line)?;
+    let column = number_of(column)?;
+    let wanted = truth_of(wanted)?;
+    let form = form_of(alloc, rows)?;
+    Ok(form.is_pivot(column) == wanted)
 }
 
 /// Whether coordinates are those that are written so, or there are none and `none` is written.
-fn are_coordinates(
-    rt: &impl Abort,
-    alloc: Global,
-    answer: Option<Row>,
-    text: &str,
-) -> Result<bool, Refusal> {
+fn are_coordinates(alloc: Global, answer: Option<Row>, text: &str) -> Result<bool, TableFault> {
     match answer {
-        Some(coordinates) => is_row(rt, alloc, &coordinates, text),
+        Some(coordinates) => is_row(alloc, &coordinates, text),
         None => Ok(text == "none"),
     }
 }
 
-fn takes_apart(rt: &impl Abort, alloc: Global, line: &str) -> Result<bool, Refusal> {
-    let (rows, row, wanted) = three_fields(rt, line);
-    let form = form_of(rt, alloc, rows)?;
-    let row = row_of(rt, alloc, row)?;
-    assert_shape(rt, &row, form.field(), form.cols());
-    are_coordinates(rt, alloc, form.coordinates(alloc, &row)?, wanted)
+fn takes_apart(alloc: Global, line: &str) -> Result<bool, TableFault> {
+    let (rows, row, wanted) = three_fields(line)?;
+    let form = form_of(alloc, rows)?;
+    let row = row_of_shape(alloc, row, form.field(), form.cols())?;
+    are_coordinates(alloc, form.coordinates(alloc, &row)?, wanted)
 }
 
-fn reduces(rt: &impl Abort, alloc: Global, line: &str) -> Result<bool, Refusal> {
-    let (rows, row, wanted) = three_fields(rt, line);
-    let form = form_of(rt, alloc, rows)?;
-    let mut row = row_of(rt, alloc, row)?;
-    assert_shape(rt, &row, form.field(), form.cols());
+fn reduces(alloc: Global, line: &str) -> Result<bool, TableFault> {
+    let (rows, row, wanted) = three_fields(line)?;
+    let form = form_of(alloc, rows)?;
+    let mut row = row_of_shape(alloc, row, form.field(), form.cols())?;
     form.reduce(&mut row);
-    is_row(rt, alloc, &row, wanted)
+    is_row(alloc, &row, wanted)
 }
 
-fn finds_reduced_basis(rt: &impl Abort, alloc: Global, line: &str) -> Result<bool, Refusal> {
-    let (rows, wanted) = two_fields(rt, line);
-    let form = form_of(rt, alloc, rows)?;
-    is_matrix(rt, alloc, form.reduced(alloc), wanted)
+fn finds_reduced_basis(alloc: Global, line: &str) -> Result<bool, TableFault> {
+    let (rows, wanted) = two_fields(line)?;
+    let form = form_of(alloc, rows)?;
+    is_matrix(alloc, form.reduced(alloc), wanted)
 }
 
-fn finds_null_space(rt: &impl Abort, alloc: Global, line: &str) -> Result<bool, Refusal> {
-    let (matrix, wanted) = two_fields(rt, line);
-    let matrix = matrix_of(rt, alloc, matrix)?;
-    is_matrix(rt, alloc, null_space(alloc, &matrix), wanted)
-}
-
-fn inverts(rt: &impl Abort, alloc: Global, line: &str) -> Result<bool, Refusal> {
-    let (matrix, wanted) = two_fields(rt, line);
-    let matrix = matrix_of(rt, alloc, matrix)?;
-    is_matrix(rt, alloc, inverse(alloc, &matrix), wanted)
+/// The calls that are given a matrix and answer one.
+fn gives_matrix(alloc: Global, call: &str, line: &str) -> Result<bool, TableFault> {
+    let (matrix, wanted) = two_fields(line)?;
+    let matrix = matrix_of(alloc, matrix)?;
+    let answer = match call {
+        "null_space" => null_space(alloc, &matrix),
+        _ => inverse(alloc, &matrix),
+    };
+    is_matrix(alloc, answer, wanted)
 }
 
 /// Whether a call answers what its line says.
-pub(crate) fn answers(
-    rt: &impl Abort,
-    alloc: Global,
-    call: &str,
-    line: &str,
-) -> Result<bool, Refusal> {
+pub(crate) fn answers(alloc: Global, call: &str, line: &str) -> Result<bool, TableFault> {
     match call {
-        "insert" => inserts(rt, alloc, line),
-        "shape" => describes(rt, alloc, line),
-        "is_pivot" => tells_pivots(rt, alloc, line),
-        "coordinates" => takes_apart(rt, alloc, line),
-        "reduce" => reduces(rt, alloc, line),
-        "reduced" => finds_reduced_basis(rt, alloc, line),
-        "null_space" => finds_null_space(rt, alloc, line),
-        "inverse" => inverts(rt, alloc, line),
-        _ => panic!(rt; "no such call: {call}"),
+        "insert" => inserts(alloc, line),
+        "shape" => describes(alloc, line),
+        "is_pivot" => tells_pivots(alloc, line),
+        "coordinates" => takes_apart(alloc, line),
+        "reduce" => reduces(alloc, line),
+        "reduced" => finds_reduced_basis(alloc, line),
+        "null_space" | "inverse" => gives_matrix(alloc, call, line),
+        _ => Err(TableFault::NotWritten),
     }
 }
 
 #[test]
-fn forms_tell_what_they_hold_and_take_rows_apart(rt: HostRuntime) -> Result<(), Refusal> {
+fn forms_tell_what_they_hold_and_take_rows_apart(rt: HostRuntime) -> Result<(), TableFault> {
     each_call(&rt, rt.alloc(), Topic::Echelons, FORMS)
 }
 
 #[test]
-fn matrices_have_null_spaces_and_inverses(rt: HostRuntime) -> Result<(), Refusal> {
+fn matrices_have_null_spaces_and_inverses(rt: HostRuntime) -> Result<(), TableFault> {
     each_call(&rt, rt.alloc(), Topic::Echelons, NULL_SPACES_AND_INVERSES)
 }

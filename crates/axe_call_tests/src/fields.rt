@@ -1,8 +1,9 @@
 //! Fields: their orders, and the arithmetic of their elements.
-use crate::tables::{Topic, each_call, four_fields, three_fields};
-use crate::values::{element_in, field_of, small_number_of, truth_of};
+use crate::tables::{Topic, each_call};
 use axe_field::Field;
-use axe_matrix::Refusal;
+use axe_test_values::{
+    TableFault, element_in, field_of, four_fields, small_number_of, three_fields, truth_of,
+};
 use std::process::Abort;
 
 #[test]
@@ -37,75 +38,76 @@ const EQUALITIES: &str = "\
 == | 8 | 9 | no
 ";
 
-fn describes(rt: &impl Abort, line: &str) -> bool {
-    let (order, prime, degree) = three_fields(rt, line);
-    let field = field_of(rt, order);
-    field.order() == small_number_of(rt, order)
-        && field.prime() == small_number_of(rt, prime)
-        && field.degree() == small_number_of(rt, degree)
+fn describes(line: &str) -> Result<bool, TableFault> {
+    let (order, prime, degree) = three_fields(line)?;
+    let prime = small_number_of(prime)?;
+    let degree = small_number_of(degree)?;
+    let field = field_of(order)?;
+    let order = small_number_of(order)?;
+    Ok(field.order() == order && field.prime() == prime && field.degree() == degree)
 }
 
-fn tells_elements(rt: &impl Abort, line: &str) -> bool {
-    let (order, element, wanted) = three_fields(rt, line);
-    field_of(rt, order).is_element(small_number_of(rt, element)) == truth_of(rt, wanted)
+fn tells_elements(line: &str) -> Result<bool, TableFault> {
+    let (order, element, wanted) = three_fields(line)?;
+    let element = small_number_of(element)?;
+    let wanted = truth_of(wanted)?;
+    Ok(field_of(order)?.is_element(element) == wanted)
 }
 
-fn adds(rt: &impl Abort, line: &str) -> bool {
-    let (order, left, right, sum) = four_fields(rt, line);
-    let field = field_of(rt, order);
-    let left = element_in(rt, &field, left);
-    let right = element_in(rt, &field, right);
-    field.add(left, right) == small_number_of(rt, sum)
+/// The calls that are given two elements.
+fn combines(call: &str, line: &str) -> Result<bool, TableFault> {
+    let (order, left, right, wanted) = four_fields(line)?;
+    let wanted = small_number_of(wanted)?;
+    let field = field_of(order)?;
+    let left = element_in(&field, left)?;
+    let right = element_in(&field, right)?;
+    let answer = match call {
+        "add" => field.add(left, right),
+        _ => field.mul(left, right),
+    };
+    Ok(answer == wanted)
 }
 
-fn multiplies(rt: &impl Abort, line: &str) -> bool {
-    let (order, left, right, product) = four_fields(rt, line);
-    let field = field_of(rt, order);
-    let left = element_in(rt, &field, left);
-    let right = element_in(rt, &field, right);
-    field.mul(left, right) == small_number_of(rt, product)
+/// The calls that are given one element.
+fn turns(rt: &impl Abort, call: &str, line: &str) -> Result<bool, TableFault> {
+    let (order, element, wanted) = three_fields(line)?;
+    let wanted = small_number_of(wanted)?;
+    let field = field_of(order)?;
+    let element = element_in(&field, element)?;
+    assert!(rt; element != 0, "{call} of zero");
+    let answer = match call {
+        "neg" => field.neg(element),
+        _ => field.inv(element),
+    };
+    Ok(answer == wanted)
 }
 
-fn negates(rt: &impl Abort, line: &str) -> bool {
-    let (order, element, negative) = three_fields(rt, line);
-    let field = field_of(rt, order);
-    let element = element_in(rt, &field, element);
-    field.neg(element) == small_number_of(rt, negative)
-}
-
-fn inverts(rt: &impl Abort, line: &str) -> bool {
-    let (order, element, inverse) = three_fields(rt, line);
-    let field = field_of(rt, order);
-    let element = element_in(rt, &field, element);
-    assert!(rt; element != 0);
-    field.inv(element) == small_number_of(rt, inverse)
-}
-
-fn compares(rt: &impl Abort, line: &str) -> bool {
-    let (left, right, wanted) = three_fields(rt, line);
-    (field_of(rt, left) == field_of(rt, right)) == truth_of(rt, wanted)
+fn compares(line: &str) -> Result<bool, TableFault> {
+    let (left, right, wanted) = three_fields(line)?;
+    let wanted = truth_of(wanted)?;
+    let left = field_of(left)?;
+    let right = field_of(right)?;
+    Ok((left == right) == wanted)
 }
 
 /// Whether a call answers what its line says.
-pub(crate) fn answers(rt: &impl Abort, call: &str, line: &str) -> bool {
+pub(crate) fn answers(rt: &impl Abort, call: &str, line: &str) -> Result<bool, TableFault> {
     match call {
-        "field" => describes(rt, line),
-        "is_element" => tells_elements(rt, line),
-        "add" => adds(rt, line),
-        "mul" => multiplies(rt, line),
-        "neg" => negates(rt, line),
-        "inv" => inverts(rt, line),
-        "==" => compares(rt, line),
-        _ => panic!(rt; "no such call: {call}"),
+        "field" => describes(line),
+        "is_element" => tells_elements(line),
+        "add" | "mul" => combines(call, line),
+        "neg" | "inv" => turns(rt, call, line),
+        "==" => compares(line),
+        _ => Err(TableFault::NotWritten),
     }
 }
 
 #[test]
-fn nine_elements_multiply_modulo_the_conway_polynomial(rt: HostRuntime) -> Result<(), Refusal> {
+fn nine_elements_multiply_modulo_the_conway_polynomial(rt: HostRuntime) -> Result<(), TableFault> {
     each_call(&rt, rt.alloc(), Topic::Fields, NINE)
 }
 
 #[test]
-fn fields_are_equal_where_their_orders_are(rt: HostRuntime) -> Result<(), Refusal> {
+fn fields_are_equal_where_their_orders_are(rt: HostRuntime) -> Result<(), TableFault> {
     each_call(&rt, rt.alloc(), Topic::Fields, EQUALITIES)
 }

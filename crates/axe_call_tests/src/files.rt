@@ -1,10 +1,11 @@
 //! Files of matrices, packed and text: read, refused and written.
-use crate::tables::{Topic, each_call, two_fields};
-use crate::values::{bytes_of_hex, bytes_of_text, is_fault, is_matrix, matrix_of};
+use crate::tables::{Topic, each_call};
 use axe_file::{FileFault, read_packed, read_text, write_packed, write_text};
-use axe_matrix::{Matrix, Refusal};
+use axe_matrix::Matrix;
+use axe_test_values::{
+    TableFault, bytes_of_hex, bytes_of_text, is_fault, is_matrix, matrix_of, two_fields,
+};
 use std::alloc::Global;
-use std::process::Abort;
 
 /// - `read_packed`: a packed file, and its matrix or its first fault;
 /// - `write_packed`: a matrix, and its packed file.
@@ -67,13 +68,12 @@ write_text | matrix field=3 rows=2 cols=81\\n\
 
 /// Whether an answer is the matrix or the fault that is written so.
 fn is_read(
-    rt: &impl Abort,
     alloc: Global,
     answer: Result<Matrix, FileFault>,
     text: &str,
-) -> Result<bool, Refusal> {
+) -> Result<bool, TableFault> {
     match answer {
-        Ok(matrix) => is_matrix(rt, alloc, Ok(matrix), text),
+        Ok(matrix) => is_matrix(alloc, Ok(matrix), text),
         Err(fault) => Ok(is_fault(alloc, &fault, text)?),
     }
 }
@@ -86,23 +86,23 @@ fn is_written(answer: Result<Vec<u8>, FileFault>, bytes: &[u8]) -> bool {
     }
 }
 
-fn reads_packed(rt: &impl Abort, alloc: Global, line: &str) -> Result<bool, Refusal> {
-    let (bytes, wanted) = two_fields(rt, line);
-    let bytes = bytes_of_hex(rt, alloc, bytes)?;
-    is_read(rt, alloc, read_packed(alloc, &bytes), wanted)
+fn reads_packed(alloc: Global, line: &str) -> Result<bool, TableFault> {
+    let (bytes, wanted) = two_fields(line)?;
+    let bytes = bytes_of_hex(alloc, bytes)?;
+    is_read(alloc, read_packed(alloc, &bytes), wanted)
 }
 
-fn writes_packed(rt: &impl Abort, alloc: Global, line: &str) -> Result<bool, Refusal> {
-    let (matrix, wanted) = two_fields(rt, line);
-    let matrix = matrix_of(rt, alloc, matrix)?;
-    let wanted = bytes_of_hex(rt, alloc, wanted)?;
+fn writes_packed(alloc: Global, line: &str) -> Result<bool, TableFault> {
+    let (matrix, wanted) = two_fields(line)?;
+    let matrix = matrix_of(alloc, matrix)?;
+    let wanted = bytes_of_hex(alloc, wanted)?;
     Ok(is_written(write_packed(alloc, &matrix), &wanted))
 }
 
-fn reads_text(rt: &impl Abort, alloc: Global, line: &str) -> Result<bool, Refusal> {
-    let (text, wanted) = two_fields(rt, line);
-    let text = bytes_of_text(rt, alloc, text)?;
-    is_read(rt, alloc, read_text(alloc, &text), wanted)
+fn reads_text(alloc: Global, line: &str) -> Result<bool, TableFault> {
+    let (text, wanted) = two_fields(line)?;
+    let text = bytes_of_text(alloc, text)?;
+    is_read(alloc, read_text(alloc, &text), wanted)
 }
 
 /// What is written for the matrix of a text.
@@ -111,40 +111,35 @@ fn rewritten(alloc: Global, text: &[u8]) -> Result<Vec<u8>, FileFault> {
     write_text(alloc, &matrix)
 }
 
-fn writes_text(rt: &impl Abort, alloc: Global, line: &str) -> Result<bool, Refusal> {
-    let (text, wanted) = two_fields(rt, line);
-    let text = bytes_of_text(rt, alloc, text)?;
-    let wanted = bytes_of_text(rt, alloc, wanted)?;
+fn writes_text(alloc: Global, line: &str) -> Result<bool, TableFault> {
+    let (text, wanted) = two_fields(line)?;
+    let text = bytes_of_text(alloc, text)?;
+    let wanted = bytes_of_text(alloc, wanted)?;
     Ok(is_written(rewritten(alloc, &text), &wanted))
 }
 
 /// Whether a call answers what its line says.
-pub(crate) fn answers(
-    rt: &impl Abort,
-    alloc: Global,
-    call: &str,
-    line: &str,
-) -> Result<bool, Refusal> {
+pub(crate) fn answers(alloc: Global, call: &str, line: &str) -> Result<bool, TableFault> {
     match call {
-        "read_packed" => reads_packed(rt, alloc, line),
-        "write_packed" => writes_packed(rt, alloc, line),
-        "read_text" => reads_text(rt, alloc, line),
-        "write_text" => writes_text(rt, alloc, line),
-        _ => panic!(rt; "no such call: {call}"),
+        "read_packed" => reads_packed(alloc, line),
+        "write_packed" => writes_packed(alloc, line),
+        "read_text" => reads_text(alloc, line),
+        "write_text" => writes_text(alloc, line),
+        _ => Err(TableFault::NotWritten),
     }
 }
 
 #[test]
-fn packed_files_are_read_refused_and_written(rt: HostRuntime) -> Result<(), Refusal> {
+fn packed_files_are_read_refused_and_written(rt: HostRuntime) -> Result<(), TableFault> {
     each_call(&rt, rt.alloc(), Topic::Files, PACKED)
 }
 
 #[test]
-fn texts_are_read_or_refused(rt: HostRuntime) -> Result<(), Refusal> {
+fn texts_are_read_or_refused(rt: HostRuntime) -> Result<(), TableFault> {
     each_call(&rt, rt.alloc(), Topic::Files, TEXTS)
 }
 
 #[test]
-fn texts_are_written_in_lines_of_eighty_digits(rt: HostRuntime) -> Result<(), Refusal> {
+fn texts_are_written_in_lines_of_eighty_digits(rt: HostRuntime) -> Result<(), TableFault> {
     each_call(&rt, rt.alloc(), Topic::Files, WRITTEN)
 }

@@ -1,8 +1,10 @@
 //! Folders, in memory and of the file system: files put, read within a limit, and removed.
-use crate::tables::{first_field, one_field, three_fields, two_fields};
-use crate::values::{bytes_of_text, is_fault, number_of};
+use crate::tables::assert_right;
 use axe_folder::{DirFolder, Folder, FolderFault, MemFolder};
-use axe_matrix::Refusal;
+use axe_test_values::{
+    TableFault, bytes_of_text, first_field, is_fault, number_of, one_field, three_fields,
+    two_fields,
+};
 use std::alloc::Global;
 use std::fs;
 use std::process::Abort;
@@ -41,43 +43,28 @@ remove | EMPTY
 remove | ABC
 ";
 
-fn puts<F: Folder>(
-    rt: &impl Abort,
-    alloc: Global,
-    folder: &mut F,
-    line: &str,
-) -> Result<bool, Refusal> {
-    let (name, bytes) = two_fields(rt, line);
-    let bytes = bytes_of_text(rt, alloc, bytes)?;
+fn puts<F: Folder>(alloc: Global, folder: &mut F, line: &str) -> Result<bool, TableFault> {
+    let (name, bytes) = two_fields(line)?;
+    let bytes = bytes_of_text(alloc, bytes)?;
     Ok(folder.put(name, &bytes).is_ok())
 }
 
-fn gets<F: Folder>(
-    rt: &impl Abort,
-    alloc: Global,
-    folder: &mut F,
-    line: &str,
-) -> Result<bool, Refusal> {
-    let (name, limit, wanted) = three_fields(rt, line);
-    match folder.get(name, number_of(rt, limit)) {
+fn gets<F: Folder>(alloc: Global, folder: &mut F, line: &str) -> Result<bool, TableFault> {
+    let (name, limit, wanted) = three_fields(line)?;
+    match folder.get(name, number_of(limit)?) {
         Ok(bytes) => Ok(bytes.as_slice() == wanted.as_bytes()),
-        Err(fault) => Ok(is_fault(alloc, &fault, wanted)?),
+        Err(fault) => is_fault(alloc, &fault, wanted),
     }
 }
 
 /// Whether a call on a folder answers what its line says.
-fn answers<F: Folder>(
-    rt: &impl Abort,
-    alloc: Global,
-    folder: &mut F,
-    line: &str,
-) -> Result<bool, Refusal> {
-    let (call, line) = first_field(rt, line);
+fn answers<F: Folder>(alloc: Global, folder: &mut F, line: &str) -> Result<bool, TableFault> {
+    let (call, line) = first_field(line)?;
     match call {
-        "put" => puts(rt, alloc, folder, line),
-        "get" => gets(rt, alloc, folder, line),
-        "remove" => Ok(folder.remove(one_field(rt, line)).is_ok()),
-        _ => panic!(rt; "no such call: {call}"),
+        "put" => puts(alloc, folder, line),
+        "get" => gets(alloc, folder, line),
+        "remove" => Ok(folder.remove(one_field(line)?).is_ok()),
+        _ => Err(TableFault::NotWritten),
     }
 }
 
@@ -87,18 +74,15 @@ fn each_call<F: Folder>(
     alloc: Global,
     folder: &mut F,
     table: &str,
-) -> Result<(), Refusal> {
-    let mut is_empty = true;
+) -> Result<(), TableFault> {
     for line in table.lines() {
-        assert!(rt; answers(rt, alloc, folder, line)?, "{line}");
-        is_empty = false;
+        assert_right(rt, line, answers(alloc, folder, line))?;
     }
-    assert!(rt; !is_empty, "a table without a call");
     Ok(())
 }
 
 #[test]
-fn memory_keeps_files_by_name(rt: HostRuntime) -> Result<(), Refusal> {
+fn memory_keeps_files_by_name(rt: HostRuntime) -> Result<(), TableFault> {
     let mut folder = MemFolder::new(rt.alloc());
     assert!(rt; folder.bytes("A").is_none());
     each_call(&rt, rt.alloc(), &mut folder, PUT)?;

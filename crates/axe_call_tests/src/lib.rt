@@ -1,17 +1,11 @@
-//! Worked calls of the libraries: fields, rows, matrices, modules, their files and folders of them. Each answer is compared
-//! with a value that was worked out by hand. What the crates prove is not tested again; this crate shows that the
-//! definitions mean what they should, and that memory is not refused where there is enough.
+//! Worked calls of the libraries below modules: kernels, fields, rows, matrices, echelon forms, their files and folders of
+//! them. Each answer is compared with a value that was worked out by hand. What the crates prove is not tested again; this
+//! crate shows that the definitions mean what they should, and that memory is not refused where there is enough.
 //!
-//! The calls stand in tables, one on a line. `values` says how a line and the values on it are written; a module for each
-//! topic has its tables, and a small function for each call that they name.
+//! The calls stand in tables, one on a line. `axe_test_values` says how a line and the values on it are written; a module for
+//! each topic has its tables, and a small function for calls that are given the same values.
 #![tactic(auto)]
 
-#[cfg(test)]
-mod actions;
-#[cfg(test)]
-mod decisions;
-#[cfg(test)]
-mod duals;
 #[cfg(test)]
 mod echelons;
 #[cfg(test)]
@@ -21,22 +15,12 @@ mod files;
 #[cfg(test)]
 mod folders;
 #[cfg(test)]
-mod forms;
-#[cfg(test)]
 mod lanes;
 #[cfg(test)]
 mod matrices;
 #[cfg(test)]
-mod modules;
-#[cfg(test)]
-mod points;
+mod row_sweep;
 #[cfg(test)]
 mod rows;
 #[cfg(test)]
-mod spinning;
-#[cfg(test)]
 mod tables;
-#[cfg(test)]
-mod values;
-#[cfg(test)]
-mod words;

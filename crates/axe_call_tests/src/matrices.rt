@@ -1,10 +1,10 @@
 //! Matrices: their entries, copies and blocks, sums, products and transposes.
-use crate::tables::{Topic, each_call, four_fields, three_fields, two_fields};
-use crate::values::{
-    assert_shape, field_of, is_matrix, is_row, is_row_answer, matrix_of, number_of, range_of,
-    row_of, small_number_of, truth_of, zeros,
+use crate::tables::{Topic, each_call};
+use axe_matrix::{MAX_COLUMNS, MAX_ROWS, Matrix};
+use axe_test_values::{
+    TableFault, field_of, four_fields, is_matrix, is_row, is_row_answer, matrix_of, number_of,
+    range_of, row_of_shape, small_number_of, three_fields, truth_of, two_fields, zeros,
 };
-use axe_matrix::{MAX_COLUMNS, MAX_ROWS, Matrix, Refusal};
 use std::alloc::Global;
 use std::process::Abort;
 
@@ -48,117 +48,103 @@ transpose | 3: 12/01 | 3: 10/21
 vec_mul | 2: 01/11 | 2: 11 | 2: 10
 ";
 
-/// Whether a matrix has this shape: the order of its field, and how many rows and columns it has.
-fn has_shape(matrix: &Matrix, shape: (u8, usize, usize)) -> bool {
-    let (order, rows, columns) = shape;
-    matrix.field().order() == order && matrix.rows() == rows && matrix.cols() == columns
+fn describes(alloc: Global, line: &str) -> Result<bool, TableFault> {
+    let (matrix, order, rows, columns) = four_fields(line)?;
+    let order = small_number_of(order)?;
+    let rows = number_of(rows)?;
+    let columns = number_of(columns)?;
+    let matrix = matrix_of(alloc, matrix)?;
+    Ok(matrix.field().order() == order && matrix.rows() == rows && matrix.cols() == columns)
 }
 
-fn describes(rt: &impl Abort, alloc: Global, line: &str) -> Result<bool, Refusal> {
-    let (matrix, order, rows, columns) = four_fields(rt, line);
-    let matrix = matrix_of(rt, alloc, matrix)?;
-    Ok(
-        matrix.field().order() == small_number_of(rt, order)
-            && matrix.rows() == number_of(rt, rows)
-            && matrix.cols() == number_of(rt, columns),
-    )
-}
-
-fn gets(rt: &impl Abort, alloc: Global, line: &str) -> Result<bool, Refusal> {
-    let (matrix, row, column, wanted) = four_fields(rt, line);
-    let matrix = matrix_of(rt, alloc, matrix)?;
-    let row = number_of(rt, row);
-    let column = number_of(rt, column);
+fn gets(rt: &impl Abort, alloc: Global, line: &str) -> Result<bool, TableFault> {
+    let (matrix, row, column, wanted) = four_fields(line)?;
+    let row = number_of(row)?;
+    let column = number_of(column)?;
+    let wanted = small_number_of(wanted)?;
+    let matrix = matrix_of(alloc, matrix)?;
     assert!(rt; row < matrix.rows() && column < matrix.cols());
-    Ok(matrix.get(row, column) == small_number_of(rt, wanted))
+    Ok(matrix.get(row, column) == wanted)
 }
 
-fn gives_row(rt: &impl Abort, alloc: Global, line: &str) -> Result<bool, Refusal> {
-    let (matrix, index, wanted) = three_fields(rt, line);
-    let matrix = matrix_of(rt, alloc, matrix)?;
-    let index = number_of(rt, index);
+fn gives_row(rt: &impl Abort, alloc: Global, line: &str) -> Result<bool, TableFault> {
+    let (matrix, index, wanted) = three_fields(line)?;
+    let index = number_of(index)?;
+    let matrix = matrix_of(alloc, matrix)?;
     assert!(rt; index < matrix.rows());
-    is_row(rt, alloc, matrix.row(index), wanted)
+    is_row(alloc, matrix.row(index), wanted)
 }
 
-fn compares(rt: &impl Abort, alloc: Global, line: &str) -> Result<bool, Refusal> {
-    let (left, right, wanted) = three_fields(rt, line);
-    let left = matrix_of(rt, alloc, left)?;
-    let right = matrix_of(rt, alloc, right)?;
-    Ok(left.same(&right) == truth_of(rt, wanted))
+fn compares(alloc: Global, line: &str) -> Result<bool, TableFault> {
+    let (left, right, wanted) = three_fields(line)?;
+    let wanted = truth_of(wanted)?;
+    let left = matrix_of(alloc, left)?;
+    let right = matrix_of(alloc, right)?;
+    Ok(left.same(&right) == wanted)
 }
 
-fn makes_identity(rt: &impl Abort, alloc: Global, line: &str) -> Result<bool, Refusal> {
-    let (order, rows, wanted) = three_fields(rt, line);
-    let rows = number_of(rt, rows);
+fn makes_identity(rt: &impl Abort, alloc: Global, line: &str) -> Result<bool, TableFault> {
+    let (order, rows, wanted) = three_fields(line)?;
+    let rows = number_of(rows)?;
     assert!(rt; 1 <= rows && rows <= MAX_ROWS && rows <= MAX_COLUMNS);
-    is_matrix(
-        rt,
-        alloc,
-        Matrix::identity(alloc, field_of(rt, order), rows),
-        wanted,
-    )
+    let identity = Matrix::identity(alloc, field_of(order)?, rows);
+    is_matrix(alloc, identity, wanted)
 }
 
-fn makes_zero(rt: &impl Abort, alloc: Global, line: &str) -> Result<bool, Refusal> {
-    let (order, rows, columns, wanted) = four_fields(rt, line);
-    let zero = zeros(rt, alloc, field_of(rt, order), rows, columns);
-    is_matrix(rt, alloc, zero, wanted)
+fn makes_zero(alloc: Global, line: &str) -> Result<bool, TableFault> {
+    let (order, rows, columns, wanted) = four_fields(line)?;
+    let zero = zeros(alloc, field_of(order)?, rows, columns)?;
+    is_matrix(alloc, Ok(zero), wanted)
 }
 
-fn appends(rt: &impl Abort, alloc: Global, line: &str) -> Result<bool, Refusal> {
-    let (matrix, row, wanted) = three_fields(rt, line);
-    let mut matrix = matrix_of(rt, alloc, matrix)?;
-    let row = row_of(rt, alloc, row)?;
-    assert_shape(rt, &row, matrix.field(), matrix.cols());
+fn appends(rt: &impl Abort, alloc: Global, line: &str) -> Result<bool, TableFault> {
+    let (matrix, row, wanted) = three_fields(line)?;
+    let mut matrix = matrix_of(alloc, matrix)?;
+    let row = row_of_shape(alloc, row, matrix.field(), matrix.cols())?;
     assert!(rt; matrix.rows() < MAX_ROWS);
     matrix.append(row)?;
-    Ok(matrix.same(&matrix_of(rt, alloc, wanted)?))
+    is_matrix(alloc, Ok(matrix), wanted)
 }
 
-fn copies(rt: &impl Abort, alloc: Global, line: &str) -> Result<bool, Refusal> {
-    let (matrix, wanted) = two_fields(rt, line);
-    let matrix = matrix_of(rt, alloc, matrix)?;
-    is_matrix(rt, alloc, matrix.copy(alloc), wanted)
-}
-
-fn takes_block(rt: &impl Abort, alloc: Global, line: &str) -> Result<bool, Refusal> {
-    let (matrix, rows, columns, wanted) = four_fields(rt, line);
-    let matrix = matrix_of(rt, alloc, matrix)?;
-    let (row, last_row) = range_of(rt, rows);
-    let (column, last_column) = range_of(rt, columns);
+fn takes_block(rt: &impl Abort, alloc: Global, line: &str) -> Result<bool, TableFault> {
+    let (matrix, rows, columns, wanted) = four_fields(line)?;
+    let (row, last_row) = range_of(rows)?;
+    let (column, last_column) = range_of(columns)?;
+    let matrix = matrix_of(alloc, matrix)?;
     assert!(rt; row <= last_row && last_row <= matrix.rows());
     assert!(rt; column < last_column && last_column <= matrix.cols());
     let block = matrix.block(alloc, row, last_row - row, column, last_column - column);
-    is_matrix(rt, alloc, block, wanted)
+    is_matrix(alloc, block, wanted)
 }
 
-fn multiplies(rt: &impl Abort, alloc: Global, line: &str) -> Result<bool, Refusal> {
-    let (left, right, wanted) = three_fields(rt, line);
-    let left = matrix_of(rt, alloc, left)?;
-    let right = matrix_of(rt, alloc, right)?;
-    is_matrix(rt, alloc, left.mul(alloc, &right), wanted)
+/// The calls that are given a matrix and answer one.
+fn gives_matrix(alloc: Global, call: &str, line: &str) -> Result<bool, TableFault> {
+    let (matrix, wanted) = two_fields(line)?;
+    let matrix = matrix_of(alloc, matrix)?;
+    let answer = match call {
+        "copy" => matrix.copy(alloc),
+        _ => matrix.transpose(alloc),
+    };
+    is_matrix(alloc, answer, wanted)
 }
 
-fn adds(rt: &impl Abort, alloc: Global, line: &str) -> Result<bool, Refusal> {
-    let (left, right, wanted) = three_fields(rt, line);
-    let left = matrix_of(rt, alloc, left)?;
-    let right = matrix_of(rt, alloc, right)?;
-    is_matrix(rt, alloc, left.add(alloc, &right), wanted)
+/// The calls that are given two matrices and answer one.
+fn combines(alloc: Global, call: &str, line: &str) -> Result<bool, TableFault> {
+    let (left, right, wanted) = three_fields(line)?;
+    let left = matrix_of(alloc, left)?;
+    let right = matrix_of(alloc, right)?;
+    let answer = match call {
+        "mul" => left.mul(alloc, &right),
+        _ => left.add(alloc, &right),
+    };
+    is_matrix(alloc, answer, wanted)
 }
 
-fn transposes(rt: &impl Abort, alloc: Global, line: &str) -> Result<bool, Refusal> {
-    let (matrix, wanted) = two_fields(rt, line);
-    let matrix = matrix_of(rt, alloc, matrix)?;
-    is_matrix(rt, alloc, matrix.transpose(alloc), wanted)
-}
-
-fn maps_vector(rt: &impl Abort, alloc: Global, line: &str) -> Result<bool, Refusal> {
-    let (matrix, vector, wanted) = three_fields(rt, line);
-    let matrix = matrix_of(rt, alloc, matrix)?;
-    let vector = row_of(rt, alloc, vector)?;
-    assert_shape(rt, &vector, matrix.field(), matrix.rows());
-    is_row_answer(rt, alloc, matrix.vec_mul(alloc, &vector), wanted)
+fn maps_vector(alloc: Global, line: &str) -> Result<bool, TableFault> {
+    let (matrix, vector, wanted) = three_fields(line)?;
+    let matrix = matrix_of(alloc, matrix)?;
+    let vector = row_of_shape(alloc, vector, matrix.field(), matrix.rows())?;
+    is_row_answer(alloc, matrix.vec_mul(alloc, &vector), wanted)
 }
 
 /// Whether a call answers what its line says.
@@ -167,36 +153,34 @@ pub(crate) fn answers(
     alloc: Global,
     call: &str,
     line: &str,
-) -> Result<bool, Refusal> {
+) -> Result<bool, TableFault> {
     match call {
-        "shape" => describes(rt, alloc, line),
+        "shape" => describes(alloc, line),
         "get" => gets(rt, alloc, line),
         "row" => gives_row(rt, alloc, line),
-        "same" => compares(rt, alloc, line),
+        "same" => compares(alloc, line),
         "identity" => makes_identity(rt, alloc, line),
-        "zero" => makes_zero(rt, alloc, line),
+        "zero" => makes_zero(alloc, line),
         "append" => appends(rt, alloc, line),
-        "copy" => copies(rt, alloc, line),
         "block" => takes_block(rt, alloc, line),
-        "mul" => multiplies(rt, alloc, line),
-        "add" => adds(rt, alloc, line),
-        "transpose" => transposes(rt, alloc, line),
-        "vec_mul" => maps_vector(rt, alloc, line),
-        _ => panic!(rt; "no such call: {call}"),
+        "copy" | "transpose" => gives_matrix(alloc, call, line),
+        "mul" | "add" => combines(alloc, call, line),
+        "vec_mul" => maps_vector(alloc, line),
+        _ => Err(TableFault::NotWritten),
     }
 }
 
 #[test]
-fn matrices_have_entries(rt: HostRuntime) -> Result<(), Refusal> {
+fn matrices_have_entries(rt: HostRuntime) -> Result<(), TableFault> {
     each_call(&rt, rt.alloc(), Topic::Matrices, ENTRIES)
 }
 
 #[test]
-fn the_identity_zero_copies_and_blocks_are_made(rt: HostRuntime) -> Result<(), Refusal> {
+fn the_identity_zero_copies_and_blocks_are_made(rt: HostRuntime) -> Result<(), TableFault> {
     each_call(&rt, rt.alloc(), Topic::Matrices, MADE)
 }
 
 #[test]
-fn matrices_have_sums_products_and_transposes(rt: HostRuntime) -> Result<(), Refusal> {
+fn matrices_have_sums_products_and_transposes(rt: HostRuntime) -> Result<(), TableFault> {
     each_call(&rt, rt.alloc(), Topic::Matrices, ARITHMETIC)
 }

@@ -1,6 +1,8 @@
 //! Each call of a row over each field, by each scalar and at lengths around those of words and of whole vectors, against
 //! sums and products that are taken entry by entry; and matrices of multiplications.
-use crate::values::{assert_alike, assert_shape};
+
+ghost use Rattle.std.specs.Prelude.{◌≡◌, length};
+
 use axe_field::Field;
 use axe_row::{Refusal, Row};
 use std::alloc::Global;
@@ -37,6 +39,23 @@ fn row_of_seed(rt: &impl Abort, alloc: Global, field: Field, len: usize, seed: u
 fn entry_of(rt: &impl Abort, row: &Row, index: usize) -> u8 {
     assert!(rt; index < row.len());
     row.get(index)
+}
+
+/// Asserts that a row is over this field and has this length.
+fn assert_shape(rt: &impl Abort, row: &Row, field: &Field, len: usize)
+    ensures field { row.now.order ≡ field.now }
+    ensures length { length row.now.entries ≡ len }
+{
+    assert!(rt; row.field() == field);
+    assert!(rt; row.len() == len);
+}
+
+/// Asserts that two rows are over one field and have one length.
+fn assert_alike(rt: &impl Abort, row: &Row, other: &Row)
+    ensures field { row.now.order ≡ other.now.order }
+    ensures length { length row.now.entries ≡ length other.now.entries }
+{
+    assert_shape(rt, row, other.field(), other.len());
 }
 
 /// An element plus the product of two.

@@ -1,10 +1,10 @@
 //! Row vectors: copies, sums, multiples and dot products.
-use crate::tables::{Topic, each_call, four_fields, three_fields, two_fields};
-use crate::values::{
-    assert_alike, element_in, field_of, is_row, is_row_answer, number_of, row_of, small_number_of,
-    truth_of,
+use crate::tables::{Topic, each_call};
+use axe_row::Row;
+use axe_test_values::{
+    TableFault, element_in, field_of, four_fields, is_row, is_row_answer, number_of, row_of,
+    row_of_shape, small_number_of, three_fields, truth_of, two_fields,
 };
-use axe_row::{Refusal, Row};
 use std::alloc::Global;
 use std::process::Abort;
 
@@ -47,87 +47,89 @@ scale | 7: 03 | 4 | 7: 05
 dot | 8: 41 | 8: 25 | 6
 ";
 
-fn makes_zero(rt: &impl Abort, alloc: Global, line: &str) -> Result<bool, Refusal> {
-    let (order, length, wanted) = three_fields(rt, line);
-    let zero = Row::zero(alloc, field_of(rt, order), number_of(rt, length));
-    is_row_answer(rt, alloc, zero, wanted)
+fn makes_zero(alloc: Global, line: &str) -> Result<bool, TableFault> {
+    let (order, length, wanted) = three_fields(line)?;
+    let length = number_of(length)?;
+    let zero = Row::zero(alloc, field_of(order)?, length);
+    is_row_answer(alloc, zero, wanted)
 }
 
-fn makes_unit(rt: &impl Abort, alloc: Global, line: &str) -> Result<bool, Refusal> {
-    let (order, length, index, wanted) = four_fields(rt, line);
-    let length = number_of(rt, length);
-    let index = number_of(rt, index);
+fn makes_unit(rt: &impl Abort, alloc: Global, line: &str) -> Result<bool, TableFault> {
+    let (order, length, index, wanted) = four_fields(line)?;
+    let length = number_of(length)?;
+    let index = number_of(index)?;
     assert!(rt; index < length);
-    let unit = Row::unit(alloc, field_of(rt, order), length, index);
-    is_row_answer(rt, alloc, unit, wanted)
+    let unit = Row::unit(alloc, field_of(order)?, length, index);
+    is_row_answer(alloc, unit, wanted)
 }
 
-fn sets(rt: &impl Abort, alloc: Global, line: &str) -> Result<bool, Refusal> {
-    let (row, index, element, wanted) = four_fields(rt, line);
-    let mut row = row_of(rt, alloc, row)?;
-    let index = number_of(rt, index);
-    let element = element_in(rt, row.field(), element);
+fn sets(rt: &impl Abort, alloc: Global, line: &str) -> Result<bool, TableFault> {
+    let (row, index, element, wanted) = four_fields(line)?;
+    let index = number_of(index)?;
+    let mut row = row_of(alloc, row)?;
+    let element = element_in(row.field(), element)?;
     assert!(rt; index < row.len());
     row.set(index, element);
-    is_row(rt, alloc, &row, wanted)
+    is_row(alloc, &row, wanted)
 }
 
-fn gets(rt: &impl Abort, alloc: Global, line: &str) -> Result<bool, Refusal> {
-    let (row, index, wanted) = three_fields(rt, line);
-    let row = row_of(rt, alloc, row)?;
-    let index = number_of(rt, index);
+fn gets(rt: &impl Abort, alloc: Global, line: &str) -> Result<bool, TableFault> {
+    let (row, index, wanted) = three_fields(line)?;
+    let index = number_of(index)?;
+    let wanted = small_number_of(wanted)?;
+    let row = row_of(alloc, row)?;
     assert!(rt; index < row.len());
-    Ok(row.get(index) == small_number_of(rt, wanted))
+    Ok(row.get(index) == wanted)
 }
 
-fn finds_first_nonzero(rt: &impl Abort, alloc: Global, line: &str) -> Result<bool, Refusal> {
-    let (row, wanted) = two_fields(rt, line);
-    let row = row_of(rt, alloc, row)?;
-    Ok(match row.first_nonzero() {
-        Some(index) => index == number_of(rt, wanted),
-        None => wanted == "none",
-    })
+fn finds_first_nonzero(alloc: Global, line: &str) -> Result<bool, TableFault> {
+    let (row, wanted) = two_fields(line)?;
+    let row = row_of(alloc, row)?;
+    match row.first_nonzero() {
+        Some(index) => Ok(index == number_of(wanted)?),
+        None => Ok(wanted == "none"),
+    }
 }
 
-fn tells_zero(rt: &impl Abort, alloc: Global, line: &str) -> Result<bool, Refusal> {
-    let (row, wanted) = two_fields(rt, line);
-    Ok(row_of(rt, alloc, row)?.is_zero() == truth_of(rt, wanted))
+fn tells_zero(alloc: Global, line: &str) -> Result<bool, TableFault> {
+    let (row, wanted) = two_fields(line)?;
+    let wanted = truth_of(wanted)?;
+    Ok(row_of(alloc, row)?.is_zero() == wanted)
 }
 
 /// The copy is to stay when the row is changed.
-fn copies(rt: &impl Abort, alloc: Global, line: &str) -> Result<bool, Refusal> {
-    let (row, wanted) = two_fields(rt, line);
-    let mut row = row_of(rt, alloc, row)?;
+fn copies(alloc: Global, line: &str) -> Result<bool, TableFault> {
+    let (row, wanted) = two_fields(line)?;
+    let mut row = row_of(alloc, row)?;
     let copy = row.copy(alloc)?;
-    let zero = element_in(rt, row.field(), "0");
+    let zero = element_in(row.field(), "0")?;
     row.scale(zero);
-    is_row(rt, alloc, &copy, wanted)
+    is_row(alloc, &copy, wanted)
 }
 
-fn adds_multiple(rt: &impl Abort, alloc: Global, line: &str) -> Result<bool, Refusal> {
-    let (row, scalar, other, wanted) = four_fields(rt, line);
-    let mut row = row_of(rt, alloc, row)?;
-    let other = row_of(rt, alloc, other)?;
-    let scalar = element_in(rt, row.field(), scalar);
-    assert_alike(rt, &other, &row);
+fn adds_multiple(alloc: Global, line: &str) -> Result<bool, TableFault> {
+    let (row, scalar, other, wanted) = four_fields(line)?;
+    let mut row = row_of(alloc, row)?;
+    let other = row_of_shape(alloc, other, row.field(), row.len())?;
+    let scalar = element_in(row.field(), scalar)?;
     row.add_scaled(scalar, &other);
-    is_row(rt, alloc, &row, wanted)
+    is_row(alloc, &row, wanted)
 }
 
-fn scales(rt: &impl Abort, alloc: Global, line: &str) -> Result<bool, Refusal> {
-    let (row, scalar, wanted) = three_fields(rt, line);
-    let mut row = row_of(rt, alloc, row)?;
-    let scalar = element_in(rt, row.field(), scalar);
+fn scales(alloc: Global, line: &str) -> Result<bool, TableFault> {
+    let (row, scalar, wanted) = three_fields(line)?;
+    let mut row = row_of(alloc, row)?;
+    let scalar = element_in(row.field(), scalar)?;
     row.scale(scalar);
-    is_row(rt, alloc, &row, wanted)
+    is_row(alloc, &row, wanted)
 }
 
-fn multiplies(rt: &impl Abort, alloc: Global, line: &str) -> Result<bool, Refusal> {
-    let (left, right, wanted) = three_fields(rt, line);
-    let left = row_of(rt, alloc, left)?;
-    let right = row_of(rt, alloc, right)?;
-    assert_alike(rt, &right, &left);
-    Ok(left.dot(&right) == small_number_of(rt, wanted))
+fn multiplies(alloc: Global, line: &str) -> Result<bool, TableFault> {
+    let (left, right, wanted) = three_fields(line)?;
+    let wanted = small_number_of(wanted)?;
+    let left = row_of(alloc, left)?;
+    let right = row_of_shape(alloc, right, left.field(), left.len())?;
+    Ok(left.dot(&right) == wanted)
 }
 
 /// Whether a call answers what its line says.
@@ -136,28 +138,28 @@ pub(crate) fn answers(
     alloc: Global,
     call: &str,
     line: &str,
-) -> Result<bool, Refusal> {
+) -> Result<bool, TableFault> {
     match call {
-        "zero" => makes_zero(rt, alloc, line),
+        "zero" => makes_zero(alloc, line),
         "unit" => makes_unit(rt, alloc, line),
         "set" => sets(rt, alloc, line),
         "get" => gets(rt, alloc, line),
-        "first_nonzero" => finds_first_nonzero(rt, alloc, line),
-        "is_zero" => tells_zero(rt, alloc, line),
-        "copy" => copies(rt, alloc, line),
-        "add_scaled" => adds_multiple(rt, alloc, line),
-        "scale" => scales(rt, alloc, line),
-        "dot" => multiplies(rt, alloc, line),
-        _ => panic!(rt; "no such call: {call}"),
+        "first_nonzero" => finds_first_nonzero(alloc, line),
+        "is_zero" => tells_zero(alloc, line),
+        "copy" => copies(alloc, line),
+        "add_scaled" => adds_multiple(alloc, line),
+        "scale" => scales(alloc, line),
+        "dot" => multiplies(alloc, line),
+        _ => Err(TableFault::NotWritten),
     }
 }
 
 #[test]
-fn rows_have_entries(rt: HostRuntime) -> Result<(), Refusal> {
+fn rows_have_entries(rt: HostRuntime) -> Result<(), TableFault> {
     each_call(&rt, rt.alloc(), Topic::Rows, ENTRIES)
 }
 
 #[test]
-fn rows_have_sums_multiples_and_products(rt: HostRuntime) -> Result<(), Refusal> {
+fn rows_have_sums_multiples_and_products(rt: HostRuntime) -> Result<(), TableFault> {
     each_call(&rt, rt.alloc(), Topic::Rows, ARITHMETIC)
 }

@@ -1,5 +1,0 @@
-use Rattle.std.proofs.Common.{sym}
-use Rattle.axe_call_tests.proofs.points.tells_few.Goals as goal
-
-pub few_points-requires-clause-order : goal.few_points-requires-clause-order
-few_points-requires-clause-order g c = record { order = c.field_of-field.result; is = sym c.order.ensures.value }

@@ -1,0 +1,154 @@
+//! Actions of modules on invariant spaces and modulo them, duals, annihilators, bases that are extended, and conjugates.
+use crate::tables::{Topic, each_call};
+use crate::values::{assert_independent, is_module, module_of};
+use axe_action::{
+    annihilator, basis_action, conjugate, dual, extend_basis, quotient_action, sub_action,
+};
+use axe_matrix::{Matrix, Refusal};
+use axe_spin::Module;
+use axe_test_values::{TableFault, is_matrix, matrix_of, three_fields, two_fields};
+use std::alloc::Global;
+use std::process::Abort;
+
+/// - `sub_action`: a module, rows, and the action on the space that they span;
+/// - `basis_action`: a module, independent rows, and the action over these rows;
+/// - `quotient_action`: a module, rows, and the action modulo the space that they span.
+const ACTIONS: &str = "\
+sub_action | 2: 01/10 | 2: 11 | 2: 1
+sub_action | 2: 01/10 | 2: 00/11/11 | 2: 1
+basis_action | 2: 11/10 | 2: 01/10 | 2: 01/11
+quotient_action | 2: 01/10 | 2: 11 | 2: 1
+quotient_action | 2: 01/10 | 2: 0x2 | 2: 01/10
+# In dimension three, on a line and modulo it.
+sub_action | 3: 121/021/001 | 3: 022 | 3: 2
+quotient_action | 3: 121/021/001 | 3: 022 | 3: 12/01
+";
+
+/// The same calls, with rows that are refused.
+const REFUSED: &str = "\
+sub_action | 2: 01/10 | 2: 00 | the space is zero
+sub_action | 2: 01/10 | 2: 0x2 | the space is zero
+sub_action | 2: 01/10 | 2: 10 | the space is not invariant
+sub_action | 2: 01/10 | 3: 11 | the operands are over different fields
+sub_action | 2: 01/10 | 3: 000 | the operands are over different fields
+sub_action | 2: 01/10 | 2: 110 | the shapes of the operands do not fit
+sub_action | 2: 01/10 | 2: 0 | the shapes of the operands do not fit
+sub_action | 2: 01/10 | 2: 0x3 | the shapes of the operands do not fit
+basis_action | 2: 11/10 | 2: 0x2 | the space is zero
+basis_action | 2: 11/10 | 2: 11 | the space is not invariant
+basis_action | 2: 11/10 | 3: 11 | the operands are over different fields
+basis_action | 2: 11/10 | 2: 110 | the shapes of the operands do not fit
+quotient_action | 2: 01/10 | 2: 10/01 | the space is the whole space
+quotient_action | 2: 01/10 | 2: 10 | the space is not invariant
+quotient_action | 2: 01/10 | 3: 11 | the operands are over different fields
+quotient_action | 2: 01/10 | 3: 0x3 | the operands are over different fields
+quotient_action | 2: 01/10 | 2: 110 | the shapes of the operands do not fit
+";
+
+/// - `dual`: a module, and the module with the transposes;
+/// - `annihilator`: rows, and a basis of the vectors that are orthogonal to them;
+/// - `extend_basis`: independent rows, and these with the unit vectors that make them a basis.
+const DUALS: &str = "\
+dual | 2: 00/01, 2: 11/01 | 2: 00/01, 2: 10/11
+annihilator | 2: 100 | 2: 010/001
+annihilator | 2: 0x2 | 2: 10/01
+annihilator | 2: 10/01 | 2: 0x2
+extend_basis | 2: 011 | 2: 011/100/001
+";
+
+/// - `conjugate`: a module, a basis, and the module over that basis;
+/// - `conjugate_copy`: the same call with a copy of the module.
+///
+/// The symmetric group on three points exchanges the first two coordinates, and moves all three round.
+const CONJUGATES: &str = "\
+conjugate | 2: 010/100/001, 2: 010/001/100 | 2: 011/101/001 | 2: 010/100/001, 2: 010/110/011
+conjugate_copy | 2: 010/100/001, 2: 010/001/100 | 2: 011/101/001 | 2: 010/100/001, 2: 010/110/011
+conjugate | 2: 010/100/001, 2: 010/001/100 | 2: 100/010/110 | the matrix has no inverse
+conjugate | 2: 010/100/001, 2: 010/001/100 | 2: 10/01 | the shapes of the operands do not fit
+conjugate | 2: 010/100/001, 2: 010/001/100 | 2: 100/010 | the shapes of the operands do not fit
+conjugate | 2: 010/100/001, 2: 010/001/100 | 3: 100/010/001 | the operands are over different fields
+conjugate | 2: 010/100/001, 2: 010/001/100 | 3: 10/01 | the operands are over different fields
+";
+
+/// What a call answers that is given a module and rows.
+fn module_from(
+    rt: &impl Abort,
+    alloc: Global,
+    call: &str,
+    module: &Module,
+    rows: &Matrix,
+) -> Result<Module, Refusal> {
+    match call {
+        "sub_action" => sub_action(alloc, module, rows),
+        "quotient_action" => quotient_action(alloc, module, rows),
+        "basis_action" => {
+            assert_independent(rt, alloc, rows)?;
+            basis_action(alloc, module, rows)
+        }
+        "conjugate_copy" => conjugate(alloc, &module.copy(alloc)?, rows),
+        _ => conjugate(alloc, module, rows),
+    }
+}
+
+fn acts(rt: &impl Abort, alloc: Global, call: &str, line: &str) -> Result<bool, TableFault> {
+    let (module, rows, wanted) = three_fields(line)?;
+    let module = module_of(alloc, module)?;
+    let rows = matrix_of(alloc, rows)?;
+    is_module(alloc, module_from(rt, alloc, call, &module, &rows), wanted)
+}
+
+fn transposes(alloc: Global, line: &str) -> Result<bool, TableFault> {
+    let (module, wanted) = two_fields(line)?;
+    let module = module_of(alloc, module)?;
+    is_module(alloc, dual(alloc, &module), wanted)
+}
+
+fn annihilates(alloc: Global, line: &str) -> Result<bool, TableFault> {
+    let (rows, wanted) = two_fields(line)?;
+    let rows = matrix_of(alloc, rows)?;
+    is_matrix(alloc, annihilator(alloc, &rows), wanted)
+}
+
+fn extends(rt: &impl Abort, alloc: Global, line: &str) -> Result<bool, TableFault> {
+    let (rows, wanted) = two_fields(line)?;
+    let rows = matrix_of(alloc, rows)?;
+    assert_independent(rt, alloc, &rows)?;
+    is_matrix(alloc, extend_basis(alloc, &rows), wanted)
+}
+
+/// Whether a call answers what its line says.
+pub(crate) fn answers(
+    rt: &impl Abort,
+    alloc: Global,
+    call: &str,
+    line: &str,
+) -> Result<bool, TableFault> {
+    match call {
+        "sub_action" | "quotient_action" | "basis_action" => acts(rt, alloc, call, line),
+        "conjugate" | "conjugate_copy" => acts(rt, alloc, call, line),
+        "dual" => transposes(alloc, line),
+        "annihilator" => annihilates(alloc, line),
+        "extend_basis" => extends(rt, alloc, line),
+        _ => Err(TableFault::NotWritten),
+    }
+}
+
+#[test]
+fn modules_act_on_invariant_spaces_and_modulo_them(rt: HostRuntime) -> Result<(), TableFault> {
+    each_call(&rt, rt.alloc(), Topic::Actions, ACTIONS)
+}
+
+#[test]
+fn modules_do_not_act_on_other_spaces_and_modulo_them(rt: HostRuntime) -> Result<(), TableFault> {
+    each_call(&rt, rt.alloc(), Topic::Actions, REFUSED)
+}
+
+#[test]
+fn modules_and_rows_have_duals_and_annihilators(rt: HostRuntime) -> Result<(), TableFault> {
+    each_call(&rt, rt.alloc(), Topic::Actions, DUALS)
+}
+
+#[test]
+fn modules_are_conjugated_by_bases_alone(rt: HostRuntime) -> Result<(), TableFault> {
+    each_call(&rt, rt.alloc(), Topic::Actions, CONJUGATES)
+}

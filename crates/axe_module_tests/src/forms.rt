@@ -1,0 +1,101 @@
+//! Standard forms of modules, and the modules that are matched with them.
+
+use crate::tables::{Topic, each_call};
+use crate::values::{is_module, module_of};
+use axe_iso::{Form, form_of, matches};
+use axe_matrix::Matrix;
+use axe_norton::{Verdict, decide};
+use axe_spin::Module;
+use axe_test_values::{TableFault, four_fields, is_matrix, number_of, three_fields};
+use std::alloc::Global;
+use std::process::Abort;
+
+/// The seed of the words.
+const SEED: u64 = 1;
+
+/// An irreducible module, and its form from the first null point of word 0, the last unit vector: the matrices, the
+/// basis, and the dimension of the null space.
+const FORMS: &str = "\
+form_of | 2: 01/11 | 2: 01/11 | 2: 01/11 | 2
+# 01 goes to 10 under the first generator.
+form_of | 2: 01/10, 2: 01/11 | 2: 01/10, 2: 11/10 | 2: 01/10 | 2
+form_of | 4: 3 | 4: 3 | 4: 1 | 1
+";
+
+/// An irreducible module, a module that is matched with its form, and the isomorphism.
+const MATCHES: &str = "\
+matches | 2: 01/11 | 2: 11/10 | 2: 01/10
+# The standard basis of the first point is 01/10, with the matrices 01/10 and 01/11; that of the second is 10/01.
+matches | 2: 01/10, 2: 01/11 | 2: 01/10, 2: 11/10 | 2: 10/01
+matches | 2: 01/10, 2: 01/11 | 2: 01/10, 2: 01/11 | 2: 01/10
+matches | 4: 3 | 4: 2 | none
+matches | 4: 3 | 4: 3 | 4: 1
+# Another dimension.
+matches | 2: 01/11 | 2: 1 | none
+matches | 2: 1 | 2: 01/11 | none
+# Each point spans a submodule.
+matches | 2: 01/11 | 2: 10/01 | none
+";
+
+/// The form of an irreducible module from the vector by which word 0 shows that it is irreducible.
+fn form_by_word_0(rt: &impl Abort, alloc: Global, module: &Module) -> Result<Form, TableFault> {
+    match decide(alloc, module, SEED, 0)? {
+        Verdict::Irreducible { word, vector } => {
+            Ok(form_of(alloc, module, SEED, word, &vector)?)
+        }
+        Verdict::Reducible(_) => panic!(rt; "a reducible module"),
+        Verdict::Undecided => panic!(rt; "a module that word 0 leaves open"),
+    }
+}
+
+fn forms(rt: &impl Abort, alloc: Global, line: &str) -> Result<bool, TableFault> {
+    let (module, matrices, basis, nullity) = four_fields(line)?;
+    let module = module_of(alloc, module)?;
+    let form = form_by_word_0(rt, alloc, &module)?;
+    Ok(form.seed() == SEED
+        && form.word() == 0
+        && form.nullity() == number_of(nullity)?
+        && is_module(alloc, form.matrices().copy(alloc), matrices)?
+        && is_matrix(alloc, form.basis().copy(alloc), basis)?)
+}
+
+/// Whether a match is the one that is written so.
+fn is_match(alloc: Global, found: Option<Matrix>, text: &str) -> Result<bool, TableFault> {
+    match found {
+        Some(isomorphism) => is_matrix(alloc, Ok(isomorphism), text),
+        None => Ok(text == "none"),
+    }
+}
+
+fn matches_form(rt: &impl Abort, alloc: Global, line: &str) -> Result<bool, TableFault> {
+    let (formed, module, wanted) = three_fields(line)?;
+    let form = form_by_word_0(rt, alloc, &module_of(alloc, formed)?)?;
+    let module = module_of(alloc, module)?;
+    assert!(rt; module.field().order() == form.matrices().field().order());
+    assert!(rt; module.gens() == form.matrices().gens());
+    is_match(alloc, matches(alloc, &form, &module)?, wanted)
+}
+
+/// Whether a call answers what its line says.
+pub(crate) fn answers(
+    rt: &impl Abort,
+    alloc: Global,
+    call: &str,
+    line: &str,
+) -> Result<bool, TableFault> {
+    match call {
+        "form_of" => forms(rt, alloc, line),
+        "matches" => matches_form(rt, alloc, line),
+        _ => panic!(rt; "no such call: {call}"),
+    }
+}
+
+#[test]
+fn irreducible_modules_have_forms(rt: HostRuntime) -> Result<(), TableFault> {
+    each_call(&rt, rt.alloc(), Topic::Forms, FORMS)
+}
+
+#[test]
+fn modules_are_matched_with_forms(rt: HostRuntime) -> Result<(), TableFault> {
+    each_call(&rt, rt.alloc(), Topic::Forms, MATCHES)
+}

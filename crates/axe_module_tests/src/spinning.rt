@@ -1,0 +1,128 @@
+//! Generated spaces and standard bases, in modules that were worked through by hand.
+use crate::tables::{Topic, each_call};
+use crate::values::module_of;
+use axe_spin::{first_nonzero_row, generate, standard_basis, standard_rows};
+use axe_test_values::{
+    TableFault, is_matrix, is_row, matrix_of, row_of_shape, three_fields, two_fields,
+};
+use std::alloc::Global;
+use std::process::Abort;
+
+/// `generate`: a module, rows, and the reduced basis of the space that they generate.
+const GENERATED: &str = "\
+generate | 2: 01/10 | 2: 11 | 2: 11
+generate | 2: 01/10 | 2: 00/11 | 2: 11
+generate | 2: 01/10 | 2: 01 | 2: 10/01
+# The vectors of even weight.
+generate | 2: 010/100/001, 2: 010/001/100 | 2: 011 | 2: 101/011
+";
+
+/// The refusals come in this order: the field, the shape, the zero seed.
+const REFUSED: &str = "\
+generate | 2: 01/10 | 2: 0x2 | the seed has no nonzero row
+generate | 2: 01/10 | 2: 00 | the seed has no nonzero row
+generate | 2: 01/10 | 3: 12 | the operands are over different fields
+generate | 2: 01/10 | 2: 101 | the shapes of the operands do not fit
+generate | 2: 01/10 | 3: 000 | the operands are over different fields
+generate | 2: 01/10 | 2: 000 | the shapes of the operands do not fit
+";
+
+/// `standard_basis`: a module, a vector, and the standard basis of the space that it generates.
+const STANDARD_BASES: &str = "\
+# 01 goes to 10, and 10 to 11, their sum.
+standard_basis | 2: 11/10 | 2: 01 | 2: 01/10
+# The exchange takes 011 to 101; the other images of these two are their sum, or one of them.
+standard_basis | 2: 010/100/001, 2: 010/001/100 | 2: 011 | 2: 011/101
+# The exchange takes 010 to 100 before the other generator takes it to 001.
+standard_basis | 2: 010/100/001, 2: 010/001/100 | 2: 010 | 2: 010/100/001
+# 111 is fixed by both.
+standard_basis | 2: 010/100/001, 2: 010/001/100 | 2: 111 | 2: 111
+";
+
+/// Which row of a matrix is the first that is not zero, which rows are vectors of a module, and the standard basis of the
+/// first row of a seed that is not zero.
+const SEEDS: &str = "\
+first_nonzero_row | 2: 00/01/10 | 2: 01
+first_nonzero_row | 2: 00/00 | none
+check_rows | 2: 01/10 | 2: 11/00 | 2: 11/00
+check_rows | 2: 01/10 | 3: 121 | the operands are over different fields
+check_rows | 2: 01/10 | 2: 101 | the shapes of the operands do not fit
+standard_rows | 2: 11/10 | 2: 00/01/11 | 2: 01/10
+standard_rows | 2: 01/10 | 2: 00 | the seed has no nonzero row
+standard_rows | 2: 01/10 | 3: 00 | the operands are over different fields
+";
+
+/// The calls that are given a module and a seed.
+fn spins(alloc: Global, call: &str, line: &str) -> Result<bool, TableFault> {
+    let (module, seed, wanted) = three_fields(line)?;
+    let module = module_of(alloc, module)?;
+    let seed = matrix_of(alloc, seed)?;
+    let answer = match call {
+        "generate" => generate(alloc, &module, &seed),
+        _ => standard_rows(alloc, &module, &seed),
+    };
+    is_matrix(alloc, answer, wanted)
+}
+
+fn finds_standard_basis(rt: &impl Abort, alloc: Global, line: &str) -> Result<bool, TableFault> {
+    let (module, vector, wanted) = three_fields(line)?;
+    let module = module_of(alloc, module)?;
+    let vector = row_of_shape(alloc, vector, module.field(), module.dim())?;
+    assert!(rt; !vector.is_zero());
+    is_matrix(alloc, standard_basis(alloc, &module, &vector), wanted)
+}
+
+fn finds_first_nonzero_row(alloc: Global, line: &str) -> Result<bool, TableFault> {
+    let (matrix, wanted) = two_fields(line)?;
+    let matrix = matrix_of(alloc, matrix)?;
+    match first_nonzero_row(&matrix) {
+        Some(row) => is_row(alloc, row, wanted),
+        None => Ok(wanted == "none"),
+    }
+}
+
+fn checks_rows(alloc: Global, line: &str) -> Result<bool, TableFault> {
+    let (module, rows, wanted) = three_fields(line)?;
+    let module = module_of(alloc, module)?;
+    let rows = matrix_of(alloc, rows)?;
+    match module.check_rows(&rows) {
+        Ok(()) => is_matrix(alloc, Ok(rows), wanted),
+        Err(refusal) => is_matrix(alloc, Err(refusal), wanted),
+    }
+}
+
+/// Whether a call answers what its line says.
+pub(crate) fn answers(
+    rt: &impl Abort,
+    alloc: Global,
+    call: &str,
+    line: &str,
+) -> Result<bool, TableFault> {
+    match call {
+        "generate" | "standard_rows" => spins(alloc, call, line),
+        "standard_basis" => finds_standard_basis(rt, alloc, line),
+        "first_nonzero_row" => finds_first_nonzero_row(alloc, line),
+        "check_rows" => checks_rows(alloc, line),
+        _ => Err(TableFault::NotWritten),
+    }
+}
+
+#[test]
+fn rows_generate_spaces(rt: HostRuntime) -> Result<(), TableFault> {
+    each_call(&rt, rt.alloc(), Topic::Spinning, GENERATED)
+}
+
+#[test]
+fn seeds_are_refused(rt: HostRuntime) -> Result<(), TableFault> {
+    each_call(&rt, rt.alloc(), Topic::Spinning, REFUSED)
+}
+
+#[test]
+fn vectors_have_standard_bases(rt: HostRuntime) -> Result<(), TableFault> {
+    each_call(&rt, rt.alloc(), Topic::Spinning, STANDARD_BASES)
+}
+
+#[test]
+fn seeds_are_looked_at(rt: HostRuntime) -> Result<(), TableFault> {
+    each_call(&rt, rt.alloc(), Topic::Spinning, SEEDS)
+}
