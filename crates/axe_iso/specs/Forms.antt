@@ -1,0 +1,83 @@
+-- Standard forms of modules: the standard matrices of a null vector of a word's value (Parker 1984).
+use Rattle.std.specs.Prelude.{◌≡◌, ℕ, ◌≤◌, List, length}
+use Rattle.axe_algebra.specs.Vectors.{Matrix, unit_vector}
+use Rattle.axe_algebra.specs.Spans.{IsIndependent, IsNullVector, IsInvertible}
+use Rattle.axe_algebra.specs.Standard.{AreStandardMatrices}
+use Rattle.axe_algebra.specs.Words.{word_value}
+use Rattle.axe_algebra.specs.NortonTheorems.{SpansNullSpace}
+use Rattle.axe_algebra.specs.Bridge.{vector_of, matrix_of, module_of, word_of}
+use Rattle.axe_field.specs.Order.{Order, order_number}
+use Rattle.axe_field.specs.NumberFields.{number_field, gf}
+use Rattle.axe_row.specs.Rows.{RowValue}
+use Rattle.axe_matrix.specs.Matrices.{MatrixValue, IsMatrix}
+use Rattle.axe_echelon.specs.Echelons.{IsNullSpaceMatrix}
+use Rattle.axe_spin.specs.Modules.{ModuleValue, IsModule}
+use Rattle.axe_spin.specs.Spinning.{IsStandardMatrix}
+use Rattle.axe_action.specs.Actions.{IsBasisAction}
+use Rattle.axe_word.specs.Words.{IsValueOf}
+use Rattle.axe_word.specs.Drawing.{drawn_word}
+use Rattle.axe_word.specs.PointsOfMatrix.{point_count, most_points}
+
+-- a standard form: the standard matrices, the standard basis that they came from, the number of the word and its seed, and
+-- the dimension of the null space of the word's value
+pub record FormValue : Type 0 where
+  pub matrices : ModuleValue
+  pub basis : MatrixValue
+  pub word : ℕ
+  pub seed : ℕ
+  pub nullity : ℕ
+
+-- ---- the value of a word of a seed, in generators of a dimension over the field of an order
+
+abbrev pub drawn_value : (o : Order) → ℕ → List (List (List ℕ)) → ℕ → ℕ → Matrix (gf o)
+drawn_value o dim generators seed number =
+    word_value (gf o) (module_of (number_field o) dim generators)
+    (word_of (number_field o) (drawn_word seed number (order_number o) (length generators)))
+
+-- its null space is the span of so many independent rows
+pub record HasNullity (o : Order) (dim : ℕ) (generators : List (List (List ℕ))) (seed number nullity : ℕ) : Type 0 where
+  pub basis : Matrix (gf o)
+  pub spans : SpansNullSpace (gf o) dim (drawn_value o dim generators seed number) nullity basis
+  pub independent : IsIndependent (gf o) nullity basis
+
+-- v is one of its null vectors
+abbrev pub IsNullVectorOf : ModuleValue → ℕ → ℕ → List ℕ → Type 0
+IsNullVectorOf m seed number v =
+    IsNullVector (gf m.order) m.dim (drawn_value m.order m.dim m.generators seed number) (vector_of (number_field m.order) v)
+
+-- its null space has few points
+pub record HasFewNullPoints (m : ModuleValue) (seed number : ℕ) : Type 0 where
+  pub nullity : ℕ
+  pub is_nullity : HasNullity m.order m.dim m.generators seed number nullity
+  pub few : point_count (order_number m.order) nullity ≤ most_points
+
+-- the matrix has as its rows the reduced basis of its null space
+pub record IsNullSpaceOf (m : ModuleValue) (seed number : ℕ) (space : MatrixValue) : Type 0 where
+  pub matrix : MatrixValue
+  pub is_value : IsValueOf m (drawn_word seed number (order_number m.order) (length m.generators)) matrix
+  pub is_null_space : IsNullSpaceMatrix matrix space
+  pub well_formed : IsMatrix space
+
+-- ---- forms
+
+-- the generators are the standard matrices of the first unit vector, which is a null vector of the word's value, and the null
+-- space of that has this dimension and few points
+pub record IsFormOver (o : Order) (dim : ℕ) (generators : List (List (List ℕ))) (seed number nullity : ℕ) : Type 0 where
+  pub standard : AreStandardMatrices (gf o) (module_of (number_field o) dim generators) (unit_vector (gf o) 0) (module_of (number_field o) dim generators)
+  pub null : IsNullVector (gf o) dim (drawn_value o dim generators seed number) (unit_vector (gf o) 0)
+  pub is_nullity : HasNullity o dim generators seed number nullity
+  pub few : point_count (order_number o) nullity ≤ most_points
+
+pub record IsForm (form : FormValue) : Type 0 where
+  pub well_formed : IsModule form.matrices
+  pub over : IsFormOver form.matrices.order form.matrices.dim form.matrices.generators form.seed form.word form.nullity
+
+-- the form of the module from v: the basis is the standard basis of v, and invertible, and the matrices act on it
+pub record IsFormFrom (m : ModuleValue) (seed number : ℕ) (v : RowValue) (form : FormValue) : Type 0 where
+  pub standard : IsStandardMatrix m v form.basis
+  pub well_formed : IsMatrix form.basis
+  pub square : length form.basis.rows ≡ m.dim
+  pub invertible : IsInvertible (gf m.order) m.dim (matrix_of (number_field m.order) form.basis.rows)
+  pub acts : IsBasisAction m form.basis form.matrices
+  pub word_is : form.word ≡ number
+  pub seed_is : form.seed ≡ seed

@@ -1,0 +1,2 @@
+//! Forms.
+#![tactic(auto)]
