@@ -1,3 +1,9 @@
 //! What holds of the search for a composition series.
 
-ghost use Rattle.axe_series.specs.Theorems.{RunsFindWhatIsTrue};
+ghost use Rattle.axe_series.specs.Theorems.{RunsHaveOneOutcome};
+
+/// A module has no more than one outcome: what the words of a seed find of it, the basis, the forms of the factors and
+/// the places among them, is determined.
+pub fn runs_have_one_outcome()
+    ensures { RunsHaveOneOutcome }
+{}

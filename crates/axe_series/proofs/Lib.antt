@@ -1,0 +1,4 @@
+pub mod OneCut
+pub mod OneMatch
+pub mod OneForm
+pub mod OneOutcome
