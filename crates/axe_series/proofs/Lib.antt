@@ -1,4 +1,4 @@
 pub mod OneCut
 pub mod OneMatch
-pub mod OneForm
 pub mod OneOutcome
+pub mod SomeForm

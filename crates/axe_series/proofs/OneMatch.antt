@@ -1,96 +1,19 @@
--- A form and a module have one match, and among forms a module is known as one.
-use Rattle.std.specs.Prelude.{◌≡◌, ℕ, ◌+◌, ◌<◌, List, ◌∷◌, ◌++◌, length, get_or, Option, Some, None}
+-- Among forms a module is known as one, or they are all of others.
+use Rattle.std.specs.Prelude.{◌≡◌, ℕ, ◌+◌, ◌<◌, List, ◌∷◌, ◌++◌, length, get_or, None}
 use Rattle.std.proofs.lemmas.List.{length-append, get_or_append_left, get_or-append-add}
-use Rattle.axe_algebra.specs.NumberField.{NumberField}
-use Rattle.axe_algebra.specs.Bridge.{matrix_of, module_of}
-use Rattle.axe_algebra.specs.Lists.{IsMatrixOver}
-use Rattle.axe_algebra.specs.Irreducible
-use Rattle.axe_algebra.proofs.ListStandard.{standard_basis_list_is_unique}
-use Rattle.axe_field.specs.Order.{order_number}
-use Rattle.axe_field.specs.NumberFields.{number_field, gf}
-use Rattle.axe_row.specs.Rows.{RowValue}
 use Rattle.axe_matrix.specs.Matrices.{MatrixValue}
-use Rattle.axe_echelon.specs.Echelons.{IsNullSpaceMatrix}
-use Rattle.axe_echelon.proofs.OneMatrix.{same_value, null_space_is_one}
 use Rattle.axe_spin.specs.Modules.{ModuleValue}
-use Rattle.axe_spin.specs.Spinning.{IsStandardMatrix}
-use Rattle.axe_word.specs.Drawing.{drawn_word}
-use Rattle.axe_word.proofs.ValueLaws.{value-is_unique}
-use Rattle.axe_iso.specs.Forms.{FormValue, IsNullSpaceOf}
-use Rattle.axe_iso.specs.Matches.{HasStandardMatrices, point_row, IsFirstMatch, IsMatch}
+use Rattle.axe_iso.specs.Forms.{FormValue}
+use Rattle.axe_iso.specs.Matches.{IsFirstMatch, IsMatch}
+use Rattle.axe_iso.proofs.OneForm.{first_match_is_one, isomorphic_by_match}
 use Rattle.axe_series.specs.Runs.{AreOfOthers, IsKnownAs}
-use mathlib.Core.Path.{refl, sym, ◌∙◌, ap, subst}
+use mathlib.Core.Path.{sym, ◌∙◌, ap, subst}
 use native.Mathlib.Omega.{arith}
 use native.Mathlib.Decide.{dec_lt, ℕ_discrete}
 
--- a vector has one standard basis, as a matrix
-pub standard_matrix_is_one : (m : ModuleValue) (v : RowValue) (a b : MatrixValue) → IsMatrixOver (number_field m.order) m.dim a.rows →
-    IsMatrixOver (number_field m.order) m.dim b.rows → IsStandardMatrix m v a → IsStandardMatrix m v b → a ≡ b
-standard_matrix_is_one m v a b over_a over_b first second =
-    same_value a b (first.field ∙ sym second.field) (first.columns ∙ sym second.columns)
-    (standard_basis_list_is_unique (number_field m.order) m.dim m.generators v.entries a.rows b.rows over_a over_b first.standard second.standard)
-
--- the value of a word of a seed has one null space
-pub null_space_of_word_is_one : (m : ModuleValue) (seed number : ℕ) (a b : MatrixValue) → IsNullSpaceOf m seed number a → IsNullSpaceOf m seed number b → a ≡ b
-null_space_of_word_is_one m seed number a b first second =
-    null_space_is_one second.matrix a b
-    (subst (λ (x : MatrixValue). IsNullSpaceMatrix x a) matrices first.is_null_space, first.well_formed)
-    (second.is_null_space, second.well_formed)
-  where
-    matrices : first.matrix ≡ second.matrix
-    matrices = value-is_unique m (drawn_word seed number (order_number m.order) (length m.generators)) first.matrix second.matrix
-        first.is_value second.is_value
-
-module _ (form : FormValue) (m : ModuleValue) where
-  -- the rows of a match are over the module's field
-  matched_rows : (t : MatrixValue) → IsFirstMatch form m t → IsMatrixOver (number_field m.order) m.dim t.rows
-  matched_rows t match =
-      subst (λ n. IsMatrixOver (number_field m.order) n t.rows) (sym match.isomorphism.one_dimension)
-      (subst (λ o. IsMatrixOver (number_field o) form.matrices.dim t.rows) (sym match.isomorphism.one_field)
-      match.isomorphism.isomorphism.square.matrix)
-
-  -- the first point that matches is one
-  pub first_match_is_one : (s t : MatrixValue) → IsFirstMatch form m s → IsFirstMatch form m t → s ≡ t
-  first_match_is_one s t first second = at (ℕ_discrete first.place second.place) (dec_lt first.place second.place)
-    where
-      spaces : first.space ≡ second.space
-      spaces = null_space_of_word_is_one m form.seed form.word first.space second.space first.is_space second.is_space
-
-      matches : HasStandardMatrices m (point_row second.space first.place).entries form.matrices
-      matches = subst (λ (x : MatrixValue). HasStandardMatrices m (point_row x first.place).entries form.matrices) spaces first.matches
-
-      before : (j : ℕ) → j < first.place → ¬ (HasStandardMatrices m (point_row second.space j).entries form.matrices)
-      before = subst (λ (x : MatrixValue). (j : ℕ) → j < first.place → ¬ (HasStandardMatrices m (point_row x j).entries form.matrices)) spaces first.first
-
-      at : Dec (first.place ≡ second.place) → Dec (first.place < second.place) → s ≡ t
-      at (yes same) _ =
-          standard_matrix_is_one m (point_row second.space second.place) s t (matched_rows s first) (matched_rows t second)
-          (subst (λ j. IsStandardMatrix m (point_row second.space j) s) same
-          (subst (λ (x : MatrixValue). IsStandardMatrix m (point_row x first.place) s) spaces first.standard))
-          second.standard
-      at (no other) (yes early) = absurd (second.first first.place early matches)
-      at (no other) (no late) = absurd (before second.place (omega arith) second.matches)
-
-  -- a match is an isomorphism
-  pub match_or_none : (t : MatrixValue) → IsFirstMatch form m t → ¬ (IsMatch form m None)
-  match_or_none t match none = none (record {
-    matrix = matrix_of K t.rows;
-    isomorphism =
-        subst (λ n. Irreducible.IsIsomorphism (gf form.matrices.order) (module_of K form.matrices.dim form.matrices.generators) (module_of K n m.generators) (matrix_of K t.rows))
-        (sym match.isomorphism.one_dimension) match.isomorphism.isomorphism.isomorphism;
-  })
-    where
-      K : NumberField
-      K = number_field form.matrices.order
-
-  -- there is one answer
-  pub match_is_one : (a b : Option MatrixValue) → IsMatch form m a → IsMatch form m b → a ≡ b
-  match_is_one (Some s) (Some t) first second = ap Some (first_match_is_one s t first second)
-  match_is_one (Some s) None first second = absurd (match_or_none s first second)
-  match_is_one None (Some t) first second = absurd (match_or_none t second first)
-  match_is_one None None first second = refl
-
--- ---- among forms
+-- a form that is one of a module is none of another
+match_or_none : (form : FormValue) (m : ModuleValue) (t : MatrixValue) → IsFirstMatch form m t → ¬ (IsMatch form m None)
+match_or_none form m t match none = none (isomorphic_by_match form m t match)
 
 module _ (forms : List FormValue) (m : ModuleValue) where
   -- the form that the module is known as stands at its number

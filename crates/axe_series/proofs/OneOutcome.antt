@@ -9,11 +9,11 @@ use Rattle.axe_norton.specs.Spaces.{IsProperSubmodule}
 use Rattle.axe_norton.specs.Verdicts.{Decides}
 use Rattle.axe_norton.proofs.UniqueLaws.{decides_one}
 use Rattle.axe_iso.specs.Forms.{FormValue}
+use Rattle.axe_iso.proofs.OneForm.{form_is_one}
 use Rattle.axe_series.specs.Sections.{SectionValue, IsCut, rows_of_sections, lifted_rows, whole_section}
 use Rattle.axe_series.specs.Runs.{FoundValue, Outcome, complete, open_section, with_place, with_factor, AreOfOthers, IsKnownAs, IsNewForm, Runs, all_found, undecided, reducible, known, new, RunOf, nothing_found}
 use Rattle.axe_series.proofs.OneCut.{reducible_is_submodule, reducible_is_matrix, sub_is_one, quotient_is_one_section}
 use Rattle.axe_series.proofs.OneMatch.{known_is_one, known_or_other}
-use Rattle.axe_series.proofs.OneForm.{form_is_one}
 use mathlib.Core.Path.{refl, sym, ◌∙◌, ap, subst}
 
 -- the actions of the sections are modules
@@ -152,7 +152,7 @@ module _ (seed words : ℕ) (section : SectionValue) (rest : List SectionValue) 
             (subst (λ k. IsNewForm m seed k w other_form) (one_word other_word word w v shown) other_new)
 
         forms : other_form ≡ form
-        forms = form_is_one m seed word v other_form form moved is_new
+        forms = form_is_one m seed word v other_form form moved.from is_new.from
 
 -- ---- two runs
 
