@@ -1,4 +1,4 @@
+pub mod FewPoints
 pub mod OneCut
 pub mod OneMatch
 pub mod OneOutcome
-pub mod SomeForm

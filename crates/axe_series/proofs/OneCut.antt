@@ -4,7 +4,7 @@ use Rattle.std.proofs.lemmas.List.{ext_get_or}
 use Rattle.axe_algebra.specs.NumberField.{NumberField}
 use Rattle.axe_algebra.specs.Actions.{IsFree}
 use Rattle.axe_algebra.specs.Bridge.{field_of, matrix_of}
-use Rattle.axe_algebra.specs.Lists.{unit_row, IsMatrixOver}
+use Rattle.axe_algebra.specs.Lists.{unit_row}
 use Rattle.axe_algebra.specs.SpansOfLists.{IsExtendedBasis}
 use Rattle.axe_algebra.proofs.ReducedBases.{same_size, same_places}
 use Rattle.axe_field.specs.NumberFields.{number_field}
@@ -17,22 +17,25 @@ use Rattle.axe_word.proofs.ValueLaws.{drawn_word-in}
 use Rattle.axe_norton.specs.declared.verdicts.At
 use Rattle.axe_norton.specs.declared.verdicts.Verdict.TheVariants.{Reducible}
 use Rattle.axe_norton.specs.Spaces.{IsProperSubmodule, TriedGenerate, IsFirstProperSpace, IsTransposedSpace}
-use Rattle.axe_norton.specs.Verdicts.{ShowsReducible, Decides, word_of_seed}
+use Rattle.axe_norton.specs.Verdicts.{Decides, word_of_seed}
 use Rattle.axe_norton.proofs.TruthLaws.{rows_over_field, said_is_true}
 use Rattle.axe_series.specs.Sections.{SectionValue, IsCut, lifted_rows}
 use mathlib.Core.Logic.{inl, inr}
-use mathlib.Core.Path.{refl, sym, ◌∙◌, ap, subst}
+use mathlib.Core.Path.{refl, sym, ◌∙◌, ap}
 
 -- rows are extended in one way
-pub extended_list_is_one : (K : NumberField) (n : ℕ) (rows a b : List (List ℕ)) → IsExtendedBasis K n rows a → IsExtendedBasis K n rows b → a ≡ b
+pub extended_list_is_one : (K : NumberField) (n : ℕ) (rows a b : List (List ℕ)) → IsExtendedBasis K n rows a →
+    IsExtendedBasis K n rows b → a ≡ b
 extended_list_is_one K n rows a b first second =
     first.equals ∙ ap (λ (columns : List ℕ). rows ++ map (unit_row n) columns) columns ∙ sym second.equals
   where
     columns : first.columns ≡ second.columns
     columns = ext_get_or 0 first.columns second.columns
-        (same_size (IsFree (field_of K) n (length rows) (matrix_of K rows)) (length first.columns) (λ t. get_or first.columns t 0)
+        (same_size (IsFree (field_of K) n (length rows) (matrix_of K rows)) (length first.columns)
+        (λ t. get_or first.columns t 0)
         (length second.columns) (λ t. get_or second.columns t 0) first.free second.free)
-        (same_places (IsFree (field_of K) n (length rows) (matrix_of K rows)) (length first.columns) (λ t. get_or first.columns t 0)
+        (same_places (IsFree (field_of K) n (length rows) (matrix_of K rows)) (length first.columns)
+        (λ t. get_or first.columns t 0)
         (length second.columns) (λ t. get_or second.columns t 0) first.free second.free)
 
 -- and so is a matrix
@@ -42,18 +45,21 @@ extended_matrix_is_one rows a b first second =
     (extended_list_is_one (number_field rows.order) rows.cols rows.rows a.rows b.rows first.extends second.extends)
 
 -- what a reducible verdict gives is a basis of a proper submodule
-pub reducible_is_submodule : (m : ModuleValue) (seed words : ℕ) (space : MatrixValue) → IsModule m → Decides m seed words (Reducible space) →
+pub reducible_is_submodule : (m : ModuleValue) (seed words : ℕ) (space : MatrixValue) → IsModule m →
+    Decides m seed words (Reducible space) →
     IsProperSubmodule m space
 reducible_is_submodule m seed words space is (j, decides) =
     said_is_true m is (word_of_seed m seed j) (At.TheVariants.Reducible space)
     (drawn_word-in m seed j _ _ refl refl is.some_generator) decides.says
 
 -- and a matrix
-pub reducible_is_matrix : (m : ModuleValue) (seed words : ℕ) (space : MatrixValue) → Decides m seed words (Reducible space) → IsMatrix space
+pub reducible_is_matrix : (m : ModuleValue) (seed words : ℕ) (space : MatrixValue) →
+    Decides m seed words (Reducible space) → IsMatrix space
 reducible_is_matrix m seed words space (j, decides) = shown decides.says.tells
   where
     shown : IsFirstProperSpace m decides.says.tested.null_space space
-        ⊎ (TriedGenerate m decides.says.tested.null_space × IsTransposedSpace m decides.says.tested.matrix space) → IsMatrix space
+        ⊎ (TriedGenerate m decides.says.tested.null_space × IsTransposedSpace m decides.says.tested.matrix space) →
+        IsMatrix space
     shown (inl found) = found.proper.well_formed
     shown (inr (all, found)) = found.well_formed
 
@@ -77,20 +83,23 @@ module _ (section : SectionValue) (space : MatrixValue) (sub quotient other_sub 
       (rows_over_field section.action.order section.action.dim space proper.field proper.columns formed)
       first.quotient_action first.quotient_module.over.square second.quotient_action second.quotient_module.over.square
 
-  lifted : lifted_rows section first.extended ≡ lifted_rows section second.extended
+  abbrev lifted_by : MatrixValue
+  lifted_by = lifted_rows section second.extended
+
+  lifted : lifted_rows section first.extended ≡ lifted_by
   lifted = ap (lifted_rows section) extended
 
-  pub sub_is_one : sub ≡ other_sub
-  sub_is_one = same_section sub other_sub sub_actions
+  pub other_sub_is_one : sub ≡ other_sub
+  other_sub_is_one = same_section sub other_sub sub_actions
       (first.sub_rows
       ∙ ap (λ (x : MatrixValue). matrix_block x 0 sub.action.dim 0 section.rows.cols) lifted
-      ∙ ap (λ (action : ModuleValue). matrix_block (lifted_rows section second.extended) 0 action.dim 0 section.rows.cols) sub_actions
+      ∙ ap (λ (x : ModuleValue). matrix_block lifted_by 0 x.dim 0 section.rows.cols) sub_actions
       ∙ sym second.sub_rows)
 
-  pub quotient_is_one_section : quotient ≡ other_quotient
-  quotient_is_one_section = same_section quotient other_quotient quotient_actions
+  pub other_quotient_is_one : quotient ≡ other_quotient
+  other_quotient_is_one = same_section quotient other_quotient quotient_actions
       (first.quotient_rows
       ∙ ap (λ (x : MatrixValue). matrix_block x sub.action.dim quotient.action.dim 0 section.rows.cols) lifted
-      ∙ ap (λ (action : ModuleValue). matrix_block (lifted_rows section second.extended) action.dim quotient.action.dim 0 section.rows.cols) sub_actions
-      ∙ ap (λ (action : ModuleValue). matrix_block (lifted_rows section second.extended) other_sub.action.dim action.dim 0 section.rows.cols) quotient_actions
+      ∙ ap (λ (x : ModuleValue). matrix_block lifted_by x.dim quotient.action.dim 0 section.rows.cols) sub_actions
+      ∙ ap (λ (x : ModuleValue). matrix_block lifted_by other_sub.action.dim x.dim 0 section.rows.cols) quotient_actions
       ∙ sym second.quotient_rows)

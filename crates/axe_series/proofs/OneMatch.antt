@@ -17,7 +17,8 @@ match_or_none form m t match none = none (isomorphic_by_match form m t match)
 
 module _ (forms : List FormValue) (m : ModuleValue) where
   -- the form that the module is known as stands at its number
-  known_place : (number : ℕ) (t : MatrixValue) (d : FormValue) (known : IsKnownAs forms m number t) → get_or forms number d ≡ known.form
+  known_place : (number : ℕ) (t : MatrixValue) (d : FormValue) (known : IsKnownAs forms m number t) →
+      get_or forms number d ≡ known.form
   known_place number t d known =
       ap (λ (list : List FormValue). get_or list number d) known.among
       ∙ ap (λ k. get_or (known.earlier ++ known.form ∷ known.later) k d) place
@@ -33,15 +34,18 @@ module _ (forms : List FormValue) (m : ModuleValue) where
       omega (arith, known.number_is)
 
   -- the forms before it are of others
-  known_before : (number : ℕ) (t : MatrixValue) (d : FormValue) (known : IsKnownAs forms m number t) (i : ℕ) → i < number → IsMatch (get_or forms i d) m None
+  known_before : (number : ℕ) (t : MatrixValue) (d : FormValue) (known : IsKnownAs forms m number t) (i : ℕ) →
+      i < number → IsMatch (get_or forms i d) m None
   known_before number t d known i before =
       let below : i < length known.earlier = omega (arith, known.number_is) in
       subst (λ (form : FormValue). IsMatch form m None)
-      (sym (ap (λ (list : List FormValue). get_or list i d) known.among ∙ get_or_append_left known.earlier (known.form ∷ known.later) d i below))
+      (sym (ap (λ (list : List FormValue). get_or list i d) known.among
+      ∙ get_or_append_left known.earlier (known.form ∷ known.later) d i below))
       (known.others i d below)
 
   -- a module is known as one form
-  pub known_is_one : (i j : ℕ) (s t : MatrixValue) → IsKnownAs forms m i s → IsKnownAs forms m j t → (i ≡ j) × (s ≡ t)
+  pub known_is_one : (i j : ℕ) (s t : MatrixValue) → IsKnownAs forms m i s → IsKnownAs forms m j t →
+      (i ≡ j) × (s ≡ t)
   known_is_one i j s t first second = at (ℕ_discrete i j) (dec_lt i j)
     where
       at : Dec (i ≡ j) → Dec (i < j) → (i ≡ j) × (s ≡ t)
@@ -49,19 +53,23 @@ module _ (forms : List FormValue) (m : ModuleValue) where
         same,
         first_match_is_one second.form m s t
             (subst (λ (form : FormValue). IsFirstMatch form m s)
-            (sym (known_place i s first.form first) ∙ ap (λ k. get_or forms k first.form) same ∙ known_place j t first.form second)
+            (sym (known_place i s first.form first) ∙ ap (λ k. get_or forms k first.form) same
+            ∙ known_place j t first.form second)
             first.matches)
             second.matches,
       )
       at (no other) (yes early) =
           absurd (match_or_none first.form m s first.matches
-          (subst (λ (form : FormValue). IsMatch form m None) (known_place i s first.form first) (known_before j t first.form second i early)))
+          (subst (λ (form : FormValue). IsMatch form m None) (known_place i s first.form first)
+          (known_before j t first.form second i early)))
       at (no other) (no late) =
           absurd (match_or_none second.form m t second.matches
-          (subst (λ (form : FormValue). IsMatch form m None) (known_place j t first.form second) (known_before i s first.form first j (omega arith))))
+          (subst (λ (form : FormValue). IsMatch form m None) (known_place j t first.form second)
+          (known_before i s first.form first j (omega arith))))
 
   -- it is known or new
   pub known_or_other : (number : ℕ) (t : MatrixValue) → IsKnownAs forms m number t → ¬ (AreOfOthers forms m)
   known_or_other number t known others =
       match_or_none known.form m t known.matches
-      (subst (λ (form : FormValue). IsMatch form m None) (known_place number t known.form known) (others number known.form (known_inside number t known)))
+      (subst (λ (form : FormValue). IsMatch form m None) (known_place number t known.form known)
+      (others number known.form (known_inside number t known)))

@@ -1,6 +1,6 @@
 -- Sections of a module while its composition series is looked for, and the two into which a submodule cuts one (Parker
 -- 1984).
-use Rattle.std.specs.Prelude.{◌≡◌, ℕ, List, [], ◌∷◌, ◌++◌, length}
+use Rattle.std.specs.Prelude.{◌≡◌, ℕ, List, [], ◌∷◌, ◌++◌}
 use Rattle.axe_matrix.specs.Matrices.{MatrixValue, identity_matrix, matrix_block, matrix_product}
 use Rattle.axe_spin.specs.Modules.{ModuleValue, IsModule}
 use Rattle.axe_action.specs.Actions.{IsBasisAction, IsActionModulo, IsExtendedMatrix}
