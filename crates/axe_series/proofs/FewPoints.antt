@@ -65,8 +65,7 @@ module _ (seed words : ℕ) (o : Order) (n : ℕ) (few : point_count (order_numb
       AreWithin o n (sub ∷ quotient ∷ rest)
   parts_within section rest space sub quotient proper formed cut (within, others) =
       let sizes : sub.action.dim + quotient.action.dim ≡ section.action.dim =
-      dimensions_of_parts section space sub quotient proper formed cut in
-      (
+      dimensions_of_parts section space sub quotient proper formed cut in (
         record {
           is = cut.sub_module;
           field = cut.sub_action.field ∙ within.field;
@@ -104,4 +103,4 @@ pub small_has_a_series : (m : ModuleValue) (seed words : ℕ) (rows : List (List
     point_count (order_number m.order) m.dim ≤ most_points → ¬ (RunOf m seed words (open_section rows offset dim))
 small_has_a_series m seed words rows offset dim is few run =
     none_stays_open seed words m.order m.dim few run
-        (record { is = is; field = refl; dim_within = omega arith }, tt) rows offset dim refl
+    (record { is = is; field = refl; dim_within = omega arith }, tt) rows offset dim refl
