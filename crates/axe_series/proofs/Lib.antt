@@ -1,0 +1,4 @@
+pub mod FewPoints
+pub mod OneCut
+pub mod OneMatch
+pub mod OneOutcome

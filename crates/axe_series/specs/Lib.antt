@@ -1,0 +1,4 @@
+pub mod Sections
+pub mod Runs
+pub mod Series
+pub mod Theorems
