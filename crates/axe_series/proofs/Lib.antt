@@ -1,0 +1,2 @@
+pub mod SomeValues
+pub mod SomeVerdict
