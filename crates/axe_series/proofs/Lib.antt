@@ -1,2 +1,4 @@
 pub mod SomeValues
 pub mod SomeVerdict
+pub mod SomeCut
+pub mod SomeRun
