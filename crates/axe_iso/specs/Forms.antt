@@ -72,12 +72,15 @@ pub record IsForm (form : FormValue) : Type 0 where
   pub well_formed : IsModule form.matrices
   pub over : IsFormOver form.matrices.order form.matrices.dim form.matrices.generators form.seed form.word form.nullity
 
--- the form of the module from v: the basis is the standard basis of v, and invertible, and the matrices act on it
+-- the form of the module from v: the basis is the standard basis of v, and invertible, the matrices are the action on it, and
+-- the nullity is the dimension of the null space of the word's value; there is no more than one such form
 pub record IsFormFrom (m : ModuleValue) (seed number : ℕ) (v : RowValue) (form : FormValue) : Type 0 where
   pub standard : IsStandardMatrix m v form.basis
   pub well_formed : IsMatrix form.basis
   pub square : length form.basis.rows ≡ m.dim
   pub invertible : IsInvertible (gf m.order) m.dim (matrix_of (number_field m.order) form.basis.rows)
   pub acts : IsBasisAction m form.basis form.matrices
+  pub matrices_well_formed : IsModule form.matrices
   pub word_is : form.word ≡ number
   pub seed_is : form.seed ≡ seed
+  pub is_nullity : HasNullity m.order m.dim m.generators seed number form.nullity

@@ -1,2 +1,3 @@
 pub mod Forms
+pub mod Rows
 pub mod Matches

@@ -1,11 +1,11 @@
 -- What a module is matched with: the form of another, by the points of the null space of the form's word (Parker 1984).
-use Rattle.std.specs.Prelude.{◌≡◌, ℕ, ◌<◌, List, [], length, get_or, Option, Some, None}
+use Rattle.std.specs.Prelude.{ℕ, ◌<◌, List, [], length, get_or, Option, Some, None}
 use Rattle.axe_algebra.specs.Standard.{AreStandardMatrices}
 use Rattle.axe_algebra.specs.Bridge.{vector_of, module_of}
 use Rattle.axe_algebra.specs.ModulesOfLists.{AreIsomorphic}
 use Rattle.axe_field.specs.NumberFields.{number_field, gf}
 use Rattle.axe_row.specs.Rows.{RowValue}
-use Rattle.axe_matrix.specs.Matrices.{MatrixValue}
+use Rattle.axe_matrix.specs.Matrices.{MatrixValue, IsMatrix}
 use Rattle.axe_spin.specs.Modules.{ModuleValue}
 use Rattle.axe_spin.specs.Spinning.{IsStandardMatrix}
 use Rattle.axe_spin.specs.SpinLaws.{IsIsomorphismMatrix}
@@ -26,6 +26,7 @@ point_row space j = record { order = space.order; entries = get_or (points_of sp
 -- as its standard matrices; and it is an isomorphism: invertible, and t g' = g t for each of the module's generators g' and of
 -- the form's matrices g
 pub record IsFirstMatch (form : FormValue) (m : ModuleValue) (t : MatrixValue) : Type 0 where
+  pub well_formed : IsMatrix t
   pub isomorphism : IsIsomorphismMatrix form.matrices m t
   pub space : MatrixValue
   pub is_space : IsNullSpaceOf m form.seed form.word space

@@ -1,2 +1,10 @@
-//! Forms.
+//! Standard forms of modules, and isomorphisms that they give.
 #![tactic(auto)]
+
+mod form;
+pub mod laws;
+mod matching;
+mod null_space;
+
+pub use form::{Form, form_of};
+pub use matching::matches;

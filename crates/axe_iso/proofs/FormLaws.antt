@@ -1,0 +1,249 @@
+-- Null spaces of drawn words, their points in turn, and what a match and no match show of a form and a module.
+use Rattle.std.proofs.Common.{◌≡◌, ◌≢◌, ℕ, suc, ◌<◌, ◌≤◌, List, [], ◌∷◌, length, get_or, drop, Some, Ok, refl, sym, ap, subst, ◌∙◌, arith}
+use Rattle.std.proofs.Math.Seq.{drop-cons}
+use Rattle.std.proofs.lemmas.List.{length-drop}
+use Rattle.axe_algebra.specs.Field.{Field}
+use Rattle.axe_algebra.specs.NumberField.{NumberField}
+use Rattle.axe_algebra.specs.Vectors.{Vector, zero_vector, unit_vector}
+use Rattle.axe_algebra.specs.Spans.{IsIndependent, IsNullVector}
+use Rattle.axe_algebra.specs.Modules.{Module}
+use Rattle.axe_algebra.specs.Modules
+use Rattle.axe_algebra.specs.Reduced.{IsReducedBasisOf}
+use Rattle.axe_algebra.specs.Standard.{AreStandardMatrices}
+use Rattle.axe_algebra.specs.Words.{IsWordOf, word_value}
+use Rattle.axe_algebra.specs.Bridge.{vector_of, matrix_of, module_of, word_of}
+use Rattle.axe_algebra.specs.Lists.{IsMatrixOver, IsModuleOver}
+use Rattle.axe_algebra.specs.SpansOfLists.{IsReducedBasis}
+use Rattle.axe_algebra.specs.ModulesOfLists.{AreIsomorphic}
+use Rattle.axe_algebra.specs.PointsOfLists.{points}
+use Rattle.axe_algebra.specs.PointTheorems.{IsNonzeroSpanned}
+use Rattle.axe_algebra.proofs.ProductLaws.{unit_at}
+use Rattle.axe_algebra.proofs.ReducedBases.{reduced_independent}
+use Rattle.axe_algebra.proofs.ListEntries.{rows_length}
+use Rattle.axe_algebra.proofs.ListModules.{module_shape}
+use Rattle.axe_algebra.proofs.ListWords.{is_word}
+use Rattle.axe_algebra.proofs.Matching.{isomorphism_keeps_nullity}
+use Rattle.axe_algebra.proofs.PointSpans.{point_nonzero_spanned}
+use Rattle.axe_algebra.proofs.FormMatches.{no_point_matches}
+use Rattle.axe_field.specs.Order.{order_number}
+use Rattle.axe_field.specs.NumberFields.{number_field, gf}
+use Rattle.axe_row.specs.Rows.{RowValue}
+use Rattle.axe_matrix.specs.Matrices.{MatrixValue}
+use Rattle.axe_echelon.proofs.InverseLaws.{matrix_over}
+use Rattle.axe_spin.specs.Modules.{ModuleValue, IsModule}
+use Rattle.axe_word.specs.Words.{WordValue}
+use Rattle.axe_word.specs.Drawing.{drawn_word}
+use Rattle.axe_word.specs.PointsOfMatrix.{PointsLeft, point_count, points_of, GivesNext}
+use Rattle.axe_word.proofs.DrawingLaws.{drawn_word-over}
+use Rattle.axe_iso.specs.Forms.{FormValue, HasNullity, IsNullSpaceOf, IsFormOver, IsForm}
+use Rattle.axe_iso.specs.Matches.{HasStandardMatrices, point_row}
+use native.Mathlib.Decide.{ℕ_discrete}
+
+-- ---- null spaces
+
+-- the null space of the value of a word, as the theory has it
+pub record IsSpaceOfWord (m : ModuleValue) (word : WordValue) (space : MatrixValue) : Type 0 where
+  pub field : space.order ≡ m.order
+  pub columns : space.cols ≡ m.dim
+  pub over : IsMatrixOver (number_field m.order) m.dim space.rows
+  pub basis : IsReducedBasisOf (gf m.order)
+      (IsNullVector (gf m.order) m.dim (word_value (gf m.order) (module_of (number_field m.order) m.dim m.generators) (word_of (number_field m.order) word)))
+      (length space.rows) (matrix_of (number_field m.order) space.rows)
+
+pub space_of_word : (m : ModuleValue) (seed number count : ℕ) (space : MatrixValue) → length m.generators ≡ count → IsNullSpaceOf m seed number space →
+    IsSpaceOfWord m (drawn_word seed number (order_number m.order) count) space
+space_of_word m seed number count space same is =
+    subst (λ k. IsSpaceOfWord m (drawn_word seed number (order_number m.order) k) space) same (record {
+      field = field;
+      columns = columns;
+      over = subst (λ o. IsMatrixOver (number_field o) m.dim space.rows) field
+          (subst (λ n. IsMatrixOver (number_field space.order) n space.rows) columns (matrix_over space is.well_formed));
+      basis =
+          subst (λ x. IsReducedBasisOf (gf m.order) (IsNullVector (gf m.order) m.dim x) (length space.rows) (matrix_of K space.rows)) is.is_value.value.value
+          (subst (λ n. IsReducedBasisOf (gf m.order) (IsNullVector (gf m.order) n (matrix_of K is.matrix.rows)) (length space.rows) (matrix_of K space.rows))
+          is.is_value.value.square.length_is
+          (subst (λ o. IsReducedBasisOf (gf o) (IsNullVector (gf o) (length is.matrix.rows) (matrix_of (number_field o) is.matrix.rows)) (length space.rows) (matrix_of (number_field o) space.rows))
+          is.is_value.field is.is_null_space.basis_of_null_space));
+    })
+  where
+    K : NumberField
+    K = number_field m.order
+
+    field : space.order ≡ m.order
+    field = is.is_null_space.field ∙ is.is_value.field
+
+    columns : space.cols ≡ m.dim
+    columns = is.is_null_space.columns ∙ is.is_value.value.square.length_is
+
+module _ (m : ModuleValue) (word : WordValue) (space : MatrixValue) (is : IsSpaceOfWord m word space) where
+  abbrev K : NumberField
+  K = number_field m.order
+
+  -- the points, over the module's field and of its dimension
+  pub points_in_module : points_of space ≡ points K m.dim space.rows
+  points_in_module = ap (λ o. points (number_field o) space.cols space.rows) is.field ∙ ap (λ n. points K n space.rows) is.columns
+
+  pub space_independent : IsIndependent (gf m.order) (length space.rows) (matrix_of K space.rows)
+  space_independent = reduced_independent (gf m.order) (length space.rows) (matrix_of K space.rows) (length space.rows) (matrix_of K space.rows) is.basis.reduced
+
+  pub point_in_module : (j : ℕ) → j < length (points_of space) → IsNonzeroSpanned K m.dim space.rows (get_or (points_of space) j [])
+  point_in_module j inside =
+      subst (λ (ps : List (List ℕ)). IsNonzeroSpanned K m.dim space.rows (get_or ps j [])) (sym points_in_module)
+      (point_nonzero_spanned K m.dim space.rows j is.over space_independent (subst (λ (ps : List (List ℕ)). j < length ps) points_in_module inside))
+
+  pub space_reduced : IsReducedBasis (number_field space.order) space.rows space.rows
+  space_reduced = subst (λ o. IsReducedBasis (number_field o) space.rows space.rows) (sym is.field) is.basis.reduced
+
+-- a null space has the dimension of a nullity
+pub nullity_of_space : (m : ModuleValue) (seed number : ℕ) (space : MatrixValue) → IsNullSpaceOf m seed number space →
+    HasNullity m.order m.dim m.generators seed number (length space.rows)
+nullity_of_space m seed number space is_space = record {
+  basis = matrix_of K space.rows;
+  spans = record { lengths = rows_length K m.dim space.rows facts.over; forth = facts.basis.forth; back = facts.basis.back };
+  independent = space_independent m (drawn_word seed number (order_number m.order) (length m.generators)) space facts;
+}
+  where
+    K : NumberField
+    K = number_field m.order
+
+    facts : IsSpaceOfWord m (drawn_word seed number (order_number m.order) (length m.generators)) space
+    facts = space_of_word m seed number (length m.generators) space refl is_space
+
+-- a null space of the form's nullity has few points, fewer than an iterator goes over
+pub few_of_form : (form : FormValue) (m : ModuleValue) (space : MatrixValue) → IsForm form → m.order ≡ form.matrices.order →
+    IsNullSpaceOf m form.seed form.word space → length space.rows ≡ form.nullity →
+    point_count (order_number space.order) (length space.rows) ≤ 4095
+few_of_form form m space is_form field is_space same =
+    let few : point_count (order_number form.matrices.order) form.nullity ≤ 1000 = is_form.over.few in
+    let fields : space.order ≡ form.matrices.order = (space_of_word m form.seed form.word (length m.generators) space refl is_space).field ∙ field in
+    let e : point_count (order_number space.order) (length space.rows) ≡ point_count (order_number form.matrices.order) form.nullity =
+    ap (λ o. point_count (order_number o) (length space.rows)) fields ∙ ap (point_count (order_number form.matrices.order)) same in
+    omega arith
+
+-- the same null space, by equal numbers of a word
+pub space_of_numbers : (m : ModuleValue) (seed other_seed number other_number : ℕ) (space : MatrixValue) → seed ≡ other_seed → number ≡ other_number →
+    IsNullSpaceOf m seed number space → IsNullSpaceOf m other_seed other_number space
+space_of_numbers m seed other_seed number other_number space e f is =
+    subst (λ k. IsNullSpaceOf m other_seed k space) f (subst (λ k. IsNullSpaceOf m k number space) e is)
+
+pub reduced_of_word : (m : ModuleValue) (seed number : ℕ) (space : MatrixValue) → IsNullSpaceOf m seed number space →
+    IsReducedBasis (number_field space.order) space.rows space.rows
+reduced_of_word m seed number space is_space =
+    space_reduced m (drawn_word seed number (order_number m.order) (length m.generators)) space (space_of_word m seed number (length m.generators) space refl is_space)
+
+-- ---- the points in turn
+
+-- the points before those that are left don't have the form's matrices as their standard matrices
+pub record AreTried (form : FormValue) (m : ModuleValue) (space : MatrixValue) (left : PointsLeft) : Type 0 where
+  pub field : left.order ≡ space.order
+  pub place : ℕ
+  pub rest : drop place (points_of space) ≡ left.left
+  pub tried : (j : ℕ) → j < place → ¬ (HasStandardMatrices m (point_row space j).entries form.matrices)
+
+-- the same of the points of the null space of the form's word, which has the form's nullity
+pub record AreTriedOfWord (form : FormValue) (m : ModuleValue) (left : PointsLeft) : Type 0 where
+  pub space : MatrixValue
+  pub is_space : IsNullSpaceOf m form.seed form.word space
+  pub tried : AreTried form m space left
+
+module _ (form : FormValue) (m : ModuleValue) (space : MatrixValue) where
+  pub tried_none : (s : PointsLeft) → s ≡ record { order = space.order; left = points_of space } → AreTried form m space s
+  tried_none s is = record {
+    field = ap (λ (v : PointsLeft). v.order) is;
+    place = 0;
+    rest = ap (λ (v : PointsLeft). v.left) (sym is);
+    tried = λ j below. absurd (omega arith);
+  }
+
+  module _ (s t : PointsLeft) (point : RowValue) (before : AreTried form m space s) (gives : GivesNext s (Some (Ok point)) t) where
+    pub tried_inside : before.place < length (points_of space)
+    tried_inside = omega (arith, length-drop before.place (points_of space), ap length before.rest, ap length gives.0)
+
+    split : get_or (points_of space) before.place [] ∷ drop (suc before.place) (points_of space) ≡ point.entries ∷ t.left
+    split = sym (drop-cons (points_of space) before.place [] tried_inside) ∙ before.rest ∙ gives.0
+
+    pub tried_point : get_or (points_of space) before.place [] ≡ point.entries
+    tried_point = ap (λ (xs : List (List ℕ)). get_or xs 0 []) split
+
+    pub tried_more : ¬ (HasStandardMatrices m point.entries form.matrices) → AreTried form m space t
+    tried_more fails = record {
+      field = gives.2 ∙ before.field;
+      place = suc before.place;
+      rest = ap (λ (xs : List (List ℕ)). drop 1 xs) split;
+      tried = λ j below. at j below (ℕ_discrete j before.place);
+    }
+      where
+        at : (j : ℕ) → j < suc before.place → Dec (j ≡ before.place) → ¬ (HasStandardMatrices m (point_row space j).entries form.matrices)
+        at j below (yes e) = λ has. fails (subst (λ (v : List ℕ). HasStandardMatrices m v form.matrices) (ap (λ k. get_or (points_of space) k []) e ∙ tried_point) has)
+        at j below (no other) = before.tried j (omega arith)
+
+  pub tried_all : (s : PointsLeft) → AreTried form m space s → s.left ≡ [] →
+      (j : ℕ) → j < length (points_of space) → ¬ (HasStandardMatrices m (point_row space j).entries form.matrices)
+  tried_all s before none j inside =
+      before.tried j (omega (arith, length-drop before.place (points_of space), ap length before.rest, ap length none))
+
+-- ---- no match
+
+module _ (form : FormValue) (m : ModuleValue) (is_form : IsForm form) (is_module : IsModule m) (field : m.order ≡ form.matrices.order)
+    (count : length m.generators ≡ length form.matrices.generators) where
+  abbrev K' : NumberField
+  K' = number_field m.order
+
+  abbrev F : Field
+  F = gf m.order
+
+  abbrev A : Module F
+  A = module_of K' form.matrices.dim form.matrices.generators
+
+  abbrev N : Module F
+  N = module_of K' m.dim m.generators
+
+  abbrev the_word : WordValue
+  the_word = drawn_word form.seed form.word (order_number m.order) (length form.matrices.generators)
+
+  form_facts : IsFormOver m.order form.matrices.dim form.matrices.generators form.seed form.word form.nullity
+  form_facts = subst (λ o. IsFormOver o form.matrices.dim form.matrices.generators form.seed form.word form.nullity) (sym field) is_form.over
+
+  A_is_module : Modules.IsModule F A
+  A_is_module = module_shape K' form.matrices.dim form.matrices.generators
+      (subst (λ o. IsModuleOver (number_field o) form.matrices.dim form.matrices.generators) (sym field) is_form.well_formed.over).square
+
+  N_is_module : Modules.IsModule F N
+  N_is_module = module_shape K' m.dim m.generators is_module.over.square
+
+  is_word_of_A : IsWordOf F A (word_of K' the_word)
+  is_word_of_A = is_word K' form.matrices.dim form.matrices.generators the_word
+      (drawn_word-over form.seed form.word (order_number m.order) (length form.matrices.generators) m.order refl is_form.well_formed.some_generator)
+
+  -- the claim over the form's field
+  at_form_field : ¬ (AreIsomorphic K' form.matrices.dim form.matrices.generators m.dim m.generators) →
+      ¬ (AreIsomorphic (number_field form.matrices.order) form.matrices.dim form.matrices.generators m.dim m.generators)
+  at_form_field none iso =
+      none (subst (λ o. AreIsomorphic (number_field o) form.matrices.dim form.matrices.generators m.dim m.generators) (sym field) iso)
+
+  pub other_dimension : m.dim ≢ form.matrices.dim →
+      ¬ (AreIsomorphic (number_field form.matrices.order) form.matrices.dim form.matrices.generators m.dim m.generators)
+  other_dimension other iso = other (sym iso.isomorphism.dimension)
+
+  module _ (space : MatrixValue) (is_space : IsNullSpaceOf m form.seed form.word space) where
+    facts : IsSpaceOfWord m the_word space
+    facts = space_of_word m form.seed form.word (length form.matrices.generators) space count is_space
+
+    pub other_nullity : length space.rows ≢ form.nullity →
+        ¬ (AreIsomorphic (number_field form.matrices.order) form.matrices.dim form.matrices.generators m.dim m.generators)
+    other_nullity other = at_form_field (λ iso. other (sym
+        (isomorphism_keeps_nullity F A N A_is_module N_is_module iso (word_of K' the_word) is_word_of_A
+        form.nullity form_facts.is_nullity.basis (length space.rows) (matrix_of K' space.rows) form_facts.is_nullity.spans form_facts.is_nullity.independent
+        (record { lengths = rows_length K' m.dim space.rows facts.over; forth = facts.basis.forth; back = facts.basis.back })
+        (space_independent m the_word space facts))))
+
+    unit-nonzero : unit_vector F 0 ≢ zero_vector F
+    unit-nonzero e = F.one-not-zero (sym (unit_at F 0) ∙ ap (λ (x : Vector F). x 0) e)
+
+    pub no_match : ((j : ℕ) → j < length (points_of space) → ¬ (HasStandardMatrices m (point_row space j).entries form.matrices)) →
+        ¬ (AreIsomorphic (number_field form.matrices.order) form.matrices.dim form.matrices.generators m.dim m.generators)
+    no_match none = at_form_field
+        (no_point_matches K' A N A_is_module N_is_module (word_of K' the_word) is_word_of_A (unit_vector F 0) unit-nonzero form_facts.null form_facts.standard
+        space.rows facts.over facts.basis.back
+        (subst (λ (ps : List (List ℕ)). (j : ℕ) → j < length ps → ¬ (AreStandardMatrices F N (vector_of K' (get_or ps j [])) A))
+        (points_in_module m the_word space facts) none))
