@@ -1,4 +1,5 @@
-pub mod SomeValues
+pub mod SomeAnnihilator
 pub mod SomeVerdict
 pub mod SomeCut
+pub mod SomeForm
 pub mod SomeRun

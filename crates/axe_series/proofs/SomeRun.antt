@@ -1,4 +1,4 @@
--- Every module has a run, where every form matches or does not, and every module that is shown to be irreducible has a form.
+-- Every module has a run: something is found of it.
 use Rattle.std.specs.Prelude.{◌≡◌, ℕ, zero, suc, ◌+◌, ◌-◌, ◌<◌, ◌≤◌, ◌⊎◌, List, [], ◌∷◌, ◌++◌, length, Option, Some, None}
 use Rattle.std.specs.List.{All}
 use Rattle.std.proofs.lemmas.List.Elements.{All-nil, All-cons, All-head, All-tail, All-append}
@@ -12,9 +12,11 @@ use Rattle.axe_norton.specs.Spaces.{IsProperSubmodule}
 use Rattle.axe_norton.specs.Verdicts.{Decides}
 use Rattle.axe_iso.specs.Forms.{FormValue, IsForm}
 use Rattle.axe_iso.specs.Matches.{IsMatch}
+use Rattle.axe_iso.proofs.SomeForm.{some_match}
 use Rattle.axe_series.specs.Sections.{SectionValue, lifted_rows, rows_of_sections, whole_section}
 use Rattle.axe_series.specs.Runs.{FoundValue, nothing_found, Outcome, complete, open_section, with_place, with_factor, AreOfOthers, IsKnownAs, IsNewForm, Runs, all_found, undecided, reducible, known, new, RunOf}
 use Rattle.axe_series.proofs.SomeVerdict.{some_verdict}
+use Rattle.axe_series.proofs.SomeForm.{some_new_form}
 use Rattle.axe_series.proofs.SomeCut.{AreParts, reducible_is_proper, some_cut}
 use mathlib.Core.Logic.{inl, inr}
 use mathlib.Core.Path.{refl, sym, ◌∙◌, ap, subst}
@@ -32,23 +34,13 @@ pub record IsFormOfKind (o : Order) (count : ℕ) (form : FormValue) : Type 0 wh
   pub field : form.matrices.order ≡ o
   pub generators : length form.matrices.generators ≡ count
 
--- every form over a module's field, with as many generators, has a match or none with it
-abbrev pub FormsMatchOrNot : Type 0
-FormsMatchOrNot = (form : FormValue) (m : ModuleValue) → IsForm form → IsModule m → m.order ≡ form.matrices.order →
-    length m.generators ≡ length form.matrices.generators → (t : Option MatrixValue) × IsMatch form m t
-
--- every module that is shown to be irreducible has a form
-abbrev pub IrreducibleHaveForms : Type 0
-IrreducibleHaveForms = (m : ModuleValue) (seed words word : ℕ) (v : RowValue) → IsModule m → Decides m seed words (Irreducible word v) →
-    (form : FormValue) × IsNewForm m seed word v form
-
 -- the first of some forms that matches, or none does
-pub known_or_others : FormsMatchOrNot → (o : Order) (count : ℕ) (m : ModuleValue) → IsOfKind o count m → (forms : List FormValue) → All (IsFormOfKind o count) forms →
+pub known_or_others : (o : Order) (count : ℕ) (m : ModuleValue) → IsOfKind o count m → (forms : List FormValue) → All (IsFormOfKind o count) forms →
     AreOfOthers forms m ⊎ ((number : ℕ) × (t : MatrixValue) × IsKnownAs forms m number t)
-known_or_others some_match o count m kind [] each = inl (All-nil (λ form. IsMatch form m None))
-known_or_others some_match o count m kind (form ∷ rest) each =
+known_or_others o count m kind [] each = inl (All-nil (λ form. IsMatch form m None))
+known_or_others o count m kind (form ∷ rest) each =
     by_match (some_match form m first.is kind.is (kind.field ∙ sym first.field) (kind.generators ∙ sym first.generators))
-    (known_or_others some_match o count m kind rest (All-tail (IsFormOfKind o count) form rest each))
+    (known_or_others o count m kind rest (All-tail (IsFormOfKind o count) form rest each))
   where
     first : IsFormOfKind o count form
     first = All-head (IsFormOfKind o count) form rest each
@@ -88,7 +80,7 @@ pub budget : List SectionValue → ℕ
 budget [] = 0
 budget (section ∷ rest) = (section.action.dim + section.action.dim - 1) + budget rest
 
-module _ (some_match : FormsMatchOrNot) (some_form : IrreducibleHaveForms) (seed words : ℕ) (o : Order) (count : ℕ) where
+module _ (seed words : ℕ) (o : Order) (count : ℕ) where
   abbrev AreSections : List SectionValue → Type 0
   AreSections sections = All (λ (section : SectionValue). IsOfKind o count section.action) sections
 
@@ -146,7 +138,7 @@ module _ (some_match : FormsMatchOrNot) (some_form : IrreducibleHaveForms) (seed
 
     run_of_irreducible : (word : ℕ) (v : RowValue) → Decides section.action seed words (Irreducible word v) →
         AreOfOthers found.forms section.action ⊎ ((number : ℕ) × (t : MatrixValue) × IsKnownAs found.forms section.action number t) → HasRun (section ∷ rest) found
-    run_of_irreducible word v decides (inl of_others) = run_of_new word v decides of_others (some_form section.action seed words word v kind.is decides)
+    run_of_irreducible word v decides (inl of_others) = run_of_new word v decides of_others (some_new_form section.action seed words word v kind.is decides)
     run_of_irreducible word v decides (inr (number, t, is_known)) = run_of_known word v decides number t is_known
 
     run_of_verdict : (verdict : Verdict.Verdict) × Decides section.action seed words verdict → HasRun (section ∷ rest) found
@@ -154,7 +146,7 @@ module _ (some_match : FormsMatchOrNot) (some_form : IrreducibleHaveForms) (seed
         (open_section (found.rows ++ rows_of_sections (section ∷ rest)) (length found.rows) section.action.dim, undecided decides)
     run_of_verdict (Reducible space, decides) = run_of_space space decides (reducible_is_proper section.action seed words space kind.is decides)
     run_of_verdict (Irreducible word v, decides) =
-        run_of_irreducible word v decides (known_or_others some_match o count section.action kind found.forms forms)
+        run_of_irreducible word v decides (known_or_others o count section.action kind found.forms forms)
 
   runs_up_to : (n : ℕ) → HaveRunsUpTo n
   unfolding budget
@@ -168,9 +160,9 @@ module _ (some_match : FormsMatchOrNot) (some_form : IrreducibleHaveForms) (seed
       (some_verdict section.action seed words kind.is)
 
 -- every module has a run
-pub some_run : FormsMatchOrNot → IrreducibleHaveForms → (m : ModuleValue) (seed words : ℕ) → IsModule m → (outcome : Outcome) × RunOf m seed words outcome
-some_run some_match some_form m seed words is =
-    runs_up_to some_match some_form seed words m.order (length m.generators) (budget (whole_section m ∷ [])) (whole_section m ∷ []) nothing_found (omega arith)
+pub some_run : (m : ModuleValue) (seed words : ℕ) → IsModule m → (outcome : Outcome) × RunOf m seed words outcome
+some_run m seed words is =
+    runs_up_to seed words m.order (length m.generators) (budget (whole_section m ∷ [])) (whole_section m ∷ []) nothing_found (omega arith)
     (All-cons (λ (s : SectionValue). IsOfKind m.order (length m.generators) s.action) (whole_section m) []
     (record { is = is; field = refl; generators = refl }) (All-nil (λ (s : SectionValue). IsOfKind m.order (length m.generators) s.action)))
     (All-nil (IsFormOfKind m.order (length m.generators)))

@@ -34,7 +34,8 @@ use Rattle.axe_norton.proofs.TruthLaws.{dual_is_module}
 use Rattle.axe_norton.proofs.OpenLaws.{own_square, value_square}
 use Rattle.axe_norton.proofs.SearchLaws.{everything_generated, proper_generated, point_in, some_point_in, found_of_all, found_of_first, transposed_point_is}
 use Rattle.axe_norton.proofs.DecisionLaws.{null_in_module, left_without_rows, singular_with_rows, irreducible_told, left_told, none_before, open_more, undecided}
-use Rattle.axe_series.proofs.SomeValues.{some_value, some_annihilator}
+use Rattle.axe_iso.proofs.SomeForm.{some_value}
+use Rattle.axe_series.proofs.SomeAnnihilator.{some_annihilator}
 use mathlib.Core.Logic.{inl, inr}
 use mathlib.Core.Path.{refl, sym, ◌∙◌, ap, subst}
 use native.Mathlib.Omega.{arith}
