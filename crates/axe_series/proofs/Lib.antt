@@ -2,3 +2,8 @@ pub mod FewPoints
 pub mod OneCut
 pub mod OneMatch
 pub mod OneOutcome
+pub mod SomeAnnihilator
+pub mod SomeVerdict
+pub mod SomeCut
+pub mod SomeForm
+pub mod SomeRun
