@@ -1,0 +1,5 @@
+pub mod AppendedRows
+pub mod ActingRows
+pub mod CutRows
+pub mod IrreducibleImages
+pub mod SectionChain
