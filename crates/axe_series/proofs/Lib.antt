@@ -3,3 +3,4 @@ pub mod ActingRows
 pub mod CutRows
 pub mod IrreducibleImages
 pub mod SectionChain
+pub mod TriangularBasis
