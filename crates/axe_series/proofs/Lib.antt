@@ -4,3 +4,7 @@ pub mod CutRows
 pub mod IrreducibleImages
 pub mod SectionChain
 pub mod TriangularBasis
+pub mod OpenSizes
+pub mod Places
+pub mod Factors
+pub mod SeriesOfChain
