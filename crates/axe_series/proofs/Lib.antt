@@ -7,3 +7,13 @@ pub mod SomeVerdict
 pub mod SomeCut
 pub mod SomeForm
 pub mod SomeRun
+pub mod AppendedRows
+pub mod ActingRows
+pub mod CutRows
+pub mod IrreducibleImages
+pub mod SectionChain
+pub mod TriangularBasis
+pub mod OpenSizes
+pub mod Places
+pub mod Factors
+pub mod SeriesOfChain
