@@ -1,4 +1,5 @@
 pub mod SomeAnnihilator
+pub mod SomeSearch
 pub mod SomeVerdict
 pub mod SomeCut
 pub mod SomeForm
