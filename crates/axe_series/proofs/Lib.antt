@@ -3,6 +3,7 @@ pub mod OneCut
 pub mod OneMatch
 pub mod OneOutcome
 pub mod SomeAnnihilator
+pub mod SomeSearch
 pub mod SomeVerdict
 pub mod SomeCut
 pub mod SomeForm

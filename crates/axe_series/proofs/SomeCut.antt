@@ -1,5 +1,5 @@
 -- A submodule that a verdict gives cuts a section in two, and their dimensions add up to the section's.
-use Rattle.std.specs.Prelude.{◌≡◌, ℕ, ◌+◌, ◌<◌, ◌≤◌, ◌⊎◌, List, [], ◌++◌, length, map, get_or}
+use Rattle.std.specs.Prelude.{◌≡◌, ℕ, ◌+◌, ◌<◌, ◌⊎◌, List, ◌++◌, length, map, get_or}
 use Rattle.axe_algebra.specs.NumberField.{NumberField}
 use Rattle.axe_algebra.specs.Reduced.{IsAscendingListOf}
 use Rattle.axe_algebra.specs.Actions.{IsFree}
@@ -15,18 +15,19 @@ use Rattle.axe_action.specs.Actions.{IsBasisAction, IsActionModulo, IsExtendedMa
 use Rattle.axe_action.proofs.SomeAction.{some_basis_action, some_quotient}
 use Rattle.axe_norton.specs.declared.verdicts.Verdict.TheVariants.{Reducible}
 use Rattle.axe_norton.specs.Spaces.{IsProperSubmodule, IsFirstProperSpace, TriedGenerate, IsTransposedSpace}
-use Rattle.axe_norton.specs.Verdicts.{DecidesAt, Decides, word_of_seed}
+use Rattle.axe_norton.specs.Verdicts.{Decides, word_of_seed}
 use Rattle.axe_norton.specs.declared.verdicts.At
 use Rattle.axe_norton.proofs.TruthLaws.{said_is_true, rows_over_field}
 use Rattle.axe_word.proofs.ValueLaws.{drawn_word-in}
 use Rattle.axe_field.specs.Order.{order_number}
 use Rattle.axe_series.specs.Sections.{SectionValue, IsCut, lifted_rows}
 use mathlib.Core.Logic.{inl, inr}
-use mathlib.Core.Path.{refl, sym, ◌∙◌, ap, subst}
+use mathlib.Core.Path.{refl, sym, ◌∙◌, subst}
 use native.Mathlib.Omega.{arith}
 
 -- the space of a verdict is a basis of a proper submodule, and well-formed
-pub reducible_is_proper : (m : ModuleValue) (seed words : ℕ) (space : MatrixValue) → IsModule m → Decides m seed words (Reducible space) → IsProperSubmodule m space × IsMatrix space
+pub reducible_is_proper : (m : ModuleValue) (seed words : ℕ) (space : MatrixValue) → IsModule m →
+    Decides m seed words (Reducible space) → IsProperSubmodule m space × IsMatrix space
 reducible_is_proper m seed words space is (j, decides) = (
   said_is_true m is (word_of_seed m seed j) (At.TheVariants.Reducible space)
       (drawn_word-in m seed j (order_number m.order) (length m.generators) refl refl is.some_generator) decides.says,
@@ -34,7 +35,8 @@ reducible_is_proper m seed words space is (j, decides) = (
 )
   where
     formed : IsFirstProperSpace m decides.says.tested.null_space space
-        ⊎ (TriedGenerate m decides.says.tested.null_space × IsTransposedSpace m decides.says.tested.matrix space) → IsMatrix space
+        ⊎ (TriedGenerate m decides.says.tested.null_space × IsTransposedSpace m decides.says.tested.matrix space) →
+        IsMatrix space
     formed (inl first) = first.proper.well_formed
     formed (inr transposed) = transposed.1.well_formed
 
@@ -47,7 +49,8 @@ extended_by_columns K n rows count columns free = record {
   free = record {
     ascending = λ s t before below.
         let within : t < count = omega (arith, listed_length count columns) in
-        subst (λ a. a < get_or (listed count columns) t 0) (sym (at s (omega arith))) (subst (λ b. columns s < b) (sym (at t within)) (free.ascending s t before within));
+        subst (λ a. a < get_or (listed count columns) t 0) (sym (at s (omega arith)))
+        (subst (λ b. columns s < b) (sym (at t within)) (free.ascending s t before within));
     each = λ t below.
         let within : t < count = omega (arith, listed_length count columns) in
         subst (IsFree (field_of K) n (length rows) (matrix_of K rows)) (sym (at t within)) (free.each t within);
@@ -59,7 +62,8 @@ extended_by_columns K n rows count columns free = record {
     at : (t : ℕ) → t < count → get_or (listed count columns) t 0 ≡ columns t
     at t below = listed_at count columns t 0 below
 
-    found : (j : ℕ) → (t : ℕ) × (t < count) × (columns t ≡ j) → (t : ℕ) × (t < length (listed count columns)) × (get_or (listed count columns) t 0 ≡ j)
+    found : (j : ℕ) → (t : ℕ) × (t < count) × (columns t ≡ j) →
+        (t : ℕ) × (t < length (listed count columns)) × (get_or (listed count columns) t 0 ≡ j)
     found j (t, below, same) = (t, omega (arith, listed_length count columns), at t below ∙ same)
 
 -- the parts of a section and their dimensions
@@ -71,17 +75,13 @@ pub record AreParts (section : SectionValue) (space : MatrixValue) (sub quotient
   pub quotient_field : quotient.action.order ≡ section.action.order
   pub quotient_count : length quotient.action.generators ≡ length section.action.generators
 
-pub some_cut : (section : SectionValue) (space : MatrixValue) → IsModule section.action → IsProperSubmodule section.action space → IsMatrix space →
+-- a proper submodule cuts a section in two
+pub some_cut : (section : SectionValue) (space : MatrixValue) → IsModule section.action →
+    IsProperSubmodule section.action space → IsMatrix space →
     (sub : SectionValue) × (quotient : SectionValue) × AreParts section space sub quotient
 some_cut section space is proper well =
-    from (some_basis_action m space proper.invariant) (some_quotient m space is.over.square over)
+    from (some_basis_action section.action space proper.invariant) (some_quotient section.action space is.over.square over)
   where
-    m : ModuleValue
-    m = section.action
-
-    K : NumberField
-    K = number_field section.action.order
-
     over : IsMatrixOver (number_field section.action.order) section.action.dim space.rows
     over = rows_over_field section.action.order section.action.dim space proper.field proper.columns well
 
@@ -90,7 +90,10 @@ some_cut section space is proper well =
         (sub : SectionValue) × (quotient : SectionValue) × AreParts section space sub quotient
     from (sub, (acts, sub_square)) (quotient, (modulo, quotient_square)) = (
       record { action = sub; rows = matrix_block (lifted_rows section extended) 0 sub.dim 0 section.rows.cols },
-      record { action = quotient; rows = matrix_block (lifted_rows section extended) sub.dim quotient.dim 0 section.rows.cols },
+      record {
+        action = quotient;
+        rows = matrix_block (lifted_rows section extended) sub.dim quotient.dim 0 section.rows.cols;
+      },
       record {
         cut = record {
           sub_action = acts;
@@ -123,7 +126,8 @@ some_cut section space is proper well =
         sizes : length space.rows + quotient.dim ≡ section.action.dim
         sizes = free_columns_count (field_of (number_field section.action.order)) section.action.dim (length space.rows)
             (matrix_of (number_field section.action.order) space.rows)
-            (rows_length (number_field section.action.order) section.action.dim space.rows over) quotient.dim modulo.acts.columns modulo.acts.free proper.independent
+            (rows_length (number_field section.action.order) section.action.dim space.rows over) quotient.dim
+            modulo.acts.columns modulo.acts.free proper.independent
 
         extended : MatrixValue
         extended = record {
@@ -138,5 +142,6 @@ some_cut section space is proper well =
           columns = refl;
           extends = subst (λ n. IsExtendedBasis (number_field space.order) n space.rows extended.rows) (sym proper.columns)
               (subst (λ o. IsExtendedBasis (number_field o) section.action.dim space.rows extended.rows) (sym proper.field)
-              (extended_by_columns (number_field section.action.order) section.action.dim space.rows quotient.dim modulo.acts.columns modulo.acts.free));
+              (extended_by_columns (number_field section.action.order) section.action.dim space.rows quotient.dim
+              modulo.acts.columns modulo.acts.free));
         }

@@ -1,7 +1,6 @@
 -- A module has a form from the vector by which a word showed it to be irreducible.
-use Rattle.std.specs.Prelude.{◌≡◌, ℕ, length}
+use Rattle.std.specs.Prelude.{ℕ, length}
 use Rattle.axe_algebra.specs.ModulesOfLists.{GeneratesEverything}
-use Rattle.axe_field.specs.Order.{order_number}
 use Rattle.axe_field.specs.NumberFields.{number_field}
 use Rattle.axe_row.specs.Rows.{RowValue}
 use Rattle.axe_matrix.specs.Matrices.{MatrixValue}
@@ -18,7 +17,7 @@ use Rattle.axe_iso.proofs.SomeForm.{some_space, some_form}
 use Rattle.axe_iso.proofs.PointForms.{few_null_points, point_is_null_vector, point_is_vector}
 use Rattle.axe_series.specs.Runs.{IsNewForm}
 use mathlib.Core.Logic.{inl}
-use mathlib.Core.Path.{refl, sym, ◌∙◌, subst}
+use mathlib.Core.Path.{refl, sym, subst}
 
 -- the form of a module from a null vector of a word with few null points is a form
 pub form_from_is_form : (m : ModuleValue) (seed number : ℕ) (v : RowValue) (form : FormValue) → IsModule m → IsVectorOf m v →
