@@ -8,3 +8,5 @@ pub mod OpenSizes
 pub mod Places
 pub mod Factors
 pub mod SeriesOfChain
+pub mod LiftedSections
+pub mod CutSections
