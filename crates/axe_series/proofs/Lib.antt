@@ -10,3 +10,6 @@ pub mod Factors
 pub mod SeriesOfChain
 pub mod LiftedSections
 pub mod CutSections
+pub mod RunState
+pub mod FactorSteps
+pub mod RunLaws
