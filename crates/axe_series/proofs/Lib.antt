@@ -18,3 +18,8 @@ pub mod OpenSizes
 pub mod Places
 pub mod Factors
 pub mod SeriesOfChain
+pub mod LiftedSections
+pub mod CutSections
+pub mod RunState
+pub mod FactorSteps
+pub mod RunLaws
