@@ -150,36 +150,3 @@ run_is_true m is seed words {found = found} (new {section} {rest} word v form de
 
 pub runs_are_true : RunsFindWhatIsTrue
 runs_are_true m seed words outcome is run = run_is_true m is seed words run (first_state m is)
-
--- ---- few points
-
--- a section has no more points than the module
-section_is_small : (m : ModuleValue) (s : SectionValue) (rest : List SectionValue) (found : FoundValue) → IsState m (s ∷ rest) found →
-    point_count (order_number m.order) m.dim ≤ most_points → point_count (order_number s.action.order) s.action.dim ≤ most_points
-section_is_small m s rest found state few =
-    let large : 2 ≤ order_number m.order = order_number-above m.order in
-    let fits : s.action.dim ≤ m.dim = omega (arith, state.size, length-append found.rows (s.rows.rows ++ rows_of_sections rest),
-    length-append s.rows.rows (rows_of_sections rest), state.chain.0.size) in
-    let fewer : point_count (order_number m.order) s.action.dim ≤ point_count (order_number m.order) m.dim = count_grows (order_number m.order) s.action.dim m.dim large fits in
-    subst (λ o. point_count (order_number o) s.action.dim ≤ most_points) (sym state.chain.0.field) (omega (arith, fewer, few))
-
--- the outcome is that all is found
-abbrev IsComplete : Outcome → Type 0
-IsComplete (complete found) = ⊤
-IsComplete (open_section rows offset dim) = ⊥
-
-small_run_is_complete : (m : ModuleValue) → IsModule m → (seed words : ℕ) → point_count (order_number m.order) m.dim ≤ most_points →
-    {sections : List SectionValue} {found : FoundValue} {outcome : Outcome} →
-    Runs seed words sections found outcome → IsState m sections found → IsComplete outcome
-small_run_is_complete m is seed words few {found = found} all_found state = tt
-small_run_is_complete m is seed words few {found = found} (undecided {section} {rest} decides) state =
-    small_is_decided section.action seed words state.chain.0.is_module (section_is_small m section rest found state few) decides
-small_run_is_complete m is seed words few {found = found} (reducible {section} {rest} space sub quotient decides cut run) state =
-    small_run_is_complete m is seed words few run (state_after_reducible m is seed words section rest found state space sub quotient decides cut)
-small_run_is_complete m is seed words few {found = found} (known {section} {rest} word v number t decides is_known run) state =
-    small_run_is_complete m is seed words few run (state_after_known m is seed words section rest found state number t is_known)
-small_run_is_complete m is seed words few {found = found} (new {section} {rest} word v form decides others is_new run) state =
-    small_run_is_complete m is seed words few run (state_after_new m is seed words section rest found state word v form decides others is_new)
-
-pub small_runs_are_complete : SmallModulesHaveASeries
-small_runs_are_complete m seed words rows offset dim is few run = small_run_is_complete m is seed words few run (first_state m is)
