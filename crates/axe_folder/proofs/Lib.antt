@@ -1,4 +1,5 @@
 pub mod FileLaws
+pub mod FusedLaws
 pub mod NameLaws
 pub mod SourceLaws
 pub mod ShelfLaws

@@ -1,6 +1,7 @@
 pub mod Directory
 pub mod FileName
 pub mod Files
+pub mod Fused
 pub mod Outcomes
 pub mod Reading
 pub mod Shelf

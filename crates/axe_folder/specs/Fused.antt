@@ -1,0 +1,33 @@
+-- A folder with a fuse, which passes some calls on and fails the others: what it is, and what its calls leave.
+use Rattle.std.specs.Prelude.{◌≡◌, ◌⊎◌, ◌↔◌, ℕ, ◌-◌, ◌/◌, Bool, IsTrue, List, length, take, Result, Err, refl}
+use Rattle.std.specs.Coded.{Coded, code_by, coded×, coded_ℕ, coded_bool}
+use Rattle.axe_folder.specs.declared.fault.FolderFault.{FolderFault}
+use Rattle.axe_folder.specs.declared.fault.FolderFault.TheVariants.{Device}
+use Rattle.axe_folder.specs.Files.{Files, files_code, with_file}
+
+-- the files in it, how many more calls it passes on, whether the first call that fails may tear a file, and how many
+-- have failed
+pub record Fused : Type 0 where
+  pub files : Files
+  pub calls : ℕ
+  pub tears : Bool
+  pub failures : ℕ
+
+-- the code by which proofs tell such folders apart
+abbrev pub fused_code : Coded Fused
+fused_code =
+    code_by (Files × (ℕ × (Bool × ℕ))) (coded× files_code (coded× coded_ℕ (coded× coded_bool coded_ℕ)))
+    (λ f. (f.files, (f.calls, (f.tears, f.failures))))
+    (λ p. record { files = p.0; calls = p.1.0; tears = p.1.1.0; failures = p.1.1.1 }) (λ _. refl)
+
+-- a call fails with Device exactly where no call is left to be passed on, and afterwards one call less is left
+abbrev pub Burns : {T : Type 0} → Result T FolderFault → Fused → Fused → Type 0
+Burns result old new = ((result ≡ Err Device) ↔ (old.calls ≡ 0)) × (new.calls ≡ old.calls - 1) × (new.tears ≡ old.tears)
+
+-- whether the next call that fails is the first, and may tear a file
+abbrev pub MayTear : Fused → Type 0
+MayTear folder = IsTrue folder.tears × (folder.failures ≡ 0)
+
+-- what a `put` that fails leaves: the files as they were, or where it may tear, the first half of the bytes at the name
+abbrev pub Tears : Fused → List ℕ → List ℕ → Files → Type 0
+Tears old name bytes files = (files ≡ old.files) ⊎ (MayTear old × (files ≡ with_file old.files name (take (length bytes / 2) bytes)))
