@@ -41,7 +41,12 @@ impl BytePlane {
     }
 
     /// The plane of the digits that numbers have at a place, 0 or 1, in base the prime.
-    pub fn of_numbers(alloc: Global, prime: OddPrime, numbers: &[u8], place: u8) -> Result<BytePlane, AllocError>
+    pub fn of_numbers(
+        alloc: Global,
+        prime: OddPrime,
+        numbers: &[u8],
+        place: u8,
+    ) -> Result<BytePlane, AllocError>
         requires { place < 2 }
         ensures { IfOk result (λ plane. plane ≡ record {
           prime = prime;

@@ -43,7 +43,12 @@ impl Plane {
 
     /// The plane of the digits that numbers have at a place in base 2, 3, 5 or 7, the lowest being at 0. Modulo an odd prime
     /// the place is 0 or 1.
-    pub fn of_numbers(alloc: Global, prime: u8, numbers: &[u8], place: u8) -> Result<Plane, AllocError>
+    pub fn of_numbers(
+        alloc: Global,
+        prime: u8,
+        numbers: &[u8],
+        place: u8,
+    ) -> Result<Plane, AllocError>
         requires prime { (prime ≡ 2) ⊎ ((prime ≡ 3) ⊎ ((prime ≡ 5) ⊎ (prime ≡ 7))) }
         requires bits { place < 8 }
         requires bytes { prime ≢ 2 → place < 2 }

@@ -107,7 +107,7 @@ entries_of_elements o elements c l q all hc hl hq =
     let here : e < length (digits_of c) = omega (arith, long) in
     let there : e < length elements = omega (arith, planes.constant.long) in
     let digit : (j : ℕ) (plane : Plane) → j < 3 → IsPlane (prime_of o) (coefficients_at o j elements) plane →
-        get_or (digits_of plane) e 0 ≡ coefficient o (get_or elements e 0) j =
+    get_or (digits_of plane) e 0 ≡ coefficient o (get_or elements e 0) j =
     λ j plane hj h. ap (λ (x : List ℕ). get_or x e 0) h.digits_are ∙ coefficient_of o j e elements hj there all in
     entries-at o (digits_of c) (digits_of l) (digits_of q) e 0 here
     ∙ ap (λ x. element_of o x (get_or (digits_of l) e 0) (get_or (digits_of q) e 0)) (digit 0 c (lit< tt) hc)

@@ -17,7 +17,12 @@ pub(crate) fn digits_in_plane(field: &Field, power: u8, len: usize) -> usize
 }
 
 /// The plane of the coefficients of a power of x of these elements: no digits from the degree on.
-pub(crate) fn plane_of(alloc: Global, field: &Field, elements: &[u8], power: u8) -> Result<Plane, AllocError>
+pub(crate) fn plane_of(
+    alloc: Global,
+    field: &Field,
+    elements: &[u8],
+    power: u8,
+) -> Result<Plane, AllocError>
     requires { power < 3 }
     ensures { IfOk result (IsPlane (prime_of field.now) (coefficients_at field.now power elements.now)) }
 {
