@@ -1,11 +1,13 @@
 # make try       a minute: builds axe without a proof, and prints an example with it
 # make demo      proves and builds axe, some 13 minutes on four processors, and runs its commands on examples/
 # make test      everything that CI runs: proofs from nothing, the wrong bodies, the tests and the runs of the program
-# make build     proves and builds crates/axe/out/axe
+# make build     proves and builds crates/axe/out/axe; CPU=x86-64-v3 builds it for processors with AVX2
 # make cases     the runs of the built program alone: cases, disks, transcripts of the documents, what is installed
 # make bench     times the built program, beside GAP where that is installed
 # make install   puts the program into PREFIX/bin (PREFIX=/usr/local), man page and completions where such files go
 PREFIX ?= /usr/local
+# the processors that `make build` builds for, as `rt run --cpu` names them; none: every 64-bit one
+CPU ?=
 AXE = crates/axe/out/axe
 # the example of `make try`, and the command that shows it
 EXAMPLE = l32.1
@@ -20,7 +22,7 @@ try:
 	@cd crates/axe && rt try --data $(EXAMPLE)=$(abspath examples/$(EXAMPLE)) -- $(SHOWN)
 
 build:
-	@tests/prove
+	@CPU=$(CPU) tests/prove
 
 demo: build
 	@echo "The commands of axe on the files of examples/:"

@@ -3,3 +3,4 @@ pub mod DigitLaws
 pub mod PlaneLaws
 pub mod DotLaws
 pub mod ZeroDigits
+pub mod NumberDigits

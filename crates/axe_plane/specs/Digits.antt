@@ -1,5 +1,5 @@
 -- Lists of digits modulo a prime.
-use Rattle.std.specs.Prelude.{ℕ, ◌+◌, ◌*◌, ◌%◌, ◌<◌, List, length, slice_index, All}
+use Rattle.std.specs.Prelude.{ℕ, ◌+◌, ◌*◌, ◌/◌, ◌%◌, ◌^◌, ◌<◌, List, length, map, slice_index, All}
 use Rattle.axe_algebra.specs.Lists.{listed}
 
 -- each digit is below p
@@ -9,3 +9,7 @@ AreDigits p digits = All (λ digit. digit < p) digits
 -- a list of digits plus m times another, modulo p, digit by digit (any linear algebra text)
 unfoldable pub digits_with_multiple : ℕ → List ℕ → ℕ → List ℕ → List ℕ
 digits_with_multiple p a m b = listed (length a) (λ e. (slice_index a e + m * slice_index b e) % p)
+
+-- the digits that numbers have in base p at a place, the lowest at 0 (any arithmetic text)
+abbrev pub digits_at : ℕ → ℕ → List ℕ → List ℕ
+digits_at p place numbers = map (λ x. (x / p ^ place) % p) numbers

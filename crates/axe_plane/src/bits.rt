@@ -1,9 +1,9 @@
 //! Planes of digits modulo 2.
 ghost use Rattle.std.specs.Int.{bit_at};
-ghost use Rattle.std.specs.Prelude.{ℕ, ◌≡◌, ◌≢◌, ◌^◌, ◌%◌, ◌<◌, ◌↔◌, IsTrue, IfOk, length, replicate, slice_index, slice_set, All, MatchOption};
+ghost use Rattle.std.specs.Prelude.{ℕ, ◌≡◌, ◌≢◌, ◌+◌, ◌^◌, ◌%◌, ◌<◌, ◌≤◌, ◌↔◌, IsTrue, IfOk, length, replicate, slice_index, slice_set, All, MatchOption};
 ghost use Rattle.axe_lane.specs.Bytes.{multiple, sum_of_products};
 ghost use Rattle.axe_lane.specs.Entries.{IsFirstNonzero};
-ghost use Rattle.axe_plane.specs.Digits.{AreDigits, digits_with_multiple};
+ghost use Rattle.axe_plane.specs.Digits.{AreDigits, digits_at, digits_with_multiple};
 
 use axe_lane::{any_nonzero, first_set, parity_and, xor_into};
 use std::alloc::{AllocError, Global};
@@ -36,6 +36,19 @@ impl BitPlane {
         ensures { IfOk result (λ plane. plane ≡ replicate len 0) }
     {
         let words = vec![in alloc; 0; len.div_ceil(WORD)]?;
+        Ok(BitPlane { len, words })
+    }
+
+    /// The plane of the bits that numbers have at a place, counted from the lowest.
+    pub fn of_numbers(alloc: Global, numbers: &[u8], place: u8) -> Result<BitPlane, AllocError>
+        requires { place < 8 }
+        ensures { IfOk result (λ plane. plane ≡ digits_at 2 place numbers.now) }
+    {
+        let len = numbers.len();
+        let mut words = vec![in alloc; 0; len.div_ceil(WORD)]?;
+        for at in 0..words.len() {
+            words[at] = word_of(numbers, at * WORD, place);
+        }
         Ok(BitPlane { len, words })
     }
 
@@ -141,4 +154,18 @@ fn with_bit(word: u64, place: usize, bit: u8) -> u64
     } else {
         word | 1 << place
     }
+}
+
+/// The word of the bits at a place of the numbers from an index on, as many as a word holds; where there is no number, the
+/// bit is 0.
+fn word_of(numbers: &[u8], from: usize, place: u8) -> u64
+    requires from { from ≤ length numbers.now }
+    requires place { place < 8 }
+    ensures { (i : ℕ) → i < 64 → bit_at result i ≡ bit_at (slice_index numbers.now (from + i)) place }
+{
+    let mut word = 0;
+    for at in from..numbers.len().min(from + WORD) {
+        word = with_bit(word, at - from, numbers[at] >> place & 1);
+    }
+    word
 }

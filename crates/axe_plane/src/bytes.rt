@@ -1,8 +1,8 @@
 //! Planes of digits modulo an odd prime.
-ghost use Rattle.std.specs.Prelude.{◌≡◌, ◌%◌, ◌<◌, ◌↔◌, IsTrue, IfOk, length, replicate, slice_index, slice_set, All, MatchOption};
+ghost use Rattle.std.specs.Prelude.{◌≡◌, ◌/◌, ◌%◌, ◌<◌, ◌↔◌, IsTrue, IfOk, length, map, replicate, slice_index, slice_set, All, MatchOption};
 ghost use Rattle.axe_lane.specs.Bytes.{multiple, sum_of_products};
 ghost use Rattle.axe_lane.specs.Entries.{IsFirstNonzero};
-ghost use Rattle.axe_plane.specs.Digits.{AreDigits, digits_with_multiple};
+ghost use Rattle.axe_plane.specs.Digits.{AreDigits, digits_at, digits_with_multiple};
 ghost use Rattle.axe_plane.specs.Primes.{odd_number, OddDigits};
 
 use crate::primes::OddPrime;
@@ -37,6 +37,31 @@ impl BytePlane {
         ensures { IfOk result (λ plane. plane ≡ record { prime = prime; digits = replicate len 0 }) }
     {
         let bytes = vec![in alloc; 0; len]?;
+        Ok(BytePlane { prime, bytes })
+    }
+
+    /// The plane of the digits that numbers have at a place, 0 or 1, in base the prime.
+    pub fn of_numbers(
+        alloc: Global,
+        prime: OddPrime,
+        numbers: &[u8],
+        place: u8,
+    ) -> Result<BytePlane, AllocError>
+        requires { place < 2 }
+        ensures { IfOk result (λ plane. plane ≡ record {
+          prime = prime;
+          digits = digits_at (odd_number prime) place numbers.now;
+        }) }
+    {
+        let mut bytes = Vec::from_slice(alloc, numbers)?;
+        match (prime, place) {
+            (OddPrime::Three, 0) => reduce::<1, 3>(&mut bytes),
+            (OddPrime::Three, _) => reduce::<3, 3>(&mut bytes),
+            (OddPrime::Five, 0) => reduce::<1, 5>(&mut bytes),
+            (OddPrime::Five, _) => reduce::<5, 5>(&mut bytes),
+            (OddPrime::Seven, 0) => reduce::<1, 7>(&mut bytes),
+            (OddPrime::Seven, _) => reduce::<7, 7>(&mut bytes),
+        }
         Ok(BytePlane { prime, bytes })
     }
 
@@ -144,5 +169,16 @@ impl BytePlane {
         ensures { IsTrue result ↔ (self.now ≡ other.now) }
     {
         self.prime == other.prime && self.bytes == other.bytes
+    }
+}
+
+/// Makes each byte its quotient by D, modulo P.
+fn reduce<const D: u8, const P: u8>(bytes: &mut Vec<u8>)
+    requires divisor { 0 < D }
+    requires prime { 0 < P }
+    ensures { bytes.new.items ≡ map (λ byte. (byte / D) % P) bytes.old.items }
+{
+    for at in 0..bytes.len() {
+        bytes[at] = bytes[at] / D % P;
     }
 }

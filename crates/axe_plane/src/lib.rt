@@ -5,7 +5,7 @@
 ghost use Rattle.std.specs.Prelude.{◌≡◌, ◌≢◌, ◌⊎◌, ◌%◌, ◌<◌, ◌↔◌, IsTrue, IfOk, length, replicate, slice_index, slice_set, All, MatchOption};
 ghost use Rattle.axe_lane.specs.Bytes.{multiple, sum_of_products};
 ghost use Rattle.axe_lane.specs.Entries.{IsFirstNonzero};
-ghost use Rattle.axe_plane.specs.Digits.{AreDigits, digits_with_multiple};
+ghost use Rattle.axe_plane.specs.Digits.{AreDigits, digits_at, digits_with_multiple};
 
 pub use bits::BitPlane;
 pub use bytes::BytePlane;
@@ -38,6 +38,27 @@ impl Plane {
             3 => Plane::Bytes(BytePlane::zero(alloc, OddPrime::Three, len)?),
             5 => Plane::Bytes(BytePlane::zero(alloc, OddPrime::Five, len)?),
             _ => Plane::Bytes(BytePlane::zero(alloc, OddPrime::Seven, len)?),
+        })
+    }
+
+    /// The plane of the digits that numbers have at a place in base 2, 3, 5 or 7, the lowest being at 0. Modulo an odd prime
+    /// the place is 0 or 1.
+    pub fn of_numbers(
+        alloc: Global,
+        prime: u8,
+        numbers: &[u8],
+        place: u8,
+    ) -> Result<Plane, AllocError>
+        requires prime { (prime ≡ 2) ⊎ ((prime ≡ 3) ⊎ ((prime ≡ 5) ⊎ (prime ≡ 7))) }
+        requires bits { place < 8 }
+        requires bytes { prime ≢ 2 → place < 2 }
+        ensures { IfOk result (IsPlane prime (digits_at prime place numbers.now)) }
+    {
+        Ok(match prime {
+            2 => Plane::Bits(BitPlane::of_numbers(alloc, numbers, place)?),
+            3 => Plane::Bytes(BytePlane::of_numbers(alloc, OddPrime::Three, numbers, place)?),
+            5 => Plane::Bytes(BytePlane::of_numbers(alloc, OddPrime::Five, numbers, place)?),
+            _ => Plane::Bytes(BytePlane::of_numbers(alloc, OddPrime::Seven, numbers, place)?),
         })
     }
 

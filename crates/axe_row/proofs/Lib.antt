@@ -5,3 +5,4 @@ pub mod RowPlanes
 pub mod PlaneSums
 pub mod PrimeRows
 pub mod FirstEntries
+pub mod ElementPlanes

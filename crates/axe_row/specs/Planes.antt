@@ -1,8 +1,8 @@
 -- What a row keeps: the planes of the coefficients of 1, x and x^2 of its entries.
-use Rattle.std.specs.Prelude.{◌≢◌, ◌≡◌, ℕ, ◌<◌, List, Option, Some, None, length, slice_index, cond, ltb, min}
+use Rattle.std.specs.Prelude.{◌≢◌, ◌≡◌, ℕ, ◌<◌, List, [], Option, Some, None, length, map, slice_index, cond, ltb, min}
 use Rattle.axe_algebra.specs.Lists.{listed}
 use Rattle.axe_field.specs.Order.{Order, prime_of, degree_of}
-use Rattle.axe_field.specs.Planes.{element_of}
+use Rattle.axe_field.specs.Planes.{coefficient, element_of}
 use Rattle.axe_plane.specs.Digits.{AreDigits, digits_with_multiple}
 use Rattle.axe_plane.specs.Planes.{prime_of_plane, digits_of, IsPlaneOf}
 use Rattle.axe_plane.specs.declared.Plane.{Plane}
@@ -10,6 +10,10 @@ use Rattle.axe_plane.specs.declared.Plane.{Plane}
 -- entry e is the element whose coefficients are the digits at e (0 where there is no digit)
 unfoldable pub entries_of_digits : Order → List ℕ → List ℕ → List ℕ → List ℕ
 entries_of_digits o c l q = listed (length c) (λ e. element_of o (slice_index c e) (slice_index l e) (slice_index q e))
+
+-- the coefficients of x^j of these elements: none from the degree of the field on
+abbrev pub coefficients_at : Order → ℕ → List ℕ → List ℕ
+coefficients_at o j elements = cond (ltb j (degree_of o)) (map (λ a. coefficient o a j) elements) []
 
 -- the planes of a row of n entries: those from the degree of the field on have no digits
 pub record ArePlanes (o : Order) (n : ℕ) (c l q : Plane) : Type 0 where

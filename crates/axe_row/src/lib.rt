@@ -14,7 +14,7 @@ mod refusals;
 
 use axe_field::Field;
 use axe_plane::Plane;
-use planes::{add_multiples, digits_in_plane, earlier, element};
+use planes::{add_multiples, digits_in_plane, earlier, element, plane_of};
 pub use refusals::Refusal;
 use std::alloc::Global;
 use std::marker::Model;
@@ -81,11 +81,15 @@ impl Row {
         ensures copied { Answers None (λ row. row ≡ record { order = field; entries = elements.now }) result }
         ensures well_formed { Answers None IsRow result }
     {
-        let mut row = Row::zero(alloc, field, elements.len())?;
-        for index in 0..elements.len() {
-            row.set(index, elements[index]);
-        }
-        Ok(row)
+        let constant = plane_of(alloc, &field, elements, 0)?;
+        let linear = plane_of(alloc, &field, elements, 1)?;
+        let quadratic = plane_of(alloc, &field, elements, 2)?;
+        Ok(Row {
+            field,
+            constant,
+            linear,
+            quadratic,
+        })
     }
 
     /// The field of the entries.

@@ -1,18 +1,37 @@
 //! The planes of a row: the coefficients of 1, of x and of x^2 of its entries.
-ghost use Rattle.std.specs.Prelude.{◌≡◌, ◌<◌, cond, ltb};
+ghost use Rattle.std.specs.Prelude.{◌≡◌, ◌<◌, IfOk, cond, ltb};
 ghost use Rattle.axe_field.specs.Order.{prime_of, degree_of};
 ghost use Rattle.axe_field.specs.Planes.{IsCoefficient, element_of};
 ghost use Rattle.axe_plane.specs.Planes.{prime_of_plane, digits_of, IsPlane};
-ghost use Rattle.axe_row.specs.Planes.{AreAddable, digits_with_multiples, earlier_of};
+ghost use Rattle.axe_row.specs.Planes.{AreAddable, coefficients_at, digits_with_multiples, earlier_of};
 
 use axe_field::Field;
 use axe_plane::Plane;
+use std::alloc::{AllocError, Global};
 
 /// How many digits the plane of the coefficients of a power of x has in a row of `len` entries: none from the degree on.
 pub(crate) fn digits_in_plane(field: &Field, power: u8, len: usize) -> usize
     ensures { result ≡ cond (ltb power (degree_of field.now)) len 0 }
 {
     if power < field.degree() { len } else { 0 }
+}
+
+/// The plane of the coefficients of a power of x of these elements: no digits from the degree on.
+pub(crate) fn plane_of(
+    alloc: Global,
+    field: &Field,
+    elements: &[u8],
+    power: u8,
+) -> Result<Plane, AllocError>
+    requires { power < 3 }
+    ensures { IfOk result (IsPlane (prime_of field.now) (coefficients_at field.now power elements.now)) }
+{
+    let (prime, degree) = (field.prime(), field.degree());
+    if power < degree {
+        Plane::of_numbers(alloc, prime, elements, power)
+    } else {
+        Plane::zero(alloc, prime, 0)
+    }
 }
 
 /// The element with these coefficients of 1, x and x^2.
