@@ -3,7 +3,7 @@ use Rattle.std.specs.Prelude.{◌≡◌, ℕ, ◌<◌, ◌+◌, List, ◌++◌, 
 use Rattle.std.proofs.lemmas.List.{length-append}
 use Rattle.axe_algebra.specs.NumberField.{NumberField}
 use Rattle.axe_algebra.specs.Field.{Field}
-use Rattle.axe_algebra.specs.Vectors.{Matrix, times, subtract}
+use Rattle.axe_algebra.specs.Vectors.{Matrix, subtract}
 use Rattle.axe_algebra.specs.Spans.{InSpan}
 use Rattle.axe_algebra.specs.Modules.{Module, image}
 use Rattle.axe_algebra.specs.Modules
@@ -11,7 +11,6 @@ use Rattle.axe_algebra.specs.Bridge.{field_of, matrix_of, module_of}
 use Rattle.axe_algebra.specs.ModulesOfLists.{IsInvariant}
 use Rattle.axe_algebra.proofs.ProductLaws.{times_same}
 use Rattle.axe_algebra.proofs.Spanning.{span_within}
-use Rattle.axe_algebra.proofs.Spaces.{stacked}
 use Rattle.axe_algebra.proofs.Sections.{ActsModulo, section_is_invariant}
 use Rattle.axe_series.proofs.AppendedRows.{IsWithin, matrix_of_appended}
 use mathlib.Core.Path.{refl, sym, ◌∙◌, ap, ap₂, subst}

@@ -3,7 +3,7 @@ use Rattle.std.specs.Prelude.{◌≡◌, ℕ, ◌<◌, ◌+◌, ◌-◌, List, [
 use Rattle.std.proofs.lemmas.List.{length-append, get_or_append_left, get_or-append-add, ext_get_or}
 use Rattle.axe_algebra.specs.NumberField.{NumberField}
 use Rattle.axe_algebra.specs.Field.{Field}
-use Rattle.axe_algebra.specs.Vectors.{Vector, Matrix}
+use Rattle.axe_algebra.specs.Vectors.{Vector}
 use Rattle.axe_algebra.specs.Spans.{InSpan, SpanWithin}
 use Rattle.axe_algebra.specs.Bridge.{field_of, vector_of, matrix_of}
 use Rattle.axe_algebra.specs.Lists.{entry, listed, table, IsVectorOver, IsMatrixOver}
@@ -12,7 +12,7 @@ use Rattle.axe_algebra.specs.SpansOfLists.{SpansEverything}
 use Rattle.axe_algebra.proofs.Spanning.{span_row, span_within, within_trans}
 use Rattle.axe_algebra.proofs.Spaces.{stacked, stacked_first, stacked_second, each_stacked, first_in_stacked, second_in_stacked}
 use Rattle.axe_algebra.proofs.ListEntries.{listed_length, listed_at, table_length, table_row, row_over}
-use mathlib.Core.Path.{refl, sym, ◌∙◌, ap, subst, fun_ext}
+use mathlib.Core.Path.{sym, ◌∙◌, ap, subst, fun_ext}
 use native.Mathlib.Omega.{arith}
 use native.Mathlib.Decide.{dec_lt}
 

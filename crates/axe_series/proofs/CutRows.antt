@@ -7,7 +7,7 @@ use Rattle.axe_algebra.specs.Vectors.{Matrix, times, multiply}
 use Rattle.axe_algebra.specs.Spans.{InSpan}
 use Rattle.axe_algebra.specs.Modules.{Module}
 use Rattle.axe_algebra.specs.Bridge.{field_of, vector_of, matrix_of, module_of}
-use Rattle.axe_algebra.specs.Lists.{unit_row, IsVectorOver, IsMatrixOver, IsSquareOver}
+use Rattle.axe_algebra.specs.Lists.{unit_row, IsVectorOver, IsMatrixOver}
 use Rattle.axe_algebra.specs.ListArithmetic.{product}
 use Rattle.axe_algebra.specs.SpansOfLists.{IsIndependent, SpansEverything, IsExtendedBasis}
 use Rattle.axe_algebra.specs.ModulesOfLists.{IsSubAction, IsQuotientAction}
@@ -24,7 +24,7 @@ use Rattle.axe_algebra.proofs.ListVectors.{vector_of_unit_row}
 use Rattle.axe_algebra.proofs.ListExtended.{extended_length, extended_spans_everything, extended_is_square}
 use Rattle.axe_series.proofs.AppendedRows.{IsWithin, over_appended, matrix_of_appended, product_of_appended}
 use Rattle.axe_series.proofs.ActingRows.{ActsOn, acts_on_same_rows}
-use mathlib.Core.Path.{refl, sym, ◌∙◌, ap, subst}
+use mathlib.Core.Path.{sym, ◌∙◌, ap, subst}
 use native.Mathlib.Omega.{arith}
 
 module _ (K : NumberField) (n : ℕ) (generators : List (List (List ℕ))) (before rows : List (List ℕ)) (d : ℕ) (action : List (List (List ℕ)))

@@ -1,6 +1,5 @@
 -- An irreducible section is a known factor, or its form is a new one.
-use Rattle.std.specs.Prelude.{◌≡◌, ℕ, ◌<◌, List, [], ◌∷◌, ◌++◌, map, length, get_or, slice_get, Some, None}
-use Rattle.std.specs.List.{All}
+use Rattle.std.specs.Prelude.{◌≡◌, ℕ, ◌<◌, List, [], ◌∷◌, ◌++◌, length, get_or, slice_get, Some}
 use Rattle.std.proofs.lemmas.List.{length-map, map-append, get_or-map}
 use Rattle.std.proofs.lemmas.Option.{slice_get_within, get_or_from_slice_get}
 use Rattle.axe_algebra.specs.NumberField.{NumberField}
@@ -16,15 +15,14 @@ use Rattle.axe_algebra.proofs.ListEntries.{square_shape}
 use Rattle.axe_field.specs.NumberFields.{number_field, gf}
 use Rattle.axe_row.specs.Rows.{RowValue}
 use Rattle.axe_matrix.specs.Matrices.{MatrixValue}
-use Rattle.axe_spin.specs.Modules.{ModuleValue, IsModule}
+use Rattle.axe_spin.specs.Modules.{ModuleValue}
 use Rattle.axe_spin.specs.SpinLaws.{IsIsomorphismMatrix}
 use Rattle.axe_action.proofs.OneAction.{squares_of}
 use Rattle.axe_norton.specs.Spaces.{IsIrreducibleModule}
 use Rattle.axe_norton.proofs.TruthLaws.{rows_over_field}
 use Rattle.axe_iso.specs.Forms.{FormValue, IsFormFrom}
-use Rattle.axe_iso.specs.Matches.{IsMatch}
-use Rattle.axe_series.specs.Sections.{SectionValue, lifted_rows}
-use Rattle.axe_series.specs.Runs.{FoundValue, AreOfOthers, IsKnownAs, IsNewForm}
+use Rattle.axe_series.specs.Sections.{SectionValue}
+use Rattle.axe_series.specs.Runs.{AreOfOthers, IsKnownAs, IsNewForm}
 use Rattle.axe_series.specs.Series.{IsIsomorphicTo, factors_of_forms}
 use Rattle.axe_series.proofs.IrreducibleImages.{irreducible_of_isomorphic, basis_is_isomorphism}
 use Rattle.axe_series.proofs.SectionChain.{IsSectionOf, ActsBySection}

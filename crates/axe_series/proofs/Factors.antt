@@ -1,9 +1,7 @@
 -- Factors of a series: irreducible modules that are pairwise not isomorphic, and the sections that are placed by them.
 use Rattle.std.specs.Prelude.{◌≡◌, ℕ, zero, suc, ◌<◌, ◌⊎◌, List, [], ◌∷◌, ◌++◌, map, length, get_or, slice_get, Some, ⊤}
-use Rattle.std.specs.List.{All}
 use Rattle.std.proofs.lemmas.List.{get_or-map}
-use Rattle.std.proofs.lemmas.Option.{slice_get_within, slice_get-get_or, get_or_from_slice_get}
-use Rattle.axe_field.specs.NumberFields.{number_field}
+use Rattle.std.proofs.lemmas.Option.{slice_get_within, get_or_from_slice_get}
 use Rattle.axe_spin.specs.Modules.{ModuleValue, IsModule}
 use Rattle.axe_norton.specs.Spaces.{IsIrreducibleModule}
 use Rattle.axe_series.specs.Sections.{SectionValue}

@@ -1,9 +1,9 @@
 -- A module that is isomorphic to an irreducible one is irreducible; an invertible basis is an isomorphism from the action on it.
 use Rattle.std.specs.Prelude.{◌≡◌, ℕ, ◌<◌, ◌⊎◌}
 use Rattle.axe_algebra.specs.Field.{Field}
-use Rattle.axe_algebra.specs.Vectors.{Vector, Matrix, HasLength, HasRowsOfLength, IsMatrix, zero_vector, unit_matrix, times, multiply}
+use Rattle.axe_algebra.specs.Vectors.{Vector, Matrix, HasLength, HasRowsOfLength, IsMatrix, zero_vector, times}
 use Rattle.axe_algebra.specs.Spans.{InSpan, IsInvertible, SpansZero, SpansAll}
-use Rattle.axe_algebra.specs.Modules.{Module, IsModule, IsInvariant, image}
+use Rattle.axe_algebra.specs.Modules.{Module, IsInvariant, image}
 use Rattle.axe_algebra.specs.Actions.{IsSubAction}
 use Rattle.axe_algebra.specs.Irreducible.{IsIrreducible, IsIsomorphism}
 use Rattle.axe_algebra.proofs.ProductLaws.{times_times, times_identity, times_zero, times_length, times_same}

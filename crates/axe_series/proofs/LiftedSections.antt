@@ -1,33 +1,28 @@
 -- A section that takes the place of one: with the action of a factor that is isomorphic to it.
-use Rattle.std.specs.Prelude.{◌≡◌, ℕ, ◌<◌, ◌+◌, List, [], ◌++◌, map, length, get_or}
+use Rattle.std.specs.Prelude.{◌≡◌, ℕ, List, length}
 use Rattle.std.specs.List.{All}
-use Rattle.std.proofs.lemmas.List.{length-append}
 use Rattle.axe_algebra.specs.NumberField.{NumberField}
-use Rattle.axe_algebra.specs.Field.{Field}
-use Rattle.axe_algebra.specs.Vectors.{Matrix}
 use Rattle.axe_algebra.specs.Spans
 use Rattle.axe_algebra.specs.Actions
 use Rattle.axe_algebra.specs.Bridge.{field_of, matrix_of, module_of}
-use Rattle.axe_algebra.specs.Lists.{entry, table, IsMatrixOver, IsSquareOver}
+use Rattle.axe_algebra.specs.Lists.{IsMatrixOver, IsSquareOver}
 use Rattle.axe_algebra.specs.ListArithmetic.{product}
-use Rattle.axe_algebra.specs.SpansOfLists.{IsIndependent, SpansEverything, IsExtendedBasis}
-use Rattle.axe_algebra.specs.ModulesOfLists.{IsSubAction, IsQuotientAction, IsIsomorphism}
+use Rattle.axe_algebra.specs.SpansOfLists.{SpansEverything}
+use Rattle.axe_algebra.specs.ModulesOfLists.{IsSubAction, IsIsomorphism}
 use Rattle.axe_algebra.proofs.SquareMatrices.{rows_of_invertible}
 use Rattle.axe_algebra.proofs.Sections.{action_of_isomorphism}
 use Rattle.axe_algebra.proofs.ListProducts.{product_length}
 use Rattle.axe_algebra.proofs.ListSpans.{enough_rows_span}
 use Rattle.axe_algebra.proofs.ListModules.{module_shape}
-use Rattle.axe_field.specs.Order.{Order}
 use Rattle.axe_field.specs.NumberFields.{number_field, gf}
 use Rattle.axe_matrix.specs.Matrices.{MatrixValue}
 use Rattle.axe_spin.specs.Modules.{ModuleValue, IsModule}
-use Rattle.axe_series.specs.Sections.{SectionValue, IsCut, lifted_rows}
-use Rattle.axe_series.proofs.AppendedRows.{IsWithin, first_block, second_block}
+use Rattle.axe_series.specs.Sections.{SectionValue, lifted_rows}
+use Rattle.axe_series.proofs.AppendedRows.{IsWithin}
 use Rattle.axe_series.proofs.ActingRows.{ActsOn}
-use Rattle.axe_series.proofs.CutRows.{lifted_over, within_lifted, acts_on_lifted, units, count_of_columns, units_length, units_over, acts_on_units, lifted_extended, within_both, sizes_of_both}
+use Rattle.axe_series.proofs.CutRows.{lifted_over, within_lifted, acts_on_lifted}
 use Rattle.axe_series.proofs.SectionChain.{IsSectionOf, ActsBySection}
-use mathlib.Core.Path.{refl, sym, ◌∙◌, ap, ap₂, subst}
-use native.Mathlib.Omega.{arith}
+use mathlib.Core.Path.{sym, ◌∙◌, ap, subst}
 
 -- an isomorphism is a sub action on its own rows, as lists
 pub action_of_isomorphism_of_lists : (K : NumberField) (d : ℕ) (generators others : List (List (List ℕ))) (t : List (List ℕ)) → All (IsSquareOver K d) generators →

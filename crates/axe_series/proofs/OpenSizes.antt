@@ -1,5 +1,5 @@
 -- The sizes of the blocks before a section, of it, and after it, where empty ones are left out.
-use Rattle.std.specs.Prelude.{◌≡◌, ℕ, zero, suc, ◌<◌, ◌≤◌, ◌+◌, List, [], ◌∷◌, length, not, ◌==◌, cond, true, false}
+use Rattle.std.specs.Prelude.{◌≡◌, ℕ, zero, suc, ◌<◌, ◌≤◌, ◌+◌, List, [], ◌∷◌, length, not, ◌==◌, cond}
 use Rattle.std.specs.List.{filter}
 use Rattle.std.proofs.lemmas.Bool.{eq-eqb, ne_eqb}
 use Rattle.axe_algebra.specs.Blocks.{block_start, block_size, AreBlockSizes}

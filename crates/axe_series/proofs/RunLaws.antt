@@ -1,30 +1,26 @@
 -- What a run finds is true; and no section of a module with few points stays undecided.
-use Rattle.std.specs.Prelude.{◌≡◌, ℕ, ◌<◌, ◌≤◌, ◌⊎◌, List, [], ◌∷◌, ◌++◌, length, map, slice_get, Some, suc, ⊤}
+use Rattle.std.specs.Prelude.{◌≡◌, ℕ, ◌⊎◌, List, [], ◌∷◌, ◌++◌, length, slice_get, Some, suc}
 use Rattle.std.proofs.lemmas.List.{length-append, append-nil, map-append, length-map}
 use Rattle.axe_algebra.specs.SpansOfLists.{IsIndependent, SpansEverything}
 use Rattle.axe_algebra.specs.ModulesOfLists.{IsInvariant}
 use Rattle.axe_algebra.specs.Lists.{IsMatrixOver}
-use Rattle.axe_algebra.proofs.PointLists.{count_grows}
 use Rattle.axe_field.specs.Order.{order_number}
-use Rattle.axe_field.specs.CheckedLaws.{order_number-above}
 use Rattle.axe_field.specs.NumberFields.{number_field}
 use Rattle.axe_row.specs.Rows.{RowValue}
 use Rattle.axe_matrix.specs.Matrices.{MatrixValue, IsMatrix}
 use Rattle.axe_spin.specs.Modules.{ModuleValue, IsModule}
 use Rattle.axe_word.specs.Words.{IsWordIn}
-use Rattle.axe_word.specs.PointsOfMatrix.{point_count, most_points}
 use Rattle.axe_word.proofs.DrawingLaws.{drawn_word-over}
 use Rattle.axe_norton.specs.declared.verdicts.At.TheVariants
 use Rattle.axe_norton.specs.declared.verdicts.Verdict.TheVariants.{Irreducible, Reducible, Undecided}
 use Rattle.axe_norton.specs.Spaces.{IsProperSubmodule, IsIrreducibleModule, TriedGenerate, IsFirstProperSpace, IsTransposedSpace}
-use Rattle.axe_norton.specs.Verdicts.{Decides, DecidesAt, word_of_seed}
+use Rattle.axe_norton.specs.Verdicts.{Decides, word_of_seed}
 use Rattle.axe_norton.proofs.TruthLaws.{said_is_true, rows_over_field}
-use Rattle.axe_norton.proofs.OpenLaws.{small_is_decided}
 use Rattle.axe_iso.specs.Forms.{FormValue}
 use Rattle.axe_series.specs.Sections.{SectionValue, IsCut, rows_of_sections, lifted_rows}
-use Rattle.axe_series.specs.Runs.{FoundValue, Outcome, complete, open_section, Runs, all_found, undecided, reducible, known, new, RunOf, IsKnownAs, IsNewForm, AreOfOthers, with_place, with_factor}
+use Rattle.axe_series.specs.Runs.{FoundValue, Outcome, Runs, all_found, undecided, reducible, known, new, IsKnownAs, IsNewForm, AreOfOthers, with_place, with_factor}
 use Rattle.axe_series.specs.Series.{IsSeries, IsOpenSection, basis_of_rows, factors_of_forms, IsTrueOutcome, AreInOrderOfAppearance}
-use Rattle.axe_series.specs.Theorems.{RunsFindWhatIsTrue, SmallModulesHaveASeries}
+use Rattle.axe_series.specs.Theorems.{RunsFindWhatIsTrue}
 use Rattle.axe_series.proofs.SectionChain.{IsSectionOf, chain_over, chain_invariant, nothing_invariant}
 use Rattle.axe_series.proofs.SeriesOfChain.{series_of_chain, open_of_chain}
 use Rattle.axe_series.proofs.Places.{known_appears, new_appears, last_there}

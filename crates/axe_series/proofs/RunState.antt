@@ -1,10 +1,10 @@
 -- What holds while a composition series is looked for: what is found and the sections still to be decided are one chain,
 -- whose rows are a basis, and what is found is placed by irreducible factors.
-use Rattle.std.specs.Prelude.{◌≡◌, ℕ, ◌<◌, ◌+◌, List, [], ◌∷◌, ◌++◌, length, ⊤}
+use Rattle.std.specs.Prelude.{◌≡◌, ℕ, List, [], ◌∷◌, ◌++◌, length}
 use Rattle.std.proofs.lemmas.List.{length-append, append_assoc, append-nil}
 use Rattle.axe_algebra.specs.NumberField.{NumberField}
 use Rattle.axe_algebra.specs.Field.{Field}
-use Rattle.axe_algebra.specs.Vectors.{Matrix, unit_matrix}
+use Rattle.axe_algebra.specs.Vectors.{Matrix}
 use Rattle.axe_algebra.specs.Spans
 use Rattle.axe_algebra.specs.Bridge.{matrix_of, module_of}
 use Rattle.axe_algebra.specs.ListArithmetic.{identity}
@@ -91,8 +91,16 @@ module _ (m : ModuleValue) (s : SectionValue) (rest : List SectionValue) (found 
     done_chain = state.done_chain;
     chain = (take.sub_of_module, take.sub_acts, (take.quotient_of_module, take.quotient_acts, further));
     size =
-        omega (arith, state.size, take.as_many, length-append found.rows (s.rows.rows ++ r), length-append s.rows.rows r,
-        length-append found.rows (sub.rows.rows ++ (quotient.rows.rows ++ r)), length-append sub.rows.rows (quotient.rows.rows ++ r), length-append quotient.rows.rows r);
+        omega (
+          arith,
+          state.size,
+          take.as_many,
+          length-append found.rows (s.rows.rows ++ r),
+          length-append s.rows.rows r,
+          length-append found.rows (sub.rows.rows ++ (quotient.rows.rows ++ r)),
+          length-append sub.rows.rows (quotient.rows.rows ++ r),
+          length-append quotient.rows.rows r,
+        );
     spans = spans_more (number_field m.order) m.dim (found.rows ++ (s.rows.rows ++ r)) (found.rows ++ (sub.rows.rows ++ (quotient.rows.rows ++ r))) within state.spans;
     placed = state.placed;
     factors = state.factors;
@@ -133,8 +141,15 @@ module _ (m : ModuleValue) (s : SectionValue) (rest : List SectionValue) (found 
         (within_appended (number_field m.order) found.rows s.rows.rows found.rows lifted.rows.rows (within_refl (number_field m.order) found.rows) take.within)
         state.chain.2;
     size =
-        omega (arith, state.size, take.as_many, length-append found.rows (s.rows.rows ++ r), length-append s.rows.rows r,
-        length-append (found.rows ++ lifted.rows.rows) r, length-append found.rows lifted.rows.rows);
+        omega (
+          arith,
+          state.size,
+          take.as_many,
+          length-append found.rows (s.rows.rows ++ r),
+          length-append s.rows.rows r,
+          length-append (found.rows ++ lifted.rows.rows) r,
+          length-append found.rows lifted.rows.rows,
+        );
     spans = spans_more (number_field m.order) m.dim (found.rows ++ (s.rows.rows ++ r)) ((found.rows ++ lifted.rows.rows) ++ r) within state.spans;
     placed = placed;
     factors = factors;

@@ -1,8 +1,7 @@
 -- Chains of sections of a module: on the rows of each the module acts by its action, modulo the rows before.
-use Rattle.std.specs.Prelude.{◌≡◌, ℕ, zero, suc, ◌<◌, ◌≤◌, ◌+◌, List, [], ◌∷◌, ◌++◌, map, length, get_or, ⊤}
+use Rattle.std.specs.Prelude.{◌≡◌, ℕ, zero, suc, ◌<◌, ◌+◌, List, [], ◌∷◌, ◌++◌, length, ⊤}
 use Rattle.std.proofs.lemmas.List.{length-append, append_assoc, append-nil, get_or_append_left, get_or-append-add}
 use Rattle.axe_algebra.specs.NumberField.{NumberField}
-use Rattle.axe_algebra.specs.Field.{Field}
 use Rattle.axe_algebra.specs.Vectors.{Vector, Matrix}
 use Rattle.axe_algebra.specs.Modules.{Module}
 use Rattle.axe_algebra.specs.Bridge.{field_of, vector_of, matrix_of, module_of}
@@ -15,7 +14,7 @@ use Rattle.axe_algebra.proofs.Exchange.{span_of_same_rows}
 use Rattle.axe_field.specs.NumberFields.{number_field}
 use Rattle.axe_spin.specs.Modules.{ModuleValue, IsModule}
 use Rattle.axe_series.specs.Sections.{SectionValue, rows_of_sections}
-use Rattle.axe_series.proofs.AppendedRows.{IsWithin, over_appended, matrix_of_appended, within_refl, within_first, within_appended}
+use Rattle.axe_series.proofs.AppendedRows.{IsWithin, over_appended, within_refl, within_appended}
 use Rattle.axe_series.proofs.ActingRows.{ActsOn, acts_on_same_rows, acts_within, invariant_with_section}
 use mathlib.Core.Path.{refl, sym, ◌∙◌, ap, subst}
 use native.Mathlib.Omega.{arith}

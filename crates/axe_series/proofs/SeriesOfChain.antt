@@ -1,15 +1,13 @@
 -- What is true of an outcome, by a chain of sections whose rows are a basis.
-use Rattle.std.specs.Prelude.{◌≡◌, ◌↔◌, ℕ, ◌<◌, ◌≤◌, ◌+◌, ◌⊎◌, List, [], ◌∷◌, ◌++◌, length, get_or, slice_get, Some}
-use Rattle.std.specs.List.{All}
+use Rattle.std.specs.Prelude.{◌≡◌, ◌↔◌, ℕ, ◌<◌, ◌≤◌, ◌+◌, List, [], ◌∷◌, ◌++◌, length, get_or, slice_get, Some}
 use Rattle.std.proofs.lemmas.List.{length-append, append_assoc, get_or_append_left}
 use Rattle.std.proofs.lemmas.Option.{slice_get_within, slice_get-get_or, get_or_from_slice_get}
 use Rattle.axe_algebra.specs.NumberField.{NumberField}
 use Rattle.axe_algebra.specs.Field.{Field}
-use Rattle.axe_algebra.specs.Vectors.{Matrix}
 use Rattle.axe_algebra.specs.Modules.{Module}
 use Rattle.axe_algebra.specs.Modules
 use Rattle.axe_algebra.specs.Bridge.{vector_of, matrix_of, module_of}
-use Rattle.axe_algebra.specs.Blocks.{block_start, block_size, AreBlockSizes}
+use Rattle.axe_algebra.specs.Blocks.{block_start, AreBlockSizes}
 use Rattle.axe_algebra.specs.Lists.{IsMatrixOver}
 use Rattle.axe_algebra.specs.SpansOfLists.{SpansEverything}
 use Rattle.axe_algebra.specs.ModulesOfLists.{IsInvariant, AreIsomorphic}
@@ -20,18 +18,16 @@ use Rattle.axe_algebra.proofs.IsomorphismLaws.{isomorphic_refl, isomorphic_sym}
 use Rattle.axe_algebra.proofs.ListModules.{module_shape}
 use Rattle.axe_field.specs.NumberFields.{number_field, gf}
 use Rattle.axe_spin.specs.Modules.{ModuleValue, IsModule}
-use Rattle.axe_norton.specs.Spaces.{IsIrreducibleModule}
 use Rattle.axe_norton.specs.Verdicts.{LeavesOpen, word_of_seed}
 use Rattle.axe_series.specs.Sections.{SectionValue, rows_of_sections}
 use Rattle.axe_series.specs.Series.{IsTriangularBy, IsBlockOf, IsIsomorphicTo, IsPlaceOf, AreInOrderOfAppearance, IsSeries, sizes_of_places, IsOpenSection, open_sizes, open_place, basis_of_rows}
 use Rattle.axe_series.proofs.AppendedRows.{over_appended}
-use Rattle.axe_series.proofs.SectionChain.{IsSectionOf, ActsBySection, IsChain, sizes_of, action_at, chain_over, chain_invariant, nothing_invariant, sizes_length, sizes_add_up, action_dimension, action_field, action_is_module, module_at, acts_at, acts_at_start, chain_appended, rows_appended}
+use Rattle.axe_series.proofs.SectionChain.{IsSectionOf, IsChain, sizes_of, action_at, chain_over, chain_invariant, sizes_length, sizes_add_up, action_dimension, action_field, action_is_module, module_at, acts_at, acts_at_start}
 use Rattle.axe_series.proofs.TriangularBasis.{conjugates, triangular_by, block_by, block_is_one}
 use Rattle.axe_series.proofs.ActingRows.{invariant_with_section}
 use Rattle.axe_series.proofs.Places.{same_of_some}
 use Rattle.axe_series.proofs.OpenSizes.{AreOpenSizes, open_sizes_fit}
 use Rattle.axe_series.proofs.Factors.{AreFactors, ArePlaced, placed_sizes, placed_at}
-use mathlib.Core.Logic.{inl, inr}
 use mathlib.Core.Path.{refl, sym, ◌∙◌, ap, subst}
 use native.Mathlib.Omega.{arith}
 use native.Mathlib.Decide.{dec_lt}

@@ -1,6 +1,6 @@
 -- A basis of a module by rows: conjugated by it the generators are block lower triangular where its first rows are invariant,
 -- with the actions on its sections as diagonal blocks.
-use Rattle.std.specs.Prelude.{◌≡◌, ℕ, ◌<◌, ◌≤◌, ◌+◌, List, [], map, length, get_or}
+use Rattle.std.specs.Prelude.{◌≡◌, ℕ, ◌<◌, ◌+◌, List, [], map, length, get_or}
 use Rattle.std.specs.List.{All}
 use Rattle.std.proofs.lemmas.List.{length-map, get_or-map}
 use Rattle.axe_algebra.specs.NumberField.{NumberField}
@@ -10,10 +10,9 @@ use Rattle.axe_algebra.specs.Spans
 use Rattle.axe_algebra.specs.Modules.{Module}
 use Rattle.axe_algebra.specs.Modules
 use Rattle.axe_algebra.specs.Actions.{IsSectionAction}
-use Rattle.axe_algebra.specs.Bridge.{field_of, matrix_of, module_of}
+use Rattle.axe_algebra.specs.Bridge.{matrix_of, module_of}
 use Rattle.axe_algebra.specs.Blocks.{block_start, block_size, AreBlockSizes, conjugate}
 use Rattle.axe_algebra.specs.Blocks
-use Rattle.axe_algebra.specs.BlocksOfLists.{IsBlockLowerTriangular, IsDiagonalBlock}
 use Rattle.axe_algebra.specs.Lists.{IsMatrixOver, IsSquareOver}
 use Rattle.axe_algebra.specs.ListArithmetic.{product, IsInverse}
 use Rattle.axe_algebra.specs.SpansOfLists.{SpansEverything}

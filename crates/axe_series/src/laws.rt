@@ -1,7 +1,10 @@
 //! What holds of the search for a composition series.
 
 ghost use Rattle.axe_series.specs.Theorems.{
-    RunsFindWhatIsTrue, RunsHaveOneOutcome, RunsHaveAnOutcome, SmallModulesHaveASeries,
+  RunsFindWhatIsTrue,
+  RunsHaveOneOutcome,
+  RunsHaveAnOutcome,
+  SmallModulesHaveASeries,
 };
 
 /// What a run finds is true. Where all is found it is a composition series: conjugated by the rows that are found the
