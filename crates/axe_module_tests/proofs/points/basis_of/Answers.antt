@@ -2,4 +2,4 @@ use Rattle.axe_module_tests.proofs.NullSpaceAnswers.{reduced_if_answered}
 use Rattle.axe_module_tests.proofs.points.basis_of.Goals as goal
 
 pub returns : goal.returns
-returns g c = reduced_if_answered _ _ c.null_space.result c.null_space.ensures.basis
+returns c = reduced_if_answered _ _ c.null_space.result c.null_space.ensures.basis
