@@ -293,3 +293,17 @@ pub scalar_is_digit : (o : Order) (k d n : ℕ) (c : Plane) (entries : List ℕ)
     record { order = o; entries = entries } ≡ self → IsElement self.order k → k < prime_of_plane c
 scalar_is_digit o k d n c entries self ed one h self_is element =
     subst (λ p. k < p) (sym h.prime) (element_is_digit o k (sym ed ∙ one) (element_along o k entries self self_is element))
+
+-- an entry is the digit of the one plane
+pub one_plane_at : (o : Order) (d j : ℕ) (c l q : Plane) (self : RowValue) → d ≡ degree_of o → d ≡ 1 →
+    ArePlanes o (length (digits_of c)) c l q → record { order = o; entries = entries_of o c l q } ≡ self →
+    get_or (digits_of c) j 0 ≡ get_or self.entries j 0
+one_plane_at o d j c l q self ed one h self_is =
+    ap (λ (x : List ℕ). get_or x j 0) (sym (one_plane o _ c l q (sym ed ∙ one) h) ∙ ap (λ (r : RowValue). r.entries) self_is)
+
+pub one_plane_element : (o : Order) (d j x : ℕ) (c l q : Plane) (self : RowValue) → x ≡ get_or (digits_of c) j 0 → d ≡ degree_of o → d ≡ 1 →
+    ArePlanes o (length (digits_of c)) c l q → record { order = o; entries = entries_of o c l q } ≡ self → IsElement self.order x
+one_plane_element o d j x c l q self is ed one h self_is =
+    subst (IsElement self.order) (sym is)
+    (subst (λ r. IsElement r (get_or (digits_of c) j 0)) (ap (λ (r : RowValue). r.order) self_is)
+    (digit_at o (digits_of c) j (sym ed ∙ one) h.constant.digits))

@@ -122,6 +122,9 @@ impl Row {
         ensures element { IsElement self.now.order result }
     {
         let constant = self.constant.get(index);
+        if self.field.degree() == 1 {
+            return constant;
+        }
         let linear = self.linear.get(index);
         let quadratic = self.quadratic.get(index);
         element(&self.field, constant, linear, quadratic)
