@@ -14,7 +14,7 @@ use Rattle.axe_lane.specs.Bytes.{sum_of_products}
 use Rattle.axe_lane.specs.Words.{common_bits}
 use Rattle.axe_lane.proofs.SumLaws.{sum_is, sum_block, chunk-zip2}
 use Rattle.axe_plane.specs.Bits.{bit_of, bits, HoldsBits}
-use Rattle.axe_plane.proofs.BitLaws.{length-bits, get_or-bits, bit_of-word, bit_of-below}
+use Rattle.axe_plane.proofs.BitLaws.{length-bits, get_or-bits, bit_of-word}
 
 -- the sum of the values at the numbers below n
 abbrev pub sum_below : (ℕ → ℕ) → ℕ → ℕ

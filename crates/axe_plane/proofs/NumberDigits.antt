@@ -1,5 +1,5 @@
 -- Planes that are made of numbers: their bits, a word at a time, and their digits.
-use Rattle.std.proofs.Common.{◌≡◌, ℕ, zero, suc, ◌+◌, ◌*◌, ◌/◌, ◌%◌, ◌^◌, ◌<◌, ◌≤◌, List, [], ◌∷◌, length, get_or, map, set, take, drop, ◌++◌, refl, sym, ap, subst, ◌∙◌, arith, inl, inr, get_or-set_same, get_or-set_other}
+use Rattle.std.proofs.Common.{◌≡◌, ℕ, zero, suc, ◌+◌, ◌*◌, ◌/◌, ◌%◌, ◌^◌, ◌<◌, ◌≤◌, List, [], ◌∷◌, length, get_or, map, set, refl, sym, ap, subst, ◌∙◌, arith, inl, inr, get_or-set_same, get_or-set_other}
 use Rattle.std.specs.Int.{bit_at}
 use Rattle.std.proofs.lemmas.Bool.{cases_eq}
 use Rattle.std.proofs.lemmas.List.{ext_get_or, get_or_past, get_or-map, length-map, length-set}
@@ -9,7 +9,7 @@ use Rattle.std.proofs.lemmas.Nat.Bits.{bit_at-zero}
 use native.Mathlib.Decide.{dec_lt}
 use Rattle.axe_plane.specs.Bits.{bit_of, bits, HoldsBits}
 use Rattle.axe_plane.specs.Digits.{AreDigits, digits_at}
-use Rattle.axe_plane.proofs.BitLaws.{length-bits, get_or-bits, bit_of-word, bit_of-past, zeros, bit_of-zeros, get_or-zeros}
+use Rattle.axe_plane.proofs.BitLaws.{length-bits, get_or-bits, bit_of-word, bit_of-past, zeros, get_or-zeros}
 
 -- words whose bits below an index are those of numbers at a place
 pub record HaveBits (numbers : List ℕ) (place until : ℕ) (words : List ℕ) : Type 0 where

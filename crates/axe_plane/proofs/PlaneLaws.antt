@@ -1,7 +1,7 @@
 -- Planes as their primes and digits.
-use Rattle.std.proofs.Common.{◌≡◌, ℕ, ◌<◌, ◌≤◌, ◌⊎◌, List, length, set, replicate, refl, sym, ap, subst, ◌∙◌, arith, inl, inr, lit<}
-use Rattle.axe_plane.specs.Digits.{AreDigits, digits_with_multiple}
-use Rattle.axe_plane.specs.Primes.{odd_number, OddDigits}
+use Rattle.std.proofs.Common.{◌≡◌, ℕ, ◌<◌, ◌⊎◌, length, set, replicate, refl, sym, ap, subst, ◌∙◌, arith, inl, inr, lit<}
+use Rattle.axe_plane.specs.Digits.{AreDigits}
+use Rattle.axe_plane.specs.Primes.{odd_number}
 use Rattle.axe_plane.specs.Planes.{prime_of_plane, digits_of, IsPlane, IsPlaneOf}
 use Rattle.axe_plane.proofs.DigitLaws.{AreDigits-zeros, AreDigits-set}
 use Rattle.std.proofs.lemmas.List.{length-replicate, length-set}

@@ -1,5 +1,5 @@
 -- The first digit of a plane that is not zero, by its words and bytes; and multiples of bits.
-use Rattle.std.proofs.Common.{◌≡◌, ◌↔◌, ◌≢◌, ℕ, zero, suc, ◌*◌, ◌+◌, ◌/◌, ◌%◌, ◌^◌, ◌<◌, Bool, true, false, not, Option, Some, None, List, length, get_or, map, replicate, refl, sym, ap, ap₂, ◌∙◌, arith, IsTrue, MatchOption, lit<, inl, inr}
+use Rattle.std.proofs.Common.{◌≡◌, ◌↔◌, ℕ, suc, ◌*◌, ◌+◌, ◌/◌, ◌%◌, ◌<◌, Bool, true, false, not, Option, Some, None, List, length, get_or, refl, sym, ap, ap₂, ◌∙◌, arith, IsTrue, MatchOption, lit<, inl, inr}
 use Rattle.std.specs.List.{All}
 use Rattle.std.specs.Int.{bit_at}
 use Rattle.std.proofs.lemmas.List.{get_or_default, get_or_past}
@@ -7,12 +7,10 @@ use Rattle.std.proofs.lemmas.List.Elements.{All-get_or, All-from_get_or}
 use Rattle.std.proofs.lemmas.Bool.{cases_eq}
 use Rattle.std.proofs.lemmas.Nat.Bits.{bit_at-zero, same_from_bits_below}
 use native.Mathlib.Decide.{dec_lt}
-use Rattle.axe_lane.specs.Bytes.{multiple}
 use Rattle.axe_lane.specs.Entries.{HasNonzero, IsFirstNonzero}
 use Rattle.axe_lane.specs.Words.{HasNoSetBit, IsFirstSetBit}
-use Rattle.axe_lane.proofs.ByteLaws.{multiple_by_zero, multiple_by_one}
 use Rattle.axe_plane.specs.Bits.{bit_of, bits, HoldsBits}
-use Rattle.axe_plane.proofs.BitLaws.{length-bits, get_or-bits, bit_of-word, AreDigits-bits, bits-zeros}
+use Rattle.axe_plane.proofs.BitLaws.{length-bits, get_or-bits, bit_of-word}
 
 abbrev IsZero : ℕ → Type 0
 IsZero digit = digit ≡ 0

@@ -1,5 +1,5 @@
 use Rattle.std.proofs.Common.{◌∙◌, ap}
-use Rattle.axe_plane.specs.Bits.{bits, HoldsBits}
+use Rattle.axe_plane.specs.Bits.{bits}
 use Rattle.axe_plane.proofs.bits.BitPlane.copy.Goals as goal
 
 pub invariant_of-result : goal.invariant_of-result

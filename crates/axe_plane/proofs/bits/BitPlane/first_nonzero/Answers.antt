@@ -1,4 +1,4 @@
-use Rattle.std.proofs.Common.{◌≡◌, ◌≤◌, ◌*◌, ◌^◌, List, ℕ, length, ap, sym, subst, arith, All, MatchOption}
+use Rattle.std.proofs.Common.{◌≡◌, List, ℕ, length, ap, subst, arith, All, MatchOption}
 use Rattle.axe_lane.specs.Entries.{IsFirstNonzero}
 use Rattle.axe_lane.specs.Words.{HasNoSetBit, IsFirstSetBit}
 use Rattle.axe_plane.proofs.ZeroDigits.{first_of_bits}

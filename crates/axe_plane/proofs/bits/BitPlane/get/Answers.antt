@@ -1,4 +1,4 @@
-use Rattle.std.proofs.Common.{◌≡◌, ◌<◌, ◌/◌, ◌%◌, List, ℕ, length, get_or, arith, sym, ◌∙◌, ap, bit_and}
+use Rattle.std.proofs.Common.{◌<◌, ◌/◌, ◌%◌, List, ℕ, length, get_or, arith, sym, ◌∙◌, ap}
 use Rattle.std.proofs.lemmas.List.{get_or_past}
 use Rattle.std.specs.Int.{bit_at}
 use Rattle.std.proofs.lemmas.Grind.{get_or_default_zero}

@@ -1,4 +1,4 @@
-use Rattle.std.proofs.Common.{◌≡◌, ◌+◌, ◌*◌, ◌<◌, ◌≤◌, length, refl, arith}
+use Rattle.std.proofs.Common.{◌*◌, ◌<◌, ◌≤◌, length, refl, arith}
 use Rattle.axe_plane.proofs.NumberDigits.{have_more, HoldsBits-numbers, bits-numbers}
 use Rattle.axe_plane.proofs.bits.BitPlane.of_numbers.Goals as goal
 

@@ -1,4 +1,4 @@
-use Rattle.std.proofs.Common.{◌≡◌, ◌+◌, ◌/◌, List, ℕ, length, replicate, ap, sym, ◌∙◌, arith, subst, lit<}
+use Rattle.std.proofs.Common.{◌≡◌, ◌+◌, ◌/◌, length, replicate, ap, sym, ◌∙◌, arith, subst, lit<}
 use Rattle.axe_lane.proofs.ByteLaws.{multiple_by_zero, multiple_by_one}
 use Rattle.axe_plane.specs.Bits.{bits, HoldsBits}
 use Rattle.axe_plane.specs.Digits.{AreDigits}

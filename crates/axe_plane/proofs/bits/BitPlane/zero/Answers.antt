@@ -1,5 +1,5 @@
-use Rattle.std.proofs.Common.{◌≡◌, ◌+◌, ◌/◌, arith, sym, ◌∙◌, ap}
-use Rattle.axe_plane.specs.Bits.{bits, HoldsBits}
+use Rattle.std.proofs.Common.{◌≡◌, ◌+◌, ◌/◌, arith, ◌∙◌, ap}
+use Rattle.axe_plane.specs.Bits.{bits}
 use Rattle.axe_plane.proofs.BitLaws.{bits-zeros, HoldsBits-zeros}
 use Rattle.axe_plane.proofs.bits.BitPlane.zero.Goals as goal
 

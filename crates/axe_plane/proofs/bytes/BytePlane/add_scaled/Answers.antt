@@ -1,7 +1,7 @@
-use Rattle.std.proofs.Common.{◌≡◌, ◌++◌, ◌+◌, ◌*◌, ◌%◌, List, ℕ, length, take, drop, ap, sym, subst, ◌∙◌}
+use Rattle.std.proofs.Common.{◌≡◌, ◌++◌, ◌+◌, ◌*◌, ◌%◌, List, ℕ, length, take, drop, ap, sym, ◌∙◌}
 use Rattle.std.specs.Simd.Lanes.{zip2}
 use Rattle.std.proofs.lemmas.Simd.{length-zip2}
-use Rattle.axe_plane.specs.Digits.{digits_with_multiple, AreDigits}
+use Rattle.axe_plane.specs.Digits.{digits_with_multiple}
 use Rattle.axe_plane.specs.Primes.{odd_number, OddDigits}
 use Rattle.axe_plane.proofs.BitLaws.{written}
 use Rattle.axe_plane.proofs.DigitLaws.{zip2-sum}

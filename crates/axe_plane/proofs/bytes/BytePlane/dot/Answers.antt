@@ -1,4 +1,4 @@
-use Rattle.std.proofs.Common.{◌≡◌, ◌+◌, ◌*◌, ◌/◌, ◌%◌, ◌<◌, ◌≤◌, ℕ, List, length, ap, ap₂, sym, take, ◌∙◌, arith}
+use Rattle.std.proofs.Common.{◌≡◌, ◌+◌, ◌*◌, ◌/◌, ◌%◌, length, ap, ap₂, sym, take, ◌∙◌, arith}
 use Rattle.std.specs.Simd.Lanes.{sum_l, zip2}
 use Rattle.axe_lane.specs.Bytes.{sum_of_products}
 use Rattle.axe_plane.specs.Primes.{odd_number, OddDigits}
