@@ -1,0 +1,114 @@
+//! Reports: read, refused and written; names of constituents.
+use axe_report::{Report, ReportFault, constituent_name, read_report, write_report};
+use std::process::Abort;
+
+/// The report of a module of dimension 3 over the field of two elements, with two constituents.
+const REPORT: &str = "\
+chop 1 field=2 dim=3 gens=2 seed=1 words=400
+factor 2a dim=2 mult=1
+factor 1a dim=1 mult=1
+series 2a 1a
+";
+
+/// Texts that are no reports, and the first line that fails.
+const REFUSED: [(&str, usize); 12] = [
+    ("", 1),
+    (
+        "chop 1 field=6 dim=1 gens=1 seed=1 words=0\nfactor 1a dim=1 mult=1\nseries 1a\n",
+        1,
+    ),
+    (
+        "chop 1 field=2 dim=01 gens=1 seed=1 words=0\nfactor 1a dim=1 mult=1\nseries 1a\n",
+        1,
+    ),
+    (
+        "chop 1 field=2 dim=1 gens=17 seed=1 words=0\nfactor 1a dim=1 mult=1\nseries 1a\n",
+        1,
+    ),
+    (
+        "chop 1 field=2 dim=1 gens=1 seed=18446744073709551616 words=0\nfactor 1a dim=1 mult=1\nseries 1a\n",
+        1,
+    ),
+    ("chop 1 field=2 dim=1 gens=1 seed=1 words=0\n", 2),
+    (
+        "chop 1 field=2 dim=1 gens=1 seed=1 words=0\nfactor 1b dim=1 mult=1\nseries 1b\n",
+        2,
+    ),
+    (
+        "chop 1 field=2 dim=3 gens=2 seed=1 words=400\nfactor 2a dim=2 mult=2\nfactor 1a dim=1 mult=1\nseries 2a 1a\n",
+        2,
+    ),
+    (
+        "chop 1 field=2 dim=3 gens=2 seed=1 words=400\nfactor 2a dim=2 mult=1\nseries 2a\n",
+        3,
+    ),
+    (
+        "chop 1 field=2 dim=3 gens=2 seed=1 words=400\nfactor 2a dim=2 mult=1\nfactor 1a dim=1 mult=1\nseries 1a 2a\n",
+        4,
+    ),
+    (
+        "chop 1 field=2 dim=3 gens=2 seed=1 words=400\nfactor 2a dim=2 mult=1\nfactor 1a dim=1 mult=1\nseries 2a 1a",
+        4,
+    ),
+    (
+        "chop 1 field=2 dim=1 gens=2 seed=1 words=400\nfactor 1a dim=1 mult=1\nseries 1a\n\n",
+        4,
+    ),
+];
+
+/// The line at which the reader refuses a text.
+fn refused_at(answer: Result<Report, ReportFault>) -> Option<usize> {
+    match answer {
+        Err(ReportFault::BadReport(line)) => Some(line),
+        _ => None,
+    }
+}
+
+#[test]
+fn a_report_gives_its_fields(rt: HostRuntime) -> Result<(), ReportFault> {
+    let report = read_report(rt.alloc(), REPORT.as_bytes())?;
+    let header = report.header();
+    assert!(&rt; header.field.order() == 2 && header.dim == 3 && header.gens == 2);
+    assert!(&rt; header.seed == 1 && header.words == 400);
+    let factors = report.factors();
+    assert!(&rt; factors.len() == 2);
+    assert!(&rt;
+        factors[0].name() == "2a" && factors[0].dim() == 2 && factors[0].multiplicity() == 1
+    );
+    assert!(&rt;
+        factors[1].name() == "1a" && factors[1].dim() == 1 && factors[1].multiplicity() == 1
+    );
+    assert!(&rt; report.series() == [0u16, 1].as_slice());
+    Ok(())
+}
+
+#[test]
+fn a_report_is_written_as_it_was_read(rt: HostRuntime) -> Result<(), ReportFault> {
+    let report = read_report(rt.alloc(), REPORT.as_bytes())?;
+    let bytes = write_report(rt.alloc(), &report)?;
+    assert!(&rt; bytes.as_slice() == REPORT.as_bytes());
+    Ok(())
+}
+
+#[test]
+fn other_texts_are_refused_at_the_first_line_that_fails(rt: HostRuntime) {
+    for (text, line) in REFUSED {
+        let answer = read_report(rt.alloc(), text.as_bytes());
+        assert!(&rt; refused_at(answer) == Some(line), "{text}");
+    }
+}
+
+#[test]
+fn names_go_from_a_to_z_and_on_with_two_letters(rt: HostRuntime) -> Result<(), ReportFault> {
+    for (number, name) in [
+        (0, "5a"),
+        (25, "5z"),
+        (26, "5aa"),
+        (51, "5az"),
+        (52, "5ba"),
+        (702, "5aaa"),
+    ] {
+        assert!(&rt; constituent_name(rt.alloc(), 5, number)?.as_str() == name);
+    }
+    Ok(())
+}

@@ -1,0 +1,56 @@
+-- The first line: what its reader says.
+use Rattle.std.proofs.Common.{◌≡◌, ℕ, ◌^◌, ◌<◌, List, ◌∷◌, ◌++◌, decimal, codes, refl, sym, ap, ◌∙◌, arith}
+use Rattle.axe_field.specs.Order.{order_number}
+use Rattle.axe_report.specs.Fronts.{is_digit, Stops}
+use Rattle.axe_report.specs.Reports.{IsHeader, HasNumbers}
+use Rattle.axe_report.specs.Spelling.{header_line}
+use Rattle.axe_report.specs.declared.report.ReportHeader.{ReportHeader}
+use Rattle.axe_report.proofs.Numerals.{setting_unique}
+use Rattle.axe_report.proofs.Unique.{header_open, order_small}
+
+-- what stands after each number of a header
+abbrev pub after_seed : ℕ → List ℕ → List ℕ
+after_seed w x = codes " words=" ++ (decimal w ++ (10 ∷ x))
+
+abbrev pub after_gens : ℕ → ℕ → List ℕ → List ℕ
+after_gens s w x = codes " seed=" ++ (decimal s ++ after_seed w x)
+
+abbrev pub after_dim : ℕ → ℕ → ℕ → List ℕ → List ℕ
+after_dim g s w x = codes " gens=" ++ (decimal g ++ after_gens s w x)
+
+abbrev pub after_order : ℕ → ℕ → ℕ → ℕ → List ℕ → List ℕ
+after_order d g s w x = codes " dim=" ++ (decimal d ++ after_dim g s w x)
+
+pub order_read : (text left : List ℕ) (q : ℕ) (h : ReportHeader) (x : List ℕ) → q < 2 ^ 64 → text ≡ codes "chop 1 field=" ++ (decimal q ++ left) → Stops is_digit left → text ≡ header_line h ++ x
+    → (q ≡ order_number h.field) × (left ≡ after_order h.dim h.gens h.seed h.words x)
+order_read text left q h x lt there stops e =
+    setting_unique (codes "chop 1 field=") text q (order_number h.field) left (after_order h.dim h.gens h.seed h.words x) lt (order_small h.field) stops refl there (e ∙ header_open h x)
+
+pub dim_read : (text left : List ℕ) (d : ℕ) (h : ReportHeader) (x : List ℕ) → d < 2 ^ 64 → text ≡ codes " dim=" ++ (decimal d ++ left) → Stops is_digit left → IsHeader h
+    → text ≡ after_order h.dim h.gens h.seed h.words x → (d ≡ h.dim) × (left ≡ after_dim h.gens h.seed h.words x)
+dim_read text left d h x lt there stops is e =
+    setting_unique (codes " dim=") text d h.dim left (after_dim h.gens h.seed h.words x) lt (omega (arith, is.dim)) stops refl there e
+
+pub gens_read : (text left : List ℕ) (g : ℕ) (h : ReportHeader) (x : List ℕ) → g < 2 ^ 64 → text ≡ codes " gens=" ++ (decimal g ++ left) → Stops is_digit left → IsHeader h
+    → text ≡ after_dim h.gens h.seed h.words x → (g ≡ h.gens) × (left ≡ after_gens h.seed h.words x)
+gens_read text left g h x lt there stops is e =
+    setting_unique (codes " gens=") text g h.gens left (after_gens h.seed h.words x) lt (omega (arith, is.gens)) stops refl there e
+
+pub seed_read : (text left : List ℕ) (s : ℕ) (h : ReportHeader) (x : List ℕ) → s < 2 ^ 64 → text ≡ codes " seed=" ++ (decimal s ++ left) → Stops is_digit left → IsHeader h
+    → text ≡ after_gens h.seed h.words x → (s ≡ h.seed) × (left ≡ after_seed h.words x)
+seed_read text left s h x lt there stops is e = setting_unique (codes " seed=") text s h.seed left (after_seed h.words x) lt is.seed stops refl there e
+
+pub words_read : (text left : List ℕ) (w : ℕ) (h : ReportHeader) (x : List ℕ) → w < 2 ^ 64 → text ≡ codes " words=" ++ (decimal w ++ left) → Stops is_digit left → IsHeader h
+    → text ≡ after_seed h.words x → (w ≡ h.words) × (left ≡ 10 ∷ x)
+words_read text left w h x lt there stops is e = setting_unique (codes " words=") text w h.words left (10 ∷ x) lt (omega (arith, is.words)) stops refl there e
+
+pub header_there : (h : ReportHeader) (text a b c d e x : List ℕ) (q n g s w : ℕ) → HasNumbers h q n g s w → text ≡ codes "chop 1 field=" ++ (decimal q ++ a) → a ≡ codes " dim=" ++ (decimal n ++ b)
+    → b ≡ codes " gens=" ++ (decimal g ++ c) → c ≡ codes " seed=" ++ (decimal s ++ d) → d ≡ codes " words=" ++ (decimal w ++ e) → e ≡ 10 ∷ x → text ≡ header_line h ++ x
+header_there h text a b c d e x q n g s w has p0 p1 p2 p3 p4 p5 =
+    p0
+    ∙ ap (λ (l : List ℕ). codes "chop 1 field=" ++ (decimal q ++ l)) p1
+    ∙ ap (λ (l : List ℕ). codes "chop 1 field=" ++ (decimal q ++ (codes " dim=" ++ (decimal n ++ l)))) p2
+    ∙ ap (λ (l : List ℕ). codes "chop 1 field=" ++ (decimal q ++ (codes " dim=" ++ (decimal n ++ (codes " gens=" ++ (decimal g ++ l)))))) p3
+    ∙ ap (λ (l : List ℕ). codes "chop 1 field=" ++ (decimal q ++ (codes " dim=" ++ (decimal n ++ (codes " gens=" ++ (decimal g ++ (codes " seed=" ++ (decimal s ++ l)))))))) p4
+    ∙ ap (λ (l : List ℕ). codes "chop 1 field=" ++ (decimal q ++ (codes " dim=" ++ (decimal n ++ (codes " gens=" ++ (decimal g ++ (codes " seed=" ++ (decimal s ++ (codes " words=" ++ (decimal w ++ l)))))))))) p5
+    ∙ sym (header_open h x ∙ (λ i. codes "chop 1 field=" ++ (decimal (has.field i) ++ after_order (has.dim_is i) (has.gens_is i) (has.seed_is i) (has.words_is i) x)))

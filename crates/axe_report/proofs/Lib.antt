@@ -1,0 +1,15 @@
+pub mod Fronts
+pub mod Letters
+pub mod Numerals
+pub mod Plain
+pub mod Members
+pub mod Unique
+pub mod Sizes
+pub mod Pieces
+pub mod Orders
+pub mod Counts
+pub mod NextLines
+pub mod FirstLines
+pub mod LastLines
+pub mod Failing
+pub mod Lines

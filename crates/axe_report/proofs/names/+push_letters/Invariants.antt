@@ -1,0 +1,4 @@
+use Rattle.axe_report.proofs.names.«+push_letters».Given as goal
+
+abbrev pub decreases-push_letters : goal.decreases-push_letters
+decreases-push_letters l = l.number

@@ -1,0 +1,6 @@
+pub mod Limits
+pub mod Names
+pub mod Reports
+pub mod Spelling
+pub mod Passing
+pub mod Fronts

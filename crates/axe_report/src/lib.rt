@@ -1,0 +1,36 @@
+//! Reports of composition series: the text that `chop` writes beside its files, written and read.
+#![tactic(auto)]
+
+mod checks;
+mod constituents;
+mod fault;
+mod first_line;
+mod last_line;
+mod laws;
+mod names;
+mod parts;
+mod reading;
+mod report;
+mod writing;
+
+pub use fault::ReportFault;
+pub use laws::{
+    limits_are_named, names_tell_constituents, one_line_fails_first, prefixes_are_no_reports,
+    reports_are_apart, reports_keep_the_limit,
+};
+pub use names::constituent_name;
+pub use reading::read_report;
+pub use report::{Report, ReportFactor, ReportHeader};
+pub use writing::write_report;
+
+/// The greatest dimension that a report names.
+pub const MAX_DIMENSION: usize = 2_048;
+
+/// The most generators that a report names.
+pub const MAX_GENERATORS: usize = 16;
+
+/// The greatest number of a word that a report names.
+pub const MAX_WORDS: u32 = 10_000;
+
+/// No report is longer than this, in bytes.
+pub const REPORT_LIMIT: usize = 1_048_576;
