@@ -207,6 +207,7 @@ module _ (m : ModuleValue) (is : IsModule m) where
         IsOpenSection m seed words (basis_of_rows m all_rows) (length rows) section.action.dim
     unfolding open_conjugates
     open_of_chain seed words left_open = record {
+      some = of_section.is_module.over.positive;
       after = after;
       conjugates = open_conjugates;
       triangular = triangular_by m is all_rows over_all size spans (open_sizes (length rows) section.action.dim after) open_sizes_are_sizes open_chain;

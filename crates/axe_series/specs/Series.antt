@@ -82,9 +82,10 @@ abbrev pub open_place : ℕ → ℕ
 open_place zero = 0
 open_place (suc before) = 1
 
--- conjugated by the basis the generators are block lower triangular for the `offset` rows before the section, its `dim` rows
--- and those after it, and each of the words 0 to `words` of the seed leaves its diagonal block open
+-- conjugated by the basis the generators are block lower triangular for the `offset` rows before the section, its `dim`
+-- rows, one at least, and those after it; and each of the words 0 to `words` of the seed leaves its diagonal block open
 pub record IsOpenSection (m : ModuleValue) (seed words : ℕ) (basis : MatrixValue) (offset dim : ℕ) : Type 0 where
+  pub some : 0 < dim
   pub after : ℕ
   pub conjugates : ModuleValue
   pub triangular : IsTriangularBy m basis (open_sizes offset dim after) conjugates
