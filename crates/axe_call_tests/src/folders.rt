@@ -1,6 +1,6 @@
-//! Folders, in memory and of the file system: files put, read within a limit, and removed.
+//! Folders, in memory, with a fuse and of the file system: files put, read within a limit, and removed.
 use crate::tables::assert_right;
-use axe_folder::{DirFolder, Folder, FolderFault, MemFolder};
+use axe_folder::{DirFolder, Folder, FolderFault, FusedFolder, MemFolder};
 use axe_test_values::{
     TableFault, bytes_of_text, first_field, is_fault, number_of, one_field, three_fields,
     two_fields,
@@ -90,6 +90,37 @@ fn memory_keeps_files_by_name(rt: HostRuntime) -> Result<(), TableFault> {
     each_call(&rt, rt.alloc(), &mut folder, PUT_AGAIN_AND_REMOVED)?;
     assert!(rt; folder.bytes("B").is_some());
     Ok(())
+}
+
+/// Asserts that each call on a folder fails.
+fn assert_failing(rt: &impl Abort, folder: &mut FusedFolder, name: &str) {
+    let removed = folder.remove(name);
+    assert!(rt; matches!(removed, Err(FolderFault::Device)));
+    let put = folder.put(name, b"three");
+    assert!(rt; matches!(put, Err(FolderFault::Device)));
+    let got = folder.get(name, 3);
+    assert!(rt; matches!(got, Err(FolderFault::Device)));
+}
+
+#[test]
+fn a_fuse_passes_three_calls_and_no_more(rt: HostRuntime) -> Result<(), TableFault> {
+    let mut folder = FusedFolder::new(MemFolder::new(rt.alloc()), 3, true);
+    each_call(&rt, rt.alloc(), &mut folder, PUT)?;
+    // the first call that fails is no put, so no file is torn
+    assert_failing(&rt, &mut folder, "A");
+    assert!(rt; folder.bytes("A") == Some(b"one".as_slice()));
+    Ok(())
+}
+
+#[test]
+fn the_first_put_that_fails_may_be_torn(rt: HostRuntime) {
+    for (tears, left) in [(true, Some(b"th".as_slice())), (false, None)] {
+        let mut folder = FusedFolder::new(MemFolder::new(rt.alloc()), 0, tears);
+        let put = folder.put("A", b"three");
+        assert!(rt; matches!(put, Err(FolderFault::Device)));
+        assert_failing(&rt, &mut folder, "A");
+        assert!(rt; folder.bytes("A") == left);
+    }
 }
 
 #[test]

@@ -13,7 +13,8 @@ const ORDERS: [u8; 7] = [2, 3, 4, 5, 7, 8, 9];
 
 /// Lengths around those of a word of bits, of a vector of bytes and of a vector of words.
 const LENGTHS: [usize; 22] = [
-    0, 1, 2, 15, 16, 17, 31, 32, 33, 63, 64, 65, 127, 128, 129, 200, 511, 512, 513, 1025, 2047, 2048,
+    0, 1, 2, 15, 16, 17, 31, 32, 33, 63, 64, 65, 127, 128, 129, 200, 511, 512, 513, 1025, 2047,
+    2048,
 ];
 
 fn field_of_order(rt: &impl Abort, order: u8) -> Field {
@@ -21,7 +22,13 @@ fn field_of_order(rt: &impl Abort, order: u8) -> Field {
 }
 
 /// A row whose entries follow no rule. The rows of two seeds differ.
-fn row_of_seed(rt: &impl Abort, alloc: Global, field: Field, len: usize, seed: u8) -> Result<Row, Refusal> {
+fn row_of_seed(
+    rt: &impl Abort,
+    alloc: Global,
+    field: Field,
+    len: usize,
+    seed: u8,
+) -> Result<Row, Refusal> {
     let mut entries = Vec::new(alloc);
     let mut state = seed;
     for _ in 0..len {
@@ -75,7 +82,13 @@ fn assert_sums(rt: &impl Abort, sum: &Row, row: &Row, scalar: u8, other: &Row) {
 }
 
 /// A sum with a multiple, and the multiple.
-fn combines(rt: &impl Abort, alloc: Global, row: &Row, scalar: u8, other: &Row) -> Result<(), Refusal> {
+fn combines(
+    rt: &impl Abort,
+    alloc: Global,
+    row: &Row,
+    scalar: u8,
+    other: &Row,
+) -> Result<(), Refusal> {
     let mut sum = row.copy(alloc)?;
     let mut multiple = other.copy(alloc)?;
     let zero = Row::zero(alloc, *row.field(), row.len())?;
@@ -100,7 +113,14 @@ fn multiplies(rt: &impl Abort, row: &Row, other: &Row) {
 }
 
 /// A row that has one entry other than zero is found to have it, and is zero no more when its copy is taken away.
-fn finds(rt: &impl Abort, alloc: Global, field: Field, len: usize, index: usize, entry: u8) -> Result<(), Refusal> {
+fn finds(
+    rt: &impl Abort,
+    alloc: Global,
+    field: Field,
+    len: usize,
+    index: usize,
+    entry: u8,
+) -> Result<(), Refusal> {
     let mut row = Row::zero(alloc, field, len)?;
     assert!(rt; row.is_zero() && row.first_nonzero().is_none());
     assert_shape(rt, &row, &field, len);

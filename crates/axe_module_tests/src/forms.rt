@@ -52,11 +52,13 @@ fn forms(rt: &impl Abort, alloc: Global, line: &str) -> Result<bool, TableFault>
     let (module, matrices, basis, nullity) = four_fields(line)?;
     let module = module_of(alloc, module)?;
     let form = form_by_word_0(rt, alloc, &module)?;
-    Ok(form.seed() == SEED
-        && form.word() == 0
-        && form.nullity() == number_of(nullity)?
-        && is_module(alloc, form.matrices().copy(alloc), matrices)?
-        && is_matrix(alloc, form.basis().copy(alloc), basis)?)
+    Ok(
+        form.seed() == SEED
+            && form.word() == 0
+            && form.nullity() == number_of(nullity)?
+            && is_module(alloc, form.matrices().copy(alloc), matrices)?
+            && is_matrix(alloc, form.basis().copy(alloc), basis)?,
+    )
 }
 
 /// Whether a match is the one that is written so.
