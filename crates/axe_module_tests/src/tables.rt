@@ -3,7 +3,7 @@
 //! A further case of a call is a line. A further call is an arm in `answers` of its module, and a function that makes it
 //! where none is given the same values. A table without a call fails its test.
 
-use crate::{actions, decisions, forms, modules, points, spinning};
+use crate::{actions, chops, decisions, forms, modules, points, spinning};
 use axe_test_values::{TableFault, first_field, is_remark};
 use std::alloc::Global;
 use std::process::Abort;
@@ -12,6 +12,7 @@ use std::process::Abort;
 #[derive(Clone, Copy)]
 pub(crate) enum Topic {
     Actions,
+    Chops,
     Decisions,
     Forms,
     Modules,
@@ -24,6 +25,7 @@ fn answers(rt: &impl Abort, alloc: Global, topic: Topic, line: &str) -> Result<b
     let (call, line) = first_field(line)?;
     match topic {
         Topic::Actions => actions::answers(rt, alloc, call, line),
+        Topic::Chops => chops::answers(rt, alloc, call, line),
         Topic::Decisions => decisions::answers(rt, alloc, call, line),
         Topic::Forms => forms::answers(rt, alloc, call, line),
         Topic::Modules => modules::answers(rt, alloc, call, line),

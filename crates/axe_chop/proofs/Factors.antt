@@ -1,0 +1,108 @@
+-- One more factor of an answer.
+use Rattle.std.proofs.Common.{◌≡◌, ℕ, ◌+◌, ◌≤◌, List, [], ◌∷◌, ◌++◌, map, length, All, refl, sym, ap, ap₂, subst, ◌∙◌, string_bytes, String, length-append, arith}
+use Rattle.std.specs.List.{AllByRecursion}
+use Rattle.std.specs.String.{string_eq}
+use Rattle.std.specs.Map.{keys_of, values_of}
+use Rattle.std.specs.declared.alloc.Global.{Global}
+use Rattle.std.proofs.lemmas.List.{map-append, length-map}
+use Rattle.std.proofs.lemmas.List.Elements.{All-nil, All-push}
+use Rattle.std.proofs.lemmas.List.FromFn.{map-range_with_len_more}
+use Rattle.indexmap.specs.IndexMap.{insert_entry}
+use Rattle.axe_iso.specs.Forms.{FormValue}
+use Rattle.axe_report.specs.Names.{constituent_name, count_of, names_of}
+use Rattle.axe_chop.specs.Chopped.{dims_of, multiplicities_in, AreFactorsOf}
+use Rattle.axe_chop.specs.declared.chopped.Factor.{Factor}
+use Rattle.axe_chop.proofs.Naming.{no_names, names_of_push, name_is_new, new_key_last}
+
+multiplicities_push : (places : List ℕ) (n : ℕ)
+    → multiplicities_in places (n + 1) ≡ multiplicities_in places n ++ count_of n places ∷ []
+unfolding multiplicities_in
+multiplicities_push places n = map-range_with_len_more (λ (number : ℕ). count_of number places) 0 n n (omega arith)
+
+no_multiplicities : (places : List ℕ) → multiplicities_in places 0 ≡ []
+unfolding multiplicities_in
+no_multiplicities places = refl
+
+-- entries are the first factors, of which the dimensions are known
+pub record AreFirst (forms : List FormValue) (places dims : List ℕ) (entries : List (String Global × Factor)) : Type 0 where
+  pub factors : AreFactorsOf forms places (keys_of entries) (values_of entries)
+  pub dims_are : dims ≡ dims_of forms
+  pub small : All (λ d. d ≤ 2048) dims
+
+pub none_first : (places : List ℕ) → AreFirst [] places [] []
+none_first places = record {
+  factors = record {
+    forms_are = refl;
+    names_are = sym no_names;
+    multiplicities_are = sym (no_multiplicities places);
+  };
+  dims_are = refl;
+  small = All-nil (λ d. d ≤ 2048);
+}
+
+-- one more factor stands last
+first_push : (forms : List FormValue) (places dims : List ℕ) (entries : List (String Global × Factor))
+    (form : FormValue) (name : String Global) (factor : Factor)
+    → AreFirst forms places dims entries → form.matrices.dim ≤ 2048
+    → string_bytes name ≡ constituent_name form.matrices.dim (count_of form.matrices.dim dims)
+    → factor.form ≡ form → factor.multiplicity ≡ count_of (length dims) places
+    → AreFirst (forms ++ form ∷ []) places (dims ++ form.matrices.dim ∷ []) (entries ++ (name, factor) ∷ [])
+first_push forms places dims entries form name factor h fits named is counted =
+    let all = entries ++ (name, factor) ∷ [] in
+    let keys : keys_of all ≡ keys_of entries ++ name ∷ [] =
+    map-append (λ (e : String Global × Factor). e.0) entries ((name, factor) ∷ []) in
+    let values : values_of all ≡ values_of entries ++ factor ∷ [] =
+    map-append (λ (e : String Global × Factor). e.1) entries ((name, factor) ∷ []) in
+    let more_dims : dims_of (forms ++ form ∷ []) ≡ dims_of forms ++ form.matrices.dim ∷ [] =
+    map-append (λ (f : FormValue). f.matrices.dim) forms (form ∷ []) in
+    let count : length dims ≡ length forms =
+    ap (λ (l : List ℕ). length l) h.dims_are ∙ length-map forms (λ (f : FormValue). f.matrices.dim) in
+    let more : length (forms ++ form ∷ []) ≡ length forms + 1 = length-append forms (form ∷ []) in
+    let next : string_bytes name ≡ constituent_name form.matrices.dim (count_of form.matrices.dim (dims_of forms)) =
+    named ∙ ap (λ (l : List ℕ). constituent_name form.matrices.dim (count_of form.matrices.dim l)) h.dims_are in
+    record {
+      factors = record {
+        forms_are = ap (λ (l : List Factor). map (λ (f : Factor). f.form) l) values
+            ∙ map-append (λ (f : Factor). f.form) (values_of entries) (factor ∷ [])
+            ∙ ap₂ (λ (l : List FormValue) (f : FormValue). l ++ f ∷ []) h.factors.forms_are is;
+        names_are = ap (λ (l : List (String Global)). map string_bytes l) keys
+            ∙ map-append string_bytes (keys_of entries) (name ∷ [])
+            ∙ ap₂ (λ (l : List (List ℕ)) (n : List ℕ). l ++ n ∷ []) h.factors.names_are next
+            ∙ sym (names_of_push (dims_of forms) form.matrices.dim) ∙ ap names_of (sym more_dims);
+        multiplicities_are = ap (λ (l : List Factor). map (λ (f : Factor). f.multiplicity) l) values
+            ∙ map-append (λ (f : Factor). f.multiplicity) (values_of entries) (factor ∷ [])
+            ∙ ap₂ (λ (l : List ℕ) (n : ℕ). l ++ n ∷ []) h.factors.multiplicities_are
+            (counted ∙ ap (λ (n : ℕ). count_of n places) count)
+            ∙ sym (multiplicities_push places (length forms))
+            ∙ ap (λ (n : ℕ). multiplicities_in places n) (sym more);
+      };
+      dims_are = ap (λ (l : List ℕ). l ++ form.matrices.dim ∷ []) h.dims_are ∙ sym more_dims;
+      small = All-push (λ d. d ≤ 2048) dims form.matrices.dim h.small fits;
+    }
+
+-- the bytes are none of those of the keys
+abbrev IsNewName : List ℕ → List (List ℕ) → Type 0
+IsNewName bytes names = AllByRecursion (λ name. name ≡ bytes → ⊥) names
+
+-- one more factor is inserted: its name is new, so it goes last
+pub first_more : (forms : List FormValue) (places dims : List ℕ) (entries : List (String Global × Factor))
+    (form : FormValue) (name : String Global) (factor : Factor) (d k : ℕ)
+    → AreFirst forms places dims entries → d ≡ form.matrices.dim → d ≤ 2048
+    → k ≡ count_of d dims → string_bytes name ≡ constituent_name d k
+    → factor.form ≡ form → factor.multiplicity ≡ count_of (length dims) places
+    → AreFirst (forms ++ form ∷ []) places (dims ++ d ∷ []) (insert_entry string_eq entries name factor)
+first_more forms places dims entries form name factor d k h is_dim fits earlier named is counted =
+    let known : string_bytes name ≡ constituent_name d (count_of d dims) =
+    named ∙ ap (λ (n : ℕ). constituent_name d n) earlier in
+    let of_form : string_bytes name ≡ constituent_name form.matrices.dim (count_of form.matrices.dim dims) =
+    known ∙ ap (λ (n : ℕ). constituent_name n (count_of n dims)) is_dim in
+    let pushed = first_push forms places dims entries form name factor h (omega (arith, is_dim, fits)) of_form is counted in
+    let keys : map string_bytes (keys_of entries) ≡ names_of dims =
+    h.factors.names_are ∙ ap names_of (sym h.dims_are) in
+    let new : IsNewName (string_bytes name) (map string_bytes (keys_of entries)) =
+    subst (λ (l : List (List ℕ)). IsNewName (string_bytes name) l) (sym keys)
+    (subst (λ (n : List ℕ). IsNewName n (names_of dims)) (sym known) (name_is_new d dims fits h.small)) in
+    let last = new_key_last Factor name factor entries new in
+    subst (λ (l : List (String Global × Factor)). AreFirst (forms ++ form ∷ []) places (dims ++ d ∷ []) l) (sym last)
+    (subst (λ (n : ℕ). AreFirst (forms ++ form ∷ []) places (dims ++ n ∷ []) (entries ++ (name, factor) ∷ []))
+    (sym is_dim) pushed)

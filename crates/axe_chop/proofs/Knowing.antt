@@ -1,0 +1,44 @@
+-- The first of some forms that is one of a module.
+use Rattle.std.proofs.Common.{◌≡◌, ℕ, ◌+◌, ◌<◌, ◌≤◌, List, ◌∷◌, ◌++◌, length, get_or, take, drop, refl, sym, ap, subst, ◌∙◌, arith, length-append, Some, None}
+use Rattle.std.proofs.lemmas.List.{take_all, take-append-drop, drop_more, length-take-le}
+use Rattle.std.proofs.lemmas.List.Elements.{All-nil, All-more}
+use Rattle.axe_matrix.specs.Matrices.{MatrixValue}
+use Rattle.axe_spin.specs.Modules.{ModuleValue}
+use Rattle.axe_iso.specs.Forms.{FormValue}
+use Rattle.axe_iso.specs.Matches.{IsMatch}
+use Rattle.axe_series.specs.Runs.{AreOfOthers, IsKnownAs}
+
+-- none of no forms
+pub others_none : (forms : List FormValue) (m : ModuleValue) → AreOfOthers (take 0 forms) m
+others_none forms m = All-nil (λ form. IsMatch form m None)
+
+-- the form of a number
+module _ (forms : List FormValue) (m : ModuleValue) (number : ℕ) (form : FormValue) (below : number < length forms)
+    (is : form ≡ get_or forms number form) (others : AreOfOthers (take number forms) m) where
+  -- none of one more, where it is none
+  pub others_more : IsMatch form m None → AreOfOthers (take (number + 1) forms) m
+  others_more other =
+      All-more (λ form. IsMatch form m None) forms number form below others (subst (λ (f : FormValue). IsMatch f m None) is other)
+
+  -- the first, where it is one
+  pub known_here : (t : MatrixValue) → IsMatch form m (Some t) → IsKnownAs forms m number t
+  known_here t matches = record {
+    earlier = take number forms;
+    form = form;
+    later = drop (number + 1) forms;
+    among = sym (take-append-drop number forms) ∙ ap (λ (rest : List FormValue). take number forms ++ rest)
+        (drop_more forms number form below ∙ (λ i. sym is i ∷ drop (number + 1) forms));
+    number_is = sym (length-take-le number forms (omega arith));
+    others = others;
+    matches = matches;
+  }
+
+-- none of all
+pub others_all : (forms : List FormValue) (m : ModuleValue) (number : ℕ) → AreOfOthers (take number forms) m → length forms ≤ number →
+    AreOfOthers forms m
+others_all forms m number others all = subst (λ (fs : List FormValue). AreOfOthers fs m) (take_all number forms all) others
+
+-- a known number is that of a form
+pub known_below : (forms : List FormValue) (m : ModuleValue) (number : ℕ) (t : MatrixValue) → IsKnownAs forms m number t → number < length forms
+known_below forms m number t known =
+    omega (arith, known.number_is, ap length known.among, length-append known.earlier (known.form ∷ known.later))

@@ -1,0 +1,9 @@
+pub mod Appending
+pub mod Knowing
+pub mod Placing
+pub mod Cutting
+pub mod Stepping
+pub mod Counting
+pub mod Naming
+pub mod Factors
+pub mod AnswerLaws

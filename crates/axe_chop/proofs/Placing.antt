@@ -1,0 +1,159 @@
+-- One more place: the rows of an irreducible section, lifted by the isomorphism to a known factor or by a new form's basis.
+use Rattle.std.proofs.Common.{◌≡◌, ℕ, List, [], ◌∷◌, ◌+◌, ◌≤◌, ◌++◌, length, None, Ok, Err, sym, ap, subst, ◌∙◌, arith, length-append}
+use Rattle.std.specs.List.{All}
+use Rattle.std.proofs.lemmas.List.Elements.{All-append}
+use Rattle.axe_field.specs.Order.{order_number, IsElement}
+use Rattle.axe_field.specs.NumberFields.{number_field}
+use Rattle.axe_row.specs.Rows.{RowValue}
+use Rattle.axe_row.specs.Refusals.{Answers}
+use Rattle.axe_row.specs.declared.refusals.Refusal.{Refusal}
+use Rattle.axe_row.specs.declared.refusals.Refusal.TheVariants.{Memory}
+use Rattle.axe_matrix.specs.Limits.{most_rows}
+use Rattle.axe_matrix.specs.Matrices.{MatrixValue, IsMatrix, product_refusal, matrix_product}
+use Rattle.axe_matrix.proofs.ProductLaws.{length-product, product_refusal-none}
+use Rattle.axe_spin.specs.Modules.{ModuleValue}
+use Rattle.axe_iso.specs.Forms.{FormValue, IsForm, IsFormFrom}
+use Rattle.axe_series.specs.Sections.{SectionValue, lifted_rows}
+use Rattle.axe_series.specs.Runs.{FoundValue, with_place, with_factor, AreOfOthers, IsKnownAs, IsNewForm}
+use Rattle.axe_series.proofs.SomeForm.{IsShownBy, irreducible_is_shown}
+use Rattle.axe_norton.specs.Verdicts.{Decides}
+use Rattle.axe_norton.specs.declared.verdicts.Verdict.TheVariants.{Irreducible}
+use Rattle.axe_chop.specs.Stages.{IsSection}
+use Rattle.axe_chop.specs.Searches.{IsLift, IsPlacedIn}
+
+-- the isomorphism to a known factor is a square matrix of the module's vectors
+pub known_lift : {forms : _} (m : ModuleValue) (number : ℕ) (t : MatrixValue) → IsKnownAs forms m number t → IsLift m t
+known_lift m number t known =
+    let is = known.matches.isomorphism in
+    record {
+      field = is.field ∙ sym is.one_field;
+      columns = is.columns ∙ sym is.one_dimension;
+      count = is.isomorphism.square.length_is ∙ sym is.one_dimension;
+    }
+
+-- the basis of a form is one
+pub form_lift : (m : ModuleValue) (seed word : ℕ) (v : RowValue) (form : FormValue) → IsFormFrom m seed word v form → IsLift m form.basis
+form_lift m seed word v form from = record { field = from.standard.field; columns = from.standard.columns; count = from.square }
+
+-- what a verdict shows of the section's action
+pub shown_in : (m other : ModuleValue) (seed word : ℕ) (v : RowValue) → other ≡ m → (words : ℕ) × Decides m seed words (Irreducible word v) →
+    IsShownBy other seed word v
+shown_in m other seed word v same (words, decides) =
+    subst (λ n. IsShownBy n seed word v) (sym same) (irreducible_is_shown m seed words word v decides)
+
+module _ (section : SectionValue) (t : MatrixValue) (is : IsSection section) (lift : IsLift section.action t) where
+  -- the product is not refused
+  pub place_accepted : product_refusal t section.rows ≡ None
+  place_accepted = product_refusal-none t section.rows (ap order_number (lift.field ∙ sym is.field)) (lift.columns ∙ sym is.count)
+
+  pub place_refused : (refusal : Refusal) →
+      Answers (product_refusal t section.rows) (λ product. product ≡ matrix_product t section.rows) (Err refusal) → refusal ≡ Memory
+  place_refused refusal h =
+      subst (λ why. Answers why (λ product. product ≡ matrix_product t section.rows) (Err refusal)) place_accepted h
+
+  module _ (rows : MatrixValue)
+      (answer : Answers (product_refusal t section.rows) (λ product. product ≡ matrix_product t section.rows) (Ok rows)) where
+    pub place_rows : rows ≡ lifted_rows section t
+    place_rows = subst (λ why. Answers why (λ product. product ≡ matrix_product t section.rows) (Ok rows)) place_accepted answer
+
+    pub place_count : length rows.rows ≡ section.action.dim
+    place_count = ap (λ (x : MatrixValue). length x.rows) place_rows
+        ∙ length-product (number_field t.order) section.rows.cols t.rows section.rows.rows ∙ lift.count
+
+    pub place_field : rows.order ≡ section.rows.order
+    place_field = ap (λ (x : MatrixValue). x.order) place_rows ∙ lift.field ∙ sym is.field
+
+    pub place_columns : rows.cols ≡ section.rows.cols
+    place_columns = ap (λ (x : MatrixValue). x.cols) place_rows
+
+-- the rows of the section, lifted by t
+pub record IsLifted (section : SectionValue) (t rows : MatrixValue) : Type 0 where
+  pub value : rows ≡ lifted_rows section t
+  pub field : rows.order ≡ section.rows.order
+  pub columns : rows.cols ≡ section.rows.cols
+  pub count : length rows.rows ≡ section.action.dim
+
+module _ (section : SectionValue) (t other given : MatrixValue) (is : IsSection section) (lift : IsLift section.action t)
+    (other_is : other ≡ t) (given_is : given ≡ section.rows) where
+  pub lifted_by : (rows : MatrixValue) → Answers (product_refusal other given) (λ product. product ≡ matrix_product other given) (Ok rows) →
+      IsLifted section t rows
+  lifted_by rows answer = record {
+    value = place_rows section t is lift rows asked;
+    field = place_field section t is lift rows asked;
+    columns = place_columns section t is lift rows asked;
+    count = place_count section t is lift rows asked;
+  }
+    where
+      asked : Answers (product_refusal t section.rows) (λ product. product ≡ matrix_product t section.rows) (Ok rows)
+      asked =
+          subst (λ (x : MatrixValue). Answers (product_refusal x section.rows) (λ product. product ≡ matrix_product x section.rows) (Ok rows)) other_is
+          (subst (λ (x : MatrixValue). Answers (product_refusal other x) (λ product. product ≡ matrix_product other x) (Ok rows)) given_is answer)
+
+  pub not_refused_by : (refusal : Refusal) →
+      Answers (product_refusal other given) (λ product. product ≡ matrix_product other given) (Err refusal) → refusal ≡ Memory
+  not_refused_by refusal answer = place_refused section t is lift refusal
+      (subst (λ (x : MatrixValue). Answers (product_refusal x section.rows) (λ product. product ≡ matrix_product x section.rows) (Err refusal)) other_is
+      (subst (λ (x : MatrixValue). Answers (product_refusal other x) (λ product. product ≡ matrix_product other x) (Err refusal)) given_is answer))
+
+-- the form of an action that is the section's
+pub form_lift_of : (m other : ModuleValue) (seed word : ℕ) (v : RowValue) (form : FormValue) → other ≡ m → IsFormFrom other seed word v form →
+    IsLift m form.basis
+form_lift_of m other seed word v form same from =
+    subst (λ n. IsLift n form.basis) same (form_lift other seed word v form from)
+
+-- a factor that is known of the same forms and the same module
+pub known_in : (forms others : List FormValue) (m n : ModuleValue) (number : ℕ) (t : MatrixValue) → others ≡ forms → n ≡ m →
+    IsKnownAs others n number t → IsKnownAs forms m number t
+known_in forms others m n number t same_forms same known =
+    subst (λ (fs : List FormValue). IsKnownAs fs m number t) same_forms (subst (λ (x : ModuleValue). IsKnownAs others x number t) same known)
+
+-- the place of a known factor
+pub placed_as_known : (old next : FoundValue) (section : SectionValue) (seed word : ℕ) (v : RowValue) (number : ℕ) (t : MatrixValue) →
+    IsKnownAs old.forms section.action number t → next ≡ with_place old (lifted_rows section t).rows number →
+    IsPlacedIn old section seed word v next
+placed_as_known old next section seed word v number t known next_is =
+    subst (λ (found : FoundValue). IsPlacedIn old section seed word v found) (sym next_is) (IsPlacedIn.as_known number t known)
+
+-- the place of a new factor, and its form
+abbrev placed_with_form : FoundValue → FormValue → FoundValue
+placed_with_form found form = record { rows = found.rows; forms = found.forms ++ form ∷ []; places = found.places }
+
+pub placed_as_new : (old next : FoundValue) (section : SectionValue) (seed word : ℕ) (v : RowValue) (form : FormValue) (forms : List FormValue)
+    (t : MatrixValue) (number : ℕ) → AreOfOthers old.forms section.action → IsNewForm section.action seed word v form →
+    t ≡ form.basis → number ≡ length old.forms →
+    next ≡ with_place old (lifted_rows section t).rows number → forms ≡ next.forms ++ form ∷ [] →
+    IsPlacedIn old section seed word v (record { rows = next.rows; forms = forms; places = next.places })
+placed_as_new old next section seed word v form forms t number others new t_is number_is next_is forms_is =
+    subst (λ (found : FoundValue). IsPlacedIn old section seed word v found) (sym same) (IsPlacedIn.as_new form others new)
+  where
+    here : next ≡ with_place old (lifted_rows section form.basis).rows (length old.forms)
+    here = next_is ∙ (λ i. with_place old (lifted_rows section (t_is i)).rows (number_is i))
+
+    same : record next { forms = forms } ≡ with_factor old (lifted_rows section form.basis).rows form
+    same =
+        (λ i. record { rows = next.rows; forms = forms_is i; places = next.places })
+        ∙ ap (λ (found : FoundValue). placed_with_form found form) here
+
+-- the form of an action that is the section's is a new one
+pub new_form_of : (m other : ModuleValue) (seed word : ℕ) (v : RowValue) (form : FormValue) → other ≡ m → IsForm form →
+    IsFormFrom other seed word v form → IsNewForm m seed word v form
+new_form_of m other seed word v form same is_form from =
+    record { is_form = is_form; from = subst (λ (n : ModuleValue). IsFormFrom n seed word v form) same from }
+
+-- forms that are none of the same module
+pub others_in : (forms others : List FormValue) (m n : ModuleValue) → others ≡ forms → n ≡ m → AreOfOthers others n → AreOfOthers forms m
+others_in forms others m n same_forms same h =
+    subst (λ (fs : List FormValue). AreOfOthers fs m) same_forms (subst (λ (x : ModuleValue). AreOfOthers others x) same h)
+
+-- a matrix with the rows of another after its own is well formed
+pub IsMatrix-appended : (m rows : MatrixValue) → IsMatrix m → IsMatrix rows → rows.order ≡ m.order → rows.cols ≡ m.cols →
+    length m.rows + length rows.rows ≤ most_rows → IsMatrix (record m { rows = m.rows ++ rows.rows })
+IsMatrix-appended m rows h k order cols room = record {
+  some_column = h.some_column;
+  columns_fit = h.columns_fit;
+  rows_fit = omega (arith, length-append m.rows rows.rows, room);
+  row_lengths = All-append (λ row. length row ≡ m.cols) m.rows rows.rows h.row_lengths
+      (subst (λ n. All (λ (row : List ℕ). length row ≡ n) rows.rows) cols k.row_lengths);
+  elements = All-append (All (IsElement m.order)) m.rows rows.rows h.elements
+      (subst (λ o. All (All (IsElement o)) rows.rows) order k.elements);
+}

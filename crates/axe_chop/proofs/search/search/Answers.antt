@@ -1,0 +1,81 @@
+use Rattle.std.proofs.Common.{subst}
+use Rattle.axe_chop.specs.Stages.{IsSection}
+use Rattle.axe_chop.proofs.Stepping.{popped, popped_none, pushed_first, pushed_two, decided_as, true_as, reached_first, reached_end, rest_rows_like, answered_open, reached_cut, less_after_cut, reached_placed, less_after_place}
+use Rattle.axe_chop.proofs.search.search.Goals as goal
+use Rattle.axe_chop.proofs.search.search.Goals.{in-Irreducible+in_ok-place-in-Irreducible+in-Bits-1, in-Irreducible+in_ok-place-in-Irreducible+in-Bytes-1, in-Reducible+in_ok-sub-in-Reducible+in_ok-push_front-in-Reducible+in_ok-push_front-in-Reducible-2}
+
+pub loop-section-init : goal.loop-section-init
+loop-section-init c =
+    reached_first c.args.module.now c.args.seed c.args.words c.nothing-found.result c.push_front.new.self.items
+    c.nothing-found.ensures.basis c.nothing-found.ensures.forms c.nothing-found.ensures.places c.nothing-found.ensures.well_formed
+    (subst IsSection c.in_ok-whole.ensures.whole c.in_ok-whole.ensures.well_formed)
+    (pushed_first _ _ _ _ c.in_ok-whole.ensures.whole c.new-sections.ensures.items c.in_ok-push_front.ensures.items)
+
+pub open_at-requires-clause-after_like : goal.open_at-requires-clause-after_like
+open_at-requires-clause-after_like c =
+    rest_rows_like c.args.module.now c.args.seed c.args.words c.loop-section.found c.loop-section.sections.items c.loop-section.invariant
+    c.in-Some.section c.pop_front.new.self.items
+    (popped _ _ c.pop_front.result c.in-Some.section c.in-Some.is c.pop_front.ensures.items)
+
+pub returns-in-Undecided : goal.returns-in-Undecided
+returns-in-Undecided c =
+    answered_open c.args.module.now c.args.seed c.args.words c.loop-section.found c.loop-section.sections.items c.loop-section.invariant
+    c.in-Some.section c.pop_front.new.self.items
+    (popped _ _ c.pop_front.result c.in-Some.section c.in-Some.is c.pop_front.ensures.items)
+    c.open_at.result (decided_as c.action.result.now _ c.args.seed c.args.words _ _ c.action.ensures.value c.in-Undecided.is c.in_ok-word.ensures.decides)
+    c.open_at.ensures.opened c.open_at.ensures.well_formed
+
+pub loop-section-preserved : goal.loop-section-preserved
+loop-section-preserved c =
+    elim c.match-branch-4.branch [
+      | in-Irreducible+in_ok-place-in-Irreducible+in-Bits-1 w ↦
+          rw (w.found-is, w.sections-is) (reached_placed c.args.module.now c.args.seed c.args.words c.loop-section.found c.loop-section.sections.items c.loop-section.invariant
+          c.in-Some.section c.pop_front.new.self.items
+          (popped _ _ c.pop_front.result c.in-Some.section c.in-Some.is c.pop_front.ensures.items)
+          _ _ (decided_as c.action.result.now _ c.args.seed c.args.words _ _ c.action.ensures.value w.in-Irreducible.is c.in_ok-word.ensures.decides)
+          w.place.new.self w.in_ok-place-in-Irreducible.ensures.placed w.in_ok-place-in-Irreducible.ensures.basis
+          (w.in_ok-place-in-Irreducible.ensures.well_formed c.loop-section.invariant.formed))
+      | in-Irreducible+in_ok-place-in-Irreducible+in-Bytes-1 w ↦
+          rw (w.found-is, w.sections-is) (reached_placed c.args.module.now c.args.seed c.args.words c.loop-section.found c.loop-section.sections.items c.loop-section.invariant
+          c.in-Some.section c.pop_front.new.self.items
+          (popped _ _ c.pop_front.result c.in-Some.section c.in-Some.is c.pop_front.ensures.items)
+          _ _ (decided_as c.action.result.now _ c.args.seed c.args.words _ _ c.action.ensures.value w.in-Irreducible.is c.in_ok-word.ensures.decides)
+          w.place.new.self w.in_ok-place-in-Irreducible.ensures.placed w.in_ok-place-in-Irreducible.ensures.basis
+          (w.in_ok-place-in-Irreducible.ensures.well_formed c.loop-section.invariant.formed))
+      | in-Reducible+in_ok-sub-in-Reducible+in_ok-push_front-in-Reducible+in_ok-push_front-in-Reducible-2 w ↦
+          rw (w.found-is, w.sections-is) (reached_cut c.args.module.now c.args.seed c.args.words c.loop-section.found c.loop-section.sections.items c.loop-section.invariant
+          c.in-Some.section c.pop_front.new.self.items
+          (popped _ _ c.pop_front.result c.in-Some.section c.in-Some.is c.pop_front.ensures.items)
+          _ (decided_as c.action.result.now _ c.args.seed c.args.words _ _ c.action.ensures.value w.in-Reducible.is c.in_ok-word.ensures.decides)
+          (true_as c.action.result.now _ _ _ c.action.ensures.value w.in-Reducible.is c.in_ok-word.ensures.holds) _ _
+          w.in_ok-sub-in-Reducible.ensures w.push_front-in-Reducible-2.new.self.items
+          (pushed_two _ _ _ _ _ w.in_ok-push_front-in-Reducible.ensures.items
+          w.in_ok-push_front-in-Reducible-2.ensures.items))
+    ]
+
+pub loop-section-smaller : goal.loop-section-smaller
+loop-section-smaller c =
+    elim c.match-branch-4.branch [
+      | in-Irreducible+in_ok-place-in-Irreducible+in-Bits-1 w ↦
+          rw w.sections-is (less_after_place c.args.module.now c.args.seed c.args.words c.loop-section.found c.loop-section.sections.items c.loop-section.invariant
+          c.in-Some.section c.pop_front.new.self.items
+          (popped _ _ c.pop_front.result c.in-Some.section c.in-Some.is c.pop_front.ensures.items))
+      | in-Irreducible+in_ok-place-in-Irreducible+in-Bytes-1 w ↦
+          rw w.sections-is (less_after_place c.args.module.now c.args.seed c.args.words c.loop-section.found c.loop-section.sections.items c.loop-section.invariant
+          c.in-Some.section c.pop_front.new.self.items
+          (popped _ _ c.pop_front.result c.in-Some.section c.in-Some.is c.pop_front.ensures.items))
+      | in-Reducible+in_ok-sub-in-Reducible+in_ok-push_front-in-Reducible+in_ok-push_front-in-Reducible-2 w ↦
+          rw w.sections-is (less_after_cut c.args.module.now c.args.seed c.args.words c.loop-section.found c.loop-section.sections.items c.loop-section.invariant
+          c.in-Some.section c.pop_front.new.self.items
+          (popped _ _ c.pop_front.result c.in-Some.section c.in-Some.is c.pop_front.ensures.items)
+          _ (decided_as c.action.result.now _ c.args.seed c.args.words _ _ c.action.ensures.value w.in-Reducible.is c.in_ok-word.ensures.decides)
+          (true_as c.action.result.now _ _ _ c.action.ensures.value w.in-Reducible.is c.in_ok-word.ensures.holds) _ _
+          w.in_ok-sub-in-Reducible.ensures w.push_front-in-Reducible-2.new.self.items
+          (pushed_two _ _ _ _ _ w.in_ok-push_front-in-Reducible.ensures.items
+          w.in_ok-push_front-in-Reducible-2.ensures.items))
+    ]
+
+pub returns : goal.returns
+returns c =
+    reached_end c.args.module.now c.args.seed c.args.words c.loop-section.found c.loop-section.sections.items c.loop-section.invariant
+    (popped_none _ _ c.pop_front.result c.in_default.is c.pop_front.ensures.rest c.pop_front.ensures.items)

@@ -1,0 +1,4 @@
+pub mod Stages
+pub mod Searches
+pub mod Chopped
+pub mod Answers

@@ -1,0 +1,134 @@
+//! What is found of a composition series.
+
+ghost use Rattle.std.specs.Prelude.{◌≡◌, ℕ, ◌+◌, ◌≤◌, [], ◌++◌, length, All, None};
+ghost use Rattle.axe_row.specs.Refusals.{Answers};
+ghost use Rattle.axe_matrix.specs.Limits.{most_rows};
+ghost use Rattle.axe_matrix.specs.Matrices.{IsMatrix};
+ghost use Rattle.axe_norton.specs.Verdicts.{Decides};
+ghost use Rattle.axe_norton.specs.declared.verdicts.Verdict.TheVariants.{Irreducible};
+ghost use Rattle.axe_iso.specs.Forms.{FormValue};
+ghost use Rattle.axe_series.specs.Sections.{lifted_rows};
+ghost use Rattle.axe_series.specs.Runs.{with_place};
+ghost use Rattle.axe_chop.specs.Stages.{IsActionLike};
+ghost use Rattle.axe_chop.specs.Searches.{IsLift, FindsKnown, IsPlacedIn, found_value};
+
+use crate::section::Section;
+use axe_iso::{Form, form_of, matches};
+use axe_matrix::{Matrix, Refusal, Row};
+use axe_spin::Module;
+use std::alloc::Global;
+
+/// What is found so far: the rows of the basis, the forms of the factors in order of first appearance, and for each place
+/// of the series, from the bottom, the number of its factor.
+#[derive(Drop)]
+pub(crate) struct Found {
+    pub(crate) basis: Matrix,
+    pub(crate) forms: Vec<Form>,
+    pub(crate) places: Vec<u16>,
+}
+
+impl Found {
+    /// Nothing of a module is found.
+    pub(crate) fn nothing(alloc: Global, module: &Module) -> Found
+        ensures basis { result.basis ≡ record { order = «module».now.order; cols = «module».now.dim; rows = [] } }
+        ensures forms { result.forms.items ≡ [] }
+        ensures places { result.places.items ≡ [] }
+        ensures well_formed { IsMatrix result.basis }
+    {
+        Found {
+            basis: Matrix::empty(alloc, *module.field(), module.dim()),
+            forms: Vec::new(alloc),
+            places: Vec::new(alloc),
+        }
+    }
+
+    /// One more place, for a section that a word of a seed showed to be irreducible, by a vector: that of the first known
+    /// factor that the section's action is isomorphic to, or else of a new factor.
+    pub(crate) fn place(
+        &mut self,
+        alloc: Global,
+        section: &Section,
+        seed: u64,
+        word: u32,
+        vector: &Row,
+    ) -> Result<(), Refusal>
+        requires decided { (words : ℕ) × Decides section.now.action seed words (Irreducible word vector.now) }
+        requires like { All (λ (form : FormValue). IsActionLike section.now.action form.matrices) self.old.forms.items }
+        requires field { self.old.basis.order ≡ section.now.rows.order }
+        requires fits { self.old.basis.cols ≡ section.now.rows.cols }
+        requires room { length self.old.basis.rows + section.now.action.dim ≤ most_rows }
+        requires few_forms { length self.old.forms.items ≤ length self.old.basis.rows }
+        ensures placed { Answers None
+            (λ _. IsPlacedIn (found_value self.old) section.now seed word vector.now (found_value self.new)) result }
+        ensures basis { Answers None
+            (λ _. self.new.basis ≡ record self.old.basis { rows = self.new.basis.rows }) result }
+        ensures well_formed { IsMatrix self.old.basis → Answers None (λ _. IsMatrix self.new.basis) result }
+    {
+        if let Some((number, isomorphism)) = known_form(alloc, &self.forms, section.action())? {
+            return self.append_place(alloc, section, &isomorphism, number);
+        }
+        let form = form_of(alloc, section.action(), seed, word, vector)?;
+        let number = self.forms.len();
+        self.append_place(alloc, section, form.basis(), number)?;
+        self.forms.push(form)?;
+        Ok(())
+    }
+
+    /// One more place, of the factor with a number: the section's rows are lifted by `lift` and come after those so far.
+    fn append_place(
+        &mut self,
+        alloc: Global,
+        section: &Section,
+        lift: &Matrix,
+        number: usize,
+    ) -> Result<(), Refusal>
+        requires lift { IsLift section.now.action lift.now }
+        requires field { self.old.basis.order ≡ section.now.rows.order }
+        requires fits { self.old.basis.cols ≡ section.now.rows.cols }
+        requires room { length self.old.basis.rows + section.now.action.dim ≤ most_rows }
+        requires number { number ≤ length self.old.basis.rows }
+        ensures placed { Answers None (λ _. found_value self.new
+            ≡ with_place (found_value self.old) (lifted_rows section.now lift.now).rows number) result }
+        ensures basis { Answers None
+            (λ _. self.new.basis ≡ record self.old.basis { rows = self.new.basis.rows }) result }
+        ensures well_formed { IsMatrix self.old.basis → Answers None (λ _. IsMatrix self.new.basis) result }
+    {
+        let rows = lift.mul(alloc, section.rows())?;
+        append_rows(alloc, &mut self.basis, &rows)?;
+        self.places.push(number as u16)?;
+        Ok(())
+    }
+}
+
+/// The first of some forms that is one of a module, by its number, with the isomorphism that it gives; `None` where the
+/// module is isomorphic to none of their factors.
+fn known_form(
+    alloc: Global,
+    forms: &[Form],
+    action: &Module,
+) -> Result<Option<(usize, Matrix)>, Refusal>
+    requires like { All (λ (form : FormValue). IsActionLike action.now form.matrices) forms.now }
+    ensures { Answers None (FindsKnown forms.now action.now) result }
+{
+    for number in 0..forms.len() {
+        if let Some(isomorphism) = matches(alloc, &forms[number], action)? {
+            return Ok(Some((number, isomorphism)));
+        }
+    }
+    Ok(None)
+}
+
+/// Appends the rows of one matrix to those of another over one field and of one length; there are no more rows than a
+/// matrix may have.
+pub(crate) fn append_rows(alloc: Global, basis: &mut Matrix, rows: &Matrix) -> Result<(), Refusal>
+    requires field { rows.now.order ≡ basis.old.order }
+    requires fits { rows.now.cols ≡ basis.old.cols }
+    requires room { length basis.old.rows + length rows.now.rows ≤ most_rows }
+    ensures { Answers None (λ _. basis.new ≡ record basis.old { rows = basis.old.rows ++ rows.now.rows }) result }
+{
+    for index in 0..rows.rows() {
+        let row = rows.row(index).copy(alloc)?;
+        basis.append(row)?;
+    }
+    Ok(())
+}

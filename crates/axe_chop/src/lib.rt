@@ -1,0 +1,13 @@
+//! Composition series of modules: what they are stands in `axe_series`; here they are found.
+#![tactic(auto)]
+
+mod chopped;
+mod chopping;
+mod fault;
+mod found;
+mod search;
+mod section;
+
+pub use chopped::{Chopped, Factor};
+pub use chopping::chop;
+pub use fault::ChopFault;

@@ -1,0 +1,86 @@
+//! The search for a composition series.
+
+ghost use Rattle.std.specs.Prelude.{◌≡◌, ◌≤◌, ◌+◌, ◌∷◌, length, All, None, IfOk};
+ghost use Rattle.axe_row.specs.Refusals.{Answers};
+ghost use Rattle.axe_matrix.specs.Limits.{most_rows};
+ghost use Rattle.axe_matrix.specs.Matrices.{IsMatrix};
+ghost use Rattle.axe_chop.specs.Stages.{IsRowsLike, sections_dim, with_sections};
+ghost use Rattle.axe_chop.specs.Searches.{IsSearched};
+ghost use Rattle.axe_chop.specs.declared.search.Searched.TheVariants.{Open};
+
+use crate::found::{Found, append_rows};
+use crate::section::Section;
+use axe_matrix::{Matrix, Refusal};
+use axe_norton::{MAX_WORDS, Verdict, decide};
+use axe_spin::Module;
+use std::alloc::Global;
+use std::collections::VecDeque;
+
+/// What comes of a search.
+#[derive(Drop)]
+pub(crate) enum Searched {
+    /// Everything is found.
+    Complete(Found),
+    /// A section stays undecided: of the basis `offset` rows stand before the section's `dim` rows.
+    Open {
+        basis: Matrix,
+        offset: usize,
+        dim: usize,
+    },
+}
+
+/// What the words 0 to `words` of a seed find of a module: sections are decided in turn, from the bottom; a reducible one is
+/// cut in two, and an irreducible one has the next place.
+pub(crate) fn search(
+    alloc: Global,
+    module: &Module,
+    seed: u64,
+    words: u32,
+) -> Result<Searched, Refusal>
+    requires words { words ≤ MAX_WORDS }
+    ensures { Answers None (IsSearched «module».now seed words) result }
+{
+    let mut found = Found::nothing(alloc, module);
+    // Sections still to be decided, the lowest one first.
+    let mut sections = VecDeque::new(alloc);
+    sections.push_front(Section::whole(alloc, module)?)?;
+    while let Some(section) = sections.pop_front() {
+        match decide(alloc, section.action(), seed, words)? {
+            Verdict::Irreducible { word, vector } => {
+                found.place(alloc, &section, seed, word, &vector)?;
+            }
+            Verdict::Reducible(space) => {
+                let (sub, quotient) = section.cut(alloc, &space)?;
+                sections.push_front(quotient)?;
+                sections.push_front(sub)?;
+            }
+            Verdict::Undecided => return open_at(alloc, found, &section, &sections),
+        }
+    }
+    Ok(Searched::Complete(found))
+}
+
+/// The outcome where a section stays undecided: the rows so far, then the section's, and then those of the sections after
+/// it are the basis.
+fn open_at(
+    alloc: Global,
+    found: Found,
+    section: &Section,
+    after: &VecDeque<Section>,
+) -> Result<Searched, Refusal>
+    requires like { IsRowsLike found.basis section.now }
+    requires after_like { All (IsRowsLike found.basis) after.now.items }
+    requires room { length found.basis.rows + sections_dim (section.now ∷ after.now.items) ≤ most_rows }
+    ensures opened { Answers None (λ searched. searched ≡ Open
+        (with_sections found.basis (section.now ∷ after.now.items)) (length found.basis.rows) section.now.action.dim) result }
+    ensures well_formed { IfOk result (λ _. IsMatrix (with_sections found.basis (section.now ∷ after.now.items))) }
+{
+    let mut basis = found.basis;
+    let offset = basis.rows();
+    let dim = section.action().dim();
+    append_rows(alloc, &mut basis, section.rows())?;
+    for index in 0..after.len() {
+        append_rows(alloc, &mut basis, after[index].rows())?;
+    }
+    Ok(Searched::Open { basis, offset, dim })
+}

@@ -1,0 +1,120 @@
+//! Composition series.
+
+use crate::tables::{Topic, each_call};
+use crate::values::module_of;
+use axe_chop::{ChopFault, Chopped, chop};
+use axe_matrix::Refusal;
+use axe_test_values::{TableFault, four_fields, is_matrix};
+use std::alloc::{AllocError, Global};
+use std::process::Abort;
+
+/// The seed of the words, and the number of the last word.
+const SEED: u64 = 1;
+
+const WORDS: u32 = 20;
+
+/// A module, the names of its constituents from the bottom, the multiplicities of its factors, and the basis.
+const SERIES: &str = "\
+chop | 2: 01/11 | 2a | 1 | 2: 01/11
+# The permutations of three points, over the fields of three elements and of two.
+chop | 3: 010/100/001, 3: 010/001/100 | 1a 1b 1a | 2 1 | 3: 111/012/001
+chop | 2: 010/100/001, 2: 010/001/100 | 2a 1a | 1 1 | 2: 011/101/001
+chop | 2: 0100/1100/0011/0010 | 2a 2a | 2 | 2: 0001/0010/0100/1100
+# Two factors of one dimension that are not isomorphic.
+chop | 4: 20/03 | 1a 1b | 1 1 | 4: 01/10
+chop | 5: 0 | 1a | 1 | 5: 1
+chop | 2: 1000/0100/0010/0001 | 1a 1a 1a 1a | 4 | 2: 0001/0010/0100/1000
+";
+
+/// The companion matrix of x^10 + x^3 + 1, which is irreducible; each value is zero or invertible.
+const OPEN: &str = "\
+2: 0100000000/0010000000/0001000000/0000100000/0000010000/0000001000/0000000100/0000000010/0000000001/1001000000";
+
+/// The identity matrix of that dimension.
+const IDENTITY: &str = "\
+2: 1000000000/0100000000/0010000000/0001000000/0000100000/0000010000/0000001000/0000000100/0000000010/0000000001";
+
+/// The names of the constituents, from the bottom.
+fn names(alloc: Global, chopped: &Chopped) -> Result<String, AllocError> {
+    let mut names = String::new(alloc);
+    for &place in &chopped.series {
+        if let Some((name, _)) = chopped.factors.get_index(usize::from(place)) {
+            if !names.is_empty() {
+                names.push_str(" ")?;
+            }
+            names.push_str(name.as_str())?;
+        }
+    }
+    Ok(names)
+}
+
+/// The multiplicities of the factors.
+fn multiplicities(alloc: Global, chopped: &Chopped) -> Result<String, AllocError> {
+    let mut numbers = String::new(alloc);
+    for factor in chopped.factors.values() {
+        if !numbers.is_empty() {
+            numbers.push_str(" ")?;
+        }
+        numbers.push_str(format!(in alloc; "{}", factor.multiplicity)?.as_str())?;
+    }
+    Ok(numbers)
+}
+
+/// Whether a composition series is the one that is written so.
+fn is_series(
+    alloc: Global,
+    chopped: Chopped,
+    series: &str,
+    counts: &str,
+    basis: &str,
+) -> Result<bool, TableFault> {
+    if names(alloc, &chopped)?.as_str() != series {
+        return Ok(false);
+    }
+    if multiplicities(alloc, &chopped)?.as_str() != counts {
+        return Ok(false);
+    }
+    is_matrix(alloc, Ok(chopped.basis), basis)
+}
+
+fn chops(alloc: Global, line: &str) -> Result<bool, TableFault> {
+    let (module, series, counts, basis) = four_fields(line)?;
+    let module = module_of(alloc, module)?;
+    match chop(alloc, &module, SEED, WORDS) {
+        Ok(chopped) => is_series(alloc, chopped, series, counts, basis),
+        Err(ChopFault::Undecided { .. }) => Ok(false),
+        Err(ChopFault::Memory) => Err(TableFault::Refused(Refusal::Memory)),
+    }
+}
+
+/// Whether a call answers what its line says.
+pub(crate) fn answers(
+    rt: &impl Abort,
+    alloc: Global,
+    call: &str,
+    line: &str,
+) -> Result<bool, TableFault> {
+    match call {
+        "chop" => chops(alloc, line),
+        _ => panic!(rt; "no such call: {call}"),
+    }
+}
+
+#[test]
+fn modules_are_chopped(rt: HostRuntime) -> Result<(), TableFault> {
+    each_call(&rt, rt.alloc(), Topic::Chops, SERIES)
+}
+
+#[test]
+fn a_section_may_stay_undecided(rt: HostRuntime) -> Result<(), TableFault> {
+    let module = module_of(rt.alloc(), OPEN)?;
+    match chop(rt.alloc(), &module, SEED, 0) {
+        Ok(_) => panic!(&rt; "decided"),
+        Err(ChopFault::Undecided { basis, offset, dim }) => {
+            assert!(&rt; offset == 0 && dim == 10);
+            assert!(&rt; is_matrix(rt.alloc(), Ok(basis), IDENTITY)?);
+            Ok(())
+        }
+        Err(ChopFault::Memory) => Err(TableFault::Refused(Refusal::Memory)),
+    }
+}
