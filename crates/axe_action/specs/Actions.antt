@@ -1,5 +1,6 @@
 -- Actions of a module on invariant spaces and modulo them, duals, annihilators, extended bases and conjugates.
-use Rattle.std.specs.Prelude.{◌≡◌, ℕ, ◌<◌, ◌==◌, ◌&&◌, ◌⊎◌, not, List, [], length, get_or, Option, Some, None, if◌then◌else◌}
+use Rattle.std.specs.Prelude.{◌≡◌, ℕ, ◌<◌, ◌==◌, ◌&&◌, ◌⊎◌, not, List, [], length, get_or}
+use Rattle.std.specs.Prelude.{Option, Some, None, if◌then◌else◌}
 use Rattle.axe_algebra.specs.Lists.{IsMatrixOver}
 use Rattle.axe_algebra.specs.ListArithmetic.{IsConjugate, transposed_generators}
 use Rattle.axe_algebra.specs.SpansOfLists.{IsReducedBasis, IsAnnihilatorBasis, IsExtendedBasis}
@@ -7,14 +8,15 @@ use Rattle.axe_algebra.specs.ModulesOfLists.{IsSubAction, IsQuotientAction}
 use Rattle.axe_field.specs.Order.{order_number}
 use Rattle.axe_field.specs.NumberFields.{number_field}
 use Rattle.axe_row.specs.declared.refusals.Refusal.{Refusal}
-use Rattle.axe_row.specs.declared.refusals.Refusal.TheVariants.{FieldsDiffer, ShapesDiffer, NotInvariant, WholeSpace, ZeroSpace}
+use Rattle.axe_row.specs.declared.refusals.Refusal.TheVariants.{FieldsDiffer, ShapesDiffer}
+use Rattle.axe_row.specs.declared.refusals.Refusal.TheVariants.{NotInvariant, WholeSpace, ZeroSpace}
 use Rattle.axe_row.specs.Refusals.{RefusedAs, first_of}
 use Rattle.axe_matrix.specs.Matrices.{MatrixValue}
 use Rattle.axe_spin.specs.Modules.{ModuleValue, rows_refusal, IsInvariantIn, SpansModule}
 use Rattle.axe_spin.specs.Spinning.{has_only_zeros}
 
--- why a module has no action on the span of the rows, so far as it needs no elimination to tell: they are no vectors of it, or
--- else span zero
+-- why a module has no action on the span of the rows, so far as it needs no elimination to tell: they are no vectors of
+-- it, or else span zero
 abbrev pub sub_action_refusal : ModuleValue → MatrixValue → Option Refusal
 sub_action_refusal m rows =
     first_of (rows_refusal m rows) (if has_only_zeros rows.rows then Some ZeroSpace else None)
@@ -23,14 +25,15 @@ sub_action_refusal m rows =
 abbrev pub action_late : ModuleValue → MatrixValue → Refusal → Type 0
 action_late m rows = RefusedAs NotInvariant (¬ (IsInvariantIn m rows))
 
--- why there is no action modulo the span of rows that are vectors of the module: it is everything, or else is not invariant
+-- why there is no action modulo the span of rows that are vectors of the module: it is everything, or else is not
+-- invariant
 abbrev pub quotient_late : ModuleValue → MatrixValue → Refusal → Type 0
 quotient_late m rows refusal =
     RefusedAs WholeSpace (SpansModule m rows) refusal
     ⊎ RefusedAs NotInvariant ((¬ (SpansModule m rows)) × (¬ (IsInvariantIn m rows))) refusal
 
--- `action` is the sub action on the rows of the matrix as they stand: row t times a generator is the combination of the rows
--- with row t of the action's matrix as coefficients (Parker 1984)
+-- `action` is the sub action on the rows of the matrix as they stand: row t times a generator is the combination of the
+-- rows with row t of the action's matrix as coefficients (Parker 1984)
 pub record IsBasisAction (m : ModuleValue) (rows : MatrixValue) (action : ModuleValue) : Type 0 where
   pub field : action.order ≡ m.order
   pub dimension : action.dim ≡ length rows.rows
@@ -62,7 +65,8 @@ IsProperActionModulo m rows action = (¬ (SpansModule m rows)) × IsInvariantIn 
 abbrev pub dual_module : ModuleValue → ModuleValue
 dual_module m = record { order = m.order; dim = m.dim; generators = transposed_generators m.dim m.generators }
 
--- the matrix has as its rows the reduced basis of the annihilator: of all v with v w^T = 0 for every row w (Holt and Rees 1994)
+-- the matrix has as its rows the reduced basis of the annihilator: of all v with v w^T = 0 for every row w (Holt and
+-- Rees 1994)
 pub record IsAnnihilatorMatrix (rows basis : MatrixValue) : Type 0 where
   pub field : basis.order ≡ rows.order
   pub columns : basis.cols ≡ rows.cols
@@ -74,8 +78,8 @@ pub record IsExtendedMatrix (rows extended : MatrixValue) : Type 0 where
   pub columns : extended.cols ≡ rows.cols
   pub extends : IsExtendedBasis (number_field rows.order) rows.cols rows.rows extended.rows
 
--- why a module has no conjugate by a matrix, so far as it needs no elimination to tell: it is over another field, or else not of
--- the module's dimension
+-- why a module has no conjugate by a matrix, so far as it needs no elimination to tell: it is over another field, or
+-- else not of the module's dimension
 abbrev pub conjugate_refusal : ModuleValue → MatrixValue → Option Refusal
 conjugate_refusal m p =
     if not (order_number p.order == order_number m.order) then Some FieldsDiffer

@@ -26,7 +26,8 @@ pub record IsRowModulo (e : EchelonValue) (columns v row : List ℕ) : Type 0 wh
   pub entries : (s : ℕ) → s < length columns → get_or row s 0 ≡ get_or representative (get_or columns s 0) 0
 
 -- the matrix has the rows of g at the first i of these columns, modulo the rows' span
-pub record HasRowsModulo (e : EchelonValue) (columns : List ℕ) (g : List (List ℕ)) (i : ℕ) (action : MatrixValue) : Type 0 where
+pub record HasRowsModulo (e : EchelonValue) (columns : List ℕ) (g : List (List ℕ)) (i : ℕ) (action : MatrixValue) :
+    Type 0 where
   pub field : action.order ≡ e.order
   pub width : action.cols ≡ length columns
   pub count : length action.rows ≡ i

@@ -32,7 +32,8 @@ pub record IsQuotientAction (F : Field) (M : Module F) (k : ℕ) (v : Matrix F) 
   pub columns : ℕ → ℕ
   pub free : IsAscendingListOf (IsFree F M.dimension k v) m columns
   pub acts : (i t : ℕ) → i < M.count → t < m →
-      InSpan F k v (subtract F (image F M (unit_vector F (columns t)) i) (times F m (Q.generator i t) (unit_vectors F columns)))
+      InSpan F k v
+      (subtract F (image F M (unit_vector F (columns t)) i) (times F m (Q.generator i t) (unit_vectors F columns)))
 
 -- D is the action on the d rows of b from number c on, modulo the c rows before them:
 -- b_(c + t) g = sum over s of D[t][s] b_(c + s) plus a vector of the span of the first c rows

@@ -11,7 +11,8 @@ pub record IsBlockLowerTriangular (K : NumberField) (sizes : List ℕ) (matrix :
   pub triangular : Blocks.IsBlockLowerTriangular (field_of K) sizes (matrix_of K matrix)
 
 -- `diagonal` is the diagonal block of this number of the square matrix
-pub record IsDiagonalBlock (K : NumberField) (sizes : List ℕ) (block : ℕ) (matrix diagonal : List (List ℕ)) : Type 0 where
+pub record IsDiagonalBlock (K : NumberField) (sizes : List ℕ) (block : ℕ)
+    (matrix diagonal : List (List ℕ)) : Type 0 where
   pub square : IsSquareOver K (Blocks.block_start sizes (length sizes)) matrix
   pub diagonal_square : IsSquareOver K (Blocks.block_size sizes block) diagonal
   pub block_is : Blocks.IsDiagonalBlock (field_of K) sizes block (matrix_of K matrix) (matrix_of K diagonal)

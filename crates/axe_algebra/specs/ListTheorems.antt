@@ -10,12 +10,14 @@ use Rattle.axe_algebra.specs.SpansOfLists.{IsSpanned, IsReducedBasis}
 
 -- the product of two lists is the product of their matrices
 abbrev pub ProductOfListsIsProduct : NumberField → Type 0
-ProductOfListsIsProduct K = (columns : ℕ) (a b : List (List ℕ)) → IsMatrixOver K (length b) a → IsMatrixOver K columns b →
+ProductOfListsIsProduct K =
+    (columns : ℕ) (a b : List (List ℕ)) → IsMatrixOver K (length b) a → IsMatrixOver K columns b →
     matrix_of K (product K columns a b) ≡ multiply (field_of K) (length b) (matrix_of K a) (matrix_of K b)
 
 -- the sum of two lists is the sum of their matrices
 abbrev pub SumOfListsIsSum : NumberField → Type 0
-SumOfListsIsSum K = (columns : ℕ) (a b : List (List ℕ)) → length a ≡ length b → IsMatrixOver K columns a → IsMatrixOver K columns b →
+SumOfListsIsSum K =
+    (columns : ℕ) (a b : List (List ℕ)) → length a ≡ length b → IsMatrixOver K columns a → IsMatrixOver K columns b →
     matrix_of K (matrix_sum K columns a b) ≡ add_matrices (field_of K) (matrix_of K a) (matrix_of K b)
 
 -- the transpose of a list is the transpose of its matrix
@@ -34,7 +36,8 @@ InverseOfListsIsInverse K = (n : ℕ) (a b : List (List ℕ)) → IsSquareOver K
 
 -- a list of element numbers is determined by its matrix
 abbrev pub ListsAreTheirMatrices : NumberField → Type 0
-ListsAreTheirMatrices K = (columns : ℕ) (a b : List (List ℕ)) → length a ≡ length b → IsMatrixOver K columns a → IsMatrixOver K columns b →
+ListsAreTheirMatrices K =
+    (columns : ℕ) (a b : List (List ℕ)) → length a ≡ length b → IsMatrixOver K columns a → IsMatrixOver K columns b →
     matrix_of K a ≡ matrix_of K b → a ≡ b
 
 -- v is the combination of the rows with a list of coefficients
@@ -54,5 +57,6 @@ ReducedBasisOfListExists K = (n : ℕ) (rows : List (List ℕ)) → IsMatrixOver
     (basis : List (List ℕ)) × IsMatrixOver K n basis × IsReducedBasis K rows basis
 
 abbrev pub ReducedBasisOfListIsUnique : NumberField → Type 0
-ReducedBasisOfListIsUnique K = (n : ℕ) (rows a b : List (List ℕ)) → IsMatrixOver K n rows → IsMatrixOver K n a → IsMatrixOver K n b →
+ReducedBasisOfListIsUnique K =
+    (n : ℕ) (rows a b : List (List ℕ)) → IsMatrixOver K n rows → IsMatrixOver K n a → IsMatrixOver K n b →
     IsReducedBasis K rows a → IsReducedBasis K rows b → a ≡ b

@@ -1,7 +1,8 @@
 -- Modules, products of generators, invariant and generated spaces (Parker 1984; Holt, Eick, O'Brien, chapter 7).
 use Rattle.std.specs.Prelude.{◌≡◌, ℕ, ◌<◌, List, [], ◌∷◌, ⊤}
 use Rattle.axe_algebra.specs.Field.{Field}
-use Rattle.axe_algebra.specs.Vectors.{Vector, Matrix, IsMatrix, HasLength, transposed, unit_matrix, times, multiply, zero_vector, add_vectors, scale}
+use Rattle.axe_algebra.specs.Vectors.{Vector, Matrix, IsMatrix, HasLength, transposed, unit_matrix, times, multiply}
+use Rattle.axe_algebra.specs.Vectors.{zero_vector, add_vectors, scale}
 use Rattle.axe_algebra.specs.Spans.{InSpan}
 
 -- a dimension and so many generators, which act on row vectors from the right

@@ -44,7 +44,8 @@ MonicListsAreCoordinates = (q m : ℕ) (c : List ℕ) → 2 ≤ q → IsMonicLis
 -- they ascend, so that none is in it twice
 abbrev pub CoordinatesAscend : Type 0
 CoordinatesAscend = (q m i j : ℕ) → 2 ≤ q → i < j → j < length (point_coordinates q m) →
-    number_with_digits q (get_or (point_coordinates q m) i []) < number_with_digits q (get_or (point_coordinates q m) j [])
+    number_with_digits q (get_or (point_coordinates q m) i [])
+    < number_with_digits q (get_or (point_coordinates q m) j [])
 
 -- there are (q^m - 1) / (q - 1)
 abbrev pub CoordinatesAreCounted : Type 0
@@ -78,10 +79,12 @@ PointsAreNonzeroSpanned K = (n : ℕ) (basis : List (List ℕ)) → IsMatrixOver
 -- every nonzero vector of the span of rows is a nonzero multiple of a point, and for independent rows of only one
 abbrev pub SpannedAreMultiplesOfPoints : NumberField → Type 0
 SpannedAreMultiplesOfPoints K = (n : ℕ) (basis : List (List ℕ)) (x : Vector (field_of K)) → IsMatrixOver K n basis →
-    InSpan (field_of K) (length basis) (matrix_of K basis) x → x ≢ zero_vector (field_of K) → IsMultipleOfPoint K n basis x
+    InSpan (field_of K) (length basis) (matrix_of K basis) x → x ≢ zero_vector (field_of K) →
+    IsMultipleOfPoint K n basis x
 
 abbrev pub MultiplesAreOfOnePoint : NumberField → Type 0
-MultiplesAreOfOnePoint K = (n : ℕ) (basis : List (List ℕ)) (x : Vector (field_of K)) → IsMatrixOver K n basis → IsIndependent K basis →
+MultiplesAreOfOnePoint K =
+    (n : ℕ) (basis : List (List ℕ)) (x : Vector (field_of K)) → IsMatrixOver K n basis → IsIndependent K basis →
     (one other : IsMultipleOfPoint K n basis x) → one.place ≡ other.place
 
 -- the first point is the last row of the basis

@@ -1,4 +1,5 @@
--- The points of a space that is given by a basis: one vector of each subspace of dimension 1 (any text on projective geometry).
+-- The points of a space that is given by a basis: one vector of each subspace of dimension 1 (any text on projective
+-- geometry).
 use Rattle.std.specs.Prelude.{ℕ, ◌==◌, ◌^◌, Bool, false, List, [], ◌∷◌, map, length, if◌then◌else◌}
 use Rattle.std.specs.List.{filter}
 use Rattle.axe_algebra.specs.NumberField.{NumberField}
@@ -19,4 +20,5 @@ point_coordinates q m = filter leads_with_one (listed (q ^ m) (digits q m))
 -- the points of the span of a basis whose rows have so many columns: its combinations with these coordinates, in order
 -- (Holt and Rees 1994 take the reduced basis)
 unfoldable pub points : NumberField → ℕ → List (List ℕ) → List (List ℕ)
-points K columns basis = map (λ coordinates. combination K columns coordinates basis) (point_coordinates K.order (length basis))
+points K columns basis =
+    map (λ coordinates. combination K columns coordinates basis) (point_coordinates K.order (length basis))

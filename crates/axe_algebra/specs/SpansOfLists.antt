@@ -18,7 +18,8 @@ IsIndependent K rows = Spans.IsIndependent (field_of K) (length rows) (matrix_of
 
 -- the two lists of rows have one span
 abbrev pub HaveSameSpan : NumberField → List (List ℕ) → List (List ℕ) → Type 0
-HaveSameSpan K rows others = Spans.SameSpan (field_of K) (length rows) (matrix_of K rows) (length others) (matrix_of K others)
+HaveSameSpan K rows others =
+    Spans.SameSpan (field_of K) (length rows) (matrix_of K rows) (length others) (matrix_of K others)
 
 -- the rows span all vectors of length n
 abbrev pub SpansEverything : NumberField → ℕ → List (List ℕ) → Type 0
@@ -31,7 +32,8 @@ IsNullVector K rows v = Spans.IsNullVector (field_of K) (length rows) (matrix_of
 -- `basis` is the reduced basis of the null space of the matrix with these rows
 abbrev pub IsNullSpaceBasis : NumberField → List (List ℕ) → List (List ℕ) → Type 0
 IsNullSpaceBasis K rows basis =
-    Reduced.IsReducedBasisOf (field_of K) (Spans.IsNullVector (field_of K) (length rows) (matrix_of K rows)) (length basis) (matrix_of K basis)
+    Reduced.IsReducedBasisOf (field_of K) (Spans.IsNullVector (field_of K) (length rows) (matrix_of K rows))
+    (length basis) (matrix_of K basis)
 
 -- column j is a pivot of the rows' span
 abbrev pub IsPivot : NumberField → List (List ℕ) → ℕ → Type 0
@@ -39,7 +41,8 @@ IsPivot K rows j = Reduced.IsPivot (field_of K) (length rows) (matrix_of K rows)
 
 -- `basis` is the reduced basis of the rows' span
 abbrev pub IsReducedBasis : NumberField → List (List ℕ) → List (List ℕ) → Type 0
-IsReducedBasis K rows basis = Reduced.IsReducedBasis (field_of K) (length rows) (matrix_of K rows) (length basis) (matrix_of K basis)
+IsReducedBasis K rows basis =
+    Reduced.IsReducedBasis (field_of K) (length rows) (matrix_of K rows) (length basis) (matrix_of K basis)
 
 -- `reduced` is the representative of v modulo the rows' span: in its coset, and 0 at every pivot
 abbrev pub IsRepresentative : NumberField → List (List ℕ) → List ℕ → List ℕ → Type 0
@@ -53,10 +56,12 @@ IsInAnnihilator K n rows w = Irreducible.InAnnihilator (field_of K) n (length ro
 -- `basis` is the reduced basis of the annihilator of the rows of length n
 abbrev pub IsAnnihilatorBasis : NumberField → ℕ → List (List ℕ) → List (List ℕ) → Type 0
 IsAnnihilatorBasis K n rows basis =
-    Reduced.IsReducedBasisOf (field_of K) (Irreducible.InAnnihilator (field_of K) n (length rows) (matrix_of K rows)) (length basis) (matrix_of K basis)
+    Reduced.IsReducedBasisOf (field_of K) (Irreducible.InAnnihilator (field_of K) n (length rows) (matrix_of K rows))
+    (length basis) (matrix_of K basis)
 
 -- `extended` has the rows of length n, then the unit vectors of the columns that are no pivots, ascending
 pub record IsExtendedBasis (K : NumberField) (n : ℕ) (rows extended : List (List ℕ)) : Type 0 where
   pub columns : List ℕ
-  pub free : Reduced.IsAscendingListOf (Actions.IsFree (field_of K) n (length rows) (matrix_of K rows)) (length columns) (λ t. get_or columns t 0)
+  pub free : Reduced.IsAscendingListOf (Actions.IsFree (field_of K) n (length rows) (matrix_of K rows)) (length columns)
+      (λ t. get_or columns t 0)
   pub equals : extended ≡ rows ++ map (unit_row n) columns

@@ -12,14 +12,15 @@ Precedes a b c d = (a < c) ⊎ ((a ≡ c) × (b < d))
 
 -- x is in the span of row 0 of b and those of the rows t from 1 to m - 1 whose pair (rows t, generators t) is at most
 -- (r, i): a combination of the m rows in which each row with a greater pair has coefficient 0
-pub record InSpanUpTo (F : Field) (m : ℕ) (b : Matrix F) (rows generators : ℕ → ℕ) (r i : ℕ) (x : Vector F) : Type 0 where
+pub record InSpanUpTo (F : Field) (m : ℕ) (b : Matrix F) (rows generators : ℕ → ℕ) (r i : ℕ)
+    (x : Vector F) : Type 0 where
   pub coefficients : Vector F
   pub combines : x ≡ times F m coefficients b
   pub later : (t : ℕ) → 0 < t → t < m → Precedes r i (rows t) (generators t) → coefficients t ≡ F.zero
 
--- the m rows of b are the standard basis of v: independent, v the first, each later row t the image of row `rows t`, which
--- is an earlier one, under generator `generators t`, these pairs strictly ascending in lexicographic order, such that for
--- every row r and generator i the image is in the span of the first row and those whose pair is at most (r, i)
+-- the m rows of b are the standard basis of v: independent, v the first, each later row t the image of row `rows t`,
+-- which is an earlier one, under generator `generators t`, these pairs strictly ascending in lexicographic order, such
+-- that for every row r and generator i the image is in the span of the first row and those whose pair is at most (r, i)
 pub record IsStandardBasis (F : Field) (M : Module F) (v : Vector F) (m : ℕ) (b : Matrix F) : Type 0 where
   pub nonempty : 0 < m
   pub first : b 0 ≡ v

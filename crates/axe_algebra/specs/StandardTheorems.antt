@@ -1,7 +1,8 @@
 -- What the law functions on standard bases and isomorphisms promise, over one field (Parker 1984; Holt and Rees 1994).
 use Rattle.std.specs.Prelude.{◌≡◌, ◌≢◌, ℕ, ◌<◌}
 use Rattle.axe_algebra.specs.Field.{Field}
-use Rattle.axe_algebra.specs.Vectors.{Vector, Matrix, HasLength, HasRowsOfLength, IsMatrix, zero_vector, unit_vector, scale, times, multiply}
+use Rattle.axe_algebra.specs.Vectors.{Vector, Matrix, HasLength, HasRowsOfLength, IsMatrix, zero_vector, unit_vector}
+use Rattle.axe_algebra.specs.Vectors.{scale, times, multiply}
 use Rattle.axe_algebra.specs.Spans.{IsIndependent, IsInverse, IsNullVector}
 use Rattle.axe_algebra.specs.Modules.{Module, IsModule, SpansGenerated, VectorGeneratesAll}
 use Rattle.axe_algebra.specs.Actions.{IsSubAction}
@@ -28,12 +29,14 @@ module _ (F : Field) where
 
   -- two families of standard matrices of one vector have one dimension
   abbrev pub StandardDimensionIsUnique : Type 0
-  StandardDimensionIsUnique = (M : Module F) (v : Vector F) (A A' : Module F) → AreStandardMatrices F M v A → AreStandardMatrices F M v A' →
+  StandardDimensionIsUnique =
+      (M : Module F) (v : Vector F) (A A' : Module F) → AreStandardMatrices F M v A → AreStandardMatrices F M v A' →
       A.dimension ≡ A'.dimension
 
   -- and are the same
   abbrev pub StandardMatricesAreUnique : Type 0
-  StandardMatricesAreUnique = (M : Module F) (v : Vector F) (A A' : Module F) → AreStandardMatrices F M v A → AreStandardMatrices F M v A' →
+  StandardMatricesAreUnique =
+      (M : Module F) (v : Vector F) (A A' : Module F) → AreStandardMatrices F M v A → AreStandardMatrices F M v A' →
       (i : ℕ) → i < M.count → A.generator i ≡ A'.generator i
 
   -- a standard basis spans the space that its vector generates
@@ -43,7 +46,8 @@ module _ (F : Field) where
 
   -- so that of a vector that generates everything has as many rows as the dimension
   abbrev pub StandardBasisIsSquare : Type 0
-  StandardBasisIsSquare = (M : Module F) (v : Vector F) → IsModule F M → HasLength F M.dimension v → VectorGeneratesAll F M v →
+  StandardBasisIsSquare =
+      (M : Module F) (v : Vector F) → IsModule F M → HasLength F M.dimension v → VectorGeneratesAll F M v →
       (m : ℕ) (b : Matrix F) → IsStandardBasis F M v m b → m ≡ M.dimension
 
   -- an isomorphism carries the standard basis of v to that of its image
@@ -66,7 +70,8 @@ module _ (F : Field) where
 
   -- a nonzero multiple of v has the same standard matrices
   abbrev pub MultipleHasTheSameStandardMatrices : Type 0
-  MultipleHasTheSameStandardMatrices = (M : Module F) (c : F.Element) → c ≢ F.zero → IsModule F M → (v : Vector F) → HasLength F M.dimension v →
+  MultipleHasTheSameStandardMatrices =
+      (M : Module F) (c : F.Element) → c ≢ F.zero → IsModule F M → (v : Vector F) → HasLength F M.dimension v →
       (A : Module F) → AreStandardMatrices F M v A → AreStandardMatrices F M (scale F c v) A
 
   -- modules whose vectors v and w, each generating everything, have the same standard matrices are isomorphic
@@ -84,14 +89,19 @@ module _ (F : Field) where
       IsStandardBasis F N w N.dimension d → IsSubAction F N N.dimension d A →
       (c : Matrix F) → IsInverse F M.dimension b c → IsIsomorphism F M N (multiply F M.dimension c d)
 
-  -- a standard basis with as many rows as the dimension is an isomorphism from the standard matrices' module to the module
+  -- a standard basis with as many rows as the dimension is an isomorphism from the standard matrices' module to the
+  -- module
   abbrev pub StandardBasisIsIsomorphism : Type 0
-  StandardBasisIsIsomorphism = (M : Module F) (v : Vector F) → IsModule F M → HasLength F M.dimension v → (b : Matrix F) (A : Module F) →
-      IsMatrix F M.dimension M.dimension b → IsStandardBasis F M v M.dimension b → IsSubAction F M M.dimension b A → IsIsomorphism F A M b
+  StandardBasisIsIsomorphism =
+      (M : Module F) (v : Vector F) → IsModule F M → HasLength F M.dimension v → (b : Matrix F) (A : Module F) →
+      IsMatrix F M.dimension M.dimension b → IsStandardBasis F M v M.dimension b → IsSubAction F M M.dimension b A →
+      IsIsomorphism F A M b
 
   -- the inverse of an isomorphism is one
   abbrev pub InverseIsIsomorphism : Type 0
-  InverseIsIsomorphism = (M N : Module F) (T S : Matrix F) → IsModule F M → IsModule F N → IsIsomorphism F M N T → IsInverse F M.dimension T S →
+  InverseIsIsomorphism =
+      (M N : Module F) (T S : Matrix F) → IsModule F M → IsModule F N → IsIsomorphism F M N T →
+      IsInverse F M.dimension T S →
       IsIsomorphism F N M S
 
   -- the product of isomorphisms is one
@@ -113,31 +123,39 @@ module _ (F : Field) where
 
   -- an isomorphism carries nonzero vectors to nonzero vectors
   abbrev pub IsomorphismKeepsNonzero : Type 0
-  IsomorphismKeepsNonzero = (M N : Module F) (T : Matrix F) → IsIsomorphism F M N T → (v : Vector F) → HasLength F M.dimension v →
+  IsomorphismKeepsNonzero =
+      (M N : Module F) (T : Matrix F) → IsIsomorphism F M N T → (v : Vector F) → HasLength F M.dimension v →
       v ≢ zero_vector F → times F M.dimension v T ≢ zero_vector F
 
   -- the null spaces of a word's values in isomorphic modules have bases of one size
   abbrev pub IsomorphismKeepsNullity : Type 0
-  IsomorphismKeepsNullity = (M N : Module F) → IsModule F M → IsModule F N → AreIsomorphic F M N → (word : Word F) → IsWordOf F M word →
-      (r : ℕ) (b : Matrix F) (s : ℕ) (d : Matrix F) → SpansNullSpace F M.dimension (word_value F M word) r b → IsIndependent F r b →
+  IsomorphismKeepsNullity =
+      (M N : Module F) → IsModule F M → IsModule F N → AreIsomorphic F M N → (word : Word F) → IsWordOf F M word →
+      (r : ℕ) (b : Matrix F) (s : ℕ) (d : Matrix F) → SpansNullSpace F M.dimension (word_value F M word) r b →
+      IsIndependent F r b →
       SpansNullSpace F N.dimension (word_value F N word) s d → IsIndependent F s d → r ≡ s
 
-  -- where no nonzero null vector of a word's value in N has the standard matrices of one in M, the modules are not isomorphic
+  -- where no nonzero null vector of a word's value in N has the standard matrices of one in M, the modules are not
+  -- isomorphic
   abbrev pub NoMatchIsNotIsomorphic : Type 0
-  NoMatchIsNotIsomorphic = (M N : Module F) → IsModule F M → (word : Word F) → IsWordOf F M word → (v : Vector F) → v ≢ zero_vector F →
+  NoMatchIsNotIsomorphic =
+      (M N : Module F) → IsModule F M → (word : Word F) → IsWordOf F M word → (v : Vector F) → v ≢ zero_vector F →
       IsNullVector F M.dimension (word_value F M word) v → (A : Module F) → AreStandardMatrices F M v A →
-      ((y : Vector F) → y ≢ zero_vector F → IsNullVector F N.dimension (word_value F N word) y → ¬ (AreStandardMatrices F N y A)) →
+      ((y : Vector F) → y ≢ zero_vector F → IsNullVector F N.dimension (word_value F N word) y →
+      ¬ (AreStandardMatrices F N y A)) →
       ¬ (AreIsomorphic F M N)
 
   -- standard matrices of a basis with as many rows as the dimension are those of their own first unit vector
   abbrev pub StandardMatricesOfUnitVector : Type 0
-  StandardMatricesOfUnitVector = (M : Module F) (v : Vector F) → IsModule F M → HasLength F M.dimension v → (b : Matrix F) (A : Module F) →
+  StandardMatricesOfUnitVector =
+      (M : Module F) (v : Vector F) → IsModule F M → HasLength F M.dimension v → (b : Matrix F) (A : Module F) →
       IsMatrix F M.dimension M.dimension b → IsStandardBasis F M v M.dimension b → IsSubAction F M M.dimension b A →
       AreStandardMatrices F A (unit_vector F 0) A
 
   -- which is a null vector of a word's value where v is
   abbrev pub UnitVectorIsNullVector : Type 0
-  UnitVectorIsNullVector = (M : Module F) (v : Vector F) → IsModule F M → HasLength F M.dimension v → (b : Matrix F) (A : Module F) →
+  UnitVectorIsNullVector =
+      (M : Module F) (v : Vector F) → IsModule F M → HasLength F M.dimension v → (b : Matrix F) (A : Module F) →
       IsMatrix F M.dimension M.dimension b → IsStandardBasis F M v M.dimension b → IsSubAction F M M.dimension b A →
       (word : Word F) → IsWordOf F M word → IsNullVector F M.dimension (word_value F M word) v →
       IsNullVector F A.dimension (word_value F A word) (unit_vector F 0)

@@ -1,14 +1,17 @@
 -- What the law functions promise, over one field (any linear algebra text).
 use Rattle.std.specs.Prelude.{◌≡◌, ℕ, ◌<◌, ◌≤◌, ◌⊎◌, ◌↔◌}
 use Rattle.axe_algebra.specs.Field.{Field}
-use Rattle.axe_algebra.specs.Vectors.{Vector, Matrix, HasLength, HasRowsOfLength, IsMatrix, zero_vector, unit_matrix, add_matrices, transposed, multiply}
-use Rattle.axe_algebra.specs.Spans.{InSpan, IsIndependent, IsDependent, SpanWithin, SameSpan, SpansAll, IsInverse, IsInvertible, HasZeroNullSpace}
+use Rattle.axe_algebra.specs.Vectors.{Vector, Matrix, HasLength, HasRowsOfLength, IsMatrix, zero_vector, unit_matrix}
+use Rattle.axe_algebra.specs.Vectors.{add_matrices, transposed, multiply}
+use Rattle.axe_algebra.specs.Spans.{InSpan, IsIndependent, IsDependent, SpanWithin, SameSpan, SpansAll, IsInverse}
+use Rattle.axe_algebra.specs.Spans.{IsInvertible, HasZeroNullSpace}
 use Rattle.axe_algebra.specs.Reduced.{IsReducedBasis, IsZeroAtPivots, IsRepresentative}
 
 module _ (F : Field) where
   -- (a b) c = a (b c)
   abbrev pub ProductsAreAssociative : Type 0
-  ProductsAreAssociative = (m n : ℕ) (a b c : Matrix F) → multiply F n (multiply F m a b) c ≡ multiply F m a (multiply F n b c)
+  ProductsAreAssociative =
+      (m n : ℕ) (a b c : Matrix F) → multiply F n (multiply F m a b) c ≡ multiply F m a (multiply F n b c)
 
   -- (a + b) c = a c + b c
   abbrev pub SumsTimesDistribute : Type 0
@@ -35,7 +38,8 @@ module _ (F : Field) where
 
   -- k rows of length n are dependent, or independent and at most n
   abbrev pub RowsAreDependentOrFew : Type 0
-  RowsAreDependentOrFew = (n k : ℕ) (v : Matrix F) → HasRowsOfLength F n v → IsDependent F k v ⊎ (IsIndependent F k v × (k ≤ n))
+  RowsAreDependentOrFew =
+      (n k : ℕ) (v : Matrix F) → HasRowsOfLength F n v → IsDependent F k v ⊎ (IsIndependent F k v × (k ≤ n))
 
   -- k independent rows in the span of m rows have k at most m
   abbrev pub Exchange : Type 0
@@ -47,7 +51,8 @@ module _ (F : Field) where
 
   -- membership in a span is decidable
   abbrev pub MembershipIsDecidable : Type 0
-  MembershipIsDecidable = (n k : ℕ) (v : Matrix F) (x : Vector F) → HasRowsOfLength F n v → HasLength F n x → Dec (InSpan F k v x)
+  MembershipIsDecidable =
+      (n k : ℕ) (v : Matrix F) (x : Vector F) → HasRowsOfLength F n v → HasLength F n x → Dec (InSpan F k v x)
 
   -- independent rows of length n with the span of k rows, at most as many
   pub record Basis (n k : ℕ) (v : Matrix F) : Type 0 where
@@ -68,11 +73,13 @@ module _ (F : Field) where
 
   -- a square matrix is invertible exactly when its null space is zero
   abbrev pub InvertibleExactlyWhenNullSpaceIsZero : Type 0
-  InvertibleExactlyWhenNullSpaceIsZero = (n : ℕ) (a : Matrix F) → IsMatrix F n n a → IsInvertible F n a ↔ HasZeroNullSpace F n a
+  InvertibleExactlyWhenNullSpaceIsZero =
+      (n : ℕ) (a : Matrix F) → IsMatrix F n n a → IsInvertible F n a ↔ HasZeroNullSpace F n a
 
   -- a square matrix is invertible exactly when its rows are independent
   abbrev pub InvertibleExactlyWhenRowsAreIndependent : Type 0
-  InvertibleExactlyWhenRowsAreIndependent = (n : ℕ) (a : Matrix F) → IsMatrix F n n a → IsInvertible F n a ↔ IsIndependent F n a
+  InvertibleExactlyWhenRowsAreIndependent =
+      (n : ℕ) (a : Matrix F) → IsMatrix F n n a → IsInvertible F n a ↔ IsIndependent F n a
 
   -- a square matrix is invertible exactly when its transpose is
   abbrev pub InvertibleExactlyWhenTransposeIs : Type 0
@@ -101,12 +108,14 @@ module _ (F : Field) where
 
   -- the reduced basis spans the space
   abbrev pub ReducedBasisSpans : Type 0
-  ReducedBasisSpans = (n k : ℕ) (v : Matrix F) (r : ℕ) (w : Matrix F) → HasRowsOfLength F n v → IsReducedBasis F k v r w →
+  ReducedBasisSpans =
+      (n k : ℕ) (v : Matrix F) (r : ℕ) (w : Matrix F) → HasRowsOfLength F n v → IsReducedBasis F k v r w →
       SameSpan F k v r w
 
   -- its rows are independent
   abbrev pub ReducedBasisIsIndependent : Type 0
-  ReducedBasisIsIndependent = (k : ℕ) (v : Matrix F) (r : ℕ) (w : Matrix F) → IsReducedBasis F k v r w → IsIndependent F r w
+  ReducedBasisIsIndependent =
+      (k : ℕ) (v : Matrix F) (r : ℕ) (w : Matrix F) → IsReducedBasis F k v r w → IsIndependent F r w
 
   -- two reduced bases of one span have equally many rows
   abbrev pub ReducedBasisSizeIsUnique : Type 0
@@ -115,17 +124,20 @@ module _ (F : Field) where
 
   -- and the same rows
   abbrev pub ReducedBasisRowsAreUnique : Type 0
-  ReducedBasisRowsAreUnique = (n k : ℕ) (v : Matrix F) (r : ℕ) (w : Matrix F) (s : ℕ) (u : Matrix F) → HasRowsOfLength F n v →
+  ReducedBasisRowsAreUnique =
+      (n k : ℕ) (v : Matrix F) (r : ℕ) (w : Matrix F) (s : ℕ) (u : Matrix F) → HasRowsOfLength F n v →
       IsReducedBasis F k v r w → IsReducedBasis F k v s u → (t : ℕ) → t < r → w t ≡ u t
 
   -- a vector of the span that is zero at every pivot is zero
   abbrev pub ZeroAtPivotsIsZero : Type 0
-  ZeroAtPivotsIsZero = (n k : ℕ) (v : Matrix F) (x : Vector F) → HasRowsOfLength F n v → InSpan F k v x → IsZeroAtPivots F k v x →
+  ZeroAtPivotsIsZero =
+      (n k : ℕ) (v : Matrix F) (x : Vector F) → HasRowsOfLength F n v → InSpan F k v x → IsZeroAtPivots F k v x →
       x ≡ zero_vector F
 
   -- each coset of a span has a vector that is zero at every pivot
   abbrev pub RepresentativeExists : Type 0
-  RepresentativeExists = (n k : ℕ) (v : Matrix F) (x : Vector F) → HasRowsOfLength F n v → (y : Vector F) × IsRepresentative F k v x y
+  RepresentativeExists =
+      (n k : ℕ) (v : Matrix F) (x : Vector F) → HasRowsOfLength F n v → (y : Vector F) × IsRepresentative F k v x y
 
   -- and only one
   abbrev pub RepresentativeIsUnique : Type 0

@@ -12,6 +12,7 @@ pub record IsWordOver (K : NumberField) (count : ℕ) (terms : List (ℕ × List
   pub generators : All (λ (term : ℕ × List ℕ). All (λ number. number < count) term.1) terms
 
 -- `matrix`, square of n rows, is the value of the word with these terms
-pub record IsWordValue (K : NumberField) (n : ℕ) (generators : List (List (List ℕ))) (terms : List (ℕ × List ℕ)) (matrix : List (List ℕ)) : Type 0 where
+pub record IsWordValue (K : NumberField) (n : ℕ) (generators : List (List (List ℕ))) (terms : List (ℕ × List ℕ))
+    (matrix : List (List ℕ)) : Type 0 where
   pub square : IsSquareOver K n matrix
   pub value : matrix_of K matrix ≡ Words.word_value (field_of K) (module_of K n generators) (word_of K terms)

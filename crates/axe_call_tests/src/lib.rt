@@ -1,10 +1,10 @@
-//! Worked calls of the libraries below modules: kernels, fields, rows, matrices, echelon forms, their files, reports, and
-//! folders of them. Each answer is compared with a value that was worked out by hand. What the crates prove is not tested
-//! again; this crate shows that the definitions mean what they should, and that memory is not refused where there is
-//! enough.
+//! Worked calls of the libraries below modules: kernels, fields, rows, matrices, echelon forms, their files, reports,
+//! and folders of them. Each answer is compared with a value that was worked out by hand. What the crates prove is not
+//! tested again; this crate shows that the definitions mean what they should, and that memory is not refused where
+//! there is enough.
 //!
-//! The calls stand in tables, one on a line. `axe_test_values` says how a line and the values on it are written; a module for
-//! each topic has its tables, and a small function for calls that are given the same values.
+//! The calls stand in tables, one on a line. `axe_test_values` says how a line and the values on it are written; a
+//! module for each topic has its tables, and a small function for calls that are given the same values.
 #![tactic(auto)]
 
 #[cfg(test)]

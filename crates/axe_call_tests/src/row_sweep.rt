@@ -1,5 +1,5 @@
-//! Each call of a row over each field, by each scalar and at lengths around those of words and of whole vectors, against
-//! sums and products that are taken entry by entry; and matrices of multiplications.
+//! Each call of a row over each field, by each scalar and at lengths around those of words and of whole vectors,
+//! against sums and products that are taken entry by entry; and matrices of multiplications.
 
 ghost use Rattle.std.specs.Prelude.{◌≡◌, length};
 
@@ -169,8 +169,8 @@ fn a_row_without_entries_is_zero(rt: HostRuntime) -> Result<(), Refusal> {
     Ok(())
 }
 
-/// The multiples of 1 and x by 3, which is x, are x and x + 1 over the field of nine elements, where x^2 is x + 1. Those of
-/// 1, x and x^2 by 5, which is x^2 + 1, are x^2 + 1, 1 and x over the field of eight, where x^3 is x + 1.
+/// The multiples of 1 and x by 3, which is x, are x and x + 1 over the field of nine elements, where x^2 is x + 1.
+/// Those of 1, x and x^2 by 5, which is x^2 + 1, are x^2 + 1, 1 and x over the field of eight, where x^3 is x + 1.
 #[test]
 fn matrices_of_multiplications_have_the_multiples(rt: HostRuntime) {
     let nine = field_of_order(&rt, 9);

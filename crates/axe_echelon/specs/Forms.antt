@@ -1,4 +1,5 @@
--- Echelon forms: rows whose pivots were cleared from all later rows, with the combinations of the given rows that they are.
+-- Echelon forms: rows whose pivots were cleared from all later rows, with the combinations of the given rows that they
+-- are.
 use Rattle.std.specs.Prelude.{◌≡◌, ℕ, ◌<◌}
 use Rattle.axe_algebra.specs.Field.{Field}
 use Rattle.axe_algebra.specs.Vectors.{Matrix, HasLength, times}

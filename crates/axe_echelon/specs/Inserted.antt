@@ -20,7 +20,8 @@ pub record HasUnitCoordinates (e : EchelonValue) (i : ℕ) (m : MatrixValue) : T
   pub field : m.order ≡ e.order
   pub columns : m.cols ≡ e.cols
   pub count : length m.rows ≡ i
-  pub rows : (t : ℕ) → t < i → AreCoordinates e (unit_row e.cols t) (record { order = e.order; entries = get_or m.rows t [] })
+  pub rows : (t : ℕ) → t < i →
+      AreCoordinates e (unit_row e.cols t) (record { order = e.order; entries = get_or m.rows t [] })
 
 -- the vector is the unit vector less the combination of the rows of `units` with the coordinates of v
 pub record IsRelation (e : EchelonValue) (units : MatrixValue) (v unit : List ℕ) (vector : RowValue) : Type 0 where
@@ -29,5 +30,7 @@ pub record IsRelation (e : EchelonValue) (units : MatrixValue) (v unit : List �
   pub coordinates : RowValue
   pub are_coordinates : AreCoordinates e v coordinates
   pub difference : vector_of (number_field e.order) vector.entries ≡
-      add_vectors (gf e.order) (vector_of (number_field e.order) unit) (scale (gf e.order) ((gf e.order).neg (gf e.order).one)
-      (times (gf e.order) (length e.rows) (vector_of (number_field e.order) coordinates.entries) (matrix_of (number_field e.order) units.rows)))
+      add_vectors (gf e.order) (vector_of (number_field e.order) unit)
+      (scale (gf e.order) ((gf e.order).neg (gf e.order).one)
+      (times (gf e.order) (length e.rows) (vector_of (number_field e.order) coordinates.entries)
+      (matrix_of (number_field e.order) units.rows)))

@@ -1,5 +1,6 @@
 -- The steps of an elimination, one for each row that was new.
-use Rattle.std.specs.Prelude.{◌≡◌, ◌≢◌, ℕ, suc, ◌<◌, ◌≤◌, List, [], ◌∷◌, ◌++◌, All, Contains, map, length, get_or, ◌↔◌, Bool, false, IsTrue}
+use Rattle.std.specs.Prelude.{◌≡◌, ◌≢◌, ◌↔◌, ℕ, suc, ◌<◌, ◌≤◌, Bool, false, IsTrue}
+use Rattle.std.specs.Prelude.{List, [], ◌∷◌, ◌++◌, All, Contains, map, length, get_or}
 use Rattle.axe_algebra.specs.Vectors.{HasLength, add_vectors, times}
 use Rattle.axe_algebra.specs.Reduced.{IsZeroAtPivots}
 use Rattle.axe_algebra.specs.Bridge.{vector_of, matrix_of}
@@ -42,8 +43,9 @@ pub record AreSteps (order : Order) (cols : ℕ) (steps : List Step) : Type 0 wh
   pub some_column : 1 ≤ cols
   pub columns_fit : cols ≤ most_columns
   pub each : All (IsStep order cols) steps
-  pub form : IsEchelonForm (gf order) cols (length (inserted_rows steps)) (matrix_of (number_field order) (inserted_rows steps))
-      (matrix_of (number_field order) (echelon_rows steps)) (matrix_of (number_field order) (coefficient_rows steps)) (λ t. get_or (pivots steps) t 0)
+  pub form : IsEchelonForm (gf order) cols (length (inserted_rows steps))
+      (matrix_of (number_field order) (inserted_rows steps)) (matrix_of (number_field order) (echelon_rows steps))
+      (matrix_of (number_field order) (coefficient_rows steps)) (λ t. get_or (pivots steps) t 0)
 
 -- the table tells of each column whether it is the pivot of a step
 pub record AreTabledSteps (order : Order) (cols : ℕ) (steps : List Step) (table : List Bool) : Type 0 where
@@ -60,8 +62,10 @@ pub record IsEliminated (e : EchelonValue) (first row coefficients : RowValue) :
   pub coefficients_over : IsVectorOver (number_field e.order) e.cols coefficients.entries
   pub offset : vector_of (number_field e.order) row.entries ≡
       add_vectors (gf e.order) (vector_of (number_field e.order) first.entries)
-      (times (gf e.order) (length e.rows) (vector_of (number_field e.order) coefficients.entries) (matrix_of (number_field e.order) e.rows))
-  pub at_pivots : IsZeroAtPivots (gf e.order) (length e.rows) (matrix_of (number_field e.order) e.rows) (vector_of (number_field e.order) row.entries)
+      (times (gf e.order) (length e.rows) (vector_of (number_field e.order) coefficients.entries)
+      (matrix_of (number_field e.order) e.rows))
+  pub at_pivots : IsZeroAtPivots (gf e.order) (length e.rows) (matrix_of (number_field e.order) e.rows)
+      (vector_of (number_field e.order) row.entries)
   pub few : HasLength (gf e.order) (length e.rows) (vector_of (number_field e.order) coefficients.entries)
 
 -- the step that one more row gives
@@ -72,7 +76,8 @@ pub record IsNextStep (e : EchelonValue) (v : List ℕ) (step : Step) : Type 0 w
   pub place : step.pivot < e.cols
   pub one : vector_of (number_field e.order) step.row.entries step.pivot ≡ (gf e.order).one
   pub before : (i : ℕ) → i < step.pivot → vector_of (number_field e.order) step.row.entries i ≡ (gf e.order).zero
-  pub at_pivots : IsZeroAtPivots (gf e.order) (length e.rows) (matrix_of (number_field e.order) e.rows) (vector_of (number_field e.order) step.row.entries)
+  pub at_pivots : IsZeroAtPivots (gf e.order) (length e.rows) (matrix_of (number_field e.order) e.rows)
+      (vector_of (number_field e.order) step.row.entries)
   pub combines : vector_of (number_field e.order) step.row.entries ≡
       times (gf e.order) (suc (length e.rows)) (vector_of (number_field e.order) step.coefficients.entries)
       (matrix_of (number_field e.order) (e.rows ++ v ∷ []))
@@ -84,4 +89,5 @@ pub record IsPivotRow (e : EchelonValue) (pivot : ℕ) (row : RowValue) : Type 0
   pub over : IsVectorOver (number_field e.order) e.cols row.entries
   pub in_span : IsSpanned (number_field e.order) e.rows row.entries
   pub one : vector_of (number_field e.order) row.entries pivot ≡ (gf e.order).one
-  pub zeros : (j : ℕ) → IsPivot (number_field e.order) e.rows j → j ≢ pivot → vector_of (number_field e.order) row.entries j ≡ (gf e.order).zero
+  pub zeros : (j : ℕ) → IsPivot (number_field e.order) e.rows j → j ≢ pivot →
+      vector_of (number_field e.order) row.entries j ≡ (gf e.order).zero

@@ -179,7 +179,8 @@ impl Echelon {
     pub fn reduce(&self, row: &mut Row)
         requires field { row.old.order ≡ self.now.order }
         requires fits { length row.old.entries ≡ self.now.cols }
-        ensures representative { IsRepresentative (number_field self.now.order) self.now.rows row.old.entries row.new.entries }
+        ensures representative { IsRepresentative (number_field self.now.order) self.now.rows
+            row.old.entries row.new.entries }
         ensures same_field { row.new.order ≡ self.now.order }
         ensures as_long { length row.new.entries ≡ self.now.cols }
         ensures row_well_formed { IsRow row.new }
@@ -240,8 +241,8 @@ impl Echelon {
         let field = *self.field();
         let mut row = Row::unit(alloc, field, self.cols(), pivot)?;
         self.reduce(&mut row);
-        // The unit vector less what is left of it is in the span, and 0 at every other pivot, since what is left is 0 at
-        // each pivot. It is the negative of what is left, but for the 1 at the pivot.
+        // The unit vector less what is left of it is in the span, and 0 at every other pivot, since what is left is 0
+        // at each pivot. It is the negative of what is left, but for the 1 at the pivot.
         row.scale(field.neg(1));
         row.set(pivot, 1);
         Ok(row)

@@ -5,7 +5,9 @@ use Rattle.std.proofs.Common.{arith, ap, ◌∙◌, inl, inr, lit<}
 use Rattle.std.proofs.Math.Nat.{eq-or-lt_of_le}
 use Rattle.std.proofs.lemmas.Bool.{and_parts, or_cases, ltb-true, eqb-true}
 use Rattle.axe_field.specs.Order.{Order, Two, Three, Four, Five, Seven, Eight, Nine, order_number, IsElement}
-use Rattle.axe_field.specs.Arithmetic.{coefficients, number_of, polynomial_sum, polynomial_multiple, polynomial_negative, polynomial_product, without_leading, polynomial_remainder, polynomial_of, field_add, field_neg, field_mul, field_inv}
+use Rattle.axe_field.specs.Arithmetic.{coefficients, number_of, polynomial_sum, polynomial_multiple}
+use Rattle.axe_field.specs.Arithmetic.{polynomial_negative, polynomial_product, without_leading, polynomial_remainder}
+use Rattle.axe_field.specs.Arithmetic.{polynomial_of, field_add, field_neg, field_mul, field_inv}
 
 -- a test of all numbers below n
 unfoldable pub passes_below : ℕ → (ℕ → Bool) → Bool

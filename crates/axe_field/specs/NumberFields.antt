@@ -4,7 +4,9 @@ use Rattle.axe_algebra.specs.Field.{Field}
 use Rattle.axe_algebra.specs.NumberField.{NumberField}
 use Rattle.axe_field.specs.Order.{Order, order_number}
 use Rattle.axe_field.specs.Arithmetic.{field_add, field_neg, field_mul, field_inv}
-use Rattle.axe_field.specs.CheckedLaws.{order_number-above, field_add-below, field_neg-below, field_mul-below, field_inv-below, field_add_comm, field_add_assoc, field_add-zero, field_add-neg, field_mul_comm, field_mul_assoc, field_mul-one, field_mul-add, field_mul-inv}
+use Rattle.axe_field.specs.CheckedLaws.{order_number-above, field_add-below, field_neg-below, field_mul-below}
+use Rattle.axe_field.specs.CheckedLaws.{field_inv-below, field_add_comm, field_add_assoc, field_add-zero, field_add-neg}
+use Rattle.axe_field.specs.CheckedLaws.{field_mul_comm, field_mul_assoc, field_mul-one, field_mul-add, field_mul-inv}
 
 -- the field of an order, with its laws
 unfoldable pub number_field : Order → NumberField

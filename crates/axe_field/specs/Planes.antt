@@ -20,7 +20,8 @@ coefficients_of_multiple o c i =
 -- coefficients of c x^i; all else of three rows and columns is 0
 unfoldable pub matrix_of_multiplication : Order → ℕ → List (List ℕ)
 matrix_of_multiplication o c =
-    map (λ i. map (λ j. cond (ltb i (degree_of o)) (slice_index (coefficients_of_multiple o c i) j) 0) (range_with_len 0 3))
+    map (λ i. map (λ j. cond (ltb i (degree_of o)) (slice_index (coefficients_of_multiple o c i) j) 0)
+    (range_with_len 0 3))
     (range_with_len 0 3)
 
 -- the coefficient of x^j of the element a (0 from the degree on)
@@ -35,8 +36,8 @@ IsCoefficient o j d = d < cond (ltb j (degree_of o)) (prime_of o) 1
 abbrev pub element_of : Order → ℕ → ℕ → ℕ → ℕ
 element_of o d0 d1 d2 = number_of (prime_of o) (d0 ∷ d1 ∷ d2 ∷ [])
 
--- the coefficient of x^j of what a matrix makes of the element a: the sum over i of a's coefficient of x^i times entry i, j,
--- modulo the prime
+-- the coefficient of x^j of what a matrix makes of the element a: the sum over i of a's coefficient of x^i times entry
+-- i, j, modulo the prime
 abbrev pub coefficient_by_matrix : Order → List (List ℕ) → ℕ → ℕ → ℕ
 coefficient_by_matrix o m a j =
     (coefficient o a 0 * entry m 0 j + coefficient o a 1 * entry m 1 j + coefficient o a 2 * entry m 2 j) % prime_of o

@@ -10,7 +10,8 @@ ghost use Rattle.std.specs.Ordering.{on};
 ghost use Rattle.std.specs.Prelude.{◌≡◌, ◌≢◌, ℕ, ◌↔◌, ◌^◌, ◌<◌, ◌≤◌, ◌+◌, ◌%◌, nat_eq, IfOk, OnErr, IsTrue};
 ghost use Rattle.std.proofs.lemmas.Cmp.{nat_eq_equiv, on_equiv};
 ghost use Rattle.axe_field.specs.Order.{Order, order_number, prime_of, degree_of, conway, IsElement};
-ghost use Rattle.axe_field.specs.Arithmetic.{polynomial_of, polynomial_product, IsRemainder, field_add, field_neg, field_mul, field_inv};
+ghost use Rattle.axe_field.specs.Arithmetic.{polynomial_of, polynomial_product, IsRemainder, field_add, field_neg};
+ghost use Rattle.axe_field.specs.Arithmetic.{field_mul, field_inv};
 ghost use Rattle.axe_field.specs.NumberFields.{number_field};
 ghost use Rattle.axe_field.specs.Planes.{matrix_of_multiplication, coefficient, element_of, coefficient_by_matrix};
 
@@ -247,8 +248,8 @@ pub fn number_fields_have_these_operations()
     ensures inverse { (o : Order) (a : ℕ) → (number_field o).inv a ≡ field_inv o a }
 {}
 
-/// Sums are taken coefficient by coefficient modulo the prime, and the matrix of the multiplication by an element makes the
-/// coefficients of a product of those of the other factor.
+/// Sums are taken coefficient by coefficient modulo the prime, and the matrix of the multiplication by an element makes
+/// the coefficients of a product of those of the other factor.
 pub fn coefficients_add_and_multiply()
     ensures element { (o : Order) (a : ℕ) → IsElement o a →
         element_of o (coefficient o a 0) (coefficient o a 1) (coefficient o a 2) ≡ a }

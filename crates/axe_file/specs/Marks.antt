@@ -38,7 +38,8 @@ mark_of o byte j = digit_of (order_number o) (marks_per_byte o) byte j
 -- in byte k of a row of so many columns, a mark past the last column is not 0
 unfoldable pub has_unused_mark : Order → ℕ → ℕ → ℕ → Bool
 has_unused_mark o columns k byte =
-    list_any (λ j. nat_le columns (k * marks_per_byte o + j) && not (mark_of o byte j == 0)) (range_with_len 0 (marks_per_byte o))
+    list_any (λ j. nat_le columns (k * marks_per_byte o + j) && not (mark_of o byte j == 0))
+    (range_with_len 0 (marks_per_byte o))
 
 -- how many bytes a row of so many marks takes
 unfoldable pub bytes_per_row : Order → ℕ → ℕ

@@ -1,6 +1,7 @@
 -- The packed form of matrices: the one spelling of each matrix, what is wrong with bytes that are no spelling, and the
 -- matrix that faultless bytes spell.
-use Rattle.std.specs.Prelude.{ℕ, ◌+◌, ◌*◌, ◌/◌, ◌%◌, Bool, not, ◌||◌, ◌==◌, nat_lt, nat_le, if◌then◌else◌, List, [], ◌∷◌, ◌++◌, length, Option, is_none, slice_get, slice_index, slice_range, codes}
+use Rattle.std.specs.Prelude.{ℕ, ◌+◌, ◌*◌, ◌/◌, ◌%◌, Bool, not, ◌||◌, ◌==◌, nat_lt, nat_le, if◌then◌else◌, List, []}
+use Rattle.std.specs.Prelude.{◌∷◌, ◌++◌, length, Option, is_none, slice_get, slice_index, slice_range, codes}
 use Rattle.std.specs.Option.{unwrap_or}
 use Rattle.std.specs.List.{flat_map, find, list_any, range_with_len}
 use Rattle.std.specs.Int.{w32, to_le_bytes, from_le_bytes}
@@ -10,7 +11,8 @@ use Rattle.axe_matrix.specs.Matrices.{MatrixValue}
 use Rattle.axe_matrix.specs.Limits.{most_rows, most_columns}
 use Rattle.axe_file.specs.Marks.{marks_per_byte, byte_limit, byte_with_marks, mark_of, has_unused_mark, bytes_per_row}
 use Rattle.axe_file.specs.declared.fault.FileFault.{FileFault}
-use Rattle.axe_file.specs.declared.fault.FileFault.TheVariants.{ShortHeader, BadMagic, BadField, BadReserved, BadRows, BadCols, Truncated, BadByte, BadPadding, TrailingBytes}
+use Rattle.axe_file.specs.declared.fault.FileFault.TheVariants.{ShortHeader, BadMagic, BadField, BadReserved, BadRows}
+use Rattle.axe_file.specs.declared.fault.FileFault.TheVariants.{BadCols, Truncated, BadByte, BadPadding, TrailingBytes}
 
 -- ---- the spelling of a matrix
 
@@ -88,7 +90,8 @@ has_reserved bytes = list_any (λ i. not (slice_index bytes i == 0)) (5 ∷ 6 �
 -- in the byte at this place of the data, a mark past the last column is not 0
 unfoldable pub has_padding : List ℕ → ℕ → Bool
 has_padding bytes place =
-    has_unused_mark (header_order bytes) (header_columns bytes) (place % row_width bytes) (slice_index bytes (16 + place))
+    has_unused_mark (header_order bytes) (header_columns bytes) (place % row_width bytes)
+    (slice_index bytes (16 + place))
 
 -- what is wrong with the byte at this place of the data: it is not below q ^ m, or an unused mark of it is not 0
 unfoldable pub byte_faults : List ℕ → ℕ → List FileFault

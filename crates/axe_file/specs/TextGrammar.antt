@@ -1,12 +1,14 @@
 -- The text form of matrices: its grammar, and what is wrong with bytes that keep to it no further.
-use Rattle.std.specs.Prelude.{◌≡◌, ◌≢◌, ℕ, ◌+◌, ◌-◌, ◌*◌, ◌<◌, ◌≤◌, Bool, true, not, ◌&&◌, ◌||◌, ◌==◌, nat_le, nat_lt, IsTrue, ◌⊎◌, List, [], ◌∷◌, ◌++◌, length, map, filter, take, All, codes}
+use Rattle.std.specs.Prelude.{◌≡◌, ◌≢◌, ℕ, ◌+◌, ◌-◌, ◌*◌, ◌<◌, ◌≤◌, Bool, true, not, ◌&&◌, ◌||◌, ◌==◌, nat_le, nat_lt}
+use Rattle.std.specs.Prelude.{IsTrue, ◌⊎◌, List, [], ◌∷◌, ◌++◌, length, map, filter, take, All, codes}
 use Rattle.std.specs.List.{concat}
 use Rattle.std.specs.Int.Digits.{number_from_digits}
 use Rattle.axe_field.specs.Order.{Order, order_number}
 use Rattle.axe_matrix.specs.Matrices.{MatrixValue, IsMatrix}
 use Rattle.axe_matrix.specs.Limits.{most_rows, most_columns}
 use Rattle.axe_file.specs.declared.fault.FileFault.{FileFault}
-use Rattle.axe_file.specs.declared.fault.FileFault.TheVariants.{BadField, BadRows, BadCols, BadHeader, BadMode, BadDigit, TooFewDigits, TrailingText}
+use Rattle.axe_file.specs.declared.fault.FileFault.TheVariants.{BadField, BadRows, BadCols, BadHeader, BadMode}
+use Rattle.axe_file.specs.declared.fault.FileFault.TheVariants.{BadDigit, TooFewDigits, TrailingText}
 
 -- ---- bytes
 
@@ -75,7 +77,8 @@ plain_form = Numeral ∷ Gap ∷ Numeral ∷ Gap ∷ Numeral ∷ Gap ∷ Numeral
 -- a header with names: matrix field=Q rows=ROWS cols=COLS
 unfoldable pub named_form : List Part
 named_form =
-    Word (codes "matrix") ∷ Gap ∷ Word (codes "field=") ∷ Numeral ∷ Gap ∷ Word (codes "rows=") ∷ Numeral ∷ Gap ∷ Word (codes "cols=") ∷ Numeral ∷ []
+    Word (codes "matrix") ∷ Gap ∷ Word (codes "field=") ∷ Numeral ∷ Gap ∷ Word (codes "rows=") ∷ Numeral ∷ Gap
+    ∷ Word (codes "cols=") ∷ Numeral ∷ []
 
 -- the bytes are a header, in one form or the other, after any white space; a header with names is of mode 1
 abbrev pub IsHeader : List ℕ → ℕ → ℕ → ℕ → ℕ → Type 0

@@ -1,13 +1,16 @@
 -- A text of a matrix, read from left to right: the first fault, and the matrix of a faultless text.
-use Rattle.std.specs.Prelude.{◌≡◌, ℕ, zero, suc, ◌+◌, ◌-◌, ◌*◌, not, ◌||◌, ◌==◌, nat_lt, if◌then◌else◌, List, [], ◌∷◌, map, filter, take, drop, slice_index, Option, Some, None, is_none, Result, Ok, Err}
+use Rattle.std.specs.Prelude.{◌≡◌, ℕ, zero, suc, ◌+◌, ◌-◌, ◌*◌, not, ◌||◌, ◌==◌, nat_lt, if◌then◌else◌, List, [], ◌∷◌}
+use Rattle.std.specs.Prelude.{map, filter, take, drop, slice_index, Option, Some, None, is_none, Result, Ok, Err}
 use Rattle.std.specs.Option.{unwrap_or}
 use Rattle.axe_field.specs.Order.{Two}
 use Rattle.axe_matrix.specs.Matrices.{MatrixValue}
 use Rattle.axe_matrix.specs.Limits.{most_rows, most_columns}
 use Rattle.axe_file.specs.Packed.{order_with_number}
-use Rattle.axe_file.specs.TextGrammar.{is_white, is_dark, is_digit, digit_value, is_element_digit, is_apart, Part, Space, Gap, Word, Numeral, plain_form, named_form}
+use Rattle.axe_file.specs.TextGrammar.{is_white, is_dark, is_digit, digit_value, is_element_digit, is_apart, Part}
+use Rattle.axe_file.specs.TextGrammar.{Space, Gap, Word, Numeral, plain_form, named_form}
 use Rattle.axe_file.specs.declared.fault.FileFault.{FileFault}
-use Rattle.axe_file.specs.declared.fault.FileFault.TheVariants.{BadField, BadRows, BadCols, BadHeader, BadMode, BadDigit, TooFewDigits, TrailingText}
+use Rattle.axe_file.specs.declared.fault.FileFault.TheVariants.{BadField, BadRows, BadCols, BadHeader, BadMode}
+use Rattle.axe_file.specs.declared.fault.FileFault.TheVariants.{BadDigit, TooFewDigits, TrailingText}
 
 -- ---- the header
 
@@ -54,7 +57,8 @@ read_digits (suc room) value next (byte ∷ bytes) at =
 
 unfoldable pub read_numeral : (ℕ → List ℕ → ℕ → Reading) → List ℕ → ℕ → Reading
 read_numeral next [] at = Err at
-read_numeral next (byte ∷ bytes) at = if is_digit byte then read_digits 8 (digit_value byte) next bytes (at + 1) else Err at
+read_numeral next (byte ∷ bytes) at =
+    if is_digit byte then read_digits 8 (digit_value byte) next bytes (at + 1) else Err at
 
 -- the parts, after which comes white space or the end
 unfoldable pub read_parts : List Part → List ℕ → ℕ → Reading
@@ -62,7 +66,8 @@ read_parts [] bytes at = if is_apart bytes then Ok (record { values = []; end = 
 read_parts (Space ∷ parts) bytes at = read_space (read_parts parts) bytes at
 read_parts (Gap ∷ parts) bytes at = read_gap (read_parts parts) bytes at
 read_parts (Word word ∷ parts) bytes at = read_word word (read_parts parts) bytes at
-read_parts (Numeral ∷ parts) bytes at = read_numeral (λ value rest after. with_value value (read_parts parts rest after)) bytes at
+read_parts (Numeral ∷ parts) bytes at =
+    read_numeral (λ value rest after. with_value value (read_parts parts rest after)) bytes at
 
 -- one of the two forms: the one with names where the first letter of `matrix` stands
 unfoldable pub read_form : List ℕ → ℕ → Reading
@@ -103,7 +108,9 @@ in_rows (suc rows) columns entries = take columns entries ∷ in_rows rows colum
 abbrev pub fault_after_header : List ℕ → Reading → Option FileFault
 fault_after_header bytes (Err offset) = Some (BadHeader offset)
 fault_after_header bytes (Ok found) =
-    if is_none (header_fault found.values) then digits_fault (slice_index found.values 1) (slice_index found.values 2 * slice_index found.values 3) (drop found.end bytes) found.end
+    if is_none (header_fault found.values)
+    then digits_fault (slice_index found.values 1) (slice_index found.values 2 * slice_index found.values 3)
+    (drop found.end bytes) found.end
     else header_fault found.values
 
 -- the first fault, where there is one; bytes without one are a text of a matrix
@@ -115,7 +122,8 @@ matrix_after_header bytes (Err offset) = record { order = Two; cols = 0; rows = 
 matrix_after_header bytes (Ok found) = record {
   order = unwrap_or (order_with_number (slice_index found.values 1)) Two;
   cols = slice_index found.values 3;
-  rows = in_rows (slice_index found.values 2) (slice_index found.values 3) (map digit_value (filter is_dark (drop found.end bytes)));
+  rows = in_rows (slice_index found.values 2) (slice_index found.values 3)
+      (map digit_value (filter is_dark (drop found.end bytes)));
 }
 
 -- the matrix of which faultless bytes are a text

@@ -3,7 +3,8 @@
 ghost use Rattle.std.specs.Prelude.{◌≡◌, ◌+◌, ◌*◌, ◌<◌, ◌≤◌, length, slice_index, All};
 ghost use Rattle.axe_field.specs.Order.{order_number, IsElement};
 ghost use Rattle.axe_matrix.specs.Limits.{most_columns};
-ghost use Rattle.axe_file.specs.Marks.{marks_per_byte, byte_limit, byte_with_marks, mark_of, has_unused_mark, bytes_per_row};
+ghost use Rattle.axe_file.specs.Marks.{marks_per_byte, byte_limit, byte_with_marks, mark_of, has_unused_mark};
+ghost use Rattle.axe_file.specs.Marks.{bytes_per_row};
 
 use axe_field::Field;
 use axe_row::Row;

@@ -1,12 +1,14 @@
 //! Reading the packed form: first all checks, which take no memory, then the matrix.
 
-ghost use Rattle.std.specs.Prelude.{◌≡◌, ◌+◌, ◌<◌, ◌≤◌, [], None, Some, length, slice_get, slice_range, IfOk, OnOk, IfErr};
+ghost use Rattle.std.specs.Prelude.{◌≡◌, ◌+◌, ◌<◌, ◌≤◌, [], None, Some, length, slice_get, slice_range, IfOk, OnOk};
+ghost use Rattle.std.specs.Prelude.{IfErr};
 ghost use Rattle.std.specs.List.{flat_map, range_with_len};
 ghost use Rattle.std.specs.Int.{w32, from_le_bytes};
 ghost use Rattle.axe_matrix.specs.Matrices.{MatrixValue, IsMatrix};
 ghost use Rattle.axe_matrix.specs.Limits.{most_rows};
 ghost use Rattle.axe_file.specs.Marks.{bytes_per_row, row_marks};
-ghost use Rattle.axe_file.specs.Packed.{packed, packed_fault, unpacked, header_faults, data_faults, byte_faults, header_rows, data_length};
+ghost use Rattle.axe_file.specs.Packed.{packed, packed_fault, unpacked, header_faults, data_faults, byte_faults};
+ghost use Rattle.axe_file.specs.Packed.{header_rows, data_length};
 ghost use Rattle.axe_file.specs.Headers.{Says};
 ghost use Rattle.axe_file.specs.Answers.{AnswersFile};
 ghost use Rattle.axe_file.specs.declared.fault.FileFault.TheVariants.{Memory};

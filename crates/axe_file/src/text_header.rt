@@ -1,10 +1,12 @@
 //! The header of a text.
 
-ghost use Rattle.std.specs.Prelude.{◌≡◌, ℕ, ◌+◌, ◌<◌, ◌≤◌, ◌&&◌, Some, None, Ok, Err, List, [], ◌∷◌, length, drop, IfOk, MatchResult};
+ghost use Rattle.std.specs.Prelude.{◌≡◌, ℕ, ◌+◌, ◌<◌, ◌≤◌, ◌&&◌, Some, None, Ok, Err, List, [], ◌∷◌, length, drop};
+ghost use Rattle.std.specs.Prelude.{IfOk, MatchResult};
 ghost use Rattle.std.specs.List.{prefix_len};
 ghost use Rattle.axe_file.specs.Packed.{order_with_number};
 ghost use Rattle.axe_file.specs.TextGrammar.{is_white, is_digit, plain_form, named_form};
-ghost use Rattle.axe_file.specs.TextReading.{Reading, GoesOn, read_gap, read_word, read_digits, read_numeral, read_parts, read_form, read_header, header_fault};
+ghost use Rattle.axe_file.specs.TextReading.{Reading, GoesOn, read_gap, read_word, read_digits, read_numeral};
+ghost use Rattle.axe_file.specs.TextReading.{read_parts, read_form, read_header, header_fault};
 ghost use Rattle.axe_file.specs.declared.fault.FileFault.TheVariants.{BadHeader};
 
 use crate::fault::FileFault;

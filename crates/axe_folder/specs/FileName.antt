@@ -10,7 +10,8 @@ is_separator byte = byte == slash || byte == 0
 -- a name that stands for a file in the directory itself: not empty, not the directory or the one above it, and in one
 -- part
 abbrev pub is_plain_name : List ℕ → Bool
-is_plain_name name = not (bytes_eq name [] || bytes_eq name (codes ".") || bytes_eq name (codes "..") || list_any is_separator name)
+is_plain_name name =
+    not (bytes_eq name [] || bytes_eq name (codes ".") || bytes_eq name (codes "..") || list_any is_separator name)
 
 -- the path of a file in a directory: the directory's, a slash, and the file's name
 abbrev pub path_in : List ℕ → List ℕ → List ℕ

@@ -30,4 +30,5 @@ MayTear folder = IsTrue folder.tears × (folder.failures ≡ 0)
 
 -- what a `put` that fails leaves: the files as they were, or where it may tear, the first half of the bytes at the name
 abbrev pub Tears : Fused → List ℕ → List ℕ → Files → Type 0
-Tears old name bytes files = (files ≡ old.files) ⊎ (MayTear old × (files ≡ with_file old.files name (take (length bytes / 2) bytes)))
+Tears old name bytes files =
+    (files ≡ old.files) ⊎ (MayTear old × (files ≡ with_file old.files name (take (length bytes / 2) bytes)))

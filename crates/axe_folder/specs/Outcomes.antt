@@ -1,5 +1,6 @@
 -- What the calls of a folder that tells its files may answer, and what each answer says of the files.
-use Rattle.std.specs.Prelude.{◌≡◌, ◌≢◌, ◌⊎◌, ⊤, ℕ, ◌+◌, ◌-◌, ◌^◌, min, nat_lt, List, length, take, Option, Some, None, Result, Ok, Err, IsOk, Vec, if◌then◌else◌}
+use Rattle.std.specs.Prelude.{◌≡◌, ◌≢◌, ◌⊎◌, ⊤, ℕ, ◌+◌, ◌-◌, ◌^◌, min, nat_lt, List, length, take, Option, Some, None}
+use Rattle.std.specs.Prelude.{Result, Ok, Err, IsOk, Vec, if◌then◌else◌}
 use Rattle.axe_folder.specs.declared.fault.FolderFault.{FolderFault}
 use Rattle.axe_folder.specs.declared.fault.FolderFault.TheVariants.{Missing, TooLong, Device, Memory}
 use Rattle.axe_folder.specs.Files.{Files, file_at, with_file, without_file}

@@ -19,14 +19,16 @@ ConsumesAtMost old new most = (taken : List ℕ) × (Consumes old new taken × (
 -- one turn: the piece stands after the bytes before it, true only where the source has ended; TooLong only where
 -- the limit is passed with it; Device or Memory
 abbrev pub PieceOutcome : Result Bool FolderFault → List ℕ → List ℕ → List ℕ → Option (List ℕ) → ℕ → Type 0
-PieceOutcome (Ok ended) before after piece rest limit = (after ≡ before ++ piece) × (length after ≤ limit) × (IsTrue ended → IsAtEnd rest)
+PieceOutcome (Ok ended) before after piece rest limit =
+    (after ≡ before ++ piece) × (length after ≤ limit) × (IsTrue ended → IsAtEnd rest)
 PieceOutcome (Err Missing) before after piece rest limit = ⊥
 PieceOutcome (Err TooLong) before after piece rest limit = limit < length before + length piece
 PieceOutcome (Err Device) before after piece rest limit = ⊤
 PieceOutcome (Err Memory) before after piece rest limit = ⊤
 
 -- a turn of a bounded read takes a piece that goes at most one byte past the limit
-pub record ReadsPiece (result : Result Bool FolderFault) (before after : List ℕ) (old new : Option (List ℕ)) (limit : ℕ) : Type 0 where
+pub record ReadsPiece (result : Result Bool FolderFault) (before after : List ℕ) (old new : Option (List ℕ))
+    (limit : ℕ) : Type 0 where
   pub piece : List ℕ
   pub taken : Consumes old new piece
   pub frugal : length before + length piece ≤ limit + 1

@@ -7,8 +7,8 @@ use std::marker::Model;
 /// A folder in memory that fails after a number of calls: it passes so many calls on to the folder inside, and answers
 /// Device to each later one. So what a program leaves behind can be seen for each call at which a device may fail.
 ///
-/// A call that fails changes no file, but for one: where the folder tears, and the first call that fails is a `put`, that
-/// leaves the first half of its bytes at its name (`len / 2` of them), if there is memory for them.
+/// A call that fails changes no file, but for one: where the folder tears, and the first call that fails is a `put`,
+/// that leaves the first half of its bytes at its name (`len / 2` of them), if there is memory for them.
 #[derive(Drop)]
 pub struct FusedFolder {
     inside: MemFolder,
@@ -46,7 +46,8 @@ impl FusedFolder {
         }
     }
 
-    /// The bytes of the file of this name in the folder inside, or None where there is none. This is no call that fails.
+    /// The bytes of the file of this name in the folder inside, or None where there is none. This is no call that
+    /// fails.
     pub fn bytes(&self, name: &str) -> Option<&[u8]>
         ensures { option_copied result ≡ file_at self.now.files name.now }
     {

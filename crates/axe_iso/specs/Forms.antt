@@ -43,7 +43,8 @@ pub record HasNullity (o : Order) (dim : ℕ) (generators : List (List (List ℕ
 -- v is one of its null vectors
 abbrev pub IsNullVectorOf : ModuleValue → ℕ → ℕ → List ℕ → Type 0
 IsNullVectorOf m seed number v =
-    IsNullVector (gf m.order) m.dim (drawn_value m.order m.dim m.generators seed number) (vector_of (number_field m.order) v)
+    IsNullVector (gf m.order) m.dim (drawn_value m.order m.dim m.generators seed number)
+    (vector_of (number_field m.order) v)
 
 -- its null space has few points
 pub record HasFewNullPoints (m : ModuleValue) (seed number : ℕ) : Type 0 where
@@ -60,8 +61,8 @@ pub record IsNullSpaceOf (m : ModuleValue) (seed number : ℕ) (space : MatrixVa
 
 -- ---- forms
 
--- the generators are the standard matrices of the first unit vector, which is a null vector of the word's value, and the
--- null space of that has this dimension and few points
+-- the generators are the standard matrices of the first unit vector, which is a null vector of the word's value, and
+-- the null space of that has this dimension and few points
 pub record IsFormOver (o : Order) (dim : ℕ) (generators : List (List (List ℕ))) (seed number nullity : ℕ) : Type 0 where
   pub standard : AreStandardMatrices (gf o) (module_of (number_field o) dim generators) (unit_vector (gf o) 0)
       (module_of (number_field o) dim generators)

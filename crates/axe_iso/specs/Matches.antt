@@ -36,8 +36,8 @@ pub record IsFirstMatch (form : FormValue) (m : ModuleValue) (t : MatrixValue) :
   pub matches : HasStandardMatrices m (point_row space place).entries form.matrices
   pub first : (j : ℕ) → j < place → ¬ (HasStandardMatrices m (point_row space j).entries form.matrices)
 
--- the answer for a module over the form's field with as many generators: the first match, or none, where the form's matrices
--- are no module isomorphic to it
+-- the answer for a module over the form's field with as many generators: the first match, or none, where the form's
+-- matrices are no module isomorphic to it
 abbrev pub IsMatch : FormValue → ModuleValue → Option MatrixValue → Type 0
 IsMatch form m (Some t) = IsFirstMatch form m t
 IsMatch form m None =

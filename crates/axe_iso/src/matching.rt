@@ -14,10 +14,11 @@ use axe_word::Points;
 use std::alloc::Global;
 
 /// The isomorphism T from a module to a form's matrices that the form gives: T is invertible, and `T g' = g T` for each
-/// generator g' of the module and of the form's matrices g. It is the standard basis of the first point, of the null space
-/// of the value of the form's word in the module, whose standard matrices are the form's. `None` where the module is not
-/// isomorphic to the form's matrices; for another dimension at once. The module is over the form's field and has as many
-/// generators. No point is tried past the one that matches, and no row is made past the first one that differs.
+/// generator g' of the module and of the form's matrices g. It is the standard basis of the first point, of the null
+/// space of the value of the form's word in the module, whose standard matrices are the form's. `None` where the module
+/// is not isomorphic to the form's matrices; for another dimension at once. The module is over the form's field and has
+/// as many generators. The comparison with the form's matrices goes row by row and stops at the first row that differs,
+/// and no point is tried past the one that matches: that is so by the code alone, and no clause says it.
 pub fn matches(alloc: Global, form: &Form, module: &Module) -> Result<Option<Matrix>, Refusal>
     requires field { «module».now.order ≡ form.now.matrices.order }
     requires generators { length «module».now.generators ≡ length form.now.matrices.generators }
@@ -41,7 +42,7 @@ pub fn matches(alloc: Global, form: &Form, module: &Module) -> Result<Option<Mat
 }
 
 /// Whether matrices are the action of a module on the rows of a basis, and there are as many of these as the
-/// dimension. It stops at the first row that differs.
+/// dimension. It stops at the first row that differs: that is so by the code alone.
 fn is_action(
     alloc: Global,
     module: &Module,

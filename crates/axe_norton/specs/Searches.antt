@@ -7,7 +7,8 @@ use Rattle.axe_matrix.specs.Matrices.{MatrixValue}
 use Rattle.axe_spin.specs.Modules.{ModuleValue}
 use Rattle.axe_action.specs.Actions.{dual_module}
 use Rattle.axe_word.specs.PointsOfMatrix.{IsReduced}
-use Rattle.axe_norton.specs.Spaces.{GeneratesModule, GeneratesProper, TriedGenerate, IsFirstProperSpace, TransposedPoint, TransposeGenerates, IsTransposedSpace, point_of}
+use Rattle.axe_norton.specs.Spaces.{GeneratesModule, GeneratesProper, TriedGenerate, IsFirstProperSpace, point_of}
+use Rattle.axe_norton.specs.Spaces.{TransposedPoint, TransposeGenerates, IsTransposedSpace}
 
 -- the matrix has as rows the reduced basis of a space of vectors of the module
 pub record IsReducedIn (m : ModuleValue) (basis : MatrixValue) : Type 0 where

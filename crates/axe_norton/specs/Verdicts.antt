@@ -11,7 +11,9 @@ use Rattle.axe_word.specs.PointsOfMatrix.{points_of, point_count, most_points}
 use Rattle.axe_norton.specs.declared.verdicts.At.{At}
 use Rattle.axe_norton.specs.declared.verdicts.At.TheVariants.{Irreducible, Reducible, Left}
 use Rattle.axe_norton.specs.declared.verdicts.Verdict
-use Rattle.axe_norton.specs.Spaces.{IsIrreducibleModule, IsProperSubmodule, Tested, HasFewPoints, point_of, TriedGenerate, IsFirstProperSpace, TransposeGenerates, IsTransposedSpace, GeneratesModule}
+use Rattle.axe_norton.specs.Spaces.{IsIrreducibleModule, IsProperSubmodule, Tested, HasFewPoints, point_of}
+use Rattle.axe_norton.specs.Spaces.{GeneratesModule, TriedGenerate, IsFirstProperSpace, TransposeGenerates}
+use Rattle.axe_norton.specs.Spaces.{IsTransposedSpace}
 
 -- the greatest number of a last word
 abbrev pub last_word : ℕ

@@ -10,7 +10,8 @@ ghost use Rattle.axe_echelon.specs.Echelons.{IsInvertible};
 ghost use Rattle.axe_action.specs.Actions.{dual_module};
 ghost use Rattle.axe_word.specs.PointsOfMatrix.{points_of};
 ghost use Rattle.axe_norton.specs.Spaces.{HasFewPoints};
-ghost use Rattle.axe_norton.specs.Searches.{IsReducedIn, IsSquareIn, FindsProper, FindsFirstOf, FindsFirst, IsTransposedPointRow, FindsTransposed, IsDualOrNone};
+ghost use Rattle.axe_norton.specs.Searches.{IsReducedIn, IsSquareIn, FindsProper, FindsFirstOf, FindsFirst};
+ghost use Rattle.axe_norton.specs.Searches.{IsTransposedPointRow, FindsTransposed, IsDualOrNone};
 
 use axe_action::{annihilator, dual};
 use axe_echelon::null_space;

@@ -20,7 +20,8 @@ dot_product K a b = number_sum K (λ j. K.mul (slice_index a j) (slice_index b j
 
 -- the row a plus c times the row b
 abbrev pub row_with_multiple : RowValue → ℕ → RowValue → RowValue
-row_with_multiple a c b = record { order = a.order; entries = sum_with_multiple (number_field a.order) a.entries c b.entries }
+row_with_multiple a c b =
+    record { order = a.order; entries = sum_with_multiple (number_field a.order) a.entries c b.entries }
 
 -- c times the row a
 abbrev pub multiple_row : ℕ → RowValue → RowValue

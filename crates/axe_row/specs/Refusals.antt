@@ -3,16 +3,16 @@ use Rattle.std.specs.Prelude.{◌≡◌, ◌⊎◌, Option, Some, None, Result, 
 use Rattle.axe_row.specs.declared.refusals.Refusal.{Refusal}
 use Rattle.axe_row.specs.declared.refusals.Refusal.TheVariants.{Memory}
 
--- the answer of a call: where the operands are refused it is exactly that refusal, whatever the memory; otherwise it is a
--- value with the property P, or Memory
+-- the answer of a call: where the operands are refused it is exactly that refusal, whatever the memory; otherwise it is
+-- a value with the property P, or Memory
 abbrev pub Answers : {T : Type 0} → Option Refusal → (T → Type 0) → Result T Refusal → Type 0
 Answers (Some refusal) P result = result ≡ Err refusal
 Answers None P (Ok value) = P value
 Answers None P (Err refusal) = refusal ≡ Memory
 
--- the answer of a call that finds some refusals late, on its way to the value: where the operands are refused early it is
--- exactly that refusal, whatever the memory; otherwise it is a value with the property P, a refusal that `late` allows, or
--- Memory
+-- the answer of a call that finds some refusals late, on its way to the value: where the operands are refused early it
+-- is exactly that refusal, whatever the memory; otherwise it is a value with the property P, a refusal that `late`
+-- allows, or Memory
 abbrev pub AnswersOr : {T : Type 0} → Option Refusal → (T → Type 0) → (Refusal → Type 0) → Result T Refusal → Type 0
 AnswersOr (Some refusal) P late result = result ≡ Err refusal
 AnswersOr None P late (Ok value) = P value

@@ -1,7 +1,8 @@
 //! Row vectors over a small finite field, and why an operation on rows or matrices is refused.
 #![tactic(auto)]
 
-ghost use Rattle.std.specs.Prelude.{◌≡◌, ◌<◌, ◌↔◌, None, IsTrue, length, replicate, slice_index, slice_set, All, MatchOption};
+ghost use Rattle.std.specs.Prelude.{◌≡◌, ◌<◌, ◌↔◌, None, IsTrue, length, replicate, slice_index, slice_set, All};
+ghost use Rattle.std.specs.Prelude.{MatchOption};
 ghost use Rattle.axe_algebra.specs.Lists.{unit_row};
 ghost use Rattle.axe_field.specs.NumberFields.{number_field};
 ghost use Rattle.axe_field.specs.Order.{IsElement};
@@ -19,9 +20,9 @@ pub use refusals::Refusal;
 use std::alloc::Global;
 use std::marker::Model;
 
-/// A row vector over one of the seven fields. It may have no entries. An entry is a polynomial modulo a prime, and a row
-/// keeps the coefficients of 1, of x and of x^2 of its entries, each as a plane. The planes from the degree of the field
-/// on have no digits.
+/// A row vector over one of the seven fields. It may have no entries. An entry is a polynomial modulo a prime, and a
+/// row keeps the coefficients of 1, of x and of x^2 of its entries, each as a plane. The planes from the degree of the
+/// field on have no digits.
 #[derive(Drop)]
 pub struct Row {
     field: Field,

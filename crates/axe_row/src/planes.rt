@@ -9,7 +9,8 @@ use axe_field::Field;
 use axe_plane::Plane;
 use std::alloc::{AllocError, Global};
 
-/// How many digits the plane of the coefficients of a power of x has in a row of `len` entries: none from the degree on.
+/// How many digits the plane of the coefficients of a power of x has in a row of `len` entries: none from the degree
+/// on.
 pub(crate) fn digits_in_plane(field: &Field, power: u8, len: usize) -> usize
     ensures { result ≡ cond (ltb power (degree_of field.now)) len 0 }
 {

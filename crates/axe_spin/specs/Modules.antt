@@ -1,5 +1,6 @@
 -- Modules: square matrices of one dimension over one field.
-use Rattle.std.specs.Prelude.{ℕ, ◌≤◌, ◌==◌, not, List, [], ◌∷◌, length, map, slice_index_or, All, Option, Some, None, Result, Err, if◌then◌else◌}
+use Rattle.std.specs.Prelude.{ℕ, ◌≤◌, ◌==◌, not, List, [], ◌∷◌, length, map, slice_index_or, All}
+use Rattle.std.specs.Prelude.{Option, Some, None, Result, Err, if◌then◌else◌}
 use Rattle.axe_algebra.specs.Lists.{IsModuleOver, IsSquareOver}
 use Rattle.axe_algebra.specs.SpansOfLists.{SpansEverything}
 use Rattle.axe_algebra.specs.ModulesOfLists.{IsInvariant}
@@ -18,8 +19,8 @@ pub record ModuleValue : Type 0 where
   pub dim : ℕ
   pub generators : List (List (List ℕ))
 
--- the dimension is at least 1, the generators are square matrices of that dimension, and there are no more of them and of
--- columns than the limits allow
+-- the dimension is at least 1, the generators are square matrices of that dimension, and there are no more of them and
+-- of columns than the limits allow
 pub record IsModule (m : ModuleValue) : Type 0 where
   pub over : IsModuleOver (number_field m.order) m.dim m.generators
   pub dim_fits : m.dim ≤ most_columns
@@ -30,8 +31,8 @@ pub record IsModule (m : ModuleValue) : Type 0 where
 abbrev pub generator_of : ModuleValue → ℕ → MatrixValue
 generator_of m i = record { order = m.order; cols = m.dim; rows = slice_index_or m.generators i [] }
 
--- why a matrix is no generator of a module over this field and of this dimension: it has no rows, or else is not square,
--- or else is over another field, or else has another number of rows
+-- why a matrix is no generator of a module over this field and of this dimension: it has no rows, or else is not
+-- square, or else is over another field, or else has another number of rows
 abbrev pub generator_refusal : Order → ℕ → MatrixValue → Option Refusal
 generator_refusal order dim m =
     if length m.rows == 0 then Some NoRows
@@ -48,7 +49,8 @@ generators_refusal order dim (m ∷ rest) = first_of (generator_refusal order di
 abbrev pub rows_of_each : List MatrixValue → List (List (List ℕ))
 rows_of_each matrices = map (λ (m : MatrixValue). m.rows) matrices
 
--- why the rows of a matrix are no vectors of a module: they are over another field, or else of another length than the dimension
+-- why the rows of a matrix are no vectors of a module: they are over another field, or else of another length than the
+-- dimension
 abbrev pub rows_refusal : ModuleValue → MatrixValue → Option Refusal
 rows_refusal m rows =
     if not (order_number rows.order == order_number m.order) then Some FieldsDiffer
@@ -66,8 +68,8 @@ IsInvariantIn m rows = IsInvariant (number_field m.order) m.dim m.generators row
 abbrev pub SpansModule : ModuleValue → MatrixValue → Type 0
 SpansModule m rows = SpansEverything (number_field m.order) m.dim rows.rows
 
--- the module whose generators are these matrices, over the field and of the dimension of the first, or the refusal of the
--- first that is no generator beside the first; of no matrices there is no module
+-- the module whose generators are these matrices, over the field and of the dimension of the first, or the refusal of
+-- the first that is no generator beside the first; of no matrices there is no module
 abbrev pub module_of_matrices : List MatrixValue → Result ModuleValue Refusal
 module_of_matrices [] = Err NoRows
 module_of_matrices (first ∷ rest) =

@@ -1,4 +1,5 @@
--- What the law functions on standard bases promise, of matrices over the seven fields (Parker 1984; Holt and Rees 1994).
+-- What the law functions on standard bases promise, of matrices over the seven fields (Parker 1984; Holt and Rees
+-- 1994).
 use Rattle.std.specs.Prelude.{◌≡◌, ◌≢◌, ℕ, ◌↔◌, List, length}
 use Rattle.axe_algebra.specs.ModulesOfLists.{IsSubAction, IsIsomorphism}
 use Rattle.axe_field.specs.Order.{IsElement}
@@ -26,7 +27,8 @@ pub record IsIsomorphismMatrix (m n : ModuleValue) (t : MatrixValue) : Type 0 wh
 
 -- an isomorphism carries the standard basis of v to that of its image
 abbrev pub IsomorphismCarriesStandardBasis : Type 0
-IsomorphismCarriesStandardBasis = (m n : ModuleValue) (t : MatrixValue) (v : RowValue) (basis : MatrixValue) → IsModule m →
+IsomorphismCarriesStandardBasis =
+    (m n : ModuleValue) (t : MatrixValue) (v : RowValue) (basis : MatrixValue) → IsModule m →
     IsIsomorphismMatrix m n t → IsVectorOf m v → IsMatrix basis → IsStandardMatrix m v basis →
     IsStandardMatrix n (vector_product v t) (matrix_product basis t)
 
@@ -36,6 +38,8 @@ IsActionOn m basis matrices = IsSubAction (number_field m.order) m.dim m.generat
 
 -- a nonzero multiple of v has the same standard matrices: the sub actions on the standard bases are the same
 abbrev pub MultipleHasTheSameStandardMatrices : Type 0
-MultipleHasTheSameStandardMatrices = (m : ModuleValue) (c : ℕ) (v : RowValue) (basis other : MatrixValue) (matrices : List (List (List ℕ))) → IsModule m →
-    IsElement m.order c → c ≢ 0 → IsVectorOf m v → IsStandardMatrix m v basis → IsStandardMatrix m (multiple_row c v) other →
+MultipleHasTheSameStandardMatrices =
+    (m : ModuleValue) (c : ℕ) (v : RowValue) (basis other : MatrixValue) (matrices : List (List (List ℕ))) →
+    IsModule m → IsElement m.order c → c ≢ 0 → IsVectorOf m v →
+    IsStandardMatrix m v basis → IsStandardMatrix m (multiple_row c v) other →
     IsActionOn m basis matrices ↔ IsActionOn m other matrices

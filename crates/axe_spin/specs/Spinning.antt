@@ -1,5 +1,6 @@
 -- What spinning rows in a module gives: the space that they generate, and standard bases.
-use Rattle.std.specs.Prelude.{◌≡◌, ℕ, ◌<◌, ◌==◌, Bool, true, false, Option, Some, None, List, [], length, get_or, slice_index_or, if◌then◌else◌}
+use Rattle.std.specs.Prelude.{◌≡◌, ℕ, ◌<◌, ◌==◌, Bool, true, false, Option, Some, None, if◌then◌else◌}
+use Rattle.std.specs.Prelude.{List, [], length, get_or, slice_index_or}
 use Rattle.std.specs.List.{list_all}
 use Rattle.axe_algebra.specs.SpansOfLists.{IsIndependent, IsSpanned}
 use Rattle.axe_algebra.specs.ModulesOfLists.{IsGeneratedBasis, IsStandardBasis}
@@ -27,7 +28,8 @@ pub record IsRowBasis (m basis : MatrixValue) : Type 0 where
   pub field : basis.order ≡ m.order
   pub columns : basis.cols ≡ m.cols
   pub independent : IsIndependent (number_field m.order) basis.rows
-  pub chosen : (t : ℕ) → t < length basis.rows → (s : ℕ) × (s < length m.rows) × (get_or basis.rows t [] ≡ get_or m.rows s [])
+  pub chosen : (t : ℕ) → t < length basis.rows →
+      (s : ℕ) × (s < length m.rows) × (get_or basis.rows t [] ≡ get_or m.rows s [])
   pub spanned : (s : ℕ) → s < length m.rows → IsSpanned (number_field m.order) basis.rows (get_or m.rows s [])
 
 -- the matrix has as its rows the reduced basis of the space that the seed's rows generate in the module: of the span of
@@ -53,14 +55,14 @@ pub record IsFirstNonzeroRow (m : MatrixValue) (i : ℕ) : Type 0 where
 abbrev pub HasFirstNonzeroRow : MatrixValue → RowValue → Type 0
 HasFirstNonzeroRow m row = (i : ℕ) × IsFirstNonzeroRow m i × (row ≡ row_of m i)
 
--- the matrix has as its rows what spinning a seed in a module gives: the reduced basis of the space that the seed's rows
--- generate, or where `standard` says so, the standard basis of the seed's first row that is not zero (Parker 1984)
+-- the matrix has as its rows what spinning a seed in a module gives: the reduced basis of the space that the seed's
+-- rows generate, or where `standard` says so, the standard basis of the seed's first row that is not zero (Parker 1984)
 abbrev pub HasSpunRows : Bool → ModuleValue → MatrixValue → MatrixValue → Type 0
 HasSpunRows false m seed rows = IsGeneratedMatrix m seed rows
 HasSpunRows true m seed rows = (i : ℕ) × IsFirstNonzeroRow seed i × IsStandardMatrix m (row_of seed i) rows
 
--- the rows are a basis of a submodule: they are vectors of the module and independent, and their span is invariant and not
--- zero
+-- the rows are a basis of a submodule: they are vectors of the module and independent, and their span is invariant and
+-- not zero
 pub record IsSubmoduleBasis (m : ModuleValue) (rows : MatrixValue) : Type 0 where
   pub field : rows.order ≡ m.order
   pub columns : rows.cols ≡ m.dim

@@ -6,8 +6,8 @@
 //! sub_action | 2: 01/10 | 2: 00 | the space is zero
 //! ```
 //!
-//! A line is one call. Its fields are apart by `|`: the name of the call, what it is given, and last what it answers. A line
-//! that begins with `#` is a remark on those below it. What stands in a field:
+//! A line is one call. Its fields are apart by `|`: the name of the call, what it is given, and last what it answers. A
+//! line that begins with `#` is a remark on those below it. What stands in a field:
 //!
 //! | value | written |
 //! |---|---|

@@ -1,5 +1,6 @@
 -- The points of the span of a reduced basis whose rows are a matrix, and what is left of them while they are gone over.
-use Rattle.std.specs.Prelude.{◌≡◌, ℕ, ◌-◌, ◌*◌, ◌^◌, ◌<◌, ◌≤◌, List, [], ◌∷◌, map, length, Option, Some, None, Result, Ok, Err}
+use Rattle.std.specs.Prelude.{◌≡◌, ℕ, ◌-◌, ◌*◌, ◌^◌, ◌<◌, ◌≤◌, List, [], ◌∷◌, map, length}
+use Rattle.std.specs.Prelude.{Option, Some, None, Result, Ok, Err}
 use Rattle.std.specs.List.{filter, range_with_len}
 use Rattle.axe_algebra.specs.Digits.{digits}
 use Rattle.axe_algebra.specs.ListArithmetic.{combination}
@@ -33,18 +34,21 @@ pub record PointsLeft : Type 0 where
   pub order : Order
   pub left : List (List ℕ)
 
--- a call of `next`, which found the points s left and leaves t: None where none was left; else the first that was left, and
--- the others are left, or Memory, and none is left
+-- a call of `next`, which found the points s left and leaves t: None where none was left; else the first that was
+-- left, and the others are left, or Memory, and none is left
 abbrev pub GivesNext : PointsLeft → Option (Result RowValue Refusal) → PointsLeft → Type 0
 GivesNext s None t = (s.left ≡ []) × (t ≡ s)
-GivesNext s (Some (Ok row)) t = (s.left ≡ row.entries ∷ t.left) × (row.order ≡ s.order) × (t.order ≡ s.order) × IsRow row
-GivesNext s (Some (Err refusal)) t = (refusal ≡ Memory) × (0 < length s.left) × (t ≡ record { order = s.order; left = [] })
+GivesNext s (Some (Ok row)) t =
+    (s.left ≡ row.entries ∷ t.left) × (row.order ≡ s.order) × (t.order ≡ s.order) × IsRow row
+GivesNext s (Some (Err refusal)) t =
+    (refusal ≡ Memory) × (0 < length s.left) × (t ≡ record { order = s.order; left = [] })
 
 -- ---- how a place among the points is held
 
 -- the combination of the rows whose coordinates are the digits of a number
 abbrev pub point_with_number : MatrixValue → ℕ → List ℕ
-point_with_number b x = combination (number_field b.order) b.cols (digits (order_number b.order) (length b.rows) x) b.rows
+point_with_number b x =
+    combination (number_field b.order) b.cols (digits (order_number b.order) (length b.rows) x) b.rows
 
 -- the points from a number on: those with its digits as coordinates, and with those of the numbers after it
 unfoldable pub points_from : MatrixValue → ℕ → List (List ℕ)
@@ -58,4 +62,5 @@ pub record IsPlaceOfPoint (b : MatrixValue) (number leading end : ℕ) : Type 0 
   pub end_is : end ≡ order_number b.order ^ length b.rows
   pub small : end < 2 ^ 32
   pub number_within : number ≤ end
-  pub leads : number < end → (p : ℕ) × (p < length b.rows) × (leading ≡ order_number b.order ^ p) × (leading ≤ number) × (number < 2 * leading)
+  pub leads : number < end →
+      (p : ℕ) × (p < length b.rows) × (leading ≡ order_number b.order ^ p) × (leading ≤ number) × (number < 2 * leading)

@@ -1,6 +1,7 @@
 //! Words: sums of multiples of products of generators.
 
-ghost use Rattle.std.specs.Prelude.{◌≡◌, ◌≢◌, ◌<◌, ◌≤◌, ◌↔◌, [], ◌∷◌, ◌++◌, length, All, MatchOption, IsTrue, slice_index_or};
+ghost use Rattle.std.specs.Prelude.{◌≡◌, ◌≢◌, ◌<◌, ◌≤◌, ◌↔◌, [], ◌∷◌, ◌++◌, length, All, MatchOption, IsTrue};
+ghost use Rattle.std.specs.Prelude.{slice_index_or};
 ghost use Rattle.axe_word.specs.Limits.{most_terms, most_numbers};
 ghost use Rattle.axe_word.specs.Words.{IsWord};
 ghost use Rattle.axe_word.specs.Terms.{word_of_terms, IsTerm};
