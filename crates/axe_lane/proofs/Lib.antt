@@ -4,3 +4,4 @@ pub mod ResidueLaws
 pub mod ByteLaws
 pub mod ZeroLaws
 pub mod SumLaws
+pub mod FiveRows

@@ -40,7 +40,7 @@ once p z h = sym (mod-eq_of_lt (less_below p z (omega arith))) ∙ less_mod p 1 
 twice : (p z : ℕ) → z < 4 * p → L p (L (2 * p) z) ≡ z % p
 twice p z h = once p (L (2 * p) z) (less_below (2 * p) z (omega arith)) ∙ less_mod (2 * p) 2 p z refl
 
-thrice : (p z : ℕ) → z < 8 * p → L p (L (2 * p) (L (4 * p) z)) ≡ z % p
+pub thrice : (p z : ℕ) → z < 8 * p → L p (L (2 * p) (L (4 * p) z)) ≡ z % p
 thrice p z h = twice p (L (4 * p) z) (less_below (4 * p) z (omega arith)) ∙ less_mod (4 * p) 4 p z refl
 
 -- x and y are entries over the field of order p, and bytes hold the sums

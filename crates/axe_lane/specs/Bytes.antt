@@ -10,6 +10,10 @@ IsSmallPrime p = (p ≡ 2) ⊎ ((p ≡ 3) ⊎ ((p ≡ 5) ⊎ (p ≡ 7)))
 abbrev pub AreBelow : ℕ → List ℕ → Type 0
 AreBelow p bytes = All (λ byte. byte < p) bytes
 
+-- the sum of two rows modulo p, entry by entry
+abbrev pub sum_modulo : ℕ → List ℕ → List ℕ → List ℕ
+sum_modulo p a b = zip2 (λ x y. (x + y) % p) a b
+
 -- a row plus m times another, modulo p, entry by entry
 abbrev pub sum_with_multiple : ℕ → List ℕ → ℕ → List ℕ → List ℕ
 sum_with_multiple p a m b = zip2 (λ x y. (x + m * y) % p) a b

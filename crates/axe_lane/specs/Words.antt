@@ -1,4 +1,5 @@
--- Lists of 64-bit words as rows of bits: bit i of a list is bit i mod 64 of its word i / 64, the lowest bit being bit 0.
+-- Lists of 64-bit words as rows of bits: bit i of a list is bit i mod 64 of its word i / 64, the lowest bit being bit
+-- 0.
 use Rattle.std.specs.Prelude.{◌≡◌, ℕ, ◌/◌, ◌%◌, ◌<◌, List, length, slice_index, sum, bit_and, bit_xor, count_ones}
 use Rattle.std.specs.Int.{bit_at}
 use Rattle.std.specs.Simd.Lanes.{zip2}

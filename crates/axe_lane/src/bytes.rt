@@ -1,7 +1,8 @@
 //! Kernels on bytes that are entries over a prime field.
 ghost use Rattle.std.specs.Prelude.{◌≡◌, ◌+◌, ◌*◌, ◌%◌, ◌^◌, ◌<◌, ◌≤◌, length, map, All, IsTrue, MatchOption};
 ghost use Rattle.std.specs.Simd.Lanes.{chunk, products, put_chunk, sum_l};
-ghost use Rattle.axe_lane.specs.Bytes.{AreBelow, IsSmallPrime, less_where_not_below, multiple, sum_of_products, sum_with_multiple};
+ghost use Rattle.axe_lane.specs.Bytes.{AreBelow, IsSmallPrime, less_where_not_below, multiple, sum_modulo};
+ghost use Rattle.axe_lane.specs.Bytes.{sum_of_products, sum_with_multiple};
 ghost use Rattle.axe_lane.specs.Entries.{AreZerosBefore, IsFirstNonzero};
 
 use std::simd::prelude::*;
@@ -12,8 +13,8 @@ const BLOCK: usize = 32;
 /// How many bytes are multiplied at once, since their products take more room.
 const HALF_BLOCK: usize = 16;
 
-/// Adds a multiple of a row to another over the field of a prime order p: each byte d of `dst` becomes d + m s modulo p,
-/// where s is the byte of `src` at the same index.
+/// Adds a multiple of a row to another over the field of a prime order p: each byte d of `dst` becomes d + m s modulo
+/// p, where s is the byte of `src` at the same index.
 pub fn add_scaled_bytes(dst: &mut [u8], src: &[u8], m: u8, p: u8)
     requires prime { IsSmallPrime p }
     requires factor { m < p }
@@ -28,6 +29,31 @@ pub fn add_scaled_bytes(dst: &mut [u8], src: &[u8], m: u8, p: u8)
         3 => add_multiple_over::<3>(dst, src, m),
         5 => add_multiple_over::<5>(dst, src, m),
         _ => add_multiple_over::<7>(dst, src, m),
+    }
+}
+
+/// Adds four rows over the field of a prime order p to a fifth, in one pass: each byte of `dst` becomes the sum of
+/// itself and the bytes of the four at the same index, modulo p.
+pub fn add4_bytes(dst: &mut [u8], a: &[u8], b: &[u8], c: &[u8], d: &[u8], p: u8)
+    requires prime { IsSmallPrime p }
+    requires a_fits { length a.now ≡ length dst.old }
+    requires b_fits { length b.now ≡ length dst.old }
+    requires c_fits { length c.now ≡ length dst.old }
+    requires d_fits { length d.now ≡ length dst.old }
+    requires dst_below { AreBelow p dst.old }
+    requires a_below { AreBelow p a.now }
+    requires b_below { AreBelow p b.now }
+    requires c_below { AreBelow p c.now }
+    requires d_below { AreBelow p d.now }
+    ensures sum { dst.new ≡ sum_modulo p (sum_modulo p (sum_modulo p (sum_modulo p dst.old a.now) b.now) c.now) d.now }
+    ensures below { AreBelow p dst.new }
+{
+    let whole = dst.len() / BLOCK;
+    for block in 0..whole {
+        add4_block(dst, a, b, c, d, p, block * BLOCK);
+    }
+    for at in whole * BLOCK..dst.len() {
+        dst[at] = reduced_byte(dst[at] + a[at] + b[at] + c[at] + d[at], p);
     }
 }
 
@@ -160,6 +186,43 @@ fn add_block<const M: u8, const P: u8>(dst: &mut [u8], src: &[u8], at: usize)
 {
     let sum = sum_of::<M, P>(u8x32::from_slice(&dst[at..]), u8x32::from_slice(&src[at..]));
     sum.copy_to_slice(&mut dst[at..]);
+}
+
+/// The block of a sum of five rows from an index on.
+#[inline(always)]
+fn add4_block(dst: &mut [u8], a: &[u8], b: &[u8], c: &[u8], d: &[u8], p: u8, at: usize)
+    requires prime { IsSmallPrime p }
+    requires dst_has_block { at + BLOCK ≤ length dst.old }
+    requires a_has_block { at + BLOCK ≤ length a.now }
+    requires b_has_block { at + BLOCK ≤ length b.now }
+    requires c_has_block { at + BLOCK ≤ length c.now }
+    requires d_has_block { at + BLOCK ≤ length d.now }
+    requires dst_below { AreBelow p dst.old }
+    requires a_below { AreBelow p a.now }
+    requires b_below { AreBelow p b.now }
+    requires c_below { AreBelow p c.now }
+    requires d_below { AreBelow p d.now }
+    ensures { dst.new ≡ put_chunk at dst.old (sum_modulo p (chunk at BLOCK dst.old)
+        (sum_modulo p (sum_modulo p (sum_modulo p (chunk at BLOCK a.now) (chunk at BLOCK b.now))
+        (chunk at BLOCK c.now)) (chunk at BLOCK d.now))) }
+{
+    let two = u8x32::from_slice(&a[at..]) + u8x32::from_slice(&b[at..]);
+    let four = two + u8x32::from_slice(&c[at..]) + u8x32::from_slice(&d[at..]);
+    let sum = u8x32::from_slice(&dst[at..]) + four;
+    let reduced = reduced(reduced(reduced(sum, 4 * p), 2 * p), p);
+    reduced.copy_to_slice(&mut dst[at..]);
+}
+
+/// A sum of five bytes below a prime p modulo p: it is below 8 p.
+#[inline(always)]
+fn reduced_byte(sum: u8, p: u8) -> u8
+    requires prime { IsSmallPrime p }
+    requires below { sum < 8 * p }
+    ensures { result ≡ sum % p }
+{
+    let once = if sum < 4 * p { sum } else { sum - 4 * p };
+    let twice = if once < 2 * p { once } else { once - 2 * p };
+    if twice < p { twice } else { twice - p }
 }
 
 /// The block of a multiple from an index on.

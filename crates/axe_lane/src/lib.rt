@@ -8,5 +8,5 @@
 mod bytes;
 mod words;
 
-pub use bytes::{add_scaled_bytes, dot_bytes, first_byte, scale_bytes};
-pub use words::{any_nonzero, first_set, parity_and, xor_into};
+pub use bytes::{add_scaled_bytes, add4_bytes, dot_bytes, first_byte, scale_bytes};
+pub use words::{any_nonzero, first_set, parity_and, xor_into, xor4_into};

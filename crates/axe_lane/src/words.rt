@@ -1,5 +1,6 @@
 //! Kernels on 64-bit words.
-ghost use Rattle.std.specs.Prelude.{◌≡◌, ◌↔◌, ◌+◌, ◌*◌, ◌%◌, ◌^◌, ◌<◌, ◌≤◌, bit_and, bit_xor, length, All, IsTrue, MatchOption};
+ghost use Rattle.std.specs.Prelude.{◌≡◌, ◌↔◌, ◌+◌, ◌*◌, ◌%◌, ◌^◌, ◌<◌, ◌≤◌, bit_and, bit_xor, length, All, IsTrue};
+ghost use Rattle.std.specs.Prelude.{MatchOption};
 ghost use Rattle.std.specs.Simd.Lanes.{chunk, put_chunk, zip2};
 ghost use Rattle.axe_lane.specs.Entries.{AreZerosBefore, HasNonzero, IsFirstNonzero};
 ghost use Rattle.axe_lane.specs.Words.{common_bits, xor_of_words, HasNoSetBit, IsFirstSetBit};
@@ -21,6 +22,25 @@ pub fn xor_into(dst: &mut [u64], src: &[u64])
     }
     for at in whole * BLOCK..dst.len() {
         dst[at] ^= src[at];
+    }
+}
+
+/// Adds four rows over the field of order 2 to a fifth, in one pass: each word of `dst` becomes its exclusive or with
+/// the words of the four at the same index.
+pub fn xor4_into(dst: &mut [u64], a: &[u64], b: &[u64], c: &[u64], d: &[u64])
+    requires a_fits { length a.now ≡ length dst.old }
+    requires b_fits { length b.now ≡ length dst.old }
+    requires c_fits { length c.now ≡ length dst.old }
+    requires d_fits { length d.now ≡ length dst.old }
+    ensures { dst.new ≡ xor_of_words (xor_of_words (xor_of_words (xor_of_words dst.old a.now) b.now) c.now) d.now }
+{
+    let whole = dst.len() / BLOCK;
+    for block in 0..whole {
+        xor4_block(dst, a, b, c, d, block * BLOCK);
+    }
+    let rest = whole * BLOCK;
+    for at in rest..dst.len() {
+        dst[at] ^= a[at] ^ b[at] ^ c[at] ^ d[at];
     }
 }
 
@@ -68,6 +88,24 @@ fn xor_block(dst: &mut [u64], src: &[u64], at: usize)
     ensures { dst.new ≡ put_chunk at dst.old (zip2 bit_xor (chunk at BLOCK dst.old) (chunk at BLOCK src.now)) }
 {
     let sum = u64x8::from_slice(&dst[at..]) ^ u64x8::from_slice(&src[at..]);
+    sum.copy_to_slice(&mut dst[at..]);
+}
+
+/// The block of a sum of five rows from an index on.
+#[inline(always)]
+fn xor4_block(dst: &mut [u64], a: &[u64], b: &[u64], c: &[u64], d: &[u64], at: usize)
+    requires dst_has_block { at + BLOCK ≤ length dst.old }
+    requires a_has_block { at + BLOCK ≤ length a.now }
+    requires b_has_block { at + BLOCK ≤ length b.now }
+    requires c_has_block { at + BLOCK ≤ length c.now }
+    requires d_has_block { at + BLOCK ≤ length d.now }
+    ensures { dst.new ≡ put_chunk at dst.old (zip2 bit_xor (chunk at BLOCK dst.old)
+        (zip2 bit_xor (zip2 bit_xor (zip2 bit_xor (chunk at BLOCK a.now) (chunk at BLOCK b.now))
+        (chunk at BLOCK c.now)) (chunk at BLOCK d.now))) }
+{
+    let two = u64x8::from_slice(&a[at..]) ^ u64x8::from_slice(&b[at..]);
+    let four = two ^ u64x8::from_slice(&c[at..]) ^ u64x8::from_slice(&d[at..]);
+    let sum = u64x8::from_slice(&dst[at..]) ^ four;
     sum.copy_to_slice(&mut dst[at..]);
 }
 

@@ -12,7 +12,7 @@ use Rattle.std.specs.Simd.Lanes.{zip2}
 use native.Mathlib.Decide.{dec_lt}
 use Rattle.axe_algebra.proofs.ListEntries.{listed_length, listed_at}
 use Rattle.axe_plane.specs.Bits.{bit_of, bits, HoldsBits}
-use Rattle.axe_plane.specs.Digits.{AreDigits, digits_with_multiple}
+use Rattle.axe_plane.specs.Digits.{AreDigits, digits_with_four, digits_with_multiple}
 use Rattle.axe_plane.proofs.DigitLaws.{length-digits_with_multiple, get_or-digits_with_multiple}
 
 pub length-bits : (n : ℕ) (words : List ℕ) → length (bits n words) ≡ n
@@ -179,6 +179,33 @@ HoldsBits-xor n a b ha hb = record {
       let right = hb.unused e past in
       bit_of-xor a b e (hb.long ∙ sym ha.long) ∙ rw (left, right) refl;
 }
+
+-- five rows of words
+abbrev pub xor_of_five : List ℕ → List ℕ → List ℕ → List ℕ → List ℕ → List ℕ
+xor_of_five x a b c d = zip2 bit_xor (zip2 bit_xor (zip2 bit_xor (zip2 bit_xor x a) b) c) d
+
+module _ (n : ℕ) (x a b c d : List ℕ) (hx : HoldsBits n x) (ha : HoldsBits n a) (hb : HoldsBits n b) (hc : HoldsBits n c) (hd : HoldsBits n d) where
+  one : HoldsBits n (zip2 bit_xor x a)
+  one = HoldsBits-xor n x a hx ha
+
+  two : HoldsBits n (zip2 bit_xor (zip2 bit_xor x a) b)
+  two = HoldsBits-xor n _ b one hb
+
+  three : HoldsBits n (zip2 bit_xor (zip2 bit_xor (zip2 bit_xor x a) b) c)
+  three = HoldsBits-xor n _ c two hc
+
+  pub HoldsBits-five : HoldsBits n (xor_of_five x a b c d)
+  HoldsBits-five = HoldsBits-xor n _ d three hd
+
+  pub bits-five : bits n (xor_of_five x a b c d) ≡ digits_with_four 2 (bits n x) (bits n a) (bits n b) (bits n c) (bits n d)
+  bits-five =
+      bits-xor n _ d three hd ∙ ap (λ (r : List ℕ). digits_with_multiple 2 r 1 (bits n d))
+      (bits-xor n _ c two hc ∙ ap (λ (r : List ℕ). digits_with_multiple 2 r 1 (bits n c))
+      (bits-xor n _ b one hb ∙ ap (λ (r : List ℕ). digits_with_multiple 2 r 1 (bits n b)) (bits-xor n x a hx ha)))
+
+-- how many digits a plane of these words has
+pub plane_long : (n : ℕ) (words self : List ℕ) → bits n words ≡ self → length self ≡ n
+plane_long n words self is = sym (ap length is) ∙ length-bits n words
 
 -- ---- words are determined by their bits
 

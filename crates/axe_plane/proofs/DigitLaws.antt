@@ -7,7 +7,8 @@ use Rattle.std.proofs.lemmas.Simd.{get_or-zip2, length-zip2}
 use Rattle.std.specs.Simd.Lanes.{zip2}
 use native.Mathlib.Decide.{dec_lt}
 use Rattle.axe_algebra.proofs.ListEntries.{listed_length, listed_at}
-use Rattle.axe_plane.specs.Digits.{AreDigits, digits_with_multiple}
+use Rattle.axe_lane.specs.Bytes.{sum_modulo}
+use Rattle.axe_plane.specs.Digits.{AreDigits, digits_with_four, digits_with_multiple}
 
 pub length-digits_with_multiple : (p : ℕ) (a : List ℕ) (m : ℕ) (b : List ℕ) → length (digits_with_multiple p a m b) ≡ length a
 unfolding digits_with_multiple
@@ -57,3 +58,29 @@ zip2-sum p a m b same =
     let here : e < length a = omega (arith, length-zip2 (λ x y. (x + m * y) % p) a b (sym same)) in
     let there : e < length b = omega (arith, same) in
     get_or-zip2 (λ x y. (x + m * y) % p) a b e 0 0 0 here there ∙ sym (get_or-digits_with_multiple p a m b e here))
+
+-- five lists side by side
+pub zip2-plus : (p : ℕ) (a b : List ℕ) → length b ≡ length a → zip2 (λ x y. (x + y) % p) a b ≡ digits_with_multiple p a 1 b
+zip2-plus p a b same =
+    ext_get_or 0 (zip2 (λ x y. (x + y) % p) a b) (digits_with_multiple p a 1 b)
+    (length-zip2 (λ x y. (x + y) % p) a b (sym same) ∙ sym (length-digits_with_multiple p a 1 b)) (λ e inside.
+    let here : e < length a = omega (arith, length-zip2 (λ x y. (x + y) % p) a b (sym same)) in
+    let there : e < length b = omega (arith, same) in
+    let one : get_or b e 0 ≡ 1 * get_or b e 0 = omega arith in
+    get_or-zip2 (λ x y. (x + y) % p) a b e 0 0 0 here there ∙ ap (λ y. (get_or a e 0 + y) % p) one
+    ∙ sym (get_or-digits_with_multiple p a 1 b e here))
+
+pub length-digits_with_four : (p : ℕ) (x a b c d : List ℕ) → length (digits_with_four p x a b c d) ≡ length x
+length-digits_with_four p x a b c d =
+    length-digits_with_multiple p _ 1 d ∙ length-digits_with_multiple p _ 1 c ∙ length-digits_with_multiple p _ 1 b ∙ length-digits_with_multiple p x 1 a
+
+pub sum_of_five : (p : ℕ) (x a b c d : List ℕ) → length a ≡ length x → length b ≡ length x → length c ≡ length x → length d ≡ length x →
+    sum_modulo p (sum_modulo p (sum_modulo p (sum_modulo p x a) b) c) d ≡ digits_with_four p x a b c d
+sum_of_five p x a b c d ha hb hc hd =
+    let first = length-digits_with_multiple p x 1 a in
+    let second = length-digits_with_multiple p (digits_with_multiple p x 1 a) 1 b ∙ first in
+    let third = length-digits_with_multiple p (digits_with_multiple p (digits_with_multiple p x 1 a) 1 b) 1 c ∙ second in
+    ap (λ (s : List ℕ). sum_modulo p (sum_modulo p (sum_modulo p s b) c) d) (zip2-plus p x a ha)
+    ∙ ap (λ (s : List ℕ). sum_modulo p (sum_modulo p s c) d) (zip2-plus p _ b (hb ∙ sym first))
+    ∙ ap (λ (s : List ℕ). sum_modulo p s d) (zip2-plus p _ c (hc ∙ sym second))
+    ∙ zip2-plus p _ d (hd ∙ sym third)

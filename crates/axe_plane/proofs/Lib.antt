@@ -4,3 +4,5 @@ pub mod PlaneLaws
 pub mod DotLaws
 pub mod ZeroDigits
 pub mod NumberDigits
+pub mod PieceLaws
+pub mod TableLaws

@@ -11,8 +11,8 @@ bit_of words e = bit_at (slice_index words (e / 64)) (e % 64)
 unfoldable pub bits : ℕ → List ℕ → List ℕ
 bits n words = listed n (bit_of words)
 
--- words of 64 bits with room for n bits, n being itself of 64 bits, and none that is there for nothing; each bit that is
--- not used is 0
+-- words of 64 bits with room for n bits, n being itself of 64 bits, and none that is there for nothing; each bit that
+-- is not used is 0
 pub record HoldsBits (n : ℕ) (words : List ℕ) : Type 0 where
   pub counted : n < 2 ^ 64
   pub fits : (k : ℕ) → slice_index words k < 2 ^ 64

@@ -2,3 +2,5 @@ pub mod Bits
 pub mod Digits
 pub mod Primes
 pub mod Planes
+pub mod FlatTables
+pub mod Tables

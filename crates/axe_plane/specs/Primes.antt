@@ -13,3 +13,8 @@ odd_number Seven = 7
 pub record OddDigits : Type 0 where
   pub prime : OddPrime
   pub digits : List ℕ
+
+-- lists of digits modulo an odd prime
+pub record OddEntries : Type 0 where
+  pub prime : OddPrime
+  pub entries : List (List ℕ)

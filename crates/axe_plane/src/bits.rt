@@ -1,18 +1,21 @@
 //! Planes of digits modulo 2.
 ghost use Rattle.std.specs.Int.{bit_at};
-ghost use Rattle.std.specs.Prelude.{ℕ, ◌≡◌, ◌≢◌, ◌+◌, ◌^◌, ◌%◌, ◌<◌, ◌≤◌, ◌↔◌, IsTrue, IfOk, length, replicate, slice_index, slice_set, All, MatchOption};
+ghost use Rattle.std.specs.Prelude.{ℕ, ◌≡◌, ◌≢◌, ◌+◌, ◌^◌, ◌%◌, ◌<◌, ◌≤◌, ◌↔◌, IsTrue, IfOk, length, replicate};
+ghost use Rattle.std.specs.Prelude.{slice_index, slice_set, All, MatchOption};
 ghost use Rattle.axe_lane.specs.Bytes.{multiple, sum_of_products};
 ghost use Rattle.axe_lane.specs.Entries.{IsFirstNonzero};
-ghost use Rattle.axe_plane.specs.Digits.{AreDigits, digits_at, digits_with_multiple};
+ghost use Rattle.axe_plane.specs.Bits.{bits, HoldsBits};
+ghost use Rattle.axe_plane.specs.Digits.{AreDigits, digits_at, digits_with_four, digits_with_multiple};
 
-use axe_lane::{any_nonzero, first_set, parity_and, xor_into};
+use axe_lane::{any_nonzero, first_set, parity_and, xor_into, xor4_into};
 use std::alloc::{AllocError, Global};
 use std::marker::Model;
 
 /// How many digits a word has.
 const WORD: usize = 64;
 
-/// A list of digits modulo 2, one in each bit: digit e is bit e mod 64 of word e / 64. The bits from its length on are 0.
+/// A list of digits modulo 2, one in each bit: digit e is bit e mod 64 of word e / 64. The bits from its length on are
+/// 0.
 #[derive(Drop)]
 pub struct BitPlane {
     len: usize,
@@ -101,6 +104,37 @@ impl BitPlane {
         xor_into(&mut self.words, &other.words);
     }
 
+    /// The words of the plane.
+    #[inline]
+    pub(crate) fn words(&self) -> &[u64]
+        ensures holds { HoldsBits (length self.now) result.now }
+        ensures digits { bits (length self.now) result.now ≡ self.now }
+    {
+        &self.words
+    }
+
+    /// Adds the digits that the words of a plane of the same length hold.
+    #[inline]
+    pub(crate) fn add_words(&mut self, words: &[u64])
+        requires { HoldsBits (length self.old) words.now }
+        ensures { self.new ≡ digits_with_multiple 2 self.old 1 (bits (length self.old) words.now) }
+    {
+        xor_into(&mut self.words, words);
+    }
+
+    /// Adds the digits that the words of each of four planes of the same length hold.
+    #[inline]
+    pub(crate) fn add_four(&mut self, a: &[u64], b: &[u64], c: &[u64], d: &[u64])
+        requires a { HoldsBits (length self.old) a.now }
+        requires b { HoldsBits (length self.old) b.now }
+        requires c { HoldsBits (length self.old) c.now }
+        requires d { HoldsBits (length self.old) d.now }
+        ensures { self.new ≡ digits_with_four 2 self.old (bits (length self.old) a.now) (bits (length self.old) b.now)
+            (bits (length self.old) c.now) (bits (length self.old) d.now) }
+    {
+        xor4_into(&mut self.words, a, b, c, d);
+    }
+
     /// Multiplies each digit by a factor modulo 2: the factor 0 makes zeros, and 1 changes nothing.
     pub fn scale(&mut self, factor: u8)
         requires { factor < 2 }
@@ -156,8 +190,8 @@ fn with_bit(word: u64, place: usize, bit: u8) -> u64
     }
 }
 
-/// The word of the bits at a place of the numbers from an index on, as many as a word holds; where there is no number, the
-/// bit is 0.
+/// The word of the bits at a place of the numbers from an index on, as many as a word holds; where there is no number,
+/// the bit is 0.
 fn word_of(numbers: &[u8], from: usize, place: u8) -> u64
     requires from { from ≤ length numbers.now }
     requires place { place < 8 }

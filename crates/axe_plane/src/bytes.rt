@@ -1,12 +1,13 @@
 //! Planes of digits modulo an odd prime.
-ghost use Rattle.std.specs.Prelude.{◌≡◌, ◌/◌, ◌%◌, ◌<◌, ◌↔◌, IsTrue, IfOk, length, map, replicate, slice_index, slice_set, All, MatchOption};
+ghost use Rattle.std.specs.Prelude.{◌≡◌, ◌/◌, ◌%◌, ◌<◌, ◌↔◌, IsTrue, IfOk, length, map, replicate, slice_index};
+ghost use Rattle.std.specs.Prelude.{slice_set, All, MatchOption};
 ghost use Rattle.axe_lane.specs.Bytes.{multiple, sum_of_products};
 ghost use Rattle.axe_lane.specs.Entries.{IsFirstNonzero};
-ghost use Rattle.axe_plane.specs.Digits.{AreDigits, digits_at, digits_with_multiple};
+ghost use Rattle.axe_plane.specs.Digits.{AreDigits, digits_at, digits_with_four, digits_with_multiple};
 ghost use Rattle.axe_plane.specs.Primes.{odd_number, OddDigits};
 
 use crate::primes::OddPrime;
-use axe_lane::{add_scaled_bytes, dot_bytes, first_byte, scale_bytes};
+use axe_lane::{add_scaled_bytes, add4_bytes, dot_bytes, first_byte, scale_bytes};
 use std::alloc::{AllocError, Global};
 use std::marker::Model;
 
@@ -117,6 +118,48 @@ impl BytePlane {
     {
         let prime = self.prime.number();
         add_scaled_bytes(&mut self.bytes, &other.bytes, factor, prime);
+    }
+
+    /// The digits of the plane.
+    #[inline]
+    pub(crate) fn bytes(&self) -> &[u8]
+        ensures value { result.now ≡ self.now.digits }
+        ensures digits { AreDigits (odd_number self.now.prime) self.now.digits }
+    {
+        &self.bytes
+    }
+
+    /// Adds a multiple of a list of as many digits.
+    #[inline]
+    pub(crate) fn add_bytes(&mut self, factor: u8, bytes: &[u8])
+        requires factor { factor < odd_number self.old.prime }
+        requires fits { length bytes.now ≡ length self.old.digits }
+        requires digits { AreDigits (odd_number self.old.prime) bytes.now }
+        ensures { self.new ≡ record {
+          prime = self.old.prime;
+          digits = digits_with_multiple (odd_number self.old.prime) self.old.digits factor bytes.now;
+        } }
+    {
+        let prime = self.prime.number();
+        add_scaled_bytes(&mut self.bytes, bytes, factor, prime);
+    }
+
+    /// Adds four lists of as many digits.
+    #[inline]
+    pub(crate) fn add_four(&mut self, a: &[u8], b: &[u8], c: &[u8], d: &[u8])
+        requires fits { (length a.now ≡ length self.old.digits) × (length b.now ≡ length self.old.digits)
+            × (length c.now ≡ length self.old.digits) × (length d.now ≡ length self.old.digits) }
+        requires a { AreDigits (odd_number self.old.prime) a.now }
+        requires b { AreDigits (odd_number self.old.prime) b.now }
+        requires c { AreDigits (odd_number self.old.prime) c.now }
+        requires d { AreDigits (odd_number self.old.prime) d.now }
+        ensures { self.new ≡ record {
+          prime = self.old.prime;
+          digits = digits_with_four (odd_number self.old.prime) self.old.digits a.now b.now c.now d.now;
+        } }
+    {
+        let prime = self.prime.number();
+        add4_bytes(&mut self.bytes, a, b, c, d, prime);
     }
 
     /// Multiplies each digit by a factor modulo the prime.

@@ -1,20 +1,29 @@
-//! Planes: lists of digits modulo one of the primes 2, 3, 5 and 7. A plane modulo 2 has 64 digits in a word; another plane
-//! has a byte for each digit.
+//! Planes: lists of digits modulo one of the primes 2, 3, 5 and 7. A plane modulo 2 has 64 digits in a word; another
+//! plane has a byte for each digit.
 #![tactic(auto)]
 
-ghost use Rattle.std.specs.Prelude.{◌≡◌, ◌≢◌, ◌⊎◌, ◌%◌, ◌<◌, ◌↔◌, IsTrue, IfOk, length, replicate, slice_index, slice_set, All, MatchOption};
+ghost use Rattle.std.specs.Prelude.{◌≡◌, ◌≢◌, ◌⊎◌, ◌%◌, ◌<◌, ◌↔◌, IsTrue, IfOk, length, replicate, slice_index};
+ghost use Rattle.std.specs.Prelude.{slice_set, All, MatchOption};
 ghost use Rattle.axe_lane.specs.Bytes.{multiple, sum_of_products};
 ghost use Rattle.axe_lane.specs.Entries.{IsFirstNonzero};
-ghost use Rattle.axe_plane.specs.Digits.{AreDigits, digits_at, digits_with_multiple};
+ghost use Rattle.axe_plane.specs.Digits.{AreDigits, digits_at, digits_with_four, digits_with_multiple};
+ghost use Rattle.axe_plane.specs.Tables.{plane_at, IsEntryFor};
 
+pub use bit_table::BitTable;
 pub use bits::BitPlane;
+pub use byte_table::ByteTable;
 pub use bytes::BytePlane;
 pub use primes::OddPrime;
 use std::alloc::{AllocError, Global};
+pub use tables::PlaneTable;
 
+mod bit_table;
 mod bits;
+mod byte_table;
 mod bytes;
+mod pieces;
 mod primes;
+mod tables;
 
 /// A list of digits modulo 2, 3, 5 or 7.
 #[derive(Drop)]
@@ -41,8 +50,8 @@ impl Plane {
         })
     }
 
-    /// The plane of the digits that numbers have at a place in base 2, 3, 5 or 7, the lowest being at 0. Modulo an odd prime
-    /// the place is 0 or 1.
+    /// The plane of the digits that numbers have at a place in base 2, 3, 5 or 7, the lowest being at 0. Modulo an odd
+    /// prime the place is 0 or 1.
     pub fn of_numbers(
         alloc: Global,
         prime: u8,
@@ -105,8 +114,9 @@ impl Plane {
         })
     }
 
-    /// Adds a multiple of another plane modulo the same prime and of the same length: each digit d becomes d + m s modulo
-    /// the prime, where s is the other plane's digit. Nothing is done where m is 0, and then the lengths may differ.
+    /// Adds a multiple of another plane modulo the same prime and of the same length: each digit d becomes d + m s
+    /// modulo the prime, where s is the other plane's digit. Nothing is done where m is 0, and then the lengths may
+    /// differ.
     #[inline]
     pub fn add_scaled(&mut self, factor: u8, other: &Plane)
         requires prime { prime_of_plane other.now ≡ prime_of_plane self.old }
@@ -121,6 +131,39 @@ impl Plane {
                 (Plane::Bits(plane), Plane::Bits(other)) => plane.add(other),
                 (Plane::Bytes(plane), Plane::Bytes(other)) => plane.add_scaled(factor, other),
                 _ => {}
+            }
+        }
+    }
+
+    /// Adds an entry of each of four tables modulo the same prime, whose entries have this plane's length, in one pass.
+    /// The numbers of the entries stand in the tables' order.
+    #[inline]
+    pub fn add_four_entries(
+        &mut self,
+        entries: [usize; 4],
+        a: &PlaneTable,
+        b: &PlaneTable,
+        c: &PlaneTable,
+        d: &PlaneTable,
+    )
+        requires a { IsEntryFor self.old a.now (slice_index entries 0) }
+        requires b { IsEntryFor self.old b.now (slice_index entries 1) }
+        requires c { IsEntryFor self.old c.now (slice_index entries 2) }
+        requires d { IsEntryFor self.old d.now (slice_index entries 3) }
+        ensures { IsPlane (prime_of_plane self.old) (digits_with_four (prime_of_plane self.old) (digits_of self.old)
+            (digits_of (plane_at a.now (slice_index entries 0))) (digits_of (plane_at b.now (slice_index entries 1)))
+            (digits_of (plane_at c.now (slice_index entries 2))) (digits_of (plane_at d.now (slice_index entries 3)))) self.new }
+    {
+        match self {
+            Plane::Bits(plane) => {
+                let (a, b) = (a.words_of(entries[0]), b.words_of(entries[1]));
+                let (c, d) = (c.words_of(entries[2]), d.words_of(entries[3]));
+                plane.add_four(a, b, c, d);
+            }
+            Plane::Bytes(plane) => {
+                let (a, b) = (a.bytes_of(entries[0]), b.bytes_of(entries[1]));
+                let (c, d) = (c.bytes_of(entries[2]), d.bytes_of(entries[3]));
+                plane.add_four(a, b, c, d);
             }
         }
     }
@@ -152,7 +195,8 @@ impl Plane {
 
     /// The index of the first digit other than 0, or `None` where every digit is 0.
     pub fn first_nonzero(&self) -> Option<usize>
-        ensures { MatchOption result (All (λ digit. digit ≡ 0) (digits_of self.now)) (IsFirstNonzero (digits_of self.now)) }
+        ensures { MatchOption result (All (λ digit. digit ≡ 0) (digits_of self.now))
+            (IsFirstNonzero (digits_of self.now)) }
     {
         match self {
             Plane::Bits(plane) => plane.first_nonzero(),

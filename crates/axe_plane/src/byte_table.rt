@@ -1,0 +1,96 @@
+//! Tables of planes of digits modulo an odd prime.
+ghost use Rattle.std.specs.Prelude.{◌≡◌, ◌<◌, IfOk, [], length, replicate, slice_index_or, slice_set};
+ghost use Rattle.axe_plane.specs.Digits.{AreDigits, digits_with_multiple};
+ghost use Rattle.axe_plane.specs.Primes.{odd_number, OddEntries};
+
+use crate::pieces::start_of;
+use crate::{BytePlane, OddPrime};
+use axe_lane::add_scaled_bytes;
+use std::alloc::{AllocError, Global};
+use std::marker::Model;
+
+/// A list of planes of one length modulo an odd prime, its entries: entry x has the bytes from x n on, where n is the
+/// length.
+#[derive(Drop)]
+pub struct ByteTable {
+    prime: OddPrime,
+    len: usize,
+    count: usize,
+    bytes: Vec<u8>,
+}
+
+impl Model for ByteTable {
+    ghost use Rattle.axe_plane.specs.FlatTables.{byte_entries, HoldsDigits};
+    ghost use Rattle.axe_plane.specs.Primes.{odd_number, OddEntries};
+
+    ghost Value = { OddEntries };
+
+    ghost view = { λ a. record { prime = a.prime; entries = byte_entries a.len a.count a.bytes.items } };
+
+    ghost invariant = { λ a. HoldsDigits (odd_number a.prime) a.len a.count a.bytes.items };
+}
+
+impl ByteTable {
+    /// The table of `count` planes of `len` zeros.
+    pub fn zero(
+        alloc: Global,
+        prime: OddPrime,
+        count: usize,
+        len: usize,
+    ) -> Result<ByteTable, AllocError>
+        ensures { IfOk result (λ table. table ≡ record { prime = prime; entries = replicate count (replicate len 0) }) }
+    {
+        let all = count.checked_mul(len).ok_or(AllocError)?;
+        let bytes = vec![in alloc; 0; all]?;
+        Ok(ByteTable {
+            prime,
+            len,
+            count,
+            bytes,
+        })
+    }
+
+    /// The digits of an entry.
+    #[inline]
+    pub fn entry(&self, index: usize) -> &[u8]
+        requires { index < length self.now.entries }
+        ensures value { result.now ≡ slice_index_or self.now.entries index [] }
+        ensures digits { AreDigits (odd_number self.now.prime) result.now }
+    {
+        let start = start_of(index, self.len, self.count);
+        &self.bytes[start..start + self.len]
+    }
+
+    /// Makes an entry a copy of another one.
+    pub fn copy_entry(&mut self, to: usize, from: usize)
+        requires to { to < length self.old.entries }
+        requires from { from < length self.old.entries }
+        ensures { self.new
+            ≡ record self.old { entries = slice_set self.old.entries to (slice_index_or self.old.entries from []) } }
+    {
+        let source = start_of(from, self.len, self.count);
+        let start = start_of(to, self.len, self.count);
+        self.bytes.copy_within(source..source + self.len, start);
+    }
+
+    /// Adds a multiple of a plane to an entry of its length.
+    pub fn add_to_entry(&mut self, to: usize, factor: u8, plane: &BytePlane)
+        requires to { to < length self.old.entries }
+        requires prime { plane.now.prime ≡ self.old.prime }
+        requires factor { factor < odd_number self.old.prime }
+        requires fits { length plane.now.digits ≡ length (slice_index_or self.old.entries to []) }
+        ensures { self.new ≡ record self.old {
+          entries = slice_set self.old.entries to
+              (digits_with_multiple (odd_number self.old.prime) (slice_index_or self.old.entries to []) factor plane.now.digits);
+        } }
+    {
+        let prime = self.prime.number();
+        let start = start_of(to, self.len, self.count);
+        add_scaled_bytes(
+            &mut self.bytes[start..start + self.len],
+            plane.bytes(),
+            factor,
+            prime,
+        );
+    }
+}
