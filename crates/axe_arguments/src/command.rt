@@ -1,5 +1,5 @@
 //! What a command line asks for.
-use crate::count::GeneratorCount;
+use crate::count::{GeneratorCount, WordCount};
 use crate::name::Name;
 
 /// One command of `axe` with its files. Files lie in the working directory, and are packed matrices where nothing
@@ -87,5 +87,18 @@ pub enum Command {
         name: Name,
         /// The name before the numbers of the files that the action is written to.
         out: Name,
+    },
+    /// `chop [-g N] [--seed S] [--words W] NAME`: finds a composition series of a module. The module's generators are
+    /// the files NAME.1 to NAME.N.
+    Chop {
+        /// How many generators there are.
+        generators: GeneratorCount,
+        /// The seed of the words that are tried.
+        seed: u64,
+        /// How many words are tried after word 0.
+        words: WordCount,
+        /// The name before the numbers of the generators' files, and before the rest of the name of each file that is
+        /// written.
+        name: Name,
     },
 }

@@ -6,8 +6,9 @@ pub(crate) const ABOUT: &str = "A workbench for modules of matrices over small f
 /// Of the program.
 pub(crate) const LONG_ABOUT: &str = "\
 A workbench for modules of matrices over the fields of order 2, 3, 4, 5, 7, 8 and 9.
-It takes matrices in as text and prints them, multiplies, adds, transposes and inverts them,
-finds their null spaces, spins vectors in modules, and takes quotients of modules.";
+It finds composition series of modules. It takes matrices in as text and prints them,
+multiplies, adds, transposes and inverts them, finds their null spaces, spins vectors in
+modules, and takes quotients of modules.";
 
 /// Of `zcv`, in a line.
 pub(crate) const ZCV_ABOUT: &str = "Convert the text of a matrix to a packed file";
@@ -190,6 +191,45 @@ span all vectors, and every generator takes their span into itself: zsp makes su
 Files are written when all of them are made, so they may be files that are read. Where
 anything is wrong before that, no file changes. Where all goes well, nothing is printed.";
 
+/// Of `chop`, in a line.
+pub(crate) const CHOP_ABOUT: &str = "Find a composition series of a module";
+
+/// Of `chop`.
+pub(crate) const CHOP_LONG_ABOUT: &str = "\
+Find a composition series of a module: read the generators from NAME.1 to NAME.N, write a
+basis and the irreducible constituents, and show a report of them.
+
+A module is irreducible where no submodule lies between zero and all of it. A composition
+series is a chain of submodules, from zero up to the module, in which each is as small as it
+can be over the one before: its quotients, the constituents, are irreducible.
+
+  NAME.bas           the basis: P. P g P^-1 is block lower triangular for each generator g,
+                     and the blocks on its diagonal are the constituents, from the bottom
+  NAME2a.1 .. .N     the constituent 2a, a module of its own; so for each constituent
+  NAME.rep           the report, which is shown, too
+
+A constituent's name is its dimension and letters: the first of dimension 2 is 2a, the next
+2b. Constituents have one name just where they are isomorphic. For example, with M.1 and M.2
+the permutations of three points over the field of order 2, axe chop M shows
+
+  chop 1 field=2 dim=3 gens=2 seed=1 words=400
+  factor 2a dim=2 mult=1
+  factor 1a dim=1 mult=1
+  series 2a 1a
+
+So there is one constituent of dimension 2 and one of dimension 1, each stands once in the
+series, and 2a is the lower one. The files are M.bas, M2a.1, M2a.2, M1a.1, M1a.2 and M.rep.
+
+Each section of the module is looked at with the words 0 to W in the generators, which the
+seed draws, until one shows that it is irreducible or gives a submodule. The same seed and
+W give the same files. Where no word does either, the section stays undecided: try another
+seed, or more words. That never happens to a module with at most 1000 points (vectors whose
+first nonzero entry is 1).
+
+Where the module is refused or a section undecided, no file changes. NAME.rep is taken away
+before the first file is written, and written last: where there is one, it tells which files
+belong to it. Files of an earlier run that it doesn't name stay.";
+
 /// Of the file that a matrix is written to.
 pub(crate) const OUT_MATRIX: &str = "The file to write the matrix to; what it held is replaced";
 
@@ -228,6 +268,12 @@ pub(crate) const NAME_GENERATORS: &str =
 pub(crate) const OUT_NAME_GENERATORS: &str =
     "The quotient: its generators are written to OUTNAME.1 to OUTNAME.N";
 
+/// Of the seed of words.
+pub(crate) const WORD_SEED: &str = "The seed that draws the words, 0 to 18446744073709551615";
+
+/// Of the number of words that are tried.
+pub(crate) const WORDS: &str = "How many words are tried after word 0, 0 to 10000";
+
 /// Of files and exit statuses, after what is said of the program or of a command.
 pub(crate) const FILES_AND_STATUSES: &str = "\
 Files:
@@ -244,6 +290,7 @@ Exit status:
   4  the command is refused: the fields differ, the shapes do not fit, a matrix has no
      rows, a matrix that has to be square is not, or one to be inverted has no inverse;
      SEED has no nonzero row; the span of SUB is not invariant, or is everything
+  5  no word decides a section of the module, which chop is to find a series of
   6  a file is missing or too long, or its device failed
   7  there was not enough memory
 

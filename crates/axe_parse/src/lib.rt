@@ -12,7 +12,7 @@ mod help;
 mod lines;
 mod program;
 
-use axe_arguments::{Command, GeneratorCount, Name, NameFault};
+use axe_arguments::{Command, GeneratorCount, Name, NameFault, WordCount};
 use clap::ArgMatches;
 use clap::error::ErrorKind;
 use std::alloc::{AllocError, Global};
@@ -80,6 +80,7 @@ fn command_of(alloc: Global, command: &str, found: &ArgMatches<'_>) -> Result<Co
         lines::ZNU => znu_of(alloc, found),
         lines::ZSP => zsp_of(alloc, found),
         lines::ZQT => zqt_of(alloc, found),
+        lines::CHOP => chop_of(alloc, found),
         _ => Err(no_command(alloc)?),
     }
 }
@@ -179,12 +180,36 @@ fn zqt_of(alloc: Global, found: &ArgMatches<'_>) -> Result<Command, ParseFault>
     })
 }
 
-/// The number of a module's generators. A number that is missing, or is not 1 to 16, has been refused by `clap` already.
+/// The command `chop [-g N] [--seed S] [--words W] NAME`.
+fn chop_of(alloc: Global, found: &ArgMatches<'_>) -> Result<Command, ParseFault>
+    ensures { IfOk result HasNames }
+{
+    let generators = generators_of(alloc, found)?;
+    let words = words_of(alloc, found)?;
+    Ok(Command::Chop {
+        generators,
+        seed: found.get_one::<u64>(lines::WORD_SEED).unwrap_or(1),
+        words,
+        name: name_of(alloc, found, lines::NAME)?,
+    })
+}
+
+/// The number of a module's generators. A number that is missing, or is not 1 to 16, has been refused by `clap`
+/// already.
 fn generators_of(alloc: Global, found: &ArgMatches<'_>) -> Result<GeneratorCount, ParseFault> {
     let number = found.get_one::<u8>(lines::GENERATORS).unwrap_or(0);
     match GeneratorCount::new(number) {
         Some(count) => Ok(count),
         None => Err(usage(alloc, "axe: bad number of generators\n")?),
+    }
+}
+
+/// The number of words that are tried. A number that is missing, or is more than 10,000, has been refused by `clap`
+/// already.
+fn words_of(alloc: Global, found: &ArgMatches<'_>) -> Result<WordCount, ParseFault> {
+    match found.get_one::<u32>(lines::WORDS).and_then(WordCount::new) {
+        Some(words) => Ok(words),
+        None => Err(usage(alloc, "axe: bad number of words\n")?),
     }
 }
 

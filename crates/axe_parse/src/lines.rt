@@ -1,5 +1,6 @@
 //! The command lines that `axe` takes, as data.
 use crate::help;
+use axe_arguments::MAX_WORDS;
 
 /// The word for a matrix as text, converted to its packed form.
 pub(crate) const ZCV: &str = "zcv";
@@ -27,6 +28,9 @@ pub(crate) const ZSP: &str = "zsp";
 
 /// The word for the action of a module modulo an invariant space.
 pub(crate) const ZQT: &str = "zqt";
+
+/// The word for a composition series of a module.
+pub(crate) const CHOP: &str = "chop";
 
 /// The file that is converted or printed, as help calls it.
 pub(crate) const IN: &str = "IN";
@@ -60,6 +64,12 @@ pub(crate) const SUBSPACE: &str = "SUB";
 
 /// The name before the numbers of the files that are written, as help calls it.
 pub(crate) const OUT_NAME: &str = "OUTNAME";
+
+/// The seed of words, as help calls it.
+pub(crate) const WORD_SEED: &str = "S";
+
+/// The number of words that are tried, as help calls it.
+pub(crate) const WORDS: &str = "W";
 
 /// A command line: the command's name, the words that it takes, and what help says of it.
 pub(crate) struct CommandLine {
@@ -95,13 +105,25 @@ pub(crate) enum WordKind {
     Flag(char),
     /// This letter after a hyphen, and then a number of generators. They may be left out.
     Count(char),
+    /// An option with a number, which may be left out.
+    Number(NumberOption),
+}
+
+/// An option with a number from 0 on.
+pub(crate) struct NumberOption {
+    /// What stands after two hyphens and before the number.
+    pub(crate) name: &'static str,
+    /// The greatest number that is taken.
+    pub(crate) most: u64,
+    /// The number where the option is left out.
+    pub(crate) default: &'static str,
 }
 
 /// All command lines of `axe`, in the order in which help shows them.
-pub(crate) fn command_lines() -> [&'static CommandLine; 9] {
+pub(crate) fn command_lines() -> [&'static CommandLine; 10] {
     [
         &ZCV_LINE, &ZPR_LINE, &ZMU_LINE, &ZAD_LINE, &ZTR_LINE, &ZIV_LINE, &ZNU_LINE, &ZSP_LINE,
-        &ZQT_LINE,
+        &ZQT_LINE, &CHOP_LINE,
     ]
 }
 
@@ -311,6 +333,43 @@ static ZQT_LINE: CommandLine = CommandLine {
         Word {
             name: OUT_NAME,
             help: help::OUT_NAME_GENERATORS,
+            kind: WordKind::File,
+        },
+    ],
+};
+
+/// `chop [-g N] [--seed S] [--words W] NAME`.
+static CHOP_LINE: CommandLine = CommandLine {
+    name: CHOP,
+    about: help::CHOP_ABOUT,
+    long_about: help::CHOP_LONG_ABOUT,
+    words: &[
+        Word {
+            name: GENERATORS,
+            help: help::GENERATORS,
+            kind: WordKind::Count('g'),
+        },
+        Word {
+            name: WORD_SEED,
+            help: help::WORD_SEED,
+            kind: WordKind::Number(NumberOption {
+                name: "seed",
+                most: u64::MAX,
+                default: "1",
+            }),
+        },
+        Word {
+            name: WORDS,
+            help: help::WORDS,
+            kind: WordKind::Number(NumberOption {
+                name: "words",
+                most: MAX_WORDS as u64,
+                default: "400",
+            }),
+        },
+        Word {
+            name: NAME,
+            help: help::NAME_GENERATORS,
             kind: WordKind::File,
         },
     ],

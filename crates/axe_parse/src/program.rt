@@ -1,6 +1,6 @@
 //! The command lines as `clap` reads them.
 use crate::help;
-use crate::lines::{CommandLine, Word, WordKind, command_lines};
+use crate::lines::{CommandLine, NumberOption, Word, WordKind, command_lines};
 use axe_arguments::MAX_GENERATORS;
 use clap::builder::ValueParser;
 use clap::{Arg, ArgAction, Command};
@@ -52,6 +52,7 @@ fn argument<'a>(alloc: Global, word: &Word) -> Arg<'a> {
         WordKind::FileOption(letter) => argument.short(letter),
         WordKind::Flag(letter) => argument.short(letter).action(ArgAction::SetTrue),
         WordKind::Count(letter) => count(argument.short(letter)),
+        WordKind::Number(ref option) => number(argument, option),
     }
 }
 
@@ -60,4 +61,12 @@ fn count<'a>(argument: Arg<'a>) -> Arg<'a> {
     argument
         .value_parser(ValueParser::Unsigned(1, u64::from(MAX_GENERATORS)))
         .default_value("2")
+}
+
+/// Has an argument be an option with a number.
+fn number<'a>(argument: Arg<'a>, option: &NumberOption) -> Arg<'a> {
+    argument
+        .long(option.name)
+        .value_parser(ValueParser::Unsigned(0, option.most))
+        .default_value(option.default)
 }
