@@ -1,5 +1,5 @@
 -- What is true of the answer of `chop`, by the laws of composition series.
-use Rattle.std.proofs.Common.{◌≡◌, ℕ, ◌≤◌, List, map, length, refl, sym, ap, subst, ◌∙◌, Result, Ok, Err}
+use Rattle.std.proofs.Common.{◌≡◌, ℕ, ◌≤◌, map, sym, ap, subst, ◌∙◌}
 use mathlib.Core.List.{map-map}
 use Rattle.indexmap.specs.IndexMap.{values}
 use Rattle.axe_field.specs.Order.{order_number}
@@ -7,7 +7,7 @@ use Rattle.axe_matrix.specs.Matrices.{MatrixValue, IsMatrix}
 use Rattle.axe_spin.specs.Modules.{ModuleValue, IsModule}
 use Rattle.axe_word.specs.PointsOfMatrix.{point_count, most_points}
 use Rattle.axe_iso.specs.Forms.{FormValue}
-use Rattle.axe_series.specs.Runs.{FoundValue, complete, open_section, RunOf}
+use Rattle.axe_series.specs.Runs.{complete, open_section}
 use Rattle.axe_series.specs.Series.{IsSeries, IsOpenSection, basis_of_rows, factors_of_forms}
 use Rattle.axe_series.proofs.RunLaws.{runs_are_true}
 use Rattle.axe_series.proofs.FewPoints.{small_has_a_series}

@@ -1,5 +1,5 @@
 -- The two sections into which a submodule cuts one: what the calls that make them answer.
-use Rattle.std.proofs.Common.{◌≡◌, ℕ, ◌+◌, ◌<◌, ◌≤◌, false, cond, [], List, length, get_or, Some, None, Result, Ok, Err, refl, sym, ap, subst, ◌∙◌, arith}
+use Rattle.std.proofs.Common.{◌≡◌, ℕ, ◌+◌, ◌<◌, ◌≤◌, false, [], List, length, get_or, None, Ok, Err, refl, sym, ap, subst, ◌∙◌, arith}
 use Rattle.std.proofs.lemmas.Bool.{eq-eqb}
 use Rattle.axe_algebra.specs.NumberField.{NumberField}
 use Rattle.axe_algebra.specs.Field.{Field}
@@ -18,14 +18,14 @@ use Rattle.axe_algebra.proofs.NortonLists.{independent_row_is_nonzero}
 use Rattle.axe_field.specs.Order.{Order, order_number}
 use Rattle.axe_field.specs.NumberFields.{number_field}
 use Rattle.axe_row.specs.Operations.{IsZeroVector}
-use Rattle.axe_row.specs.Refusals.{Answers, AnswersOr, RefusedAs}
+use Rattle.axe_row.specs.Refusals.{Answers, AnswersOr}
 use Rattle.axe_row.specs.declared.refusals.Refusal.{Refusal}
-use Rattle.axe_row.specs.declared.refusals.Refusal.TheVariants.{NotInvariant, WholeSpace, Memory}
+use Rattle.axe_row.specs.declared.refusals.Refusal.TheVariants.{Memory}
 use Rattle.axe_matrix.specs.Matrices.{MatrixValue, IsMatrix, identity_matrix, product_refusal, matrix_product, matrix_block}
 use Rattle.axe_matrix.proofs.ProductLaws.{length-product, product_refusal-none}
 use Rattle.axe_echelon.proofs.EliminationLaws.{vector_of_zero_row}
 use Rattle.axe_echelon.proofs.Exits.{asked_late}
-use Rattle.axe_spin.specs.Modules.{ModuleValue, IsModule, rows_refusal, IsInvariantIn, SpansModule}
+use Rattle.axe_spin.specs.Modules.{ModuleValue, IsModule, rows_refusal}
 use Rattle.axe_spin.specs.Spinning.{has_only_zeros}
 use Rattle.axe_spin.proofs.GeneratedLaws.{some_nonzero}
 use Rattle.axe_action.specs.Actions.{sub_action_refusal, action_late, quotient_late, IsBasisAction, IsActionOverRows, IsActionModulo, IsProperActionModulo, IsExtendedMatrix}

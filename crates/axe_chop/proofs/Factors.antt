@@ -1,18 +1,32 @@
 -- One more factor of an answer.
-use Rattle.std.proofs.Common.{◌≡◌, ℕ, ◌+◌, ◌≤◌, List, [], ◌∷◌, ◌++◌, map, length, All, refl, sym, ap, ap₂, subst, ◌∙◌, string_bytes, String, length-append, arith}
+use Rattle.std.proofs.Common.{◌≡◌, ℕ, ◌+◌, ◌≤◌, Bool, false, if◌then◌else◌, List, [], ◌∷◌, ◌++◌, map, length, All, refl, sym, ap, ap₂, subst, ◌∙◌, string_bytes, String, length-append, arith}
 use Rattle.std.specs.List.{AllByRecursion}
 use Rattle.std.specs.String.{string_eq}
 use Rattle.std.specs.Map.{keys_of, values_of}
 use Rattle.std.specs.declared.alloc.Global.{Global}
+use Rattle.std.proofs.lemmas.Bool.{false_from_ne_true}
 use Rattle.std.proofs.lemmas.List.{map-append, length-map}
 use Rattle.std.proofs.lemmas.List.Elements.{All-nil, All-push}
 use Rattle.std.proofs.lemmas.List.FromFn.{map-range_with_len_more}
+use Rattle.std.proofs.lemmas.Slice.Eq.{bytes_eq-Decides}
 use Rattle.indexmap.specs.IndexMap.{insert_entry}
 use Rattle.axe_iso.specs.Forms.{FormValue}
 use Rattle.axe_report.specs.Names.{constituent_name, count_of, names_of}
+use Rattle.axe_report.proofs.Plain.{no_names, names_of_push, name_is_new}
 use Rattle.axe_chop.specs.Chopped.{dims_of, multiplicities_in, AreFactorsOf}
 use Rattle.axe_chop.specs.declared.chopped.Factor.{Factor}
-use Rattle.axe_chop.proofs.Naming.{no_names, names_of_push, name_is_new, new_key_last}
+
+-- a key that is new goes last
+new_key_last : (X : Type 0) (key : String Global) (value : X) (entries : List (String Global × X))
+    → AllByRecursion (λ name. name ≡ string_bytes key → ⊥) (map string_bytes (keys_of entries))
+    → insert_entry string_eq entries key value ≡ entries ++ (key, value) ∷ []
+new_key_last X key value [] new = refl
+new_key_last X key value (e ∷ es) new =
+    let other : string_eq key e.0 ≡ false =
+    false_from_ne_true (string_eq key e.0)
+    (λ is. new.0 (sym ((bytes_eq-Decides (string_bytes key) (string_bytes e.0)).0 is))) in
+    ap (λ (b : Bool). if b then (e.0, value) ∷ es else e ∷ insert_entry string_eq es key value) other
+    ∙ ap (λ (l : List (String Global × X)). e ∷ l) (new_key_last X key value es new.1)
 
 multiplicities_push : (places : List ℕ) (n : ℕ)
     → multiplicities_in places (n + 1) ≡ multiplicities_in places n ++ count_of n places ∷ []

@@ -1,5 +1,5 @@
 -- The first of some forms that is one of a module.
-use Rattle.std.proofs.Common.{◌≡◌, ℕ, ◌+◌, ◌<◌, ◌≤◌, List, ◌∷◌, ◌++◌, length, get_or, take, drop, refl, sym, ap, subst, ◌∙◌, arith, length-append, Some, None}
+use Rattle.std.proofs.Common.{◌≡◌, ℕ, ◌+◌, ◌<◌, ◌≤◌, List, ◌∷◌, ◌++◌, length, get_or, take, drop, sym, ap, subst, ◌∙◌, arith, length-append, Some, None}
 use Rattle.std.proofs.lemmas.List.{take_all, take-append-drop, drop_more, length-take-le}
 use Rattle.std.proofs.lemmas.List.Elements.{All-nil, All-more}
 use Rattle.axe_matrix.specs.Matrices.{MatrixValue}

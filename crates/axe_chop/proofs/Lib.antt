@@ -3,7 +3,6 @@ pub mod Knowing
 pub mod Placing
 pub mod Cutting
 pub mod Stepping
-pub mod Counting
-pub mod Naming
 pub mod Factors
 pub mod AnswerLaws
+pub mod SeriesReports

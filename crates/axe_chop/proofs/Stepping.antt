@@ -13,7 +13,7 @@ use Rattle.axe_row.specs.Rows.{RowValue}
 use Rattle.axe_matrix.specs.Limits.{most_rows, most_columns}
 use Rattle.axe_matrix.specs.Matrices.{MatrixValue, IsMatrix}
 use Rattle.axe_matrix.proofs.ProductLaws.{length-product}
-use Rattle.axe_spin.specs.Modules.{ModuleValue, IsModule}
+use Rattle.axe_spin.specs.Modules.{ModuleValue}
 use Rattle.axe_norton.specs.declared.verdicts.Verdict
 use Rattle.axe_norton.specs.declared.verdicts.Verdict.TheVariants.{Irreducible, Reducible, Undecided}
 use Rattle.axe_norton.specs.Spaces.{IsProperSubmodule}
@@ -21,7 +21,7 @@ use Rattle.axe_norton.specs.Verdicts.{Decides, IsTrueVerdict}
 use Rattle.axe_iso.specs.Forms.{FormValue}
 use Rattle.axe_series.specs.Sections.{SectionValue, IsCut, whole_section, lifted_rows, rows_of_sections}
 use Rattle.axe_series.specs.Series.{basis_of_rows}
-use Rattle.axe_series.specs.Runs.{FoundValue, nothing_found, Outcome, complete, open_section, with_place, with_factor, AreOfOthers, IsKnownAs, IsNewForm, Runs, all_found, undecided, reducible, known, new, RunOf}
+use Rattle.axe_series.specs.Runs.{FoundValue, nothing_found, Outcome, complete, Runs, all_found, undecided, reducible, known, new, RunOf}
 use Rattle.axe_series.proofs.FewPoints.{dimensions_of_parts}
 use Rattle.axe_series.proofs.OneCut.{reducible_is_matrix}
 use Rattle.axe_chop.specs.Stages.{IsSection, IsActionLike, IsSectionOf, IsRowsLike, sections_dim, with_sections, IsStageOf}

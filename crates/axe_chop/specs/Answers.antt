@@ -11,8 +11,8 @@ use Rattle.axe_chop.specs.declared.chopped.Chopped.{Chopped}
 use Rattle.axe_chop.specs.declared.fault.ChopFault.{ChopFault}
 use Rattle.axe_chop.specs.declared.fault.ChopFault.TheVariants.{Undecided, Memory}
 
--- the answer is what a run of the words finds, its factors under their names; its basis is over the module's field and of
--- its columns
+-- the answer is what a run of the words finds, its factors under their names; its basis is over the module's field and
+-- of its columns
 pub record IsChopped (m : ModuleValue) (seed words : ℕ) (chopped : Chopped) : Type 0 where
   pub found : FoundValue
   pub run : RunOf m seed words (complete found)

@@ -17,9 +17,10 @@ dims_of forms = map (λ (form : FormValue). form.matrices.dim) forms
 unfoldable pub multiplicities_in : List ℕ → ℕ → List ℕ
 multiplicities_in places count = map (λ number. count_of number places) (range_with_len 0 count)
 
--- factors in order, with their keys: they have these forms, the names of these dimensions, and their multiplicities in a
--- series with these places
-pub record AreFactorsOf (forms : List FormValue) (places : List ℕ) (names : List (String Global)) (factors : List Factor)
+-- factors in order, with their keys: they have these forms, the names of these dimensions, and their multiplicities in
+-- a series with these places
+pub record AreFactorsOf (forms : List FormValue) (places : List ℕ) (names : List (String Global))
+    (factors : List Factor)
     : Type 0 where
   pub forms_are : map (λ (factor : Factor). factor.form) factors ≡ forms
   pub names_are : map string_bytes names ≡ names_of (dims_of forms)

@@ -2,3 +2,4 @@ pub mod Stages
 pub mod Searches
 pub mod Chopped
 pub mod Answers
+pub mod Reported

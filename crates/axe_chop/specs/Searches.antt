@@ -5,7 +5,8 @@ use Rattle.axe_matrix.specs.Matrices.{MatrixValue, IsMatrix}
 use Rattle.axe_spin.specs.Modules.{ModuleValue}
 use Rattle.axe_iso.specs.Forms.{FormValue}
 use Rattle.axe_series.specs.Sections.{SectionValue, lifted_rows}
-use Rattle.axe_series.specs.Runs.{FoundValue, with_place, with_factor, complete, open_section, AreOfOthers, IsKnownAs, IsNewForm, RunOf}
+use Rattle.axe_series.specs.Runs.{FoundValue, with_place, with_factor, complete, open_section, AreOfOthers, IsKnownAs}
+use Rattle.axe_series.specs.Runs.{IsNewForm, RunOf}
 use Rattle.axe_series.specs.Series.{basis_of_rows}
 use Rattle.axe_chop.specs.declared.found.Found
 use Rattle.axe_chop.specs.declared.search.Searched.{Searched}
@@ -27,7 +28,8 @@ pub record IsLift (m : ModuleValue) (t : MatrixValue) : Type 0 where
   pub count : length t.rows ≡ m.dim
 
 -- one more place, for an irreducible section: that of a known factor, or that of a new one
-pub data IsPlacedIn (found : FoundValue) (section : SectionValue) (seed word : ℕ) (v : RowValue) : FoundValue → Type 0 where
+pub data IsPlacedIn (found : FoundValue) (section : SectionValue) (seed word : ℕ) (v : RowValue) : FoundValue →
+    Type 0 where
   as_known : (number : ℕ) (t : MatrixValue) → IsKnownAs found.forms section.action number t →
       IsPlacedIn found section seed word v (with_place found (lifted_rows section t).rows number)
   as_new : (form : FormValue) → AreOfOthers found.forms section.action → IsNewForm section.action seed word v form →
@@ -36,6 +38,7 @@ pub data IsPlacedIn (found : FoundValue) (section : SectionValue) (seed word : �
 -- what a search gives is what a run finds, the basis being over the module's field and of its columns
 abbrev pub IsSearched : ModuleValue → ℕ → ℕ → Searched → Type 0
 IsSearched m seed words (Complete found) =
-    RunOf m seed words (complete (found_value found)) × (found.basis ≡ basis_of_rows m found.basis.rows) × IsMatrix found.basis
+    RunOf m seed words (complete (found_value found)) × (found.basis ≡ basis_of_rows m found.basis.rows)
+    × IsMatrix found.basis
 IsSearched m seed words (Open basis offset dim) =
     RunOf m seed words (open_section basis.rows offset dim) × (basis ≡ basis_of_rows m basis.rows) × IsMatrix basis

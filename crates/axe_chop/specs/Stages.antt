@@ -1,9 +1,9 @@
 -- The stages between a module and its composition series, as the code holds them.
-use Rattle.std.specs.Prelude.{◌≡◌, ℕ, ◌+◌, ◌≤◌, List, [], ◌∷◌, ◌++◌, length}
+use Rattle.std.specs.Prelude.{◌≡◌, ℕ, ◌+◌, List, [], ◌∷◌, ◌++◌, length}
 use Rattle.std.specs.List.{All}
 use Rattle.axe_matrix.specs.Matrices.{MatrixValue, IsMatrix}
 use Rattle.axe_spin.specs.Modules.{ModuleValue, IsModule}
-use Rattle.axe_iso.specs.Forms.{FormValue, IsForm}
+use Rattle.axe_iso.specs.Forms.{FormValue}
 use Rattle.axe_series.specs.Sections.{SectionValue, rows_of_sections}
 
 -- a section's rows are as many as its action's dimension, over the same field
@@ -41,9 +41,10 @@ abbrev pub sections_dim : List SectionValue → ℕ
 sections_dim [] = 0
 sections_dim (section ∷ rest) = section.action.dim + sections_dim rest
 
--- what the code holds of m while it is chopped: the rows of the basis so far, the forms of factors over the field of m with as
--- many generators, and the sections still to be decided; all rows together are as many as the dimension
-pub record IsStageOf (m : ModuleValue) (basis : MatrixValue) (forms : List FormValue) (sections : List SectionValue) : Type 0 where
+-- what the code holds of m while it is chopped: the rows of the basis so far, the forms of factors over the field of m
+-- with as many generators, and the sections still to be decided; all rows together are as many as the dimension
+pub record IsStageOf (m : ModuleValue) (basis : MatrixValue) (forms : List FormValue)
+    (sections : List SectionValue) : Type 0 where
   pub field : basis.order ≡ m.order
   pub columns : basis.cols ≡ m.dim
   pub forms_like : All (λ (form : FormValue). IsActionLike m form.matrices) forms

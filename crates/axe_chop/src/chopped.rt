@@ -26,8 +26,8 @@ pub struct Factor {
 /// A composition series of a module.
 #[derive(Drop)]
 pub struct Chopped {
-    /// A basis of the module, a row for each vector: the first rows are a basis of the lowest submodule of the series, and
-    /// each factor has the rows after those of the factors below it, in which its action is the standard form.
+    /// A basis of the module, a row for each vector: the first rows are a basis of the lowest submodule of the series,
+    /// and each factor has the rows after those of the factors below it, in which its action is the standard form.
     pub basis: Matrix,
     /// The factors by their names, in order of first appearance from the bottom.
     pub factors: IndexMap<String, Factor>,
@@ -35,7 +35,8 @@ pub struct Chopped {
     pub series: Vec<u16>,
 }
 
-/// The composition series that is found, with names for its factors: each has its dimension and the next letters for it.
+/// The composition series that is found, with names for its factors: each has its dimension and the next letters for
+/// it.
 pub(crate) fn named(alloc: Global, found: Found) -> Result<Chopped, Refusal>
     ensures named { Answers None (IsNamed (found_value found)) result }
     ensures basis { IfOk result (λ chopped. chopped.basis ≡ found.basis) }

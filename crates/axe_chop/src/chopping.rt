@@ -13,10 +13,10 @@ use axe_spin::Module;
 use std::alloc::Global;
 
 /// A composition series of a module, found by the words 0 to `words` of a seed (Parker 1984; Holt and Rees 1994): a
-/// basis, by which each generator becomes block lower triangular with irreducible diagonal blocks, and the factors, which
-/// have one name exactly where they are isomorphic. There are at most [`MAX_WORDS`] words beside word 0. Where each of the
-/// words leaves a section of the module open, the fault has a basis that shows that section; a module with at most
-/// [`axe_norton::MOST_POINTS`] points has none.
+/// basis, by which each generator becomes block lower triangular with irreducible diagonal blocks, and the factors,
+/// which have one name exactly where they are isomorphic. There are at most [`MAX_WORDS`] words beside word 0. Where
+/// each of the words leaves a section of the module open, the fault has a basis that shows that section; a module with
+/// at most [`axe_norton::MOST_POINTS`] points has none.
 pub fn chop(alloc: Global, module: &Module, seed: u64, words: u32) -> Result<Chopped, ChopFault>
     requires words { words ≤ MAX_WORDS }
     ensures run { AnswersChop «module».now seed words result }

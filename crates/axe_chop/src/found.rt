@@ -18,8 +18,8 @@ use axe_matrix::{Matrix, Refusal, Row};
 use axe_spin::Module;
 use std::alloc::Global;
 
-/// What is found so far: the rows of the basis, the forms of the factors in order of first appearance, and for each place
-/// of the series, from the bottom, the number of its factor.
+/// What is found so far: the rows of the basis, the forms of the factors in order of first appearance, and for each
+/// place of the series, from the bottom, the number of its factor.
 #[derive(Drop)]
 pub(crate) struct Found {
     pub(crate) basis: Matrix,
@@ -42,8 +42,8 @@ impl Found {
         }
     }
 
-    /// One more place, for a section that a word of a seed showed to be irreducible, by a vector: that of the first known
-    /// factor that the section's action is isomorphic to, or else of a new factor.
+    /// One more place, for a section that a word of a seed showed to be irreducible, by a vector: that of the first
+    /// known factor that the section's action is isomorphic to, or else of a new factor.
     pub(crate) fn place(
         &mut self,
         alloc: Global,
@@ -74,7 +74,8 @@ impl Found {
         Ok(())
     }
 
-    /// One more place, of the factor with a number: the section's rows are lifted by `lift` and come after those so far.
+    /// One more place, of the factor with a number: the section's rows are lifted by `lift` and come after those so
+    /// far.
     fn append_place(
         &mut self,
         alloc: Global,

@@ -5,9 +5,11 @@ mod chopped;
 mod chopping;
 mod fault;
 mod found;
+mod reported;
 mod search;
 mod section;
 
 pub use chopped::{Chopped, Factor};
 pub use chopping::chop;
 pub use fault::ChopFault;
+pub use reported::{report_of, series_have_reports};

@@ -29,8 +29,8 @@ pub(crate) enum Searched {
     },
 }
 
-/// What the words 0 to `words` of a seed find of a module: sections are decided in turn, from the bottom; a reducible one is
-/// cut in two, and an irreducible one has the next place.
+/// What the words 0 to `words` of a seed find of a module: sections are decided in turn, from the bottom; a reducible
+/// one is cut in two, and an irreducible one has the next place.
 pub(crate) fn search(
     alloc: Global,
     module: &Module,
@@ -60,8 +60,8 @@ pub(crate) fn search(
     Ok(Searched::Complete(found))
 }
 
-/// The outcome where a section stays undecided: the rows so far, then the section's, and then those of the sections after
-/// it are the basis.
+/// The outcome where a section stays undecided: the rows so far, then the section's, and then those of the sections
+/// after it are the basis.
 fn open_at(
     alloc: Global,
     found: Found,

@@ -12,8 +12,8 @@ use axe_spin::Module;
 use std::alloc::Global;
 use std::marker::Model;
 
-/// A section of a module: the action on it, and its lifted rows, the vectors of the module whose cosets are the basis to
-/// which that action belongs.
+/// A section of a module: the action on it, and its lifted rows, the vectors of the module whose cosets are the basis
+/// to which that action belongs.
 #[derive(Drop)]
 pub(crate) struct Section {
     action: Module,
@@ -59,8 +59,8 @@ impl Section {
         &self.rows
     }
 
-    /// The two sections into which a submodule cuts the section: first the submodule's, then the quotient by it. The rows of
-    /// `space` are a basis of the submodule, which is neither zero nor everything.
+    /// The two sections into which a submodule cuts the section: first the submodule's, then the quotient by it. The
+    /// rows of `space` are a basis of the submodule, which is neither zero nor everything.
     pub(crate) fn cut(&self, alloc: Global, space: &Matrix) -> Result<(Section, Section), Refusal>
         requires space { IsProperSubmodule self.now.action space.now }
         ensures { Answers None (λ parts. IsCut self.now space.now parts.0 parts.1) result }

@@ -1,4 +1,5 @@
-//! Actions of modules on invariant spaces and modulo them, duals, annihilators, bases that are extended, and conjugates.
+//! Actions of modules on invariant spaces and modulo them, duals, annihilators, bases that are extended, and
+//! conjugates.
 use crate::tables::{Topic, each_call};
 use crate::values::{assert_independent, is_module, module_of};
 use axe_action::{

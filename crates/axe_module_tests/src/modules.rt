@@ -26,8 +26,8 @@ new | 2: 2x2, 2: 3x3, 2: 0x2 | the shapes of the operands do not fit
 new | 2: 2x2, 3: 2x2, 2: 1x2 | the operands are over different fields
 ";
 
-/// - `shape`: a module, and the order of the field, the dimension and the number of generators that it and its copy have;
-/// - `generator`: a module, an index, and the generator there;
+/// - `shape`: a module, and the order of the field, the dimension and the number of generators that it and its copy
+/// have; - `generator`: a module, an index, and the generator there;
 /// - `copy`: a module, and its copy.
 const MODULES: &str = "\
 # As many generators as there may be.

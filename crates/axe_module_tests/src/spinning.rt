@@ -39,8 +39,8 @@ standard_basis | 2: 010/100/001, 2: 010/001/100 | 2: 010 | 2: 010/100/001
 standard_basis | 2: 010/100/001, 2: 010/001/100 | 2: 111 | 2: 111
 ";
 
-/// Which row of a matrix is the first that is not zero, which rows are vectors of a module, and the standard basis of the
-/// first row of a seed that is not zero.
+/// Which row of a matrix is the first that is not zero, which rows are vectors of a module, and the standard basis of
+/// the first row of a seed that is not zero.
 const SEEDS: &str = "\
 first_nonzero_row | 2: 00/01/10 | 2: 01
 first_nonzero_row | 2: 00/00 | none

@@ -1,7 +1,7 @@
 //! Tables of worked calls, and the topics that they are about.
 //!
-//! A further case of a call is a line. A further call is an arm in `answers` of its module, and a function that makes it
-//! where none is given the same values. A table without a call fails its test.
+//! A further case of a call is a line. A further call is an arm in `answers` of its module, and a function that makes
+//! it where none is given the same values. A table without a call fails its test.
 
 use crate::{actions, chops, decisions, forms, modules, points, spinning};
 use axe_test_values::{TableFault, first_field, is_remark};

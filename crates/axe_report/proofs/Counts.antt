@@ -1,11 +1,11 @@
 -- Counts, one element after another.
-use Rattle.std.proofs.Common.{◌≡◌, ℕ, ◌+◌, ◌<◌, ◌≤◌, Bool, true, false, cond, eqb, List, [], ◌∷◌, ◌++◌, length, take, get_or, inl, inr, ext_get_or, refl, sym, ap, ◌∙◌, take_all, arith}
-use Rattle.std.proofs.lemmas.Bool.{cases_lt}
+use Rattle.std.proofs.Common.{◌≡◌, ℕ, zero, suc, ◌+◌, ◌<◌, ◌≤◌, Bool, true, false, cond, eqb, List, [], ◌∷◌, ◌++◌, length, take, get_or, sum_by, inl, inr, ext_get_or, refl, sym, ap, ◌∙◌, take_all, arith}
+use Rattle.std.proofs.lemmas.Bool.{cases_lt, eq-eqb, ne_eqb}
 use Rattle.axe_report.proofs.Orders.{length_range}
 use mir.Val.{bool_byte}
 use Rattle.std.specs.List.{range_with_len}
 use Rattle.std.proofs.lemmas.List.{take_more, map-append, get_or-map, length-map}
-use Rattle.std.proofs.lemmas.List.Sums.{sum_by_push}
+use Rattle.std.proofs.lemmas.List.Sums.{sum_by_push, sum_by-cons, sum_by-append}
 use Rattle.std.proofs.lemmas.List.FromFn.{get_or-map-range_with_len}
 use Rattle.axe_report.specs.Names.{count_of}
 use Rattle.axe_report.specs.Reports.{FactorValue, dims, multiplicities, counts_in}
@@ -24,6 +24,43 @@ count_begun d = refl
 
 pub count_done : (xs : List ℕ) (i d n : ℕ) → length xs ≤ i → n ≡ count_of d (take i xs) → n ≡ count_of d xs
 count_done xs i d n le inv = inv ∙ ap (λ (l : List ℕ). count_of d l) (take_all i xs le)
+
+-- ---- one more number at the front
+
+count_cons : (d x : ℕ) (xs : List ℕ) → count_of d (x ∷ xs) ≡ cond (eqb x d) 1 0 + count_of d xs
+unfolding count_of
+count_cons d x xs = sum_by-cons (λ (y : ℕ). cond (eqb y d) 1 0) x xs
+
+pub count_here : (d : ℕ) (xs : List ℕ) → count_of d (d ∷ xs) ≡ 1 + count_of d xs
+count_here d xs =
+    let test : eqb d d ≡ true = eq-eqb d d refl in
+    count_cons d d xs ∙ ap (λ b. cond b 1 0 + count_of d xs) test
+
+pub count_there : (d x : ℕ) (xs : List ℕ) → (x ≡ d → ⊥) → count_of d (x ∷ xs) ≡ count_of d xs
+count_there d x xs differ =
+    let test : eqb x d ≡ false = ne_eqb x d differ in
+    let whole : count_of d (x ∷ xs) ≡ 0 + count_of d xs =
+    count_cons d x xs ∙ ap (λ b. cond b 1 0 + count_of d xs) test in
+    omega (arith, whole)
+
+-- a number among others counts once more than before it
+pub count_split : (d : ℕ) (before after : List ℕ)
+    → count_of d (before ++ d ∷ after) ≡ count_of d before + (1 + count_of d after)
+unfolding count_of
+count_split d before after =
+    sum_by-append (λ (y : ℕ). cond (eqb y d) 1 0) before (d ∷ after)
+    ∙ ap (λ (n : ℕ). sum_by (λ (y : ℕ). cond (eqb y d) 1 0) before + n) (count_here d after)
+
+-- what stands in a list counts
+pub counted_once : (xs : List ℕ) (i d : ℕ) → i < length xs → get_or xs i 0 ≡ d → 1 ≤ count_of d xs
+counted_once [] i d inside is = absurd (omega (arith, inside))
+counted_once (x ∷ xs) zero d inside is =
+    let here : count_of d (x ∷ xs) ≡ 1 + count_of d xs = rw is (count_here d xs) in
+    omega (arith, here)
+counted_once (x ∷ xs) (suc i) d inside is =
+    let rest : 1 ≤ count_of d xs = counted_once xs i d (omega (arith, inside)) is in
+    let whole : count_of d (x ∷ xs) ≡ cond (eqb x d) 1 0 + count_of d xs = count_cons d x xs in
+    omega (arith, rest, whole)
 
 -- the same of the dimensions of constituents
 pub dim_more : (fs : List FactorValue) (f : FactorValue) (i d n v : ℕ) → i < length fs → f ≡ get_or fs i f → n ≡ count_of d (dims (take i fs)) → v ≡ cond (eqb f.dim d) 1 0
@@ -87,3 +124,6 @@ byte_is false = refl
 pub byte_small : (b : Bool) → bool_byte b ≤ 1
 byte_small true = omega arith
 byte_small false = omega arith
+
+pub byte_fits : (n : ℕ) (b : Bool) → n ≡ bool_byte b → n ≤ 1
+byte_fits n b e = rw e (byte_small b)

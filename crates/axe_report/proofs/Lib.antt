@@ -7,6 +7,7 @@ pub mod Unique
 pub mod Sizes
 pub mod Pieces
 pub mod Orders
+pub mod NumberedFactors
 pub mod Counts
 pub mod NextLines
 pub mod FirstLines

@@ -11,7 +11,7 @@ abbrev others : ℕ → List ℕ → List ℕ
 others x ys = filter (λ y. not (eqb y x)) ys
 
 -- a number stands in a list
-abbrev Has : List ℕ → ℕ → Type 0
+abbrev pub Has : List ℕ → ℕ → Type 0
 Has [] p = ⊥
 Has (x ∷ xs) p = (x ≡ p) ⊎ Has xs p
 
@@ -37,7 +37,7 @@ has_from_others p x (y ∷ ys) h = elim (cases_Bool (eqb y x)) [
 ]
 
 -- what appears first stands in the list
-has_from_first : (p : ℕ) (xs : List ℕ) → Has (first_appearances xs) p → Has xs p
+pub has_from_first : (p : ℕ) (xs : List ℕ) → Has (first_appearances xs) p → Has xs p
 has_from_first p [] h = absurd h
 has_from_first p (x ∷ xs) (inl e) = inl e
 has_from_first p (x ∷ xs) (inr h) = inr (has_from_first p xs (has_from_others p x (first_appearances xs) h))
@@ -83,7 +83,7 @@ first_again (x ∷ xs) p (inr h) = ap (λ (l : List ℕ). x ∷ others x l) (fir
 
 -- ---- ranges
 
-has_range : (a n p : ℕ) → a ≤ p → p < a + n → Has (range_with_len a n) p
+pub has_range : (a n p : ℕ) → a ≤ p → p < a + n → Has (range_with_len a n) p
 has_range a zero p low high = absurd (omega arith)
 has_range a (suc n) p low high = elim (cases_lt a p) [
   | inl lt ↦ inr (has_range (a + 1) n p (omega arith) (omega arith))
@@ -116,7 +116,7 @@ range_next a (suc n) (suc m) p l e =
     omega (arith, range_next (a + 1) n m p l rest)
 
 -- what stands in a list stands among its first appearances
-first_from_has : (p : ℕ) (xs : List ℕ) → Has xs p → Has (first_appearances xs) p
+pub first_from_has : (p : ℕ) (xs : List ℕ) → Has xs p → Has (first_appearances xs) p
 first_from_has p [] h = absurd h
 first_from_has p (x ∷ xs) (inl e) = inl e
 first_from_has p (x ∷ xs) (inr h) = elim (cases_Bool (eqb p x)) [
@@ -124,7 +124,7 @@ first_from_has p (x ∷ xs) (inr h) = elim (cases_Bool (eqb p x)) [
   | inr f ↦ inr (has_other p x (first_appearances xs) (eqb-false p x f) (first_from_has p xs h))
 ]
 
-range_has : (a n p : ℕ) → Has (range_with_len a n) p → p < a + n
+pub range_has : (a n p : ℕ) → Has (range_with_len a n) p → p < a + n
 range_has a zero p h = absurd h
 range_has a (suc n) p (inl e) = omega arith
 range_has a (suc n) p (inr h) = omega (arith, range_has (a + 1) n p h)

@@ -8,6 +8,7 @@ use Rattle.std.proofs.lemmas.List.{map-append, length-map}
 use Rattle.axe_report.specs.Fronts.{is_dark}
 use Rattle.axe_report.specs.Names.{constituent_name, count_of, names_after, names_of}
 use Rattle.axe_report.specs.Reports.{FactorValue, names, dims, multiplicities, total_dim, AreFactors, IsFactorAfter}
+use Rattle.axe_report.proofs.Counts.{count_split}
 use Rattle.axe_report.proofs.Fronts.{Passes}
 use Rattle.axe_report.proofs.Numerals.{name_dark, name_unique}
 
@@ -106,14 +107,17 @@ names_push earlier (x ∷ ds) d =
     ∙ ap (λ (e : List ℕ). constituent_name x (count_of x earlier) ∷ (names_after (earlier ++ x ∷ []) ds ++ constituent_name d (count_of d e) ∷ [])) (append_assoc earlier (x ∷ []) ds)
     ∙ ap (λ (l : List (List ℕ)). l ++ constituent_name d (count_of d (earlier ++ x ∷ ds)) ∷ []) (sym (names_more earlier x ds))
 
-names_of_push : (ds : List ℕ) (d : ℕ) → names_of (ds ++ d ∷ []) ≡ names_of ds ++ constituent_name d (count_of d ds) ∷ []
+pub names_of_push : (ds : List ℕ) (d : ℕ) → names_of (ds ++ d ∷ []) ≡ names_of ds ++ constituent_name d (count_of d ds) ∷ []
 unfolding names_of
 names_of_push ds d = names_push [] ds d
 
-pub no_factors : (dim : ℕ) → AreFactors dim []
+pub no_names : names_of [] ≡ []
 unfolding names_of
+no_names = names_none []
+
+pub no_factors : (dim : ℕ) → AreFactors dim []
 no_factors dim = record {
-  named = sym (names_none []);
+  named = sym no_names;
   some_dims = All-nil (λ d. 1 ≤ d);
   some_multiplicities = All-nil (λ m. 1 ≤ m);
   fits = omega (arith, total_none);
@@ -161,7 +165,7 @@ length_names : (earlier ds : List ℕ) → length (names_after earlier ds) ≡ l
 length_names earlier [] = ap (λ (l : List (List ℕ)). length l) (names_none earlier)
 length_names earlier (d ∷ ds) = ap (λ (l : List (List ℕ)). length l) (names_more earlier d ds) ∙ ap suc (length_names (earlier ++ d ∷ []) ds)
 
-length_of : (ds : List ℕ) → length (names_of ds) ≡ length ds
+pub length_of : (ds : List ℕ) → length (names_of ds) ≡ length ds
 unfolding names_of
 length_of ds = length_names [] ds
 
@@ -261,3 +265,29 @@ dims_small (f ∷ fs) h = All-cons (λ d. d ≤ 2048) f.dim (dims fs) h.0.dim (d
 
 pub all_distinct : (dim : ℕ) (fs : List FactorValue) → dim ≤ 2048 → AreFactors dim fs → AreDistinct (names fs)
 all_distinct dim fs le h = rw h.named (names_distinct (dims fs) (dims_small fs (all_plain dim fs le h)))
+
+-- ---- the name after these is none of them
+
+one_differs : (d n x : ℕ) (earlier xs : List ℕ) → d ≤ 2048 → x ≤ 2048 → count_of d (earlier ++ x ∷ xs) ≤ n
+    → constituent_name x (count_of x earlier) ≡ constituent_name d n → ⊥
+one_differs d n x earlier xs small small' le same =
+    let parts = name_unique x d (count_of x earlier) n (omega arith) (omega arith) same in
+    let here : count_of d earlier ≡ n = ap (λ (k : ℕ). count_of k earlier) (sym parts.0) ∙ parts.1 in
+    let whole : count_of d (earlier ++ x ∷ xs) ≡ count_of d earlier + (1 + count_of d xs) =
+    ap (λ (k : ℕ). count_of d (earlier ++ k ∷ xs)) parts.0 ∙ count_split d earlier xs in
+    omega (arith, le, here, whole)
+
+others_differ : (d n : ℕ) (earlier ds : List ℕ) → d ≤ 2048 → All (λ x. x ≤ 2048) ds → count_of d (earlier ++ ds) ≤ n
+    → AllByRecursion (λ name. name ≡ constituent_name d n → ⊥) (names_after earlier ds)
+others_differ d n earlier [] small all le = rw (names_none earlier) tt
+others_differ d n earlier (x ∷ xs) small all le =
+    let rest : count_of d ((earlier ++ x ∷ []) ++ xs) ≤ n = rw (append_assoc earlier (x ∷ []) xs) le in
+    rw (names_more earlier x xs) (
+      one_differs d n x earlier xs small (All-head (λ x. x ≤ 2048) x xs all) le,
+      others_differ d n (earlier ++ x ∷ []) xs small (All-tail (λ x. x ≤ 2048) x xs all) rest,
+    )
+
+pub name_is_new : (d : ℕ) (ds : List ℕ) → d ≤ 2048 → All (λ x. x ≤ 2048) ds
+    → AllByRecursion (λ name. name ≡ constituent_name d (count_of d ds) → ⊥) (names_of ds)
+unfolding names_of
+name_is_new d ds small all = others_differ d (count_of d ds) [] ds small all (omega arith)

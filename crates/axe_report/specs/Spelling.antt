@@ -15,7 +15,8 @@ header_line header =
 -- the line of a constituent
 unfoldable pub factor_line : FactorValue → List ℕ
 factor_line factor =
-    codes "factor " ++ factor.name ++ codes " dim=" ++ decimal factor.dim ++ codes " mult=" ++ decimal factor.multiplicity
+    codes "factor " ++ factor.name ++ codes " dim=" ++ decimal factor.dim ++ codes " mult="
+    ++ decimal factor.multiplicity
     ++ 10 ∷ []
 
 -- what the line of a constituent has before its multiplicity

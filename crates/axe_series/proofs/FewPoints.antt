@@ -1,21 +1,17 @@
 -- The sections of a module have no more points than it, so none of a module with few points stays undecided.
-use Rattle.std.specs.Prelude.{◌≡◌, ◌≢◌, ℕ, ◌+◌, ◌≤◌, List, [], ◌∷◌, length, ⊤}
-use Rattle.axe_algebra.specs.Bridge.{matrix_of}
-use Rattle.axe_algebra.proofs.FreeColumns.{free_columns_count}
-use Rattle.axe_algebra.proofs.ListEntries.{rows_length}
+use Rattle.std.specs.Prelude.{◌≡◌, ◌≢◌, ℕ, ◌+◌, ◌≤◌, List, [], ◌∷◌, ⊤}
 use Rattle.axe_algebra.proofs.PointLists.{count_grows}
 use Rattle.axe_field.specs.Order.{Order, order_number}
-use Rattle.axe_field.specs.NumberFields.{number_field, gf}
 use Rattle.axe_field.proofs.Orders.{order_number-at_least}
 use Rattle.axe_matrix.specs.Matrices.{MatrixValue, IsMatrix}
 use Rattle.axe_spin.specs.Modules.{ModuleValue, IsModule}
 use Rattle.axe_word.specs.PointsOfMatrix.{point_count, most_points}
 use Rattle.axe_norton.specs.Spaces.{IsProperSubmodule}
 use Rattle.axe_norton.proofs.OpenLaws.{small_is_decided}
-use Rattle.axe_norton.proofs.TruthLaws.{rows_over_field}
 use Rattle.axe_series.specs.Sections.{SectionValue, IsCut}
 use Rattle.axe_series.specs.Runs.{FoundValue, Outcome, complete, open_section, Runs, all_found, undecided, reducible}
 use Rattle.axe_series.specs.Runs.{known, new, RunOf}
+use Rattle.axe_series.proofs.SomeCut.{dimensions_add_up}
 use Rattle.axe_series.proofs.OneCut.{reducible_is_submodule, reducible_is_matrix}
 use mathlib.Core.Path.{refl, sym, ◌∙◌, subst}
 use native.Mathlib.Omega.{arith}
@@ -35,14 +31,9 @@ AreWithin o n (section ∷ rest) = IsWithin o n section.action × AreWithin o n 
 pub dimensions_of_parts : (section : SectionValue) (space : MatrixValue) (sub quotient : SectionValue) →
     IsProperSubmodule section.action space → IsMatrix space →
     IsCut section space sub quotient → sub.action.dim + quotient.action.dim ≡ section.action.dim
-dimensions_of_parts section space sub quotient proper formed cut = omega (arith, cut.sub_action.dimension, sizes)
-  where
-    sizes : length space.rows + quotient.action.dim ≡ section.action.dim
-    sizes = free_columns_count (gf section.action.order) section.action.dim (length space.rows)
-        (matrix_of (number_field section.action.order) space.rows)
-        (rows_length (number_field section.action.order) section.action.dim space.rows
-        (rows_over_field section.action.order section.action.dim space proper.field proper.columns formed))
-        quotient.action.dim cut.quotient_action.acts.columns cut.quotient_action.acts.free proper.independent
+dimensions_of_parts section space sub quotient proper formed cut =
+    let sizes = dimensions_add_up section.action space quotient.action proper formed cut.quotient_action in
+    omega (arith, cut.sub_action.dimension, sizes)
 
 complete_or_open : (found : FoundValue) (rows : List (List ℕ)) (offset dim : ℕ) →
     complete found ≢ open_section rows offset dim

@@ -1,5 +1,5 @@
 -- A submodule that a verdict gives cuts a section in two, and their dimensions add up to the section's.
-use Rattle.std.specs.Prelude.{◌≡◌, ℕ, ◌+◌, ◌<◌, ◌⊎◌, List, ◌++◌, length, map, get_or}
+use Rattle.std.specs.Prelude.{◌≡◌, ℕ, ◌+◌, ◌<◌, List, ◌++◌, length, map, get_or}
 use Rattle.axe_algebra.specs.NumberField.{NumberField}
 use Rattle.axe_algebra.specs.Reduced.{IsAscendingListOf}
 use Rattle.axe_algebra.specs.Actions.{IsFree}
@@ -13,32 +13,20 @@ use Rattle.axe_matrix.specs.Matrices.{MatrixValue, IsMatrix, matrix_block}
 use Rattle.axe_spin.specs.Modules.{ModuleValue, IsModule, HasSquareGenerators}
 use Rattle.axe_action.specs.Actions.{IsBasisAction, IsActionModulo, IsExtendedMatrix}
 use Rattle.axe_action.proofs.SomeAction.{some_basis_action, some_quotient}
-use Rattle.axe_norton.specs.declared.verdicts.Verdict.TheVariants.{Reducible}
-use Rattle.axe_norton.specs.Spaces.{IsProperSubmodule, IsFirstProperSpace, TriedGenerate, IsTransposedSpace}
-use Rattle.axe_norton.specs.Verdicts.{Decides, word_of_seed}
-use Rattle.axe_norton.specs.declared.verdicts.At
-use Rattle.axe_norton.proofs.TruthLaws.{said_is_true, rows_over_field}
-use Rattle.axe_word.proofs.ValueLaws.{drawn_word-in}
-use Rattle.axe_field.specs.Order.{order_number}
+use Rattle.axe_norton.specs.Spaces.{IsProperSubmodule}
+use Rattle.axe_norton.proofs.TruthLaws.{rows_over_field}
 use Rattle.axe_series.specs.Sections.{SectionValue, IsCut, lifted_rows}
-use mathlib.Core.Logic.{inl, inr}
 use mathlib.Core.Path.{refl, sym, ◌∙◌, subst}
 use native.Mathlib.Omega.{arith}
 
--- the space of a verdict is a basis of a proper submodule, and well-formed
-pub reducible_is_proper : (m : ModuleValue) (seed words : ℕ) (space : MatrixValue) → IsModule m →
-    Decides m seed words (Reducible space) → IsProperSubmodule m space × IsMatrix space
-reducible_is_proper m seed words space is (j, decides) = (
-  said_is_true m is (word_of_seed m seed j) (At.TheVariants.Reducible space)
-      (drawn_word-in m seed j (order_number m.order) (length m.generators) refl refl is.some_generator) decides.says,
-  formed decides.says.tells,
-)
-  where
-    formed : IsFirstProperSpace m decides.says.tested.null_space space
-        ⊎ (TriedGenerate m decides.says.tested.null_space × IsTransposedSpace m decides.says.tested.matrix space) →
-        IsMatrix space
-    formed (inl first) = first.proper.well_formed
-    formed (inr transposed) = transposed.1.well_formed
+-- the dimensions of a submodule and of the quotient by it add up to the module's
+pub dimensions_add_up : (m : ModuleValue) (space : MatrixValue) (quotient : ModuleValue) → IsProperSubmodule m space →
+    IsMatrix space → IsActionModulo m space quotient → length space.rows + quotient.dim ≡ m.dim
+dimensions_add_up m space quotient proper well modulo =
+    free_columns_count (field_of (number_field m.order)) m.dim (length space.rows) (matrix_of (number_field m.order) space.rows)
+    (rows_length (number_field m.order) m.dim space.rows
+    (rows_over_field m.order m.dim space proper.field proper.columns well)) quotient.dim
+    modulo.acts.columns modulo.acts.free proper.independent
 
 -- rows with the unit vectors of some columns, where these are the free ones
 pub extended_by_columns : (K : NumberField) (n : ℕ) (rows : List (List ℕ)) (count : ℕ) (columns : ℕ → ℕ) →
@@ -124,10 +112,7 @@ some_cut section space is proper well =
     )
       where
         sizes : length space.rows + quotient.dim ≡ section.action.dim
-        sizes = free_columns_count (field_of (number_field section.action.order)) section.action.dim (length space.rows)
-            (matrix_of (number_field section.action.order) space.rows)
-            (rows_length (number_field section.action.order) section.action.dim space.rows over) quotient.dim
-            modulo.acts.columns modulo.acts.free proper.independent
+        sizes = dimensions_add_up section.action space quotient proper well modulo
 
         extended : MatrixValue
         extended = record {

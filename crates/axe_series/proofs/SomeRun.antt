@@ -4,11 +4,10 @@ use Rattle.std.specs.List.{All}
 use Rattle.std.proofs.lemmas.List.Elements.{All-nil, All-cons, All-head, All-tail, All-append}
 use Rattle.axe_field.specs.Order.{Order}
 use Rattle.axe_row.specs.Rows.{RowValue}
-use Rattle.axe_matrix.specs.Matrices.{MatrixValue, IsMatrix}
+use Rattle.axe_matrix.specs.Matrices.{MatrixValue}
 use Rattle.axe_spin.specs.Modules.{ModuleValue, IsModule}
 use Rattle.axe_norton.specs.declared.verdicts.Verdict
 use Rattle.axe_norton.specs.declared.verdicts.Verdict.TheVariants.{Irreducible, Reducible, Undecided}
-use Rattle.axe_norton.specs.Spaces.{IsProperSubmodule}
 use Rattle.axe_norton.specs.Verdicts.{Decides}
 use Rattle.axe_iso.specs.Forms.{FormValue, IsForm}
 use Rattle.axe_iso.specs.Matches.{IsMatch}
@@ -17,7 +16,8 @@ use Rattle.axe_series.specs.Sections.{SectionValue, lifted_rows, whole_section}
 use Rattle.axe_series.specs.Runs.{FoundValue, nothing_found, Outcome, complete, with_place, with_factor, AreOfOthers, IsKnownAs, IsNewForm, Runs, all_found, undecided, reducible, known, new, RunOf}
 use Rattle.axe_series.proofs.SomeVerdict.{some_verdict}
 use Rattle.axe_series.proofs.SomeForm.{some_new_form}
-use Rattle.axe_series.proofs.SomeCut.{AreParts, reducible_is_proper, some_cut}
+use Rattle.axe_series.proofs.OneCut.{reducible_is_submodule, reducible_is_matrix}
+use Rattle.axe_series.proofs.SomeCut.{AreParts, some_cut}
 use mathlib.Core.Logic.{inl, inr}
 use mathlib.Core.Path.{refl, sym, ◌∙◌, ap}
 use native.Mathlib.Omega.{arith}
@@ -135,8 +135,11 @@ module _ (seed words : ℕ) (o : Order) (count : ℕ) where
         from (outcome, run) = (outcome, reducible space sub quotient decides parts.cut run)
 
     run_of_space : (space : MatrixValue) → Decides section.action seed words (Reducible space) →
-        IsProperSubmodule section.action space × IsMatrix space → HasRun (section ∷ rest) found
-    run_of_space space decides (proper, well) = run_of_parts space decides (some_cut section space kind.is proper well)
+        HasRun (section ∷ rest) found
+    run_of_space space decides =
+        run_of_parts space decides
+        (some_cut section space kind.is (reducible_is_submodule section.action seed words space kind.is decides)
+        (reducible_is_matrix section.action seed words space decides))
 
     run_of_known : (word : ℕ) (v : RowValue) → Decides section.action seed words (Irreducible word v) →
         (number : ℕ) (t : MatrixValue) → IsKnownAs found.forms section.action number t → HasRun (section ∷ rest) found
@@ -172,8 +175,7 @@ module _ (seed words : ℕ) (o : Order) (count : ℕ) where
     run_of_verdict : (verdict : Verdict.Verdict) × Decides section.action seed words verdict →
         HasRun (section ∷ rest) found
     run_of_verdict (Undecided, decides) = (_, undecided decides)
-    run_of_verdict (Reducible space, decides) =
-        run_of_space space decides (reducible_is_proper section.action seed words space kind.is decides)
+    run_of_verdict (Reducible space, decides) = run_of_space space decides
     run_of_verdict (Irreducible word v, decides) =
         run_of_irreducible word v decides (known_or_others o count section.action kind found.forms forms)
 

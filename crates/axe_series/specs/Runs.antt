@@ -11,8 +11,8 @@ use Rattle.axe_iso.specs.Forms.{FormValue, IsForm, IsFormFrom}
 use Rattle.axe_iso.specs.Matches.{IsMatch}
 use Rattle.axe_series.specs.Sections.{SectionValue, IsCut, rows_of_sections, lifted_rows, whole_section}
 
--- what is found so far: the rows of the basis, the forms of the factors in order of first appearance, and for each place
--- of the series, from the bottom, the number of its factor
+-- what is found so far: the rows of the basis, the forms of the factors in order of first appearance, and for each
+-- place of the series, from the bottom, the number of its factor
 pub record FoundValue : Type 0 where
   pub rows : List (List ℕ)
   pub forms : List FormValue
@@ -21,8 +21,8 @@ pub record FoundValue : Type 0 where
 abbrev pub nothing_found : FoundValue
 nothing_found = record { rows = []; forms = []; places = [] }
 
--- what comes of it in the end: all is found, or a section stays undecided: then the rows so far, the section's and those of
--- the sections after it are a basis, `offset` rows stand before the section's, and these are as many as `dim`
+-- what comes of it in the end: all is found, or a section stays undecided: then the rows so far, the section's and
+-- those of the sections after it are a basis, `offset` rows stand before the section's, and these are as many as `dim`
 pub data Outcome : Type 0 where
   complete : FoundValue → Outcome
   open_section : List (List ℕ) → ℕ → ℕ → Outcome
@@ -35,7 +35,11 @@ with_place found rows number =
 -- one more factor, with its form, and its first place
 abbrev pub with_factor : FoundValue → List (List ℕ) → FormValue → FoundValue
 with_factor found rows form =
-    record { rows = found.rows ++ rows; forms = found.forms ++ form ∷ []; places = found.places ++ length found.forms ∷ [] }
+    record {
+      rows = found.rows ++ rows;
+      forms = found.forms ++ form ∷ [];
+      places = found.places ++ length found.forms ∷ [];
+    }
 
 -- none of the forms is one of the module: their factors are not isomorphic to it
 abbrev pub AreOfOthers : List FormValue → ModuleValue → Type 0
@@ -56,10 +60,11 @@ pub record IsNewForm (m : ModuleValue) (seed number : ℕ) (v : RowValue) (form 
   pub is_form : IsForm form
   pub from : IsFormFrom m seed number v form
 
--- what becomes of sections that are still to be decided, by the words 0 to `words` of a seed, after what is found so far:
--- without a section all is found. Else the first section is decided. Where it stays undecided this is the end. Where it is
--- reducible the two sections into which the submodule cuts it take its place. Where it is irreducible its place is that of a
--- known factor, lifted by the isomorphism to it, or of a new one, lifted by the standard basis of its form
+-- what becomes of sections that are still to be decided, by the words 0 to `words` of a seed, after what is found so
+-- far: without a section all is found. Else the first section is decided. Where it stays undecided this is the end.
+-- Where it is reducible the two sections into which the submodule cuts it take its place. Where it is irreducible its
+-- place is that of a known factor, lifted by the isomorphism to it, or of a new one, lifted by the standard basis of
+-- its form
 pub data Runs (seed words : ℕ) : List SectionValue → FoundValue → Outcome → Type 0 where
   all_found : {found : FoundValue} → Runs seed words [] found (complete found)
   undecided : {section : SectionValue} {rest : List SectionValue} {found : FoundValue} →

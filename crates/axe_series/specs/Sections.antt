@@ -34,4 +34,5 @@ pub record IsCut (section : SectionValue) (space : MatrixValue) (sub quotient : 
   pub extended : MatrixValue
   pub extends : IsExtendedMatrix space extended
   pub sub_rows : sub.rows ≡ matrix_block (lifted_rows section extended) 0 sub.action.dim 0 section.rows.cols
-  pub quotient_rows : quotient.rows ≡ matrix_block (lifted_rows section extended) sub.action.dim quotient.action.dim 0 section.rows.cols
+  pub quotient_rows : quotient.rows
+      ≡ matrix_block (lifted_rows section extended) sub.action.dim quotient.action.dim 0 section.rows.cols

@@ -13,7 +13,9 @@ RunsFindWhatIsTrue = (m : ModuleValue) (seed words : ℕ) (outcome : Outcome) �
 
 -- a module has no more than one outcome
 abbrev pub RunsHaveOneOutcome : Type 0
-RunsHaveOneOutcome = (m : ModuleValue) (seed words : ℕ) (a b : Outcome) → IsModule m → RunOf m seed words a → RunOf m seed words b → a ≡ b
+RunsHaveOneOutcome =
+    (m : ModuleValue) (seed words : ℕ) (a b : Outcome) → IsModule m → RunOf m seed words a → RunOf m seed words b →
+    a ≡ b
 
 -- and it has one
 abbrev pub RunsHaveAnOutcome : Type 0

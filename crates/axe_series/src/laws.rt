@@ -8,10 +8,10 @@ ghost use Rattle.axe_series.specs.Theorems.{
 };
 
 /// What a run finds is true. Where all is found it is a composition series: conjugated by the rows that are found the
-/// generators are block lower triangular with the factors, by their places, on the diagonal; the factors are irreducible,
-/// numbered in order of first appearance; and two places have one number exactly when their diagonal blocks are
-/// isomorphic. Where a section stays undecided its action is the diagonal block between the rows before and after it,
-/// and each of the words leaves it open.
+/// generators are block lower triangular with the factors, by their places, on the diagonal; the factors are
+/// irreducible, numbered in order of first appearance; and two places have one number exactly when their diagonal
+/// blocks are isomorphic. Where a section stays undecided its action is the diagonal block between the rows before and
+/// after it, and each of the words leaves it open.
 pub fn runs_find_what_is_true()
     ensures { RunsFindWhatIsTrue }
 {}

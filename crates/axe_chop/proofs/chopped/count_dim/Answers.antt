@@ -1,9 +1,9 @@
 use Rattle.std.proofs.Common.{◌∙◌, arith}
-use Rattle.axe_chop.proofs.Counting.{count_more, count_all, count_none, byte_is, byte_fits}
+use Rattle.axe_report.proofs.Counts.{count_more, count_done, count_begun, byte_is, byte_fits}
 use Rattle.axe_chop.proofs.chopped.count_dim.Goals as goal
 
 pub loop-other-init : goal.loop-other-init
-loop-other-init c = (count_none c.args.dim, omega arith)
+loop-other-init c = (count_begun c.args.dim, omega arith)
 
 pub loop-other-preserved : goal.loop-other-preserved
 loop-other-preserved c =
@@ -20,5 +20,5 @@ overflow_add-count c =
     omega (arith, c.loop-other.invariant.1, small)
 
 pub returns : goal.returns
-returns c = count_all c.args.dims.now c.loop-other.other-index c.args.dim c.loop-other.count
+returns c = count_done c.args.dims.now c.loop-other.other-index c.args.dim c.loop-other.count
     (omega arith) c.loop-other.invariant.0

@@ -1,9 +1,9 @@
 use Rattle.std.proofs.Common.{ℕ, cond, eqb, ap, ◌∙◌, arith}
-use Rattle.axe_chop.proofs.Counting.{count_more, count_all, count_none, byte_is, byte_fits}
+use Rattle.axe_report.proofs.Counts.{count_more, count_done, count_begun, byte_is, byte_fits}
 use Rattle.axe_chop.proofs.chopped.count_place.Goals as goal
 
 pub loop-place-init : goal.loop-place-init
-loop-place-init c = (count_none c.args.number, omega arith)
+loop-place-init c = (count_begun c.args.number, omega arith)
 
 pub loop-place-preserved : goal.loop-place-preserved
 loop-place-preserved c =
@@ -20,5 +20,5 @@ overflow_add-count c =
     omega (arith, c.loop-place.invariant.1, small)
 
 pub returns : goal.returns
-returns c = count_all c.args.places.now c.loop-place.place-index c.args.number c.loop-place.count
+returns c = count_done c.args.places.now c.loop-place.place-index c.args.number c.loop-place.count
     (omega arith) c.loop-place.invariant.0

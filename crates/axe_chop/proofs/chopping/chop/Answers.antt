@@ -1,6 +1,5 @@
 use Rattle.std.proofs.Common.{subst}
 use Rattle.axe_chop.specs.Searches.{IsSearched}
-use Rattle.axe_chop.specs.Answers.{IsUndecided}
 use Rattle.axe_chop.proofs.AnswerLaws.{searched_is_undecided, searched_is_chopped, chopped_is_series, undecided_is_open, small_is_decided}
 use Rattle.axe_chop.proofs.chopping.chop.Goals as goal
 

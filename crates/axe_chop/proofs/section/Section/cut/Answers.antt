@@ -1,4 +1,4 @@
-use Rattle.std.proofs.Common.{◌≡◌, ◌+◌, ◌<◌, length, refl, sym, ap, subst, ◌∙◌, arith}
+use Rattle.std.proofs.Common.{◌≡◌, ◌+◌, ◌<◌, length, sym, ap, subst, ◌∙◌, arith}
 use Rattle.axe_echelon.proofs.Exits.{no_memory}
 use Rattle.axe_action.specs.Actions.{IsBasisAction, IsActionModulo}
 use Rattle.axe_matrix.specs.Matrices.{matrix_block}

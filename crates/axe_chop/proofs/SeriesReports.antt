@@ -1,0 +1,168 @@
+-- A composition series has a report, and what is named is reported so.
+use Rattle.std.proofs.Common.{◌≡◌, ℕ, ◌+◌, ◌^◌, ◌<◌, ◌≤◌, List, [], ◌∷◌, length, map, get_or, sum_by, refl, sym, ap, ap₂, subst, ◌∙◌, string_bytes, String, arith}
+use Rattle.std.specs.declared.alloc.Global.{Global}
+use Rattle.std.proofs.lemmas.List.{length-map, get_or-map}
+use Rattle.std.proofs.lemmas.List.Sums.{sum_by-cons}
+use Rattle.std.proofs.lemmas.Option.{slice_get_within, slice_get-get_or, get_or_from_slice_get}
+use mathlib.Core.List.{map-map}
+use Rattle.indexmap.specs.IndexMap.{values}
+use Rattle.axe_algebra.specs.Blocks.{block_start}
+use Rattle.axe_algebra.specs.Lists.{listed}
+use Rattle.axe_field.specs.Order.{Order}
+use Rattle.axe_matrix.specs.Matrices.{MatrixValue}
+use Rattle.axe_spin.specs.Modules.{ModuleValue, IsModule}
+use Rattle.axe_iso.specs.Forms.{FormValue}
+use Rattle.axe_series.specs.Runs.{FoundValue}
+use Rattle.axe_series.specs.Series.{IsSeries, IsPlaceOf, AreInOrderOfAppearance, sizes_of_places}
+use Rattle.axe_report.specs.Limits.{most_words}
+use Rattle.axe_report.specs.Names.{names_of}
+use Rattle.axe_report.specs.Reports.{FactorValue, ReportValue, names, dims, multiplicities, counts_in, IsHeader, IsReport}
+use Rattle.axe_report.specs.declared.report.ReportHeader.{ReportHeader}
+use Rattle.axe_report.proofs.NumberedFactors.{AreNumbered, numbered_report, numbered_by_parts}
+use Rattle.axe_chop.specs.Chopped.{dims_of, multiplicities_in, IsNamed}
+use Rattle.axe_chop.specs.Answers.{IsChopped, factor_modules}
+use Rattle.axe_chop.specs.Reported.{dims_of_factors, reported_factor, entry_factor, series_report}
+use Rattle.axe_chop.specs.declared.chopped.Factor.{Factor}
+use Rattle.axe_chop.specs.declared.chopped.Chopped.{Chopped}
+use Rattle.axe_chop.proofs.AnswerLaws.{chopped_is_series}
+
+-- ---- a series has a report
+
+-- the number at a place
+place_number : (places : List ℕ) (a : ℕ) → a < length places → IsPlaceOf places a (get_or places a 0)
+place_number places a inside = slice_get-get_or places a 0 inside
+
+numbered_from_order : (count : ℕ) (places : List ℕ) → AreInOrderOfAppearance count places → AreNumbered count places
+numbered_from_order count places order = record {
+  within = λ i inside. order.within i 0 inside;
+  appear = λ k below.
+      let place : (a : ℕ) × IsPlaceOf places a k = order.appear k below in
+      (place.0, slice_get_within places place.0 k place.1, get_or_from_slice_get places place.0 k 0 place.1);
+  ascend = λ i k inside less.
+      let place : (a : ℕ) × (a < i) × IsPlaceOf places a k = order.ascend i (get_or places i 0) k (place_number places i inside) less in
+      (place.0, place.1, get_or_from_slice_get places place.0 k 0 place.2);
+}
+
+-- the sizes of blocks add up to where the block after the last begins
+sizes_add_up : (f : ℕ → ℕ) (places : List ℕ) → block_start (map f places) (length (map f places)) ≡ sum_by f places
+sizes_add_up f [] = refl
+sizes_add_up f (p ∷ places) = ap (λ n. f p + n) (sizes_add_up f places) ∙ sym (sum_by-cons f p places)
+
+module _ (m : ModuleValue) (seed words : ℕ) (basis : MatrixValue) (factors : List ModuleValue) (places : List ℕ)
+    (is : IsModule m) (small : seed < 2 ^ 64) (few : words ≤ most_words) (series : IsSeries m basis factors places) where
+  abbrev ds : List ℕ
+  ds = dims_of_factors factors
+
+  abbrev header : ReportHeader
+  header = record { field = m.order; dim = m.dim; gens = length m.generators; seed = seed; words = words }
+
+  header_fits : IsHeader header
+  header_fits = record {
+    some_dim = omega (arith, is.over.positive);
+    dim = is.dim_fits;
+    some_generator = is.some_generator;
+    gens = is.generators_fit;
+    seed = small;
+    words = few;
+  }
+
+  count : length ds ≡ length factors
+  count = length-map factors (λ (factor : ModuleValue). factor.dim)
+
+  numbered : AreNumbered (length ds) places
+  numbered = subst (λ n. AreNumbered n places) (sym count) (numbered_from_order (length factors) places series.order)
+
+  whole : sum_by (λ p. get_or ds p 0) places ≡ m.dim
+  whole = sym (sizes_add_up (λ p. get_or ds p 0) places) ∙ series.triangular.sizes_are.total
+
+  -- each dimension is the size of a block
+  some_dimension : (k : ℕ) → k < length ds → 1 ≤ get_or ds k 0
+  some_dimension k below =
+      let at : (a : ℕ) × (a < length places) × (get_or places a 0 ≡ k) = numbered.appear k below in
+      let inside : at.0 < length (sizes_of_places factors places) =
+      omega (arith, at.1, length-map places (λ p. get_or ds p 0)) in
+      let positive : 0 < get_or (sizes_of_places factors places) at.0 0 = series.triangular.sizes_are.positive at.0 inside in
+      let size : get_or (sizes_of_places factors places) at.0 0 ≡ get_or ds k 0 =
+      get_or-map (λ p. get_or ds p 0) places at.0 0 0 at.1 ∙ ap (λ p. get_or ds p 0) at.2 in
+      omega (arith, positive, size)
+
+  pub series_has_report : IsReport (series_report m seed words factors places)
+  unfolding series_report
+  series_has_report =
+      subst (λ n. IsReport (record { header = header; factors = listed n (reported_factor factors places); series = places })) count
+      (numbered_report ds places numbered some_dimension header header_fits whole)
+
+-- ---- what is named is reported so
+
+-- the factors' dimensions are those of their forms
+dims_of_named : (found : FoundValue) (chopped : Chopped) → IsNamed found chopped → dims_of found.forms ≡ dims_of_factors (factor_modules chopped)
+dims_of_named found chopped named =
+    ap dims_of (sym named.factors.forms_are)
+    ∙ map-map (λ (form : FormValue). form.matrices.dim) (λ (factor : Factor). factor.form) (values chopped.factors)
+    ∙ sym (map-map (λ (m : ModuleValue). m.dim) (λ (factor : Factor). factor.form.matrices) (values chopped.factors))
+
+module _ (found : FoundValue) (chopped : Chopped) (named : IsNamed found chopped) where
+  abbrev entries : List (String Global × Factor)
+  entries = chopped.factors.entries
+
+  abbrev ds_of_named : List ℕ
+  ds_of_named = dims_of_factors (factor_modules chopped)
+
+  names_of_entries : names (map entry_factor entries) ≡ names_of ds_of_named
+  names_of_entries =
+      map-map (λ (f : FactorValue). f.name) entry_factor entries
+      ∙ sym (map-map string_bytes (λ (e : String Global × Factor). e.0) entries)
+      ∙ named.factors.names_are ∙ ap names_of (dims_of_named found chopped named)
+
+  dims_of_entries : dims (map entry_factor entries) ≡ ds_of_named
+  dims_of_entries =
+      map-map (λ (f : FactorValue). f.dim) entry_factor entries
+      ∙ sym (map-map (λ (factor : Factor). factor.form.matrices.dim) (λ (e : String Global × Factor). e.1) entries)
+      ∙ sym (map-map (λ (m : ModuleValue). m.dim) (λ (factor : Factor). factor.form.matrices) (values chopped.factors))
+
+  counts_of_entries : multiplicities (map entry_factor entries) ≡ counts_in chopped.series.items (length ds_of_named)
+  unfolding multiplicities_in counts_in
+  counts_of_entries =
+      map-map (λ (f : FactorValue). f.multiplicity) entry_factor entries
+      ∙ sym (map-map (λ (factor : Factor). factor.multiplicity) (λ (e : String Global × Factor). e.1) entries)
+      ∙ named.factors.multiplicities_are
+      ∙ ap₂ multiplicities_in (sym named.series) count_of_forms
+    where
+      count_of_forms : length found.forms ≡ length ds_of_named
+      count_of_forms =
+          sym (length-map found.forms (λ (form : FormValue). form.matrices.dim))
+          ∙ ap (λ (l : List ℕ). length l) (dims_of_named found chopped named)
+
+  pub named_is_reported : map entry_factor entries ≡ listed (length (factor_modules chopped)) (reported_factor (factor_modules chopped) chopped.series.items)
+  named_is_reported =
+      numbered_by_parts ds_of_named chopped.series.items (map entry_factor entries) names_of_entries dims_of_entries counts_of_entries
+      ∙ ap (λ n. listed n (reported_factor (factor_modules chopped) chopped.series.items))
+      (length-map (factor_modules chopped) (λ (m : ModuleValue). m.dim))
+
+-- what a report says of a module, of its factors as they are named, and of their places
+module _ (m : ModuleValue) (seed words : ℕ) (chopped : Chopped) (answer : IsChopped m seed words chopped) (field : Order) (dim gens : ℕ)
+    (factors : List FactorValue) (series : List ℕ) (order_is : field ≡ m.order) (dim_is : dim ≡ m.dim) (gens_is : gens ≡ length m.generators)
+    (factors_are : factors ≡ map entry_factor chopped.factors.entries) (series_is : series ≡ chopped.series.items) where
+  abbrev report : ReportValue
+  report = record {
+    header = record { field = field; dim = dim; gens = gens; seed = seed; words = words };
+    factors = factors;
+    series = series;
+  }
+
+  pub reported : report ≡ series_report m seed words (factor_modules chopped) chopped.series.items
+  unfolding series_report
+  reported =
+      let all : factors ≡ listed (length (factor_modules chopped)) (reported_factor (factor_modules chopped) chopped.series.items) =
+      factors_are ∙ named_is_reported answer.found chopped answer.named in
+      λ i. record {
+        header = record { field = order_is i; dim = dim_is i; gens = gens_is i; seed = seed; words = words };
+        factors = all i;
+        series = series_is i;
+      }
+
+  pub reported_is_report : IsModule m → seed < 2 ^ 64 → words ≤ most_words → IsReport report
+  reported_is_report is small few =
+      subst IsReport (sym reported)
+      (series_has_report m seed words chopped.basis (factor_modules chopped) chopped.series.items is small few
+      (chopped_is_series m is seed words chopped answer))

@@ -1,0 +1,63 @@
+//! Reports of composition series.
+
+ghost use Rattle.std.specs.Prelude.{◌≡◌, ◌<◌, ◌≤◌, ◌^◌, ℕ, List, map, IfOk, IfErr};
+ghost use Rattle.axe_matrix.specs.Matrices.{MatrixValue};
+ghost use Rattle.axe_spin.specs.Modules.{ModuleValue, IsModule};
+ghost use Rattle.axe_series.specs.Series.{IsSeries};
+ghost use Rattle.axe_report.specs.Limits.{most_words};
+ghost use Rattle.axe_report.specs.Reports.{IsReport};
+ghost use Rattle.axe_report.specs.declared.fault.ReportFault.TheVariants.{Memory};
+ghost use Rattle.axe_chop.specs.Answers.{IsChopped, factor_modules};
+ghost use Rattle.axe_chop.specs.Reported.{entry_factor, series_report};
+
+use crate::chopped::Chopped;
+use axe_norton::MAX_WORDS;
+use axe_report::{Report, ReportFactor, ReportFault, ReportHeader};
+use axe_spin::Module;
+use std::alloc::{AllocError, Global};
+
+/// The report of the composition series that [`crate::chop`] found of a module by the words 0 to `words` of a seed. Its
+/// only fault is Memory.
+pub fn report_of(
+    alloc: Global,
+    module: &Module,
+    chopped: &Chopped,
+    seed: u64,
+    words: u32,
+) -> Result<Report, ReportFault>
+    requires words { words ≤ MAX_WORDS }
+    requires chopped { IsChopped «module».now seed words chopped.now }
+    ensures report { IfOk result (λ report. report
+        ≡ series_report «module».now seed words (factor_modules chopped.now) chopped.now.series.items) }
+    ensures memory { IfErr result (λ fault. fault ≡ Memory) }
+{
+    let header = ReportHeader {
+        field: *module.field(),
+        dim: module.dim(),
+        gens: module.gens(),
+        seed,
+        words,
+    };
+    let factors = report_factors(alloc, chopped)?;
+    let series = chopped.series.clone()?;
+    Ok(Report::new(header, factors, series))
+}
+
+/// What a report says of the factors of a composition series, in their order.
+fn report_factors(alloc: Global, chopped: &Chopped) -> Result<Vec<ReportFactor>, AllocError>
+    ensures { IfOk result (λ factors. factors.items ≡ map entry_factor chopped.now.factors.entries) }
+{
+    let mut factors = Vec::new(alloc);
+    for (name, factor) in &chopped.factors {
+        let dim = factor.form.matrices().dim();
+        factors.push(ReportFactor::new(name.clone()?, dim, factor.multiplicity))?;
+    }
+    Ok(factors)
+}
+
+/// Each composition series of a module has a report, whatever the seed and the number of the last word.
+pub fn series_have_reports()
+    ensures { (m : ModuleValue) (seed words : ℕ) (basis : MatrixValue) (factors : List ModuleValue) (places : List ℕ) →
+        IsModule m → seed < 2 ^ 64 → words ≤ most_words → IsSeries m basis factors places →
+        IsReport (series_report m seed words factors places) }
+{}
