@@ -4,13 +4,14 @@ use Rattle.axe_folder.specs.Files.{Files}
 use Rattle.axe_folder.specs.declared.fault.FolderFault.TheVariants as folder
 use Rattle.axe_folder.specs.Outcomes.{most_failures}
 use Rattle.axe_execute.specs.declared.execution.Shown.{Shown}
-use Rattle.axe_execute.specs.declared.fault.Fault.{Fault}
-use Rattle.axe_execute.specs.declared.fault.Fault.TheVariants.{File, Folder, Refused, Usage, Memory}
-use Rattle.axe_execute.specs.Plans.{Plan}
-use Rattle.axe_execute.specs.Meanings.{Meaning}
-use Rattle.axe_execute.specs.Drafts.{plan_in}
+use Rattle.axe_fault.specs.declared.fault.Fault.{Fault}
+use Rattle.axe_fault.specs.declared.fault.Fault.TheVariants.{File, Folder, Refused, Undecided, Usage, Memory}
+use Rattle.axe_plan.specs.Plans.{Plan}
+use Rattle.axe_plan.specs.Meanings.{Meaning}
+use Rattle.axe_plan.specs.Drafts.{plan_in}
 use native.Mathlib.Decide.{dec_lt}
-use Rattle.axe_execute.specs.Outcome.{Agrees, Carries, Executes, CountsFault, BlamesDevice}
+use Rattle.axe_plan.specs.Outcome.{Agrees, Carries, CountsFault}
+use Rattle.axe_execute.specs.Execution.{Executes, BlamesDevice}
 
 -- a fault at what is read or computed
 pub stopped : (fault : Fault) (names : List (List ℕ)) (meaning : Meaning Plan) (old new : Files) → Agrees names plan_in (Err fault) meaning → new ≡ old →
@@ -21,6 +22,7 @@ stopped (Folder name folder.TooLong) names meaning old new right same = (right, 
 stopped (Folder name folder.Device) names meaning old new right same = inl (right, same)
 stopped (Folder name folder.Memory) names meaning old new right same = right
 stopped (Refused refusal) names meaning old new right same = (right, same)
+stopped (Undecided basis offset dim) names meaning old new right same = (right, same)
 stopped (Usage text) names meaning old new right same = right
 stopped Memory names meaning old new right same = inl same
 
@@ -33,6 +35,7 @@ broken (Folder name folder.TooLong) names meaning plan old new right carried = a
 broken (Folder name folder.Device) names meaning plan old new right carried = inr (plan, right, carried)
 broken (Folder name folder.Memory) names meaning plan old new right carried = absurd carried
 broken (Refused refusal) names meaning plan old new right carried = absurd carried
+broken (Undecided basis offset dim) names meaning plan old new right carried = absurd carried
 broken (Usage text) names meaning plan old new right carried = absurd carried
 broken Memory names meaning plan old new right carried = inr (plan, right, carried)
 
@@ -52,5 +55,6 @@ blamed (Folder name folder.TooLong) old new counted = tt
 blamed (Folder name folder.Device) old new counted = rises_or_ends old new counted
 blamed (Folder name folder.Memory) old new counted = tt
 blamed (Refused refusal) old new counted = tt
+blamed (Undecided basis offset dim) old new counted = tt
 blamed (Usage text) old new counted = tt
 blamed Memory old new counted = tt

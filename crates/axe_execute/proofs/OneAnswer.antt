@@ -1,8 +1,8 @@
 -- Meanings with at most one answer.
 use Rattle.std.proofs.Common.{◌≡◌, refl, sym, ◌∙◌, ap, subst, Option, Some, None, Result, Ok, Err, IfOk}
 use Rattle.axe_row.specs.declared.refusals.Refusal.{Refusal}
-use Rattle.axe_execute.specs.Plans.{Problem, Refuses}
-use Rattle.axe_execute.specs.Meanings.{Meaning, AtMostOne, Is, Has, HasOr, UnlessRefused, After, ◌>>=◌}
+use Rattle.axe_plan.specs.Plans.{Problem, Refuses}
+use Rattle.axe_plan.specs.Meanings.{Meaning, AtMostOne, Is, Has, HasOr, UnlessRefused, After, ◌>>=◌}
 
 pub is_one : {A : Type 0} (right : Result A Problem) → AtMostOne (Is right)
 is_one right first second is_first is_second = sym is_first ∙ is_second

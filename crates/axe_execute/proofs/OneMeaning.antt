@@ -6,21 +6,24 @@ use Rattle.axe_row.specs.declared.refusals.Refusal.TheVariants.{NotSquare, Singu
 use Rattle.axe_matrix.specs.Matrices.{MatrixValue, IsMatrix}
 use Rattle.axe_echelon.specs.Echelons.{null_space_refusal, IsNullSpaceMatrix, inverse_refusal, IsInverseMatrix, IsInvertible}
 use Rattle.axe_folder.specs.Files.{Files}
+use Rattle.axe_arguments.specs.Commands.{HasCounts}
 use Rattle.axe_arguments.specs.declared.command.Command.{Command}
-use Rattle.axe_arguments.specs.declared.command.Command.TheVariants.{Zcv, Zpr, Zmu, Zad, Ztr, Ziv, Znu, Zsp, Zqt}
+use Rattle.axe_arguments.specs.declared.command.Command.TheVariants.{Zcv, Zpr, Zmu, Zad, Ztr, Ziv, Znu, Zsp, Zqt, Chop}
 use Rattle.axe_execute.proofs.PlanParts.{matrix_then_one, matrix_then_some, put_one, put_some}
 use Rattle.axe_execute.proofs.OneModulePlan.{spin_plan_one, quotient_plan_one}
 use Rattle.axe_execute.proofs.SomeModulePlan.{spin_plan_some, quotient_plan_some}
+use Rattle.axe_execute.proofs.ChopLaws.{chop_plan_one, chop_plan_some}
 use Rattle.axe_execute.proofs.OneAnswer.{is_one, has_one, has_or_one, unless_refused_one}
 use Rattle.axe_echelon.proofs.OneMatrix.{null_space_is_one, inverse_is_one}
 use Rattle.axe_execute.proofs.SomeAnswer.{unless_refused_some}
 use Rattle.axe_echelon.proofs.SomeMatrix.{some_null_space, inverse_or_none}
 use Rattle.axe_row.specs.declared.refusals.Refusal.{Refusal}
 use Rattle.axe_row.specs.Refusals.{RefusedAs}
-use Rattle.axe_execute.specs.Plans.{Refuses}
-use Rattle.axe_execute.specs.Meanings.{Meaning, Answered, AtMostOne, Is, Has, HasOr, UnlessRefused}
-use Rattle.axe_execute.specs.Inputs.{text_matrix_in}
-use Rattle.axe_execute.specs.MatrixCommands.{put_or_show_text, ProductOf, SumOf, TransposeOf, InverseOf, NullSpaceOf, ConversionPlan, PrintingPlan, PlanOfOne, PlanOfTwo}
+use Rattle.axe_plan.specs.Plans.{Refuses}
+use Rattle.axe_plan.specs.Meanings.{Meaning, Answered, AtMostOne, Is, Has, HasOr, UnlessRefused}
+use Rattle.axe_plan.specs.Inputs.{text_matrix_in}
+use Rattle.axe_plan.specs.Outputs.{put_or_show_text}
+use Rattle.axe_execute.specs.MatrixCommands.{ProductOf, SumOf, TransposeOf, InverseOf, NullSpaceOf, ConversionPlan, PrintingPlan, PlanOfOne, PlanOfTwo}
 use Rattle.axe_execute.specs.Means.{Means}
 
 square_of_test : (test : Bool) (m n : ℕ) → (m == n) ≡ test → (if test then None else Some NotSquare) ≡ None → m ≡ n
@@ -143,24 +146,26 @@ transpose_some : (a : MatrixValue) → IsMatrix a → Answered (TransposeOf a)
 unfolding TransposeOf
 transpose_some a well = equal_some _ _
 
-pub at_most_one_meaning : (command : Command) (files : Files) → AtMostOne (Means command files)
-at_most_one_meaning (Zcv input out) files = conversion_plan_one input out files
-at_most_one_meaning (Zpr input out) files = printing_plan_one input out files
-at_most_one_meaning (Zmu left right out) files = two_then_one ProductOf left right out files product_one
-at_most_one_meaning (Zad left right out) files = two_then_one SumOf left right out files sum_one
-at_most_one_meaning (Ztr input out) files = one_then_one TransposeOf input out files transpose_one
-at_most_one_meaning (Ziv input out) files = one_then_one InverseOf input out files inverse_one
-at_most_one_meaning (Znu input out) files = one_then_one NullSpaceOf input out files (λ a well. null_space_one a)
-at_most_one_meaning (Zsp generators standard action name seed out) files = spin_plan_one generators standard action name seed out files
-at_most_one_meaning (Zqt generators subspace name out) files = quotient_plan_one generators subspace name out files
+pub at_most_one_meaning : (command : Command) (files : Files) → HasCounts command → AtMostOne (Means command files)
+at_most_one_meaning (Zcv input out) files counts = conversion_plan_one input out files
+at_most_one_meaning (Zpr input out) files counts = printing_plan_one input out files
+at_most_one_meaning (Zmu left right out) files counts = two_then_one ProductOf left right out files product_one
+at_most_one_meaning (Zad left right out) files counts = two_then_one SumOf left right out files sum_one
+at_most_one_meaning (Ztr input out) files counts = one_then_one TransposeOf input out files transpose_one
+at_most_one_meaning (Ziv input out) files counts = one_then_one InverseOf input out files inverse_one
+at_most_one_meaning (Znu input out) files counts = one_then_one NullSpaceOf input out files (λ a well. null_space_one a)
+at_most_one_meaning (Zsp generators standard action name seed out) files counts = spin_plan_one generators standard action name seed out files
+at_most_one_meaning (Zqt generators subspace name out) files counts = quotient_plan_one generators subspace name out files
+at_most_one_meaning (Chop generators seed words name) files counts = chop_plan_one generators seed words name files counts.0
 
-pub some_meaning : (command : Command) (files : Files) → Answered (Means command files)
-some_meaning (Zcv input out) files = conversion_plan_some input out files
-some_meaning (Zpr input out) files = printing_plan_some input out files
-some_meaning (Zmu left right out) files = two_then_some ProductOf left right out files product_some
-some_meaning (Zad left right out) files = two_then_some SumOf left right out files sum_some
-some_meaning (Ztr input out) files = one_then_some TransposeOf input out files transpose_some
-some_meaning (Ziv input out) files = one_then_some InverseOf input out files inverse_some
-some_meaning (Znu input out) files = one_then_some NullSpaceOf input out files null_space_some
-some_meaning (Zsp generators standard action name seed out) files = spin_plan_some generators standard action name seed out files
-some_meaning (Zqt generators subspace name out) files = quotient_plan_some generators subspace name out files
+pub some_meaning : (command : Command) (files : Files) → HasCounts command → Answered (Means command files)
+some_meaning (Zcv input out) files counts = conversion_plan_some input out files
+some_meaning (Zpr input out) files counts = printing_plan_some input out files
+some_meaning (Zmu left right out) files counts = two_then_some ProductOf left right out files product_some
+some_meaning (Zad left right out) files counts = two_then_some SumOf left right out files sum_some
+some_meaning (Ztr input out) files counts = one_then_some TransposeOf input out files transpose_some
+some_meaning (Ziv input out) files counts = one_then_some InverseOf input out files inverse_some
+some_meaning (Znu input out) files counts = one_then_some NullSpaceOf input out files null_space_some
+some_meaning (Zsp generators standard action name seed out) files counts = spin_plan_some generators standard action name seed out files
+some_meaning (Zqt generators subspace name out) files counts = quotient_plan_some generators subspace name out files
+some_meaning (Chop generators seed words name) files counts = chop_plan_some generators seed words name files counts.0

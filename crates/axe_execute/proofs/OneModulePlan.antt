@@ -11,10 +11,10 @@ use Rattle.axe_spin.specs.Modules.{ModuleValue}
 use Rattle.axe_spin.specs.Spinning.{seed_refusal}
 use Rattle.axe_spin.specs.Modules.{rows_refusal}
 use Rattle.axe_folder.specs.Files.{Files}
-use Rattle.axe_execute.specs.Plans.{Problem}
-use Rattle.axe_execute.specs.Inputs.{matrices_in, numbered_names, checked_module, seeded_module}
-use Rattle.axe_execute.specs.MatrixCommands.{put_packed}
-use Rattle.axe_execute.specs.Meanings.{AtMostOne, Is, Has, HasOr, UnlessRefused}
+use Rattle.axe_plan.specs.Plans.{Problem}
+use Rattle.axe_plan.specs.Inputs.{matrices_in, numbered_names, checked_module, seeded_module}
+use Rattle.axe_plan.specs.Outputs.{put_packed}
+use Rattle.axe_plan.specs.Meanings.{AtMostOne, Is, Has, HasOr, UnlessRefused}
 use Rattle.axe_spin.specs.Spinning.{HasSpunRows, IsSubmoduleBasis}
 use Rattle.axe_spin.specs.Modules.{HasSquareGenerators}
 use Rattle.axe_execute.specs.ModuleCommands.{RowsOf, ActionOn, ActionModulo, RowsPlan, SpunPlan, SpinPlan, QuotientPlan}
@@ -24,7 +24,7 @@ use Rattle.axe_spin.proofs.SeedLaws.{vectors_of, vectors_over}
 use Rattle.axe_spin.proofs.SubmoduleLaws.{spun_is_submodule}
 use Rattle.axe_action.proofs.OneAction.{basis_action_is_one, quotient_is_one}
 use Rattle.axe_action.specs.Actions.{IsProperActionModulo, quotient_late}
-use Rattle.axe_execute.proofs.ReadModules.{IsReadModule, made_is_module, matrices_are_matrices, seeded_is_module}
+use Rattle.axe_plan.proofs.ReadModules.{IsReadModule, made_is_module, matrices_are_matrices, seeded_is_module}
 use Rattle.axe_execute.proofs.PlanParts.{any_value, matrix_then_one}
 
 -- ---- spinning

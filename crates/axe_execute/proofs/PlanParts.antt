@@ -3,11 +3,11 @@ use Rattle.std.proofs.Common.{refl, subst, ℕ, List, Result, Ok, Err, IfOk}
 use Rattle.std.specs.Prelude.{⊤}
 use Rattle.axe_matrix.specs.Matrices.{MatrixValue, IsMatrix}
 use Rattle.axe_folder.specs.Files.{Files}
-use Rattle.axe_execute.specs.Plans.{Problem, Plan}
-use Rattle.axe_execute.specs.Inputs.{matrix_in}
-use Rattle.axe_execute.specs.MatrixCommands.{put_packed}
-use Rattle.axe_execute.specs.Meanings.{Meaning, Answered, AtMostOne, Is, ◌>>=◌}
-use Rattle.axe_execute.proofs.Readings.{matrix_in_is_matrix}
+use Rattle.axe_plan.specs.Plans.{Problem, Plan}
+use Rattle.axe_plan.specs.Inputs.{matrix_in}
+use Rattle.axe_plan.specs.Outputs.{put_packed}
+use Rattle.axe_plan.specs.Meanings.{Meaning, Answered, AtMostOne, Is, ◌>>=◌}
+use Rattle.axe_plan.proofs.Readings.{matrix_in_is_matrix}
 use Rattle.axe_execute.proofs.OneAnswer.{is_one, then_one}
 use Rattle.axe_execute.proofs.SomeAnswer.{then_some}
 

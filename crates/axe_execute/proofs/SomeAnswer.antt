@@ -1,8 +1,8 @@
 -- Meanings with an answer.
 use Rattle.std.proofs.Common.{◌≡◌, refl, Option, Some, None, Result, Ok, Err, IfOk}
 use Rattle.axe_row.specs.declared.refusals.Refusal.{Refusal}
-use Rattle.axe_execute.specs.Plans.{Problem, Refuses}
-use Rattle.axe_execute.specs.Meanings.{Meaning, Answered, UnlessRefused, ◌>>=◌}
+use Rattle.axe_plan.specs.Plans.{Problem, Refuses}
+use Rattle.axe_plan.specs.Meanings.{Meaning, Answered, UnlessRefused, ◌>>=◌}
 
 pub unless_refused_some : {A : Type 0} (refusal : Option Refusal) (meaning : Meaning A) → (refusal ≡ None → Answered meaning) → Answered (UnlessRefused refusal meaning)
 unless_refused_some None meaning some = some refl

@@ -7,13 +7,13 @@ use Rattle.axe_spin.specs.Modules.{ModuleValue}
 use Rattle.axe_spin.specs.Spinning.{seed_refusal}
 use Rattle.axe_spin.specs.Modules.{rows_refusal}
 use Rattle.axe_folder.specs.Files.{Files}
-use Rattle.axe_execute.specs.Inputs.{matrices_in, numbered_names, checked_module, seeded_module}
-use Rattle.axe_execute.specs.Meanings.{Answered, Is, Has, HasOr}
+use Rattle.axe_plan.specs.Inputs.{matrices_in, numbered_names, checked_module, seeded_module}
+use Rattle.axe_plan.specs.Meanings.{Answered, Is, Has, HasOr}
 use Rattle.axe_spin.specs.Spinning.{HasSpunRows, IsSubmoduleBasis}
 use Rattle.axe_execute.specs.ModuleCommands.{RowsOf, ActionOn, ActionModulo, RowsPlan, SpunPlan, SpinPlan, QuotientPlan}
 use Rattle.axe_execute.proofs.SomeAnswer.{unless_refused_some, then_some}
 use Rattle.axe_spin.proofs.SeedLaws.{seed_if_not_refused}
-use Rattle.axe_execute.proofs.ReadModules.{IsReadModule}
+use Rattle.axe_plan.proofs.ReadModules.{IsReadModule}
 use Rattle.axe_execute.proofs.PlanParts.{any_value, matrix_then_some}
 use Rattle.axe_execute.proofs.OneModulePlan.{rows_are_basis, seeded_if_read, over_if_not_refused, matrices_if_read, module_if_made}
 use Rattle.axe_algebra.specs.NumberField.{NumberField}
@@ -28,7 +28,7 @@ use Rattle.axe_spin.specs.Modules.{HasSquareGenerators, IsInvariantIn, SpansModu
 use Rattle.axe_spin.proofs.SomeSpun.{some_spun_matrix}
 use Rattle.axe_action.specs.Actions.{IsProperActionModulo, quotient_late}
 use Rattle.axe_action.proofs.SomeAction.{some_basis_action, some_quotient}
-use Rattle.axe_execute.specs.Plans.{Refuses}
+use Rattle.axe_plan.specs.Plans.{Refuses}
 
 -- ---- spinning
 

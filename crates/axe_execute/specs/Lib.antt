@@ -1,11 +1,6 @@
-pub mod Plans
-pub mod Meanings
-pub mod Inputs
 pub mod MatrixCommands
 pub mod ModuleCommands
+pub mod ChopCommand
 pub mod Means
-pub mod Outcome
-pub mod Drafts
 pub mod Operations
-pub mod Faults
-pub mod Printed
+pub mod Execution

@@ -1,24 +1,16 @@
 -- What the commands of matrices mean.
-use Rattle.std.specs.Prelude.{◌≡◌, ℕ, List, [], ◌∷◌, Option, Some, None, Ok}
+use Rattle.std.specs.Prelude.{◌≡◌, ℕ, List, Option, Ok}
 use Rattle.axe_row.specs.Refusals.{RefusedAs}
 use Rattle.axe_row.specs.declared.refusals.Refusal.TheVariants.{Singular}
-use Rattle.axe_matrix.specs.Matrices.{MatrixValue, IsMatrix, product_refusal, matrix_product, sum_refusal, sum_of_matrices, transpose_refusal, transposed_matrix}
-use Rattle.axe_echelon.specs.Echelons.{null_space_refusal, IsNullSpaceMatrix, inverse_refusal, IsInverseMatrix, IsInvertible}
-use Rattle.axe_file.specs.Packed.{packed}
-use Rattle.axe_file.specs.TextWriting.{text_of}
+use Rattle.axe_matrix.specs.Matrices.{MatrixValue, IsMatrix, product_refusal, matrix_product, sum_refusal}
+use Rattle.axe_matrix.specs.Matrices.{sum_of_matrices, transpose_refusal, transposed_matrix}
+use Rattle.axe_echelon.specs.Echelons.{null_space_refusal, IsNullSpaceMatrix, inverse_refusal, IsInverseMatrix}
+use Rattle.axe_echelon.specs.Echelons.{IsInvertible}
 use Rattle.axe_folder.specs.Files.{Files}
-use Rattle.axe_execute.specs.Plans.{Put, Plan}
-use Rattle.axe_execute.specs.Meanings.{Meaning, Is, Has, HasOr, UnlessRefused, ◌>>=◌}
-use Rattle.axe_execute.specs.Inputs.{matrix_in, text_matrix_in}
-
--- the plan that puts a matrix under a name, packed, and shows nothing
-abbrev pub put_packed : List ℕ → MatrixValue → Plan
-put_packed name a = record { steps = Put name (packed a) ∷ []; shown = [] }
-
--- the plan that puts the text of a matrix under a name, or shows it where there is no name
-abbrev pub put_or_show_text : Option (List ℕ) → MatrixValue → Plan
-put_or_show_text (Some name) a = record { steps = Put name (text_of a) ∷ []; shown = [] }
-put_or_show_text None a = record { steps = []; shown = text_of a }
+use Rattle.axe_plan.specs.Plans.{Plan}
+use Rattle.axe_plan.specs.Meanings.{Meaning, Is, Has, HasOr, UnlessRefused, ◌>>=◌}
+use Rattle.axe_plan.specs.Inputs.{matrix_in, text_matrix_in}
+use Rattle.axe_plan.specs.Outputs.{put_packed, put_or_show_text}
 
 -- the product of two matrices, unless it refuses them
 unfoldable pub ProductOf : MatrixValue → MatrixValue → Meaning MatrixValue

@@ -2,12 +2,14 @@
 use Rattle.std.specs.Prelude.{ℕ, List, [], ◌∷◌, ◌++◌}
 use Rattle.axe_folder.specs.Files.{Files}
 use Rattle.axe_arguments.specs.declared.command.Command.{Command}
-use Rattle.axe_arguments.specs.declared.command.Command.TheVariants.{Zcv, Zpr, Zmu, Zad, Ztr, Ziv, Znu, Zsp, Zqt}
-use Rattle.axe_execute.specs.Plans.{Plan}
-use Rattle.axe_execute.specs.Meanings.{Meaning}
-use Rattle.axe_execute.specs.Inputs.{numbered_names}
-use Rattle.axe_execute.specs.MatrixCommands.{ConversionPlan, PrintingPlan, ProductPlan, SumPlan, TransposePlan, InversePlan, NullSpacePlan}
+use Rattle.axe_arguments.specs.declared.command.Command.TheVariants.{Zcv, Zpr, Zmu, Zad, Ztr, Ziv, Znu, Zsp, Zqt, Chop}
+use Rattle.axe_plan.specs.Plans.{Plan}
+use Rattle.axe_plan.specs.Meanings.{Meaning}
+use Rattle.axe_plan.specs.Inputs.{numbered_names}
+use Rattle.axe_execute.specs.MatrixCommands.{ConversionPlan, PrintingPlan, ProductPlan, SumPlan, TransposePlan}
+use Rattle.axe_execute.specs.MatrixCommands.{InversePlan, NullSpacePlan}
 use Rattle.axe_execute.specs.ModuleCommands.{SpinPlan, QuotientPlan}
+use Rattle.axe_execute.specs.ChopCommand.{ChopPlan}
 
 -- the files that a command reads, in order
 abbrev pub names_read : Command → List (List ℕ)
@@ -20,6 +22,7 @@ names_read (Ziv input out) = input ∷ []
 names_read (Znu input out) = input ∷ []
 names_read (Zsp generators standard action name seed out) = numbered_names name generators ++ seed ∷ []
 names_read (Zqt generators subspace name out) = subspace ∷ numbered_names name generators
+names_read (Chop generators seed words name) = numbered_names name generators
 
 -- the meaning of a command
 abbrev pub Means : Command → Files → Meaning Plan
@@ -32,3 +35,4 @@ Means (Ziv input out) files = InversePlan input out files
 Means (Znu input out) files = NullSpacePlan input out files
 Means (Zsp generators standard action name seed out) files = SpinPlan generators standard action name seed out files
 Means (Zqt generators subspace name out) files = QuotientPlan generators subspace name out files
+Means (Chop generators seed words name) files = ChopPlan generators seed words name files

@@ -1,28 +1,20 @@
 -- What the commands of modules mean.
-use Rattle.std.specs.Prelude.{ℕ, ◌+◌, List, [], ◌∷◌, length, Bool, Option, Some, None, Ok}
-use Rattle.axe_algebra.specs.Lists.{listed}
+use Rattle.std.specs.Prelude.{ℕ, List, [], ◌∷◌, Bool, Option, Some, None, Ok}
 use Rattle.axe_matrix.specs.Matrices.{MatrixValue, IsMatrix}
-use Rattle.axe_spin.specs.Modules.{ModuleValue, generator_of, rows_refusal, HasSquareGenerators}
+use Rattle.axe_spin.specs.Modules.{ModuleValue, rows_refusal, HasSquareGenerators}
 use Rattle.axe_spin.specs.Spinning.{seed_refusal, HasSpunRows}
 use Rattle.axe_action.specs.Actions.{IsBasisAction, IsProperActionModulo, quotient_late}
 use Rattle.axe_file.specs.Packed.{packed}
 use Rattle.axe_folder.specs.Files.{Files}
-use Rattle.axe_execute.specs.Plans.{Step, Put, Plan}
-use Rattle.axe_execute.specs.Meanings.{Meaning, Is, Has, HasOr, UnlessRefused, ◌>>=◌}
-use Rattle.axe_execute.specs.Inputs.{matrix_in, matrices_in, numbered, numbered_names, seeded_module, checked_module}
-use Rattle.axe_execute.specs.MatrixCommands.{put_packed}
-
--- the step that puts generator i of a module, counted from 0, packed, as the file of number i + 1
-abbrev pub put_generator : List ℕ → ModuleValue → ℕ → Step
-put_generator name m i = Put (numbered name (i + 1)) (packed (generator_of m i))
-
--- the steps that put the generators of a module in order
-abbrev pub put_generators : List ℕ → ModuleValue → List Step
-put_generators name m = listed (length m.generators) (put_generator name m)
+use Rattle.axe_plan.specs.Plans.{Put, Plan}
+use Rattle.axe_plan.specs.Meanings.{Meaning, Is, Has, HasOr, UnlessRefused, ◌>>=◌}
+use Rattle.axe_plan.specs.Inputs.{matrix_in, matrices_in, numbered_names, seeded_module, checked_module}
+use Rattle.axe_plan.specs.Outputs.{put_packed, put_generators}
 
 -- what spinning a seed in a module gives, unless the seed is refused
 unfoldable pub RowsOf : Bool → ModuleValue → MatrixValue → Meaning MatrixValue
-RowsOf standard m seed = UnlessRefused (seed_refusal m seed) (Has (λ rows. HasSpunRows standard m seed rows × IsMatrix rows))
+RowsOf standard m seed =
+    UnlessRefused (seed_refusal m seed) (Has (λ rows. HasSpunRows standard m seed rows × IsMatrix rows))
 
 -- the sub action on rows as they stand, which are to be independent and to span an invariant space other than zero
 unfoldable pub ActionOn : ModuleValue → MatrixValue → Meaning ModuleValue
@@ -31,7 +23,8 @@ ActionOn m rows = Has (λ action. IsBasisAction m rows action × HasSquareGenera
 -- the quotient action modulo the span of rows, unless they are no vectors of the module or it is refused
 unfoldable pub ActionModulo : ModuleValue → MatrixValue → Meaning ModuleValue
 ActionModulo m rows =
-    UnlessRefused (rows_refusal m rows) (HasOr (λ action. IsProperActionModulo m rows action × HasSquareGenerators action) (quotient_late m rows))
+    UnlessRefused (rows_refusal m rows)
+    (HasOr (λ action. IsProperActionModulo m rows action × HasSquareGenerators action) (quotient_late m rows))
 
 -- rows are put, packed, and where a name is given, so are then the generators of the action on them
 abbrev pub RowsPlan : Option (List ℕ) → List ℕ → ModuleValue → MatrixValue → Meaning Plan

@@ -4,7 +4,7 @@ use Rattle.axe_execute.specs.declared.operations.OfOne.{OfOne}
 use Rattle.axe_execute.specs.declared.operations.OfOne.TheVariants.{Transpose, Inverse, NullSpace}
 use Rattle.axe_execute.specs.declared.operations.OfTwo.{OfTwo}
 use Rattle.axe_execute.specs.declared.operations.OfTwo.TheVariants.{Product, Sum}
-use Rattle.axe_execute.specs.Meanings.{Meaning}
+use Rattle.axe_plan.specs.Meanings.{Meaning}
 use Rattle.axe_execute.specs.MatrixCommands.{ProductOf, SumOf, TransposeOf, InverseOf, NullSpaceOf}
 
 -- what is made of one matrix

@@ -2,13 +2,14 @@
 ghost use Rattle.std.specs.Prelude.{IsTrue};
 ghost use Rattle.axe_execute.specs.Means.{names_read};
 ghost use Rattle.axe_execute.specs.Means.{Means};
-ghost use Rattle.axe_execute.specs.Outcome.{Executes, BlamesDevice, Counted};
+ghost use Rattle.axe_plan.specs.Outcome.{Counted};
+ghost use Rattle.axe_execute.specs.Execution.{Executes, BlamesDevice};
 
-use crate::draft::{Draft, make_all};
-use crate::fault::Fault;
 use crate::planning::draft_of;
 use axe_arguments::Command;
+use axe_fault::Fault;
 use axe_folder::Folder;
+use axe_plan::{Draft, make_all};
 use std::alloc::Global;
 
 /// What a command shows when it ends well.

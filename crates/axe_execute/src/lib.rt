@@ -4,19 +4,13 @@
 //! names and text are made; and only then the folder is changed.
 #![tactic(auto)]
 
-mod draft;
+mod chopping;
 mod execution;
-mod fault;
 mod laws;
-mod modules;
 mod operations;
 mod planning;
-mod printed;
 mod quotients;
-mod reading;
 mod spinning;
 
 pub use execution::{Shown, execute};
-pub use fault::Fault;
-pub use laws::commands_have_one_meaning;
-pub use printed::{line, number, status};
+pub use laws::{chop_writes_a_series, commands_have_one_meaning};

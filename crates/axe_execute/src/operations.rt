@@ -1,10 +1,10 @@
 //! What commands make of matrices, each with its refusals.
 ghost use Rattle.std.specs.Prelude.{[]};
 ghost use Rattle.axe_execute.specs.Operations.{MadeOfOne, MadeOfTwo};
-ghost use Rattle.axe_execute.specs.Outcome.{Agrees};
+ghost use Rattle.axe_plan.specs.Outcome.{Agrees};
 
-use crate::fault::Fault;
 use axe_echelon::{inverse, null_space};
+use axe_fault::Fault;
 use axe_matrix::Matrix;
 use std::alloc::Global;
 

@@ -4,17 +4,17 @@ ghost use Rattle.std.specs.Prelude.{IsTrue, [], ◌∷◌, option_copied};
 ghost use Rattle.axe_execute.specs.MatrixCommands.{ConversionPlan, PrintingPlan, PlanOfOne, PlanOfTwo};
 ghost use Rattle.axe_execute.specs.Operations.{MadeOfOne, MadeOfTwo};
 ghost use Rattle.axe_execute.specs.Means.{Means, names_read};
-ghost use Rattle.axe_execute.specs.Outcome.{Reads};
-ghost use Rattle.axe_execute.specs.Drafts.{plan_in};
+ghost use Rattle.axe_plan.specs.Outcome.{Reads};
+ghost use Rattle.axe_plan.specs.Drafts.{plan_in};
 
-use crate::draft::Draft;
-use crate::fault::Fault;
+use crate::chopping::chop_draft;
 use crate::operations::{OfOne, OfTwo};
 use crate::quotients::quotient_draft;
-use crate::reading::{read_matrix, read_text_matrix};
 use crate::spinning::SeededModule;
 use axe_arguments::{Command, Name};
+use axe_fault::Fault;
 use axe_folder::Folder;
+use axe_plan::{Draft, read_matrix, read_text_matrix};
 use std::alloc::Global;
 
 /// The draft of a command.
@@ -65,6 +65,12 @@ pub(crate) fn draft_of<F: Folder>(
             name,
             out,
         } => quotient_draft(alloc, *generators, subspace, name, out, folder),
+        Command::Chop {
+            generators,
+            seed,
+            words,
+            name,
+        } => chop_draft(alloc, *generators, *seed, *words, name, folder),
     }
 }
 

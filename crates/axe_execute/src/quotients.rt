@@ -1,18 +1,16 @@
 //! `zqt`: the action of a module modulo an invariant space.
 ghost use Rattle.std.specs.Prelude.{IsTrue, [], ◌∷◌};
-ghost use Rattle.axe_execute.specs.Inputs.{numbered_names};
+ghost use Rattle.axe_plan.specs.Inputs.{numbered_names};
 ghost use Rattle.axe_execute.specs.ModuleCommands.{ActionModulo, QuotientPlan};
-ghost use Rattle.axe_execute.specs.Outcome.{Agrees, Reads};
-ghost use Rattle.axe_execute.specs.Drafts.{plan_in};
+ghost use Rattle.axe_plan.specs.Outcome.{Agrees, Reads};
+ghost use Rattle.axe_plan.specs.Drafts.{plan_in};
 
-use crate::draft::Draft;
-use crate::fault::Fault;
-use crate::modules::{module_of, read_generators};
-use crate::reading::read_matrix;
 use axe_action::quotient_action;
 use axe_arguments::{GeneratorCount, Name};
+use axe_fault::Fault;
 use axe_folder::Folder;
 use axe_matrix::Matrix;
+use axe_plan::{Draft, module_of, read_generators, read_matrix};
 use axe_spin::Module;
 use std::alloc::Global;
 

@@ -2,21 +2,19 @@
 ghost use Rattle.std.specs.Prelude.{◌++◌, IsTrue, [], ◌∷◌, IfOk, option_copied};
 ghost use Rattle.axe_matrix.specs.Matrices.{IsMatrix};
 ghost use Rattle.axe_spin.specs.Modules.{IsModule};
-ghost use Rattle.axe_execute.specs.Inputs.{numbered_names, seeded_module};
-ghost use Rattle.axe_execute.specs.Meanings.{Is};
+ghost use Rattle.axe_plan.specs.Inputs.{numbered_names, seeded_module};
+ghost use Rattle.axe_plan.specs.Meanings.{Is};
 ghost use Rattle.axe_spin.specs.Spinning.{IsSubmoduleBasis};
 ghost use Rattle.axe_execute.specs.ModuleCommands.{RowsOf, ActionOn, SpunPlan};
-ghost use Rattle.axe_execute.specs.Outcome.{Agrees, Reads};
-ghost use Rattle.axe_execute.specs.Drafts.{plan_in};
+ghost use Rattle.axe_plan.specs.Outcome.{Agrees, Reads};
+ghost use Rattle.axe_plan.specs.Drafts.{plan_in};
 
-use crate::draft::Draft;
-use crate::fault::Fault;
-use crate::modules::{module_of, read_generators};
-use crate::reading::read_matrix;
 use axe_action::basis_action;
 use axe_arguments::{GeneratorCount, Name};
+use axe_fault::Fault;
 use axe_folder::Folder;
 use axe_matrix::Matrix;
+use axe_plan::{Draft, module_of, read_generators, read_matrix};
 use axe_spin::{Module, generate, standard_rows};
 use std::alloc::Global;
 
@@ -66,7 +64,7 @@ impl SeededModule {
         let mut draft = Draft::of_packed(alloc, out, &rows)?;
         if let Some(action) = action {
             let action_on_rows = action_on(alloc, &self.module, &rows)?;
-            draft.put_generators(alloc, action, &action_on_rows)?;
+            draft.put_generators(alloc, action.as_str(), &action_on_rows)?;
         }
         Ok(draft)
     }

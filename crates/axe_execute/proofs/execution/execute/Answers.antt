@@ -1,9 +1,9 @@
 use Rattle.std.proofs.Common.{◌≡◌, Err, refl, subst, ap, ◌∙◌, map}
 use Rattle.std.proofs.lemmas.Result.{err_from_is_err_and}
 use Rattle.axe_folder.specs.Files.{Files}
-use Rattle.axe_execute.specs.Drafts.{plan_in, step_in}
-use Rattle.axe_execute.specs.Plans.{applied}
-use Rattle.axe_execute.specs.Outcome.{Carries, CountsFault}
+use Rattle.axe_plan.specs.Drafts.{plan_in, step_in}
+use Rattle.axe_plan.specs.Plans.{applied}
+use Rattle.axe_plan.specs.Outcome.{Carries, CountsFault}
 use Rattle.axe_execute.proofs.Executing.{stopped, broken, blamed}
 use Rattle.axe_execute.proofs.execution.execute.Goals as goal
 

@@ -1,6 +1,6 @@
 use Rattle.std.proofs.lemmas.Result.{err_from_is_err_and}
-use Rattle.axe_execute.proofs.Sequences.{among_same}
-use Rattle.axe_execute.proofs.ReadCalls.{reads_no_more, reads_all}
+use Rattle.axe_plan.proofs.Sequences.{among_same}
+use Rattle.axe_plan.proofs.ReadCalls.{reads_no_more, reads_all}
 use Rattle.axe_execute.proofs.planning.draft_of.Goals as goal
 
 pub returns-in-Zcv : goal.returns-in-Zcv
@@ -28,6 +28,9 @@ returns-in-Znu g c = λ tells. rw (c.in-Znu.is) (c.draft_of_one-in-Znu.ensures t
 
 pub returns-in-Zqt : goal.returns-in-Zqt
 returns-in-Zqt g c = λ tells. rw (c.in-Zqt.is) (c.quotient_draft.ensures tells)
+
+pub returns-in-Chop : goal.returns-in-Chop
+returns-in-Chop g c = λ tells. rw (c.in-Chop.is) (c.chop_draft.ensures tells)
 
 pub returns-in_err-seeded-in-Zsp : goal.returns-in_err-seeded-in-Zsp
 returns-in_err-seeded-in-Zsp g c = λ tells.

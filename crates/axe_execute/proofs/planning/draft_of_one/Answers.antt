@@ -1,8 +1,8 @@
 use Rattle.std.proofs.lemmas.Result.{err_from_is_err_and}
 use Rattle.axe_matrix.specs.Matrices.{MatrixValue}
 use Rattle.axe_execute.specs.MatrixCommands.{PlanOfOne}
-use Rattle.axe_execute.proofs.Sequences.{among_same}
-use Rattle.axe_execute.proofs.ReadCalls.{reads_no_more, reads_all, then_computes, fault_computes}
+use Rattle.axe_plan.proofs.Sequences.{among_same}
+use Rattle.axe_plan.proofs.ReadCalls.{reads_no_more, reads_all, then_computes, fault_computes}
 use Rattle.axe_execute.proofs.planning.draft_of_one.Goals as goal
 
 pub returns-in_err-matrix : goal.returns-in_err-matrix

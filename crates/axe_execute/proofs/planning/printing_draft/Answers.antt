@@ -1,7 +1,7 @@
 use Rattle.std.proofs.lemmas.Result.{err_from_is_err_and}
 use Rattle.axe_execute.specs.MatrixCommands.{PrintingPlan}
-use Rattle.axe_execute.proofs.Sequences.{among_same}
-use Rattle.axe_execute.proofs.ReadCalls.{reads_no_more, reads_all}
+use Rattle.axe_plan.proofs.Sequences.{among_same}
+use Rattle.axe_plan.proofs.ReadCalls.{reads_no_more, reads_all}
 use Rattle.axe_execute.proofs.planning.printing_draft.Goals as goal
 
 pub returns-in_err-matrix : goal.returns-in_err-matrix

@@ -2,7 +2,7 @@ use Rattle.std.proofs.lemmas.Result.{err_from_is_err_and}
 use Rattle.axe_spin.specs.Modules.{ModuleValue, HasSquareGenerators, rows_refusal}
 use Rattle.axe_action.specs.Actions.{IsProperActionModulo, quotient_late}
 use Rattle.axe_execute.specs.ModuleCommands.{ActionModulo}
-use Rattle.axe_execute.proofs.Refused.{refused_fault_or, accepted_value_or}
+use Rattle.axe_plan.proofs.Refused.{refused_fault_or, accepted_value_or}
 use Rattle.axe_execute.proofs.quotients.action_modulo.Goals as goal
 
 pub returns-in_err-quotient_action : goal.returns-in_err-quotient_action

@@ -1,8 +1,8 @@
 use Rattle.std.proofs.lemmas.Result.{err_from_is_err_and}
 use Rattle.axe_spin.specs.Modules.{ModuleValue}
 use Rattle.axe_execute.specs.ModuleCommands.{QuotientPlan}
-use Rattle.axe_execute.proofs.Sequences.{among_same, among_before}
-use Rattle.axe_execute.proofs.ReadCalls.{reads_no_more, reads_on, reads_all, then_computes, fault_computes}
+use Rattle.axe_plan.proofs.Sequences.{among_same, among_before}
+use Rattle.axe_plan.proofs.ReadCalls.{reads_no_more, reads_on, reads_all, then_computes, fault_computes}
 use Rattle.axe_execute.proofs.quotients.quotient_draft.Goals as goal
 
 pub returns-in_err-rows : goal.returns-in_err-rows

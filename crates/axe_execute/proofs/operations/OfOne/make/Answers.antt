@@ -5,7 +5,7 @@ use Rattle.axe_row.specs.declared.refusals.Refusal.TheVariants.{Singular}
 use Rattle.axe_matrix.specs.Matrices.{IsMatrix, transpose_refusal, transposed_matrix}
 use Rattle.axe_echelon.specs.Echelons.{inverse_refusal, IsInverseMatrix, IsInvertible, null_space_refusal, IsNullSpaceMatrix}
 use Rattle.axe_execute.specs.MatrixCommands.{TransposeOf, InverseOf, NullSpaceOf}
-use Rattle.axe_execute.proofs.Refused.{refused_fault, refused_fault_or, accepted_value, accepted_value_or}
+use Rattle.axe_plan.proofs.Refused.{refused_fault, refused_fault_or, accepted_value, accepted_value_or}
 use Rattle.axe_execute.proofs.operations.OfOne.make.Goals as goal
 
 pub returns-in_err-transpose-in-Transpose : goal.returns-in_err-transpose-in-Transpose

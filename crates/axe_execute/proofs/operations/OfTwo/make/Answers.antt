@@ -2,7 +2,7 @@ use Rattle.std.proofs.Common.{◌≡◌}
 use Rattle.std.proofs.lemmas.Result.{err_from_is_err_and}
 use Rattle.axe_matrix.specs.Matrices.{product_refusal, matrix_product, sum_refusal, sum_of_matrices}
 use Rattle.axe_execute.specs.MatrixCommands.{ProductOf, SumOf}
-use Rattle.axe_execute.proofs.Refused.{refused_fault, accepted_value}
+use Rattle.axe_plan.proofs.Refused.{refused_fault, accepted_value}
 use Rattle.axe_execute.proofs.operations.OfTwo.make.Goals as goal
 
 pub returns-in_err-mul-in-Product : goal.returns-in_err-mul-in-Product

@@ -1,9 +1,9 @@
 use Rattle.std.proofs.Common.{refl}
 use Rattle.std.proofs.lemmas.Result.{err_from_is_err_and}
 use Rattle.axe_spin.specs.Modules.{ModuleValue}
-use Rattle.axe_execute.proofs.Sequences.{among_before}
-use Rattle.axe_execute.proofs.ModulePlans.{SeededReading, seeded_reading}
-use Rattle.axe_execute.proofs.ReadCalls.{reads_as, reads_no_more, reads_on, reads_all, then_computes, fault_computes}
+use Rattle.axe_plan.proofs.Sequences.{among_before}
+use Rattle.axe_plan.proofs.ModulePlans.{SeededReading, seeded_reading}
+use Rattle.axe_plan.proofs.ReadCalls.{reads_as, reads_no_more, reads_on, reads_all, then_computes, fault_computes}
 use Rattle.axe_execute.proofs.spinning.SeededModule.read.Goals as goal
 
 pub returns-in_err-matrices-clause-reads : goal.returns-in_err-matrices-clause-reads

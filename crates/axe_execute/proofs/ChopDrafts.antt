@@ -1,0 +1,116 @@
+-- The draft of `chop`: its steps, and what it says of what the words find.
+use Rattle.std.proofs.Common.{◌≡◌, refl, sym, ◌∙◌, ap, subst, ℕ, List, [], ◌∷◌, ◌++◌, append_assoc, append-nil, codes, map, string_bytes, String, Result, Ok, Err}
+use Rattle.std.specs.declared.alloc.Global.{Global}
+use Rattle.std.specs.Map.{keys_of, values_of}
+use mathlib.Core.List.{map-map}
+use Rattle.indexmap.specs.IndexMap.{keys, values}
+use Rattle.axe_matrix.specs.Matrices.{MatrixValue}
+use Rattle.axe_spin.specs.Modules.{ModuleValue}
+use Rattle.axe_iso.specs.Forms.{FormValue}
+use Rattle.axe_series.specs.Runs.{complete, open_section}
+use Rattle.axe_series.specs.Series.{basis_of_rows, factors_of_forms}
+use Rattle.axe_report.specs.Names.{names_of}
+use Rattle.axe_chop.specs.Chopped.{IsNamed, dims_of}
+use Rattle.axe_chop.specs.Reported.{dims_of_factors}
+use Rattle.axe_chop.specs.Answers.{IsChopped, IsUndecided, factor_modules}
+use Rattle.axe_chop.specs.declared.chopped.Factor.{Factor}
+use Rattle.axe_chop.specs.declared.chopped.Chopped.{Chopped}
+use Rattle.axe_file.specs.Packed.{packed}
+use Rattle.axe_folder.specs.Files.{Files}
+use Rattle.axe_plan.specs.Plans.{Step, Put, Remove, Plan, Problem, StaysOpen}
+use Rattle.axe_plan.specs.Meanings.{Meaning, Is, ◌>>=◌}
+use Rattle.axe_plan.specs.Inputs.{matrices_in, numbered_names, checked_module, module_in}
+use Rattle.axe_plan.specs.Outputs.{put_generators}
+use Rattle.axe_plan.specs.Drafts.{with_step, with_steps, with_text}
+use Rattle.axe_plan.proofs.ModulePlans.{read_after}
+use Rattle.axe_execute.specs.ChopCommand.{put_factors, series_report_bytes, series_plan, chop_answer, FoundPlan}
+
+-- ---- the module
+
+-- a module, made of matrices that are read
+abbrev pub ModuleReading : ℕ → List ℕ → Files → Meaning ModuleValue
+ModuleReading count name files = Is (matrices_in files (numbered_names name count)) >>= λ matrices. Is (checked_module matrices)
+
+pub module_reading : (count : ℕ) (name : List ℕ) (files : Files) (answer : Result ModuleValue Problem) → ModuleReading count name files answer →
+    Is (module_in count name files) answer
+unfolding module_in
+module_reading count name files answer reading = read_after (matrices_in files (numbered_names name count)) checked_module answer reading
+
+-- ---- the factors
+
+-- the steps that put the factors of these entries
+abbrev pub put_entries : List ℕ → List (String Global × Factor) → List Step
+put_entries name entries =
+    put_factors name (map string_bytes (keys_of entries)) (map (λ (factor : Factor). factor.form.matrices) (values_of entries))
+
+-- one of the factors that are left is put
+pub one_factor_put : (before after whole : Plan) (name stem : List ℕ) (m : ModuleValue) (entry : String Global × Factor)
+    (left rest : List (String Global × Factor)) → with_steps before (put_entries name left) ≡ whole → left ≡ entry ∷ rest →
+    stem ≡ name ++ string_bytes entry.0 → m ≡ entry.1.form.matrices → after ≡ with_steps before (put_generators stem m) →
+    with_steps after (put_entries name rest) ≡ whole
+one_factor_put before after whole name stem m entry left rest so_far first named is put =
+    ap (λ plan. with_steps plan (put_entries name rest)) put
+    ∙ (λ j. with_steps (with_steps before (put_generators (named j) (is j))) (put_entries name rest))
+    ∙ ap (λ (steps : List Step). record { steps = steps; shown = before.shown })
+    (append_assoc before.steps (put_generators (name ++ string_bytes entry.0) entry.1.form.matrices) (put_entries name rest))
+    ∙ ap (λ entries. with_steps before (put_entries name entries)) (sym first) ∙ so_far
+
+-- none is left
+pub all_factors_put : (before whole : Plan) (name : List ℕ) (left : List (String Global × Factor)) → with_steps before (put_entries name left) ≡ whole →
+    left ≡ [] → before ≡ whole
+all_factors_put before whole name left so_far none =
+    ap (λ (steps : List Step). record { steps = steps; shown = before.shown }) (sym (append-nil before.steps))
+    ∙ ap (λ entries. with_steps before (put_entries name entries)) (sym none) ∙ so_far
+
+-- ---- the series
+
+-- the factors of a series and the module whose series it is
+module _ (m : ModuleValue) (seed words : ℕ) (chopped : Chopped) (is : IsChopped m seed words chopped) where
+  modules_are : factor_modules chopped ≡ factors_of_forms is.found.forms
+  modules_are =
+      sym (map-map (λ (form : FormValue). form.matrices) (λ (factor : Factor). factor.form) (values chopped.factors))
+      ∙ ap (map (λ (form : FormValue). form.matrices)) is.named.factors.forms_are
+
+  -- the factors' keys are their names by the rule
+  pub keys_are_names : map string_bytes (keys chopped.factors) ≡ names_of (dims_of_factors (factor_modules chopped))
+  keys_are_names =
+      is.named.factors.names_are
+      ∙ ap names_of (sym (map-map (λ (n : ModuleValue). n.dim) (λ (form : FormValue). form.matrices) is.found.forms)
+      ∙ ap dims_of_factors (sym modules_are))
+
+  -- the plan of the series is what is found
+  pub found_plan_of_series : (name : List ℕ) (answer : Result Plan Problem) →
+      Is (Ok (series_plan name m seed words chopped.basis (factor_modules chopped) chopped.series.items)) answer → FoundPlan name m seed words answer
+  unfolding FoundPlan
+  found_plan_of_series name answer right = (Ok (complete is.found), is.run, sym plan_is ∙ right)
+    where
+      plan_is : Ok (series_plan name m seed words chopped.basis (factor_modules chopped) chopped.series.items)
+          ≡ chop_answer name m seed words (complete is.found)
+      plan_is = λ j. Ok (series_plan name m seed words (is.basis_is j) (modules_are j) (is.named.series j))
+
+-- the section that stays undecided is what is found
+pub found_open_section : (name : List ℕ) (m : ModuleValue) (seed words : ℕ) (basis b : MatrixValue) (offset o dim d : ℕ) → b ≡ basis → o ≡ offset →
+    d ≡ dim → IsUndecided m seed words basis offset dim → FoundPlan name m seed words (Err (StaysOpen b o d))
+unfolding FoundPlan
+found_open_section name m seed words basis b offset o dim d is_basis is_offset is_dim is =
+    (Ok (open_section basis.rows offset dim), is.run, λ j. Err (StaysOpen ((sym is.basis_is ∙ sym is_basis) j) (sym is_offset j) (sym is_dim j)))
+
+-- ---- the draft of a series
+
+pub series_drafted : (name : List ℕ) (m : ModuleValue) (seed words : ℕ) (basis : MatrixValue) (factors : List ModuleValue) (places : List ℕ)
+    (names : List (List ℕ)) (removed based stem reported text copy : List ℕ) (a b c d e : Plan) → a ≡ record { steps = []; shown = [] } →
+    b ≡ with_step a (Remove removed) → c ≡ with_step b (Put based (packed basis)) → d ≡ with_steps c (put_factors stem names factors) →
+    e ≡ with_step d (Put reported copy) → removed ≡ name ++ codes ".rep" → based ≡ name ++ codes ".bas" → stem ≡ name → reported ≡ name ++ codes ".rep" →
+    names ≡ names_of (dims_of_factors factors) → copy ≡ text → text ≡ series_report_bytes m seed words factors places →
+    with_text e text ≡ series_plan name m seed words basis factors places
+unfolding series_plan
+series_drafted name m seed words basis factors places names removed based stem reported text copy a b c d e of_a of_b of_c of_d of_e is_removed is_based
+    is_stem is_reported are_names is_copy is_text =
+    ap (λ plan. with_text plan text) (of_e ∙ ap (λ plan. with_step plan (Put reported copy))
+    (of_d ∙ ap (λ plan. with_steps plan (put_factors stem names factors))
+    (of_c ∙ ap (λ plan. with_step plan (Put based (packed basis))) (of_b ∙ ap (λ plan. with_step plan (Remove removed)) of_a))))
+    ∙ (λ j. record {
+      steps = Remove (is_removed j) ∷ Put (is_based j) (packed basis) ∷ put_factors (is_stem j) (are_names j) factors
+          ++ Put (is_reported j) ((is_copy ∙ is_text) j) ∷ [];
+      shown = is_text j;
+    })

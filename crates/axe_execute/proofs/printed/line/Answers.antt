@@ -1,5 +1,0 @@
-use Rattle.std.proofs.Common.{rules}
-use Rattle.axe_execute.proofs.printed.line.Goals as goal
-
-pub returns-clause-line : goal.returns-clause-line
-returns-clause-line c = search rules

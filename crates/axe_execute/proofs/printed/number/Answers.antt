@@ -1,5 +1,0 @@
-use Rattle.std.proofs.Common.{rules}
-use Rattle.axe_execute.proofs.printed.number.Goals as goal
-
-pub returns-in-Folder : goal.returns-in-Folder
-returns-in-Folder c = search rules

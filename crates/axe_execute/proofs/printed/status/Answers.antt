@@ -1,5 +1,0 @@
-use Rattle.std.proofs.Common.{rules}
-use Rattle.axe_execute.proofs.printed.status.Goals as goal
-
-pub returns-in-File : goal.returns-in-File
-returns-in-File c = search rules

@@ -1,0 +1,147 @@
+//! `chop`: a composition series of a module.
+ghost use Rattle.std.specs.Prelude.{◌≡◌, ◌++◌, IsTrue, [], map, Ok, IfOk, IfErr, OnOk, string_bytes};
+ghost use Rattle.indexmap.specs.IndexMap.{keys, values};
+ghost use Rattle.axe_arguments.specs.Counts.{IsWordCount};
+ghost use Rattle.axe_chop.specs.Answers.{IsChopped, factor_modules};
+ghost use Rattle.axe_chop.specs.declared.chopped.Factor.{Factor};
+ghost use Rattle.axe_fault.specs.declared.fault.Fault.TheVariants.{Memory};
+ghost use Rattle.axe_plan.specs.Meanings.{Is};
+ghost use Rattle.axe_plan.specs.Inputs.{numbered_names, module_in};
+ghost use Rattle.axe_plan.specs.Outcome.{Agrees, Reads};
+ghost use Rattle.axe_plan.specs.Drafts.{plan_in, with_steps};
+ghost use Rattle.axe_execute.specs.ChopCommand.{put_factors, series_report_bytes, series_plan, FoundPlan, ChopPlan};
+
+use axe_arguments::{GeneratorCount, Name, WordCount};
+use axe_chop::{ChopFault, Chopped, Factor, chop, report_of};
+use axe_fault::Fault;
+use axe_folder::Folder;
+use axe_plan::{Draft, module_of, read_generators};
+use axe_report::{ReportFault, write_report};
+use axe_spin::Module;
+use indexmap::IndexMap;
+use std::alloc::{AllocError, Global};
+
+/// The draft of `chop`: a composition series of a module, by the words of a seed.
+pub(crate) fn chop_draft<F: Folder>(
+    alloc: Global,
+    generators: GeneratorCount,
+    seed: u64,
+    words: WordCount,
+    name: &Name,
+    folder: &mut F,
+) -> Result<Draft, Fault>
+    ensures { IsTrue F.tells → Reads F.files F.failures folder.old folder.new
+        (numbered_names name.now generators) plan_in result (ChopPlan generators seed words name.now) }
+{
+    let module = read_module(alloc, folder, name, generators)?;
+    found_draft(alloc, name, &module, seed, words.get())
+}
+
+/// The module with the generators of the files NAME.1 to NAME.N.
+fn read_module<F: Folder>(
+    alloc: Global,
+    folder: &mut F,
+    name: &Name,
+    generators: GeneratorCount,
+) -> Result<Module, Fault>
+    ensures { IsTrue F.tells → Reads F.files F.failures folder.old folder.new
+        (numbered_names name.now generators) (λ read. read) result
+        (λ files. Is (module_in generators name.now files)) }
+{
+    let matrices = read_generators(alloc, folder, name, generators)?;
+    module_of(matrices)
+}
+
+/// The draft of what the words 0 to `words` of a seed find of a module: its composition series, unless a section stays
+/// undecided.
+fn found_draft(
+    alloc: Global,
+    name: &Name,
+    module: &Module,
+    seed: u64,
+    words: u32,
+) -> Result<Draft, Fault>
+    requires words { IsWordCount words }
+    ensures { Agrees [] plan_in result (FoundPlan name.now «module».now seed words) }
+{
+    match chop(alloc, module, seed, words) {
+        Ok(chopped) => series_draft(alloc, name, module, &chopped, seed, words),
+        Err(ChopFault::Undecided { basis, offset, dim }) => {
+            Err(Fault::Undecided { basis, offset, dim })
+        }
+        Err(ChopFault::Memory) => Err(Fault::Memory),
+    }
+}
+
+/// The draft of a composition series: an earlier report is taken away, the basis is put, then each factor, and last the
+/// report, which is shown, too.
+fn series_draft(
+    alloc: Global,
+    name: &Name,
+    module: &Module,
+    chopped: &Chopped,
+    seed: u64,
+    words: u32,
+) -> Result<Draft, Fault>
+    requires words { IsWordCount words }
+    requires chopped { IsChopped «module».now seed words chopped.now }
+    ensures { Agrees [] plan_in result (Is (Ok (series_plan name.now «module».now seed words
+        chopped.now.basis (factor_modules chopped.now) chopped.now.series.items))) }
+{
+    let Ok(report) = report_text(alloc, module, chopped, seed, words) else {
+        return Err(Fault::Memory);
+    };
+    let copy = Vec::from_slice(alloc, report.as_slice())?;
+    let mut draft = Draft::new(alloc);
+    draft.remove(joined(alloc, name.as_str(), ".rep")?)?;
+    draft.put_packed_file(alloc, joined(alloc, name.as_str(), ".bas")?, &chopped.basis)?;
+    put_factors(alloc, &mut draft, name.as_str(), &chopped.factors)?;
+    draft.put(joined(alloc, name.as_str(), ".rep")?, copy)?;
+    draft.text = report;
+    Ok(draft)
+}
+
+/// The text of the report of a composition series.
+fn report_text(
+    alloc: Global,
+    module: &Module,
+    chopped: &Chopped,
+    seed: u64,
+    words: u32,
+) -> Result<Vec<u8>, ReportFault>
+    requires words { IsWordCount words }
+    requires chopped { IsChopped «module».now seed words chopped.now }
+    ensures { IfOk result (λ text. text.items
+        ≡ series_report_bytes «module».now seed words (factor_modules chopped.now) chopped.now.series.items) }
+{
+    let report = report_of(alloc, module, chopped, seed, words)?;
+    write_report(alloc, &report)
+}
+
+/// A name with more after it.
+fn joined(alloc: Global, name: &str, more: &str) -> Result<String, AllocError>
+    ensures { IfOk result (λ file. string_bytes file ≡ name.now ++ more.now) }
+{
+    let mut file = String::from_str(alloc, name)?;
+    file.push_str(more)?;
+    Ok(file)
+}
+
+/// Adds that the generators of each factor, in order, are put under the module's name and then the factor's.
+fn put_factors(
+    alloc: Global,
+    draft: &mut Draft,
+    name: &str,
+    factors: &IndexMap<String, Factor>,
+) -> Result<(), Fault>
+    ensures put { OnOk result (plan_in draft.new ≡ with_steps (plan_in draft.old)
+        (put_factors name.now (map string_bytes (keys factors.now))
+        (map (λ (factor : Factor). factor.form.matrices) (values factors.now)))) }
+    ensures memory { IfErr result (λ fault. fault ≡ Memory) }
+{
+    for (constituent, factor) in factors.iter() {
+        let stem = joined(alloc, name, constituent)?;
+        draft.put_generators(alloc, &stem, factor.form.matrices())?;
+    }
+    Ok(())
+}

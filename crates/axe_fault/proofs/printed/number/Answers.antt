@@ -1,0 +1,5 @@
+use Rattle.std.proofs.Common.{rules}
+use Rattle.axe_fault.proofs.printed.number.Goals as goal
+
+pub returns-in-Folder : goal.returns-in-Folder
+returns-in-Folder c = search rules
