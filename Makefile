@@ -1,4 +1,4 @@
-# make try       a minute: builds axe without a proof, and prints an example with it
+# make try       a minute: builds axe without a proof, and finds a composition series with it
 # make demo      proves and builds axe, some 13 minutes on four processors, and runs its commands on examples/
 # make test      everything that CI runs: proofs from nothing, the wrong bodies, the tests and the runs of the program
 # make build     proves and builds crates/axe/out/axe; CPU=x86-64-v3 builds it for processors with AVX2
@@ -9,9 +9,9 @@ PREFIX ?= /usr/local
 # the processors that `make build` builds for, as `rt run --cpu` names them; none: every 64-bit one
 CPU ?=
 AXE = crates/axe/out/axe
-# the example of `make try`, and the command that shows it
-EXAMPLE = l32.1
-SHOWN = zpr $(EXAMPLE)
+# the example of `make try`, a module of two generators, and the command that chops it
+EXAMPLE = m24two
+SHOWN = chop $(EXAMPLE)
 
 .PHONY: try build demo test cases bench install
 
@@ -19,13 +19,17 @@ try:
 	@command -v rt >/dev/null || \
 	  { echo "axe is built by 'rt' of the Rattle kit, which is not on the path: README.md says which kit"; exit 1; }
 	@echo "axe $(SHOWN), built without a proof ('make demo' proves it), in about a minute:"
-	@cd crates/axe && rt try --data $(EXAMPLE)=$(abspath examples/$(EXAMPLE)) -- $(SHOWN)
+	@cd crates/axe && rt try $(foreach i,1 2,--data $(EXAMPLE).$(i)=$(abspath examples/mathieu/$(EXAMPLE).$(i))) -- $(SHOWN)
 
 build:
 	@CPU=$(CPU) tests/prove
 
 demo: build
-	@echo "The commands of axe on the files of examples/:"
+	@echo "Composition series of the modules of examples/mathieu:"
+	@echo
+	@AXE=$(abspath $(AXE)) examples/mathieu/demo
+	@echo
+	@echo "The other commands of axe on the files of examples/:"
 	@echo
 	@AXE=$(abspath $(AXE)) examples/demo
 	@echo
@@ -44,6 +48,7 @@ cases: build
 
 bench: build
 	-AXE=$(abspath $(AXE)) bench/run
+	-AXE=$(abspath $(AXE)) bench/chop
 
 install: build
 	install -D -m 755 $(AXE) $(DESTDIR)$(PREFIX)/bin/axe

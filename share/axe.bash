@@ -26,6 +26,9 @@ _axe() {
     found=$(compgen -W "$(_axe_options "$program" "$command")" -- "$word")
   elif [ "${COMP_WORDS[COMP_CWORD - 1]}" = -g ]; then
     found=$(compgen -W "$(echo {1..16})" -- "$word")
+  elif [[ ${COMP_WORDS[COMP_CWORD - 1]} =~ ^--(seed|words)$ ]]; then
+    # any number
+    found=
   else
     found=$(_axe_files "$word")
   fi

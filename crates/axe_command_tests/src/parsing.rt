@@ -41,6 +41,21 @@ fn words_with_options_make_commands(rt: HostRuntime) {
     assert_table(&rt, OPTIONS);
 }
 
+const SERIES: &str = r"
+chop M -> chop 2 generators of M, seed 1, words 400
+chop -g 1 M -> chop 1 generators of M, seed 1, words 400
+chop -g 16 M -> chop 16 generators of M, seed 1, words 400
+chop --seed 0 --words 0 M -> chop 2 generators of M, seed 0, words 0
+chop --seed=7 --words=20 M -g3 -> chop 3 generators of M, seed 7, words 20
+chop M --seed 18446744073709551615 -> chop 2 generators of M, seed 18446744073709551615, words 400
+chop --words 10000 M -> chop 2 generators of M, seed 1, words 10000
+";
+
+#[test]
+fn words_ask_for_composition_series(rt: HostRuntime) {
+    assert_table(&rt, SERIES);
+}
+
 const COUNTS: &str = r"
 zcv -> usage: ..Usage: axe zcv <IN> <OUT>\n
 zcv A -> usage: ..Usage: axe zcv <IN> <OUT>\n
@@ -68,6 +83,8 @@ zsp M S -> usage: ..Usage: axe zsp <NAME> <SEED> <OUT>\n
 zsp M S OUT A -> usage: ..Usage: axe zsp [OPTIONS] <NAME> <SEED> <OUT>\n
 zqt S M -> usage: ..Usage: axe zqt <SUB> <NAME> <OUTNAME>\n
 zqt S M Q A -> usage: ..Usage: axe zqt [OPTIONS] <SUB> <NAME> <OUTNAME>\n
+chop -> usage: ..Usage: axe chop <NAME>\n
+chop M A -> usage: ..Usage: axe chop [OPTIONS] <NAME>\n
 ";
 
 #[test]
@@ -80,10 +97,19 @@ zsp -g 17 M S OUT -> usage: ..invalid value '17' for '-g <N>'
 zsp -g 0 M S OUT -> usage: ..invalid value '0' for '-g <N>'
 zqt -g x S M Q -> usage: ..invalid value 'x' for '-g <N>'
 zqt S M Q -g -> usage: ..a value is required for '-g <N>'
+chop -g 0 M -> usage: ..invalid value '0' for '-g <N>'
+chop -g 17 M -> usage: ..invalid value '17' for '-g <N>'
+chop --seed 18446744073709551616 M -> usage: ..invalid value '18446744073709551616' for '--seed <S>'
+chop --seed=-1 M -> usage: ..invalid value '-1' for '--seed <S>'
+chop --seed x M -> usage: ..invalid value 'x' for '--seed <S>'
+chop M --seed -> usage: ..a value is required for '--seed <S>'
+chop --words 10001 M -> usage: ..invalid value '10001' for '--words <W>'
+chop --words=-1 M -> usage: ..invalid value '-1' for '--words <W>'
+chop --words '' M -> usage: ..invalid value '' for '--words <W>'
 ";
 
 #[test]
-fn other_numbers_of_generators_are_usage(rt: HostRuntime) {
+fn other_numbers_are_usage(rt: HostRuntime) {
     assert_table(&rt, NUMBERS);
 }
 
@@ -100,6 +126,8 @@ zmu -C B OUT
 zpr A -o
 zsp -c M S OUT
 zqt -b S M Q
+chop -b M
+chop --word 3 M
 ";
 
 #[test]
@@ -137,6 +165,9 @@ znu A ..
 zsp a/b S OUT
 zsp -a .T M S OUT
 zqt S M ..
+chop a/b
+chop ''
+chop -- -M
 ";
 
 #[test]
@@ -156,6 +187,7 @@ const SHOWN: &str = r"
 -h -> help: ..  znu   Find the null space of a matrix\n
 -h -> help: ..  zsp   Spin vectors in a module\n
 -h -> help: ..  zqt   Take the quotient of a module by a submodule\n
+-h -> help: ..  chop  Find a composition series of a module\n
 --help -> help: ..fields of order 2, 3, 4, 5, 7, 8 and 9
 --help -> help: ..  zmu   Multiply two matrices\n
 help -> help: ..  zmu   Multiply two matrices\n
@@ -177,6 +209,10 @@ zsp -h -> help: ..Usage: axe zsp [OPTIONS] <NAME> <SEED> <OUT>\n
 help zsp -> help: ..the standard basis of that row
 zqt -h -> help: ..Usage: axe zqt [OPTIONS] <SUB> <NAME> <OUTNAME>\n
 zqt --help -> help: ..the generators of the quotient
+chop -h -> help: ..Usage: axe chop [OPTIONS] <NAME>\n
+chop -h -> help: ..      --seed <S>   The seed that draws the words, 0 to 18446744073709551615 [default: 1]\n
+chop -h -> help: ..      --words <W>  How many words are tried after word 0, 0 to 10000 [default: 400]\n
+chop --help -> help: ..  factor 2a dim=2 mult=1\n
 ";
 
 #[test]
@@ -256,6 +292,15 @@ fn told(alloc: Global, command: &Command) -> Result<String, AllocError> {
             name,
             out,
         ),
+        Command::Chop {
+            generators,
+            seed,
+            words,
+            name,
+        } => {
+            let (generators, words, name) = (generators.get(), words.get(), name.as_str());
+            format!(in alloc; "chop {generators} generators of {name}, seed {seed}, words {words}")
+        }
     }
 }
 

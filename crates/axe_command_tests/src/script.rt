@@ -9,16 +9,18 @@
 //! $ WORD .. -> STATUS TEXT   carries out a command line, which is to end with this status and to print this text
 //! = NAME CONTENT             says that the file has this content now
 //! - NAME                     says that there is no such file
+//! ? NAME                     says that the command line fetched the file, for `failing`
 //! ```
 //!
-//! A CONTENT is `text TEXT`, or `packed ORDER ROWS COLUMNS BYTE ..` for a packed matrix: three decimal numbers, each below
-//! 256, and the bytes of its rows in hexadecimal digits. WORD and TEXT are spelled as `spelling` says. A command line that
-//! prints nothing has no TEXT.
+//! A CONTENT is `text TEXT`, or `packed ORDER ROWS COLUMNS BYTE ..` for a packed matrix: three decimal numbers, each
+//! below 256, and the bytes of its rows in hexadecimal digits. WORD and TEXT are spelled as `spelling` says. A command
+//! line that prints nothing has no TEXT.
 //!
-//! After each command line, and what the lines after it say of files, all files are looked at: each that was put or spoken
-//! of in the scene has its last content, and there is no other. Any other line, and a scene without a command line, fail.
+//! After each command line, and what the lines after it say of files, all files are looked at: each that was put or
+//! spoken of in the scene has its last content, and there is no other. Any other line, and a scene without a command
+//! line, fail.
 use crate::spelling::{assert_text, parts, plain, words};
-use crate::watched::Watched;
+use crate::watched::{Seen, Watched};
 use axe_command::{Command, Fault, ParseFault, Shown, execute, line, parse, status};
 use axe_folder::{Folder, MemFolder};
 use std::process::Abort;
@@ -32,7 +34,7 @@ pub(crate) fn play<R: Abort + AllocGlobal>(rt: &R, script: &str) {
 }
 
 /// Plays one scene on this folder.
-pub(crate) fn play_scene<R: Abort + AllocGlobal, F: Folder + Drop>(
+pub(crate) fn play_scene<R: Abort + AllocGlobal, F: Seen + Drop>(
     rt: &R,
     scene: &str,
     folder: &mut Watched<F>,
@@ -47,14 +49,14 @@ pub(crate) fn play_scene<R: Abort + AllocGlobal, F: Folder + Drop>(
 }
 
 /// Does what one line of a scene says.
-fn play_line<R: Abort + AllocGlobal, F: Folder + Drop>(
+pub(crate) fn play_line<R: Abort + AllocGlobal, F: Seen + Drop>(
     rt: &R,
     line: &str,
     folder: &mut Watched<F>,
 ) {
     let (sign, rest) = parts(rt, line, " ");
     match sign {
-        "#" => {}
+        "#" | "?" => {}
         "+" => give(rt, rest, folder),
         "$" => run(rt, rest, folder),
         "=" => want(rt, rest, folder),
@@ -64,7 +66,7 @@ fn play_line<R: Abort + AllocGlobal, F: Folder + Drop>(
 }
 
 /// Puts a file into the folder, after a look at those that are there.
-fn give<R: Abort + AllocGlobal, F: Folder + Drop>(rt: &R, file: &str, folder: &mut Watched<F>) {
+fn give<R: Abort + AllocGlobal, F: Seen + Drop>(rt: &R, file: &str, folder: &mut Watched<F>) {
     folder.assert_as_wanted(rt);
     let (name, content) = parts(rt, file, " ");
     let bytes = bytes(rt, content);
@@ -75,20 +77,20 @@ fn give<R: Abort + AllocGlobal, F: Folder + Drop>(rt: &R, file: &str, folder: &m
 }
 
 /// Says what a file has now.
-fn want<R: Abort + AllocGlobal, F: Folder + Drop>(rt: &R, file: &str, folder: &mut Watched<F>) {
+fn want<R: Abort + AllocGlobal, F: Seen + Drop>(rt: &R, file: &str, folder: &mut Watched<F>) {
     let (name, content) = parts(rt, file, " ");
     let bytes = bytes(rt, content);
     folder.want(name, bytes.as_slice()).expect(rt, "memory");
 }
 
 /// Says that there is no such file now.
-fn want_none<F: Folder + Drop>(rt: &impl Abort, name: &str, folder: &mut Watched<F>) {
+fn want_none<F: Seen + Drop>(rt: &impl Abort, name: &str, folder: &mut Watched<F>) {
     assert!(rt; !name.contains(" "), "no name of a file: {name}");
     folder.want_none(name).expect(rt, "memory");
 }
 
 /// The bytes of a file with this content.
-fn bytes<R: Abort + AllocGlobal>(rt: &R, content: &str) -> Vec<u8> {
+pub(crate) fn bytes<R: Abort + AllocGlobal>(rt: &R, content: &str) -> Vec<u8> {
     let (kind, rest) = parts(rt, content, " ");
     match kind {
         "text" => plain(rt, rest).into_bytes(),
@@ -120,7 +122,11 @@ fn number(rt: &impl Abort, digits: &str) -> u8 {
 }
 
 /// Carries out a command line, after a look at the files that are there, and asserts how it ends.
-fn run<R: Abort + AllocGlobal, F: Folder + Drop>(rt: &R, row: &str, folder: &mut Watched<F>) {
+pub(crate) fn run<R: Abort + AllocGlobal, F: Seen + Drop>(
+    rt: &R,
+    row: &str,
+    folder: &mut Watched<F>,
+) {
     folder.assert_as_wanted(rt);
     let (command, ending) = parts(rt, row, " -> ");
     let (wanted_status, wanted_text) = ending.split_once(" ").unwrap_or((ending, ""));

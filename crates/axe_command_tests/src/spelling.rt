@@ -1,8 +1,8 @@
 //! How words and texts are spelled in scripts and tables.
 //!
-//! They stand as they are, but `\n`, `\s` and `\0` stand for a newline, a space and a zero byte, and the word `''` for the
-//! word without bytes. `..` in a wanted text stands for any text: what is before it is to begin the text, and what is after
-//! it to be in the text.
+//! They stand as they are, but `\n`, `\s` and `\0` stand for a newline, a space and a zero byte, and the word `''` for
+//! the word without bytes. `..` in a wanted text stands for any text: what is before it is to begin the text, and what
+//! is after it to be in the text.
 use std::process::Abort;
 
 /// The text that is spelled so.

@@ -1,13 +1,42 @@
 //! A folder that is watched.
-use axe_folder::{Folder, FolderFault, MemFolder};
+use axe_folder::{DirFolder, Folder, FolderFault, FusedFolder, MemFolder};
 use std::alloc::Global;
 use std::process::Abort;
+use std::rt::Files;
 
 /// The most bytes of a file that is looked at.
 const LIMIT: usize = 1000;
 
-/// A folder, the files that it is to have, and the names of all files that it was given or is to have. So a file that it is
-/// not to have is seen.
+/// A folder whose files can be looked at.
+pub(crate) trait Seen: Folder {
+    /// Whether the file has these bytes or, where there are none, whether there is no such file.
+    fn has(&mut self, name: &str, wanted: Option<&[u8]>) -> bool;
+}
+
+impl Seen for MemFolder {
+    fn has(&mut self, name: &str, wanted: Option<&[u8]>) -> bool {
+        self.bytes(name) == wanted
+    }
+}
+
+/// A look is no call that fails.
+impl Seen for FusedFolder {
+    fn has(&mut self, name: &str, wanted: Option<&[u8]>) -> bool {
+        self.bytes(name) == wanted
+    }
+}
+
+impl<R: Files + AllocGlobal + Drop> Seen for DirFolder<R> {
+    fn has(&mut self, name: &str, wanted: Option<&[u8]>) -> bool {
+        match self.get(name, LIMIT) {
+            Ok(bytes) => wanted == Some(bytes.as_slice()),
+            Err(fault) => fault == FolderFault::Missing && wanted.is_none(),
+        }
+    }
+}
+
+/// A folder, the files that it is to have, and the names of all files that it was given or is to have. So a file that
+/// it is not to have is seen.
 #[derive(Drop)]
 pub(crate) struct Watched<F: Folder + Drop> {
     alloc: Global,
@@ -71,19 +100,14 @@ impl<F: Folder + Drop> Watched<F> {
     }
 
     /// Asserts that each file is as wanted, and that there is no other.
-    pub(crate) fn assert_as_wanted(&mut self, rt: &impl Abort) {
+    pub(crate) fn assert_as_wanted(&mut self, rt: &impl Abort)
+    where
+        F: Seen,
+    {
         for name in &self.names {
             let wanted = self.wanted.bytes(name.as_str());
-            assert_file(rt, &mut self.folder, name.as_str(), wanted);
+            let is_wanted = self.folder.has(name.as_str(), wanted);
+            assert!(rt; is_wanted, "the file {name}");
         }
     }
-}
-
-/// Asserts that the file has these bytes or, where there are none, that there is no such file.
-fn assert_file<F: Folder>(rt: &impl Abort, folder: &mut F, name: &str, wanted: Option<&[u8]>) {
-    let is_wanted = match folder.get(name, LIMIT) {
-        Ok(bytes) => wanted == Some(bytes.as_slice()),
-        Err(fault) => fault == FolderFault::Missing && wanted.is_none(),
-    };
-    assert!(rt; is_wanted, "the file {name}");
 }
