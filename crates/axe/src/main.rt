@@ -4,7 +4,7 @@
 //! error, and each kind of fault has a status of its own. A text that can't be printed changes no status.
 #![tactic(auto)]
 
-use axe_command::{Fault, ParseFault, execute, line, parse, status};
+use axe_command::{Command, Fault, ParseFault, execute, line, parse, status};
 use axe_folder::DirFolder;
 use std::env;
 use std::io::{ErrorKind, Write};
@@ -16,25 +16,52 @@ fn main(rt: HostRuntime) -> ExitCode {
             let _ = rt.stdout().write_all(text.as_slice());
             ExitCode::SUCCESS
         }
-        Err(fault) => {
-            print_fault(&rt, &fault);
-            ExitCode::from(status(&fault))
+        Err(ending) => {
+            print_line(&rt, &ending);
+            ExitCode::from(ending.status)
         }
     }
 }
 
+/// How the program ends where it fails.
+#[derive(Drop)]
+struct Ending {
+    /// The line for standard error, where there is memory for it.
+    line: Option<Vec<u8>>,
+    /// The exit status.
+    status: u8,
+}
+
 // Does what the words of the command line say, and gives the bytes for standard output.
-fn output(rt: &HostRuntime) -> Result<Vec<u8>, Fault> {
-    let words = words(rt)?;
-    let command = match parse(rt.alloc(), words.as_slice()) {
-        Ok(command) => command,
-        Err(ParseFault::Help(text)) => return Ok(text.into_bytes()),
-        Err(ParseFault::Usage(text)) => return Err(Fault::Usage(text)),
-        Err(ParseFault::Memory) => return Err(Fault::Memory),
+fn output(rt: &HostRuntime) -> Result<Vec<u8>, Ending> {
+    match words(rt) {
+        Ok(words) => answer(rt, words.as_slice()),
+        Err(fault) => Err(ending_of(rt, &fault)),
+    }
+}
+
+// Does what the words say.
+fn answer(rt: &HostRuntime, words: &[String]) -> Result<Vec<u8>, Ending> {
+    match parse(rt.alloc(), words) {
+        Ok(command) => carry_out(rt, &command),
+        Err(ParseFault::Help(text)) => Ok(text.into_bytes()),
+        Err(ParseFault::Usage(text)) => Err(ending_of(rt, &Fault::Usage(text))),
+        Err(ParseFault::Memory) => Err(ending_of(rt, &Fault::Memory)),
+    }
+}
+
+// Carries a command out on the files of the working directory.
+fn carry_out(rt: &HostRuntime, command: &Command) -> Result<Vec<u8>, Ending> {
+    let Ok(runtime) = rt.clone() else {
+        return Err(ending_of(rt, &Fault::Memory));
     };
-    let mut folder = DirFolder::new(rt.clone()?, ".").map_err(|_| Fault::Memory)?;
-    let shown = execute(rt.alloc(), &command, &mut folder)?;
-    Ok(shown.text)
+    let Ok(mut folder) = DirFolder::new(runtime, ".") else {
+        return Err(ending_of(rt, &Fault::Memory));
+    };
+    match execute(rt.alloc(), command, &mut folder) {
+        Ok(shown) => Ok(shown.text),
+        Err(fault) => Err(ending_of(rt, &fault)),
+    }
 }
 
 // The words after the program's name.
@@ -49,10 +76,18 @@ fn words(rt: &HostRuntime) -> Result<Vec<String>, Fault> {
     }
 }
 
-// Prints the fault's line to standard error.
-fn print_fault(rt: &HostRuntime, fault: &Fault) {
-    let _ = match line(rt.alloc(), fault) {
-        Ok(text) => rt.stderr().write_all(text.as_slice()),
-        Err(_) => rt.stderr().write_all(b"axe: Memory\n"),
+// How the program ends with a fault.
+fn ending_of(rt: &HostRuntime, fault: &Fault) -> Ending {
+    Ending {
+        line: line(rt.alloc(), fault).ok(),
+        status: status(fault),
+    }
+}
+
+// Prints the line of an ending to standard error. Where there is no memory for it, that is what is printed.
+fn print_line(rt: &HostRuntime, ending: &Ending) {
+    let _ = match &ending.line {
+        Some(line) => rt.stderr().write_all(line.as_slice()),
+        None => rt.stderr().write_all(b"axe: Memory\n"),
     };
 }
