@@ -6,3 +6,8 @@ pub mod PlaneSums
 pub mod PrimeRows
 pub mod FirstEntries
 pub mod ElementPlanes
+pub mod TableRows
+pub mod TablePlanes
+pub mod TableSums
+pub mod PieceNumbers
+pub mod CombinationLaws

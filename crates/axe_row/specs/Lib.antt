@@ -2,3 +2,5 @@ pub mod Rows
 pub mod Refusals
 pub mod Operations
 pub mod Planes
+pub mod Combinations
+pub mod PlaneTables

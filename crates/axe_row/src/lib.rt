@@ -10,11 +10,14 @@ ghost use Rattle.axe_row.specs.Operations.{dot_product, row_with_multiple, multi
 ghost use Rattle.axe_row.specs.Rows.{RowValue, IsRow};
 ghost use Rattle.axe_row.specs.Refusals.{Answers};
 
+mod combos;
+mod pieces;
 mod planes;
 mod refusals;
 
 use axe_field::Field;
 use axe_plane::Plane;
+pub use combos::{Combos, most_combined};
 use planes::{add_multiples, digits_in_plane, earlier, element, plane_of};
 pub use refusals::Refusal;
 use std::alloc::Global;
