@@ -7,3 +7,9 @@ mod RowListLaws
 mod PartialMatrices
 mod RowWrites
 pub mod MultipleLaws
+mod TermSums
+mod BlockLaws
+mod TableLaws
+mod RewrittenRows
+mod BlockRows
+mod ProductRows

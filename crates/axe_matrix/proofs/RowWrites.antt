@@ -7,7 +7,8 @@ use Rattle.axe_field.specs.Order.{Order, IsElement}
 use Rattle.axe_field.specs.NumberFields.{number_field}
 use Rattle.axe_row.specs.Rows.{RowValue, IsRow}
 use Rattle.axe_row.specs.Operations.{sum_with_multiple, row_with_multiple}
-use Rattle.axe_matrix.specs.Matrices.{MatrixValue, IsMatrix}
+use Rattle.axe_row.proofs.RowLaws.{same_row}
+use Rattle.axe_matrix.specs.Matrices.{MatrixValue, IsMatrix, row_of}
 use Rattle.axe_matrix.specs.RowLists.{matrix_from_rows, MakeMatrix}
 use Rattle.axe_matrix.proofs.RowListLaws.{IsRow-at, length-at}
 
@@ -23,7 +24,7 @@ IsMatrix-set m i row h long elements = record {
 }
 
 -- the row at an index is over the field
-order-at : (o : Order) (n : ℕ) (rows : List RowValue) (i : ℕ) (row : RowValue) → MakeMatrix o n rows → i < length rows → row ≡ get_or rows i row →
+pub order-at : (o : Order) (n : ℕ) (rows : List RowValue) (i : ℕ) (row : RowValue) → MakeMatrix o n rows → i < length rows → row ≡ get_or rows i row →
     row.order ≡ o
 order-at o n rows i row h below e = ap (λ (r : RowValue). r.order) e ∙ h.one_field i row below
 
@@ -63,3 +64,29 @@ matrix_from_added_rows o n rows i old new c row h below old_is new_is =
     ∙ ap (λ p. sum_with_multiple (number_field p) old.entries c row.entries) (order-at o n rows i old h below old_is)
     ∙ ap (λ x. sum_with_multiple (number_field o) x c row.entries)
     (ap (λ (r : RowValue). r.entries) old_is ∙ sym (get_or-map (λ (r : RowValue). r.entries) rows i old [] below))))
+
+-- another row is written at an index
+pub MakeMatrix-write : (o : Order) (n : ℕ) (rows : List RowValue) (i : ℕ) (new : RowValue) → MakeMatrix o n rows →
+    new.order ≡ o → length new.entries ≡ n → IsRow new → MakeMatrix o n (set rows i new)
+MakeMatrix-write o n rows i new h field fits well_formed = record {
+  one_field = All-set (λ (r : RowValue). r.order ≡ o) rows i new field h.one_field;
+  matrix = subst (λ list. IsMatrix (record { order = o; cols = n; rows = list })) (sym (map-set (λ (r : RowValue). r.entries) rows i new))
+      (IsMatrix-set (matrix_from_rows o n rows) i new.entries h.matrix fits (subst (λ p. All (IsElement p) new.entries) field well_formed.elements));
+}
+
+-- the row at an index, as one of the matrix
+row-at : (o : Order) (n : ℕ) (rows : List RowValue) (i : ℕ) (row : RowValue) → MakeMatrix o n rows → i < length rows → row ≡ get_or rows i row →
+    row ≡ row_of (matrix_from_rows o n rows) i
+row-at o n rows i row h below e =
+    same_row row (row_of (matrix_from_rows o n rows) i) (order-at o n rows i row h below e)
+    (ap (λ (r : RowValue). r.entries) e ∙ sym (get_or-map (λ (r : RowValue). r.entries) rows i row [] below))
+
+-- what is made of the row at an index is written there
+pub matrix_from_written_rows : (o : Order) (n : ℕ) (rows : List RowValue) (i : ℕ) (old new : RowValue) (after : RowValue → RowValue) → MakeMatrix o n rows →
+    i < length rows → old ≡ get_or rows i old → new ≡ after old →
+    matrix_from_rows o n (set rows i new)
+    ≡ record { order = o; cols = n; rows = set (map (λ (r : RowValue). r.entries) rows) i (after (row_of (matrix_from_rows o n rows) i)).entries }
+matrix_from_written_rows o n rows i old new after h below old_is new_is =
+    ap (λ list. record { order = o; cols = n; rows = list }) (
+    map-set (λ (r : RowValue). r.entries) rows i new
+    ∙ ap (λ (r : RowValue). set (map (λ (r : RowValue). r.entries) rows) i r.entries) (new_is ∙ ap after (row-at o n rows i old h below old_is)))

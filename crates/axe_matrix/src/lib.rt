@@ -7,11 +7,12 @@ ghost use Rattle.axe_field.specs.Order.{IsElement};
 ghost use Rattle.axe_row.specs.Rows.{IsRow};
 ghost use Rattle.axe_row.specs.Refusals.{Answers};
 ghost use Rattle.axe_matrix.specs.Limits.{most_rows, most_columns};
-ghost use Rattle.axe_matrix.specs.Matrices.{IsMatrix, row_of, product_refusal, matrix_product, vector_product};
+ghost use Rattle.axe_matrix.specs.Matrices.{IsMatrix, row_of, vector_product};
 
 mod arithmetic;
 mod multiples;
 mod parts;
+mod products;
 
 use axe_field::Field;
 pub use axe_row::{Refusal, Row};
@@ -95,28 +96,6 @@ impl Matrix {
         ensures well_formed { IsMatrix self.new }
     {
         self.push_row(row).map_err(|_| Refusal::Memory)
-    }
-
-    /// The product of this matrix and another: its entry i, j is the sum over t of entry i, t of this matrix times
-    /// entry t, j of the other. Two matrices over different fields are refused as FieldsDiffer, and else two of which
-    /// the first has not as many columns as the second has rows as ShapesDiffer.
-    pub fn mul(&self, alloc: Global, other: &Matrix) -> Result<Matrix, Refusal>
-        ensures product { Answers (product_refusal self.now other.now)
-            (λ product. product ≡ matrix_product self.now other.now) result }
-        ensures well_formed { IfOk result IsMatrix }
-    {
-        if self.field() != other.field() {
-            return Err(Refusal::FieldsDiffer);
-        }
-        if self.cols() != other.rows() {
-            return Err(Refusal::ShapesDiffer);
-        }
-        let mut product = Matrix::empty(alloc, *self.field(), other.cols());
-        for index in 0..self.rows() {
-            let row = other.vec_mul(alloc, self.row(index))?;
-            product.append(row)?;
-        }
-        Ok(product)
     }
 
     /// A row vector times the matrix: its entry j is the sum over t of entry t of the vector times entry t, j of the

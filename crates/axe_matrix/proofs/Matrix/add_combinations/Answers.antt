@@ -1,0 +1,33 @@
+use Rattle.std.proofs.Common.{◌≡◌, ◌<◌, length, slice_index, set, ap, ◌∙◌}
+use Rattle.axe_row.specs.Combinations.{combination_at, row_with_four}
+use Rattle.axe_row.specs.Rows.{RowValue}
+use Rattle.axe_matrix.specs.Matrices.{MatrixValue, row_of}
+use Rattle.axe_matrix.specs.RowLists.{MakeMatrix}
+use Rattle.axe_matrix.proofs.RowListLaws.{length-at}
+use Rattle.axe_matrix.proofs.RowWrites.{below_rows, order-at, MakeMatrix-write, matrix_from_written_rows}
+use Rattle.axe_matrix.proofs.Matrix.add_combinations.Goals as goal
+
+within : (c : goal.After-self-1) → c.args.index < length c.self.inside.rows.items
+within c = below_rows _ _ _ c.self.inside.rows.items c.args.index c.self.view_is c.requires.index
+
+-- the row, and what it becomes
+abbrev after : (c : goal.After-self-1) → RowValue → RowValue
+after c row =
+    row_with_four row (combination_at c.args.tables.now.first (slice_index c.args.numbers 0)) (combination_at c.args.tables.now.second (slice_index c.args.numbers 1))
+    (combination_at c.args.tables.now.third (slice_index c.args.numbers 2)) (combination_at c.args.tables.now.fourth (slice_index c.args.numbers 3))
+
+pub invariant_of-self : goal.invariant_of-self
+invariant_of-self c =
+    MakeMatrix-write _ _ c.self.inside.rows.items c.args.index c.add_four.new.self c.self.invariant
+    (ap (λ (r : RowValue). r.order) c.add_four.ensures.sum ∙ order-at _ _ c.self.inside.rows.items c.args.index c.index_mut.result.now c.self.invariant (within c) c.index_mut.ensures.value)
+    (c.add_four.ensures.as_long ∙ length-at _ _ c.self.inside.rows.items c.args.index c.index_mut.result.now c.self.invariant (within c) c.index_mut.ensures.value)
+    c.add_four.ensures.well_formed
+
+pub returns-clause-sum : goal.returns-clause-sum
+returns-clause-sum c =
+    matrix_from_written_rows _ _ c.self.inside.rows.items c.args.index c.index_mut.result.now c.add_four.new.self (after c) c.self.invariant (within c)
+    c.index_mut.ensures.value c.add_four.ensures.sum
+    ∙ ap (λ (m : MatrixValue). record m { rows = set m.rows c.args.index (after c (row_of m c.args.index)).entries }) c.self.view_is
+
+pub returns-clause-well_formed : goal.returns-clause-well_formed
+returns-clause-well_formed c = (invariant_of-self c).matrix

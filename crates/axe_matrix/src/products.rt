@@ -1,0 +1,180 @@
+//! Products of matrices, by tables of combinations of rows.
+
+ghost use Rattle.std.specs.Prelude.{◌≡◌, ◌*◌, ◌<◌, ◌≤◌, None, IfOk, OnErr, length, slice_index, slice_set};
+ghost use Rattle.std.specs.Simd.Lanes.{chunk};
+ghost use Rattle.axe_field.specs.Order.{IsElement};
+ghost use Rattle.axe_row.specs.Combinations.{most_combined, combination_at, row_with_four, Combines, IsRowFor};
+ghost use Rattle.axe_row.specs.Refusals.{Answers};
+ghost use Rattle.axe_matrix.specs.Matrices.{IsMatrix, row_of, product_refusal, matrix_product};
+ghost use Rattle.axe_matrix.specs.PieceTables.{IsTableFor, AreTablesFor, CombineFrom};
+ghost use Rattle.axe_matrix.specs.Products.{matrix_with_product, matrix_with_terms};
+
+use super::{Matrix, Refusal};
+use axe_field::Field;
+use axe_row::{Combos, most_combined};
+use std::alloc::Global;
+
+impl Matrix {
+    /// The product of this matrix and another: its entry i, j is the sum over t of entry i, t of this matrix times
+    /// entry t, j of the other. Two matrices over different fields are refused as FieldsDiffer, and else two of which
+    /// the first has not as many columns as the second has rows as ShapesDiffer.
+    pub fn mul(&self, alloc: Global, other: &Matrix) -> Result<Matrix, Refusal>
+        ensures product { Answers (product_refusal self.now other.now)
+            (λ product. product ≡ matrix_product self.now other.now) result }
+        ensures well_formed { IfOk result IsMatrix }
+    {
+        if self.field() != other.field() {
+            return Err(Refusal::FieldsDiffer);
+        }
+        if self.cols() != other.rows() {
+            return Err(Refusal::ShapesDiffer);
+        }
+        let mut product = Matrix::zero(alloc, *self.field(), self.rows(), other.cols())?;
+        product.add_product(alloc, 1, self, other)?;
+        Ok(product)
+    }
+
+    /// Adds a multiple of the product of two matrices over the same field: each entry d becomes d + c s, where c is the
+    /// scalar, and s the entry of the product. The first matrix has as many rows as this one, and as many columns as
+    /// the second has rows; the second has as many columns as this one. For want of memory nothing is changed.
+    pub fn add_product(&mut self, alloc: Global, scalar: u8, a: &Matrix, b: &Matrix) -> Result<(), Refusal>
+        requires a_field { a.now.order ≡ self.old.order }
+        requires b_field { b.now.order ≡ self.old.order }
+        requires rows_fit { length a.now.rows ≡ length self.old.rows }
+        requires inner_fit { a.now.cols ≡ length b.now.rows }
+        requires columns_fit { b.now.cols ≡ self.old.cols }
+        requires element { IsElement self.old.order scalar }
+        ensures sum { Answers None (λ _. self.new ≡ matrix_with_product self.old scalar a.now b.now) result }
+        ensures unchanged { OnErr result (self.new ≡ self.old) }
+        ensures well_formed { IsMatrix self.new }
+    {
+        // `cols` is called for what it ensures beside their number: that the first matrix is one.
+        prove!(a.cols() == b.rows());
+        let size = rows_combined(self.field(), self.rows(), b.rows());
+        let mut tables = FourTables::new(alloc, *self.field(), self.cols(), size)?;
+        let mut at = 0;
+        while at < b.rows() {
+            tables.fill(b, at);
+            self.add_block(scalar, a, b, at, &tables);
+            at += 4 * size;
+        }
+        Ok(())
+    }
+
+    /// Adds a multiple of some terms of the product of two matrices: those for which tables combine four pieces of the
+    /// second matrix's rows from an index on.
+    fn add_block(&mut self, scalar: u8, a: &Matrix, b: &Matrix, at: usize, tables: &FourTables)
+        requires a_field { a.now.order ≡ self.old.order }
+        requires b_field { b.now.order ≡ self.old.order }
+        requires rows_fit { length a.now.rows ≡ length self.old.rows }
+        requires inner_fit { a.now.cols ≡ length b.now.rows }
+        requires columns_fit { b.now.cols ≡ self.old.cols }
+        requires element { IsElement self.old.order scalar }
+        requires within { at < length b.now.rows }
+        requires tables { AreTablesFor self.old.order self.old.cols tables.now }
+        requires combine { CombineFrom at b.now.rows tables.now }
+        ensures sum { self.new ≡ matrix_with_terms self.old scalar a.now b.now at (4 * tables.now.size) }
+        ensures well_formed { IsMatrix self.new }
+    {
+        // `rows` is called for what it ensures beside their number: that the second matrix is one, of so few rows.
+        prove!(at < b.rows());
+        for index in 0..self.rows() {
+            let numbers = a.row(index).piece_numbers(scalar, tables.size, at);
+            self.add_combinations(index, numbers, tables);
+        }
+    }
+
+    /// Adds a row of each of four tables to the row at an index.
+    fn add_combinations(&mut self, index: usize, numbers: [usize; 4], tables: &FourTables)
+        requires index { index < length self.old.rows }
+        requires first { IsRowFor (row_of self.old index) tables.now.first (slice_index numbers 0) }
+        requires second { IsRowFor (row_of self.old index) tables.now.second (slice_index numbers 1) }
+        requires third { IsRowFor (row_of self.old index) tables.now.third (slice_index numbers 2) }
+        requires fourth { IsRowFor (row_of self.old index) tables.now.fourth (slice_index numbers 3) }
+        ensures sum { let sum = row_with_four (row_of self.old index)
+            (combination_at tables.now.first (slice_index numbers 0))
+            (combination_at tables.now.second (slice_index numbers 1))
+            (combination_at tables.now.third (slice_index numbers 2))
+            (combination_at tables.now.fourth (slice_index numbers 3)) in
+            self.new ≡ record self.old { rows = slice_set self.old.rows index sum.entries } }
+        ensures well_formed { IsMatrix self.new }
+    {
+        let (first, second) = (&tables.first, &tables.second);
+        self.rows[index].add_four(numbers, first, second, &tables.third, &tables.fourth);
+    }
+}
+
+/// How many rows each of four tables combines, where so many rows are added from it to sums of so many terms: as many
+/// as a table can, but so few that it has no more rows than are added from it, and that there is work for four tables.
+fn rows_combined(field: &Field, rows: usize, terms: usize) -> usize
+    ensures some { 1 ≤ result }
+    ensures fits { result ≤ most_combined field.now }
+{
+    let order = usize::from(field.order());
+    let most = most_combined(field).min(terms.div_ceil(4));
+    let (mut size, mut left) = (1, rows / order);
+    while size < most && left >= order {
+        size += 1;
+        left /= order;
+    }
+    size
+}
+
+/// Four tables of combinations of up to `size` rows each.
+#[derive(Drop)]
+struct FourTables {
+    size: usize,
+    first: Combos,
+    second: Combos,
+    third: Combos,
+    fourth: Combos,
+}
+
+impl FourTables {
+    /// Four tables of zeros, for rows of so many entries.
+    fn new(alloc: Global, field: Field, len: usize, size: usize) -> Result<FourTables, Refusal>
+        requires some { 1 ≤ size }
+        requires size { size ≤ most_combined field }
+        ensures size { IfOk result (λ tables. tables.size ≡ size) }
+        ensures tables { Answers None (AreTablesFor field len) result }
+    {
+        Ok(FourTables {
+            size,
+            first: Combos::new(alloc, field, len, size)?,
+            second: Combos::new(alloc, field, len, size)?,
+            third: Combos::new(alloc, field, len, size)?,
+            fourth: Combos::new(alloc, field, len, size)?,
+        })
+    }
+
+    /// Makes the tables those of the combinations of four pieces of a matrix's rows, one after another from an index on.
+    fn fill(&mut self, b: &Matrix, at: usize)
+        requires within { at < length b.now.rows }
+        requires tables { AreTablesFor b.now.order b.now.cols self.old }
+        ensures combine { CombineFrom at b.now.rows self.new }
+        ensures size { self.new.size ≡ self.old.size }
+        ensures tables { AreTablesFor b.now.order b.now.cols self.new }
+    {
+        // `rows` is called for what it ensures beside their number: that there are so few that no sum below wraps.
+        prove!(at < b.rows());
+        let size = self.size;
+        fill_piece(&mut self.first, b, at, size);
+        fill_piece(&mut self.second, b, at + size, size);
+        fill_piece(&mut self.third, b, at + 2 * size, size);
+        fill_piece(&mut self.fourth, b, at + 3 * size, size);
+    }
+}
+
+/// Makes a table that of the combinations of a piece of a matrix's rows: `size` of them from an index on, or those that
+/// there are.
+fn fill_piece(table: &mut Combos, b: &Matrix, at: usize, size: usize)
+    requires table { IsTableFor b.now.order b.now.cols size table.old }
+    requires some { 1 ≤ size }
+    ensures combines { Combines (chunk at size b.now.rows) table.new }
+    ensures table { IsTableFor b.now.order b.now.cols size table.new }
+{
+    if at < b.rows() {
+        let end = (at + size).min(b.rows());
+        table.fill(&b.rows[at..end]);
+    }
+}
