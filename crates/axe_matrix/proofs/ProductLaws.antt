@@ -4,7 +4,7 @@ use Rattle.std.specs.List.{All}
 use Rattle.std.proofs.lemmas.Bool.{eq-eqb, ne_eqb}
 use Rattle.std.proofs.lemmas.List.Elements.{All-from_get_or}
 use Rattle.std.proofs.lemmas.List.FromFn.{length-map-range_with_len, get_or-map-range_with_len}
-use Rattle.axe_algebra.specs.Lists.{entry, listed}
+use Rattle.axe_algebra.specs.Lists.{entry}
 use Rattle.axe_algebra.specs.ListArithmetic.{number_sum, product_entry, product, combination_entry, combination}
 use Rattle.axe_algebra.specs.NumberField.{NumberField}
 use Rattle.axe_field.specs.Order.{order_number, IsElement}
@@ -12,8 +12,8 @@ use Rattle.axe_field.specs.Arithmetic.{field_mul}
 use Rattle.axe_field.specs.NumberFields.{number_field}
 use Rattle.axe_row.specs.declared.refusals.Refusal.TheVariants.{FieldsDiffer, ShapesDiffer}
 use Rattle.axe_matrix.specs.Limits.{most_rows}
-use Rattle.axe_matrix.proofs.MatrixLaws.{entry-IsElement, same_matrix}
-use Rattle.axe_matrix.specs.Matrices.{MatrixValue, IsMatrix, row_of, product_refusal, matrix_product, vector_product}
+use Rattle.axe_matrix.proofs.MatrixLaws.{entry-IsElement}
+use Rattle.axe_matrix.specs.Matrices.{MatrixValue, IsMatrix, product_refusal, matrix_product}
 
 -- matrices over one field whose shapes fit have a product
 pub product_refusal-none : (a b : MatrixValue) → order_number a.order ≡ order_number b.order → a.cols ≡ length b.rows → product_refusal a b ≡ None
@@ -84,10 +84,3 @@ IsMatrix-product a b ha hb fields =
           let column : j < b.cols = omega (arith, long i below) in
           rw (entry-product K b.cols a.rows b.rows i j (omega arith) column) (product_entry-IsElement a b (length b.rows) i j ha hb fields)));
     }
-
--- the product of matrices over one field by its rows: each row of the first matrix times the second
-pub matrix_product-rows : (a b : MatrixValue) → a.order ≡ b.order → record { order = a.order; cols = b.cols; rows = listed (length a.rows) (λ i. (vector_product (row_of a i) b).entries) } ≡ matrix_product a b
-unfolding product product_entry combination combination_entry
-matrix_product-rows a b fields =
-    same_matrix (record { order = a.order; cols = b.cols; rows = listed (length a.rows) (λ i. (vector_product (row_of a i) b).entries) }) (matrix_product a b) refl refl
-    (ap (λ o. product (number_field o) b.cols a.rows b.rows) (sym fields))
