@@ -5,11 +5,12 @@ use Rattle.std.proofs.lemmas.Bool.{cases_eq}
 use Rattle.std.proofs.lemmas.List.{ext_get_or, get_or_past, get_or-replicate, length-replicate, length-set}
 use Rattle.std.proofs.lemmas.Nat.Bits.{bit_at-lt, bit_at-zero, bit_at_xor, same_from_bits_below}
 use Rattle.std.proofs.Math.Seq.{take-append_seam}
-use Rattle.std.proofs.lemmas.Nat.{xor_lt}
+use Rattle.std.proofs.lemmas.Nat.{pow-add, xor_lt}
 use Rattle.std.proofs.lemmas.Simd.{get_or-zip2, length-zip2}
 use Rattle.std.specs.Int.RustNames.{bit_xor}
 use Rattle.std.specs.Simd.Lanes.{zip2}
 use native.Mathlib.Decide.{dec_lt}
+use native.Mathlib.Nat.{div-div-eq-div-mul}
 use Rattle.axe_algebra.proofs.ListEntries.{listed_length, listed_at}
 use Rattle.axe_plane.specs.Bits.{bit_of, bits, HoldsBits}
 use Rattle.axe_plane.specs.Digits.{AreDigits, digits_with_four, digits_with_multiple}
@@ -31,6 +32,18 @@ bit_of-word words e = refl
 pub bit_of-below : (words : List ℕ) (e : ℕ) → bit_of words e < 2
 unfolding bit_of
 bit_of-below words e = bit_at-lt (get_or words (e / 64) 0) (e % 64)
+
+-- a bit of a word that is shifted down
+pub bit_at-shifted : (w p i : ℕ) → bit_at (w / 2 ^ p) i ≡ bit_at w (p + i)
+bit_at-shifted w p i = ap (λ n. n % 2) (div-div-eq-div-mul w (2 ^ p) (2 ^ i) ∙ ap (λ n. w / n) (sym (pow-add 2 p i)))
+
+-- a bit that stands in one word with an earlier one
+pub bit_of-further : (words : List ℕ) (e i : ℕ) → e % 64 + i < 64 → bit_at (get_or words (e / 64) 0 / 2 ^ (e % 64)) i ≡ bit_of words (e + i)
+bit_of-further words e i below =
+    let word : (e + i) / 64 ≡ e / 64 = omega arith in
+    let place : (e + i) % 64 ≡ e % 64 + i = omega arith in
+    bit_at-shifted (get_or words (e / 64) 0) (e % 64) i
+    ∙ sym (bit_of-word words (e + i) ∙ ap (λ k. bit_at (get_or words k 0) ((e + i) % 64)) word ∙ ap (bit_at (get_or words (e / 64) 0)) place)
 
 -- words that have no bits past the used ones
 pub bit_of-past : (words : List ℕ) (e : ℕ) → length words ≤ e / 64 → bit_of words e ≡ 0

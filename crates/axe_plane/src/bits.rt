@@ -74,6 +74,18 @@ impl BitPlane {
         }
     }
 
+    /// Sixteen digits that stand in one word, as the lowest bits of a number: the digit at an index is the lowest bit,
+    /// and those after it stand above it.
+    #[inline]
+    pub fn sixteen_from(&self, index: usize) -> u64
+        requires inside { index + 16 ≤ length self.now }
+        requires one_word { index % 64 ≤ 48 }
+        ensures { (i : ℕ) → i < 16 → bit_at result i ≡ slice_index self.now (index + i) }
+    {
+        let (word, place) = (index / WORD, index % WORD);
+        self.words[word] >> place
+    }
+
     /// Makes a digit the one at an index; all others stay. From the length on there is none to be changed.
     pub fn set(&mut self, index: usize, digit: u8)
         requires { digit < 2 }

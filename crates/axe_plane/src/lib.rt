@@ -2,7 +2,8 @@
 //! plane has a byte for each digit.
 #![tactic(auto)]
 
-ghost use Rattle.std.specs.Prelude.{◌≡◌, ◌≢◌, ◌⊎◌, ◌%◌, ◌<◌, ◌↔◌, IsTrue, IfOk, length, replicate, slice_index};
+ghost use Rattle.std.specs.Int.{bit_at};
+ghost use Rattle.std.specs.Prelude.{ℕ, ◌≡◌, ◌≢◌, ◌⊎◌, ◌+◌, ◌%◌, ◌<◌, ◌≤◌, ◌↔◌, IsTrue, IfOk, length, replicate, slice_index};
 ghost use Rattle.std.specs.Prelude.{slice_set, All, MatchOption};
 ghost use Rattle.axe_lane.specs.Bytes.{multiple, sum_of_products};
 ghost use Rattle.axe_lane.specs.Entries.{IsFirstNonzero};
@@ -89,6 +90,21 @@ impl Plane {
         match self {
             Plane::Bits(plane) => plane.get(index),
             Plane::Bytes(plane) => plane.get(index),
+        }
+    }
+
+    /// Sixteen digits modulo 2 that stand in one word, as the lowest bits of a number: the digit at an index is the
+    /// lowest bit, and those after it stand above it.
+    #[inline]
+    pub fn sixteen_from(&self, index: usize) -> u64
+        requires even { prime_of_plane self.now ≡ 2 }
+        requires inside { index + 16 ≤ length (digits_of self.now) }
+        requires one_word { index % 64 ≤ 48 }
+        ensures { (i : ℕ) → i < 16 → bit_at result i ≡ slice_index (digits_of self.now) (index + i) }
+    {
+        match self {
+            Plane::Bits(plane) => plane.sixteen_from(index),
+            Plane::Bytes(_) => 0,
         }
     }
 

@@ -1,7 +1,9 @@
 //! The numbers of pieces of a row: which combinations of the rows of a table they name.
 
-ghost use Rattle.std.specs.Prelude.{◌≡◌, ◌+◌, ◌*◌, ◌^◌, ◌<◌, ◌≤◌};
-ghost use Rattle.axe_field.specs.Order.{IsElement};
+ghost use Rattle.std.specs.Int.{bit_at};
+ghost use Rattle.std.specs.Prelude.{◌≡◌, ◌+◌, ◌*◌, ◌^◌, ◌<◌, ◌≤◌, ◌%◌, ◌∷◌, [], length};
+ghost use Rattle.axe_algebra.specs.Digits.{number_with_digits};
+ghost use Rattle.axe_field.specs.Order.{IsElement, order_number};
 ghost use Rattle.axe_row.specs.Combinations.{piece_number, piece_numbers};
 
 use crate::Row;
@@ -16,11 +18,32 @@ impl Row {
         requires counted { at + 4 * size < 2 ^ 64 }
         ensures { result ≡ piece_numbers self.now scalar size at }
     {
+        if self.field().order() == 2 && scalar == 1 && size == 4 {
+            if at % 64 <= 48 && at + 16 <= self.len() {
+                return self.numbers_of_bits(at);
+            }
+        }
         [
             self.piece_number(scalar, size, at),
             self.piece_number(scalar, size, at + size),
             self.piece_number(scalar, size, at + 2 * size),
             self.piece_number(scalar, size, at + 3 * size),
+        ]
+    }
+
+    /// The numbers of four pieces of four bits each that stand in one word.
+    fn numbers_of_bits(&self, at: usize) -> [usize; 4]
+        requires even { order_number self.now.order ≡ 2 }
+        requires one_word { at % 64 ≤ 48 }
+        requires inside { at + 16 ≤ length self.now.entries }
+        ensures { result ≡ piece_numbers self.now 1 4 at }
+    {
+        let bits = self.constant.sixteen_from(at);
+        [
+            number_of_bits(bits),
+            number_of_bits(bits >> 4),
+            number_of_bits(bits >> 8),
+            number_of_bits(bits >> 12),
         ]
     }
 
@@ -39,4 +62,13 @@ impl Row {
         }
         number
     }
+}
+
+/// The number whose digits in base 2 are the four lowest bits of a word, most significant first.
+fn number_of_bits(word: u64) -> usize
+    ensures { result ≡ number_with_digits 2 (bit_at word 0 ∷ bit_at word 1 ∷ bit_at word 2 ∷ bit_at word 3 ∷ []) }
+{
+    let (first, second) = (word % 2, word / 2 % 2);
+    let (third, fourth) = (word / 4 % 2, word / 8 % 2);
+    (8 * first + 4 * second + 2 * third + fourth) as usize
 }
