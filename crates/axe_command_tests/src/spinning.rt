@@ -1,4 +1,6 @@
-//! `zsp` and `zqt`: spun rows, the action of a module on them, and quotients.
+//! `zsp` and `zqt`: spun rows, the action of a module on them, and quotients; and what a device that fails leaves of
+//! two results.
+use crate::failing::play_failing;
 use crate::script::play;
 
 const SPUN: &str = r"
@@ -62,4 +64,20 @@ $ zsp -g 17 M S OUT -> 2 ..
 #[test]
 fn a_refusal_leaves_every_file(rt: HostRuntime) {
     play(&rt, REFUSED);
+}
+
+/// Four calls: two files are fetched, and two are put.
+const FOUR_CALLS: &str = r"
++ M.1 packed 2 2 2 C0 80
++ SEED packed 2 1 2 40
+$ zsp -g 1 -b -a T M SEED OUT -> 0
+? M.1
+? SEED
+= OUT packed 2 2 2 40 80
+= T.1 packed 2 2 2 40 C0
+";
+
+#[test]
+fn a_device_that_fails_leaves_the_results_before_it(rt: HostRuntime) {
+    play_failing(&rt, FOUR_CALLS);
 }

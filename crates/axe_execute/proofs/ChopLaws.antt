@@ -72,7 +72,7 @@ made_of_read count matrices counted wells many = cases (checked_module matrices)
     cases (Ok m) is generators = whole_module m count counted is (generators ∙ many)
     cases (Err problem) is generators = tt
 
-module_is_module : (count : ℕ) (name : List ℕ) (files : Files) → IsGeneratorCount count → IfOk (module_in count name files) IsModule
+pub module_is_module : (count : ℕ) (name : List ℕ) (files : Files) → IsGeneratorCount count → IfOk (module_in count name files) IsModule
 unfolding module_in
 module_is_module count name files counted =
     cases (matrices_in files names) (matrices_are_matrices files names) (many_are_read files names)

@@ -4,3 +4,4 @@ pub mod ChopCommand
 pub mod Means
 pub mod Operations
 pub mod Execution
+pub mod AfterChop

@@ -1,15 +1,18 @@
 //! What holds of the meanings of commands.
 
-ghost use Rattle.std.specs.Prelude.{ℕ, List, Ok, Err};
+ghost use Rattle.std.specs.Prelude.{◌≡◌, ℕ, ◌^◌, ◌<◌, List, Some, Ok, Err};
 ghost use Rattle.axe_matrix.specs.Matrices.{MatrixValue};
-ghost use Rattle.axe_folder.specs.Files.{Files};
+ghost use Rattle.axe_report.specs.Passing.{IsSpelling};
+ghost use Rattle.axe_folder.specs.Files.{Files, file_at};
 ghost use Rattle.axe_arguments.specs.Commands.{HasCounts};
-ghost use Rattle.axe_arguments.specs.Counts.{IsGeneratorCount};
+ghost use Rattle.axe_arguments.specs.Counts.{IsGeneratorCount, IsWordCount};
 ghost use Rattle.axe_arguments.specs.declared.command.Command.{Command};
+ghost use Rattle.axe_fault.specs.declared.fault.Fault.{Fault};
 ghost use Rattle.axe_plan.specs.Plans.{Plan, StaysOpen};
 ghost use Rattle.axe_plan.specs.Meanings.{Answered, AtMostOne};
 ghost use Rattle.axe_execute.specs.ChopCommand.{ChopPlan, WritesSeries, FindsOpenSection};
 ghost use Rattle.axe_execute.specs.Means.{Means};
+ghost use Rattle.axe_execute.specs.AfterChop.{ChopFails, report_file, IsLeftByChop, IsBeforeOrAfterChop};
 
 /// A command has exactly one meaning: on the files of a folder it has one plan, or one problem stands against it.
 pub fn commands_have_one_meaning()
@@ -22,7 +25,21 @@ pub fn chop_writes_a_series()
     ensures series { (count seed words : ℕ) (name : List ℕ) (files : Files) (plan : Plan) →
         IsGeneratorCount count → ChopPlan count seed words name files (Ok plan) →
         WritesSeries count seed words name files plan }
-    ensures open_section { (count seed words : ℕ) (name : List ℕ) (files : Files) (basis : MatrixValue) (offset dim : ℕ) →
-        IsGeneratorCount count → ChopPlan count seed words name files (Err (StaysOpen basis offset dim)) →
+    ensures open_section { (count seed words : ℕ) (name : List ℕ) (files : Files) (basis : MatrixValue)
+        (offset dim : ℕ) → IsGeneratorCount count →
+        ChopPlan count seed words name files (Err (StaysOpen basis offset dim)) →
         FindsOpenSection count seed words name files basis offset dim }
+{}
+
+/// Whatever fault `chop` ends with, every file is as it was, or there is no report, or the report has the first bytes
+/// of this run's, with all other files of this run. So what can be read as a report is the one from before, with every
+/// file as it was, or this run's, with all its files.
+pub fn chop_leaves_no_wrong_report()
+    ensures left { (generators seed words : ℕ) (name : List ℕ) (fault : Fault) (old new : Files) →
+        ChopFails generators seed words name fault old new → IsLeftByChop generators seed words name old new }
+    ensures report { (generators seed words : ℕ) (name : List ℕ) (fault : Fault) (old new : Files) (bytes : List ℕ) →
+        IsGeneratorCount generators → seed < 2 ^ 64 → IsWordCount words →
+        ChopFails generators seed words name fault old new →
+        file_at new (report_file name) ≡ Some bytes → IsSpelling bytes →
+        IsBeforeOrAfterChop generators seed words name old new }
 {}

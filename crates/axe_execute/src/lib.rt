@@ -13,4 +13,4 @@ mod quotients;
 mod spinning;
 
 pub use execution::{Shown, execute};
-pub use laws::{chop_writes_a_series, commands_have_one_meaning};
+pub use laws::{chop_leaves_no_wrong_report, chop_writes_a_series, commands_have_one_meaning};

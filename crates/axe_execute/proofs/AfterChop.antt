@@ -1,0 +1,216 @@
+-- What a fault of `chop` leaves of the files.
+use Rattle.std.proofs.Common.{◌≡◌, ◌≢◌, refl, sym, ◌∙◌, ap, subst, ℕ, suc, ◌+◌, ◌^◌, ◌<◌, List, [], ◌∷◌, ◌++◌, append_assoc, append-nil, take, drop, take-append-drop, codes, map, decimal, length, length-append, get_or, Some, None, Ok, Err, IfOk, inl, inr, arith}
+use Rattle.std.specs.List.{range_with_len}
+use Rattle.std.proofs.lemmas.List.{append_cancel_left}
+use Rattle.axe_matrix.specs.Matrices.{MatrixValue}
+use Rattle.axe_spin.specs.Modules.{ModuleValue, IsModule}
+use Rattle.axe_series.specs.Runs.{Outcome, complete, open_section}
+use Rattle.axe_series.specs.Series.{basis_of_rows, factors_of_forms}
+use Rattle.axe_report.specs.Names.{letters, constituent_name, names_after, names_of}
+use Rattle.axe_report.specs.Passing.{IsSpelling}
+use Rattle.axe_report.proofs.Letters.{some_letter}
+use Rattle.axe_report.proofs.Unique.{no_prefix}
+use Rattle.axe_chop.specs.Reported.{dims_of_factors, series_report}
+use Rattle.axe_chop.proofs.SeriesReports.{series_has_report}
+use Rattle.axe_file.specs.Packed.{packed}
+use Rattle.axe_folder.specs.declared.fault.FolderFault.TheVariants as folder
+use Rattle.axe_folder.specs.Files.{Files, file_at}
+use Rattle.axe_arguments.specs.Counts.{IsGeneratorCount, IsWordCount}
+use Rattle.axe_fault.specs.declared.fault.Fault.{Fault}
+use Rattle.axe_fault.specs.declared.fault.Fault.TheVariants.{File, Folder, Refused, Undecided, Usage, Memory}
+use Rattle.axe_plan.specs.Plans.{Step, Put, Remove, Plan}
+use Rattle.axe_plan.specs.Outcome.{BrokeOff, Halted}
+use Rattle.axe_plan.specs.Outputs.{put_generator, put_generators}
+use Rattle.axe_execute.specs.ChopCommand.{put_factors, series_plan, chop_answer, ChopPlan, FoundPlan, WritesSeries}
+use Rattle.axe_execute.specs.Execution.{HasPlan}
+use Rattle.axe_execute.specs.AfterChop.{ChopFails, report_file, IsLeftByChop, IsBeforeOrAfterChop}
+use Rattle.axe_execute.proofs.ChopLaws.{plan_of_series, module_is_module}
+use Rattle.axe_execute.proofs.AfterChopSteps.{Spare, spare_append, Left, unchanged, absent, torn, left_by_broken, left_by_halted, all_if_whole}
+
+-- ---- the file of the report is no other file of a run
+
+-- in `.rep` there is one dot, and it stands first
+dot_is_first : (x y : List ℕ) → x ++ 46 ∷ y ≡ codes ".rep" → x ≡ []
+dot_is_first [] y e = refl
+dot_is_first (a ∷ []) y e = absurd (differ (ap (λ (text : List ℕ). get_or text 1 0) e))
+  where
+    differ : ◌≡◌ {A = ℕ} 46 114 → ⊥
+    differ same = omega (arith, same)
+dot_is_first (a ∷ b ∷ []) y e = absurd (differ (ap (λ (text : List ℕ). get_or text 2 0) e))
+  where
+    differ : ◌≡◌ {A = ℕ} 46 101 → ⊥
+    differ same = omega (arith, same)
+dot_is_first (a ∷ b ∷ c ∷ []) y e = absurd (differ (ap (λ (text : List ℕ). get_or text 3 0) e))
+  where
+    differ : ◌≡◌ {A = ℕ} 46 112 → ⊥
+    differ same = omega (arith, same)
+dot_is_first (a ∷ b ∷ c ∷ d ∷ x) y e = absurd (longer (ap (λ (text : List ℕ). length text) e))
+  where
+    longer : suc (suc (suc (suc (length (x ++ 46 ∷ y))))) ≡ 4 → ⊥
+    longer same = omega (arith, same, length-append x (46 ∷ y))
+
+-- the name of a constituent's file, whatever stands behind its dot
+constituent_file_differs : (name constituent rest : List ℕ) → constituent ≢ [] → (name ++ constituent) ++ 46 ∷ rest ≢ report_file name
+constituent_file_differs name constituent rest some e =
+    some (dot_is_first constituent rest (append_cancel_left name (constituent ++ 46 ∷ rest) (codes ".rep")
+    (sym (append_assoc name constituent (46 ∷ rest)) ∙ e)))
+
+basis_file_differs : (name : List ℕ) → name ++ codes ".bas" ≢ report_file name
+basis_file_differs name e = differ (ap (λ (text : List ℕ). get_or text 1 0) (append_cancel_left name (codes ".bas") (codes ".rep") e))
+  where
+    differ : ◌≡◌ {A = ℕ} 98 114 → ⊥
+    differ same = omega (arith, same)
+
+-- no name is empty
+abbrev AreNonempty : List (List ℕ) → Type 0
+AreNonempty [] = Unit {0}
+AreNonempty (first ∷ names) = (first ≢ []) × AreNonempty names
+
+nonempty_end : (x y : List ℕ) → y ≢ [] → x ++ y ≢ []
+nonempty_end [] y some e = some e
+nonempty_end (a ∷ x) y some e = absurd cc
+
+some_letters : (number : ℕ) → letters number ≢ []
+some_letters number e = absurd (omega (arith, some_letter number, ap (λ (text : List ℕ). length text) e))
+
+names_nonempty : (earlier dims : List ℕ) → AreNonempty (names_after earlier dims)
+unfolding names_after constituent_name
+names_nonempty earlier [] = tt
+names_nonempty earlier (dim ∷ dims) = (nonempty_end (decimal dim) (letters _) (some_letters _), names_nonempty (earlier ++ dim ∷ []) dims)
+
+all_names_nonempty : (dims : List ℕ) → AreNonempty (names_of dims)
+unfolding names_of
+all_names_nonempty dims = names_nonempty [] dims
+
+generators_spare : (name constituent : List ℕ) (factor : ModuleValue) (indices : List ℕ) → constituent ≢ [] →
+    Spare (report_file name) (map (put_generator (name ++ constituent) factor) indices)
+generators_spare name constituent factor [] some = tt
+generators_spare name constituent factor (i ∷ indices) some =
+    (constituent_file_differs name constituent (decimal (i + 1)) some, generators_spare name constituent factor indices some)
+
+factors_spare : (name : List ℕ) (constituents : List (List ℕ)) (factors : List ModuleValue) → AreNonempty constituents →
+    Spare (report_file name) (put_factors name constituents factors)
+factors_spare name [] factors some = tt
+factors_spare name (constituent ∷ constituents) [] some = tt
+factors_spare name (constituent ∷ constituents) (factor ∷ factors) some =
+    spare_append (report_file name) (put_generators (name ++ constituent) factor) (put_factors name constituents factors)
+    (generators_spare name constituent factor (range_with_len 0 (length factor.generators)) some.0)
+    (factors_spare name constituents factors some.1)
+
+-- ---- the plan
+
+-- a plan takes the report away, goes on with steps that spare it, and puts it last as it is shown
+record PutsReportLast (name : List ℕ) (plan : Plan) : Type 0 where
+  middle : List Step
+  spared : Spare (report_file name) middle
+  steps_are : plan.steps ≡ Remove (report_file name) ∷ (middle ++ Put (report_file name) plan.shown ∷ [])
+
+series_puts_report_last : (name : List ℕ) (m : ModuleValue) (seed words : ℕ) (basis : MatrixValue) (factors : List ModuleValue) (places : List ℕ) →
+    PutsReportLast name (series_plan name m seed words basis factors places)
+unfolding series_plan
+series_puts_report_last name m seed words basis factors places = record {
+  middle = Put (name ++ codes ".bas") (packed basis) ∷ put_factors name (names_of (dims_of_factors factors)) factors;
+  spared = (basis_file_differs name, factors_spare name (names_of (dims_of_factors factors)) factors (all_names_nonempty (dims_of_factors factors)));
+  steps_are = refl;
+}
+
+answer_puts_report_last : (name : List ℕ) (m : ModuleValue) (seed words : ℕ) (outcome : Outcome) →
+    IfOk (chop_answer name m seed words outcome) (PutsReportLast name)
+answer_puts_report_last name m seed words (complete found) =
+    series_puts_report_last name m seed words (basis_of_rows m found.rows) (factors_of_forms found.forms) found.places
+answer_puts_report_last name m seed words (open_section rows offset dim) = tt
+
+plan_puts_report_last : (generators seed words : ℕ) (name : List ℕ) (files : Files) (plan : Plan) → ChopPlan generators seed words name files (Ok plan) →
+    PutsReportLast name plan
+unfolding ChopPlan FoundPlan
+plan_puts_report_last generators seed words name files plan (Err problem, is, right) =
+    subst (λ answer. IfOk answer (PutsReportLast name)) (sym right) tt
+plan_puts_report_last generators seed words name files plan (Ok m, is, (Err problem, none, right)) = absurd none
+plan_puts_report_last generators seed words name files plan (Ok m, is, (Ok outcome, run, right)) =
+    subst (λ answer. IfOk answer (PutsReportLast name)) right (answer_puts_report_last name m seed words outcome)
+
+-- ---- what is left
+
+left_by_plan : (generators seed words : ℕ) (name : List ℕ) (old new : Files) (plan : Plan) → ChopPlan generators seed words name old (Ok plan) →
+    Left (report_file name) plan.shown plan.steps old new → IsLeftByChop generators seed words name old new
+left_by_plan generators seed words name old new plan right (unchanged same) = inl same
+left_by_plan generators seed words name old new plan right (absent none) = inr (inl none)
+left_by_plan generators seed words name old new plan right (torn count is others) =
+    inr (inr (plan, right, record { count = count; report = is; others = others }))
+
+left_by_broken_plan : (generators seed words : ℕ) (name file : List ℕ) (old new : Files) →
+    HasPlan (ChopPlan generators seed words name old) (λ plan. BrokeOff plan.steps file old new) → IsLeftByChop generators seed words name old new
+left_by_broken_plan generators seed words name file old new (plan, right, broke) =
+    let shape = plan_puts_report_last generators seed words name old plan right in
+    left_by_plan generators seed words name old new plan right
+    (left_by_broken (report_file name) plan.shown shape.middle old shape.spared plan.steps file new shape.steps_are broke)
+
+left_by_halted_plan : (generators seed words : ℕ) (name : List ℕ) (old new : Files) →
+    HasPlan (ChopPlan generators seed words name old) (λ plan. Halted plan.steps old new) → IsLeftByChop generators seed words name old new
+left_by_halted_plan generators seed words name old new (plan, right, halted) =
+    let shape = plan_puts_report_last generators seed words name old plan right in
+    left_by_plan generators seed words name old new plan right
+    (left_by_halted (report_file name) plan.shown shape.middle old shape.spared plan.steps new shape.steps_are halted)
+
+pub left_by_chop : (generators seed words : ℕ) (name : List ℕ) (fault : Fault) (old new : Files) → ChopFails generators seed words name fault old new →
+    IsLeftByChop generators seed words name old new
+left_by_chop generators seed words name (File file fault) old new fails = inl fails.1
+left_by_chop generators seed words name (Folder file folder.Missing) old new fails = inl fails.1
+left_by_chop generators seed words name (Folder file folder.TooLong) old new fails = inl fails.1
+left_by_chop generators seed words name (Folder file folder.Device) old new (inl unread) = inl unread.1
+left_by_chop generators seed words name (Folder file folder.Device) old new (inr broke) = left_by_broken_plan generators seed words name _ old new broke
+left_by_chop generators seed words name (Folder file folder.Memory) old new fails = absurd fails
+left_by_chop generators seed words name (Refused refusal) old new fails = inl fails.1
+left_by_chop generators seed words name (Undecided basis offset dim) old new fails = inl fails.1
+left_by_chop generators seed words name (Usage text) old new fails = absurd fails
+left_by_chop generators seed words name Memory old new (inl same) = inl same
+left_by_chop generators seed words name Memory old new (inr halted) = left_by_halted_plan generators seed words name old new halted
+
+-- ---- what can be read as a report
+
+-- bytes that begin a report, and are a report, are all of it
+whole_if_spelling : (text bytes : List ℕ) (count : ℕ) → IsSpelling text → IsSpelling bytes → bytes ≡ take count text → bytes ≡ text
+whole_if_spelling text bytes count (a, is_a, spells_a) (b, is_b, spells_b) first =
+    sym (append-nil bytes) ∙ ap (λ rest. bytes ++ rest) (sym no_rest) ∙ joined
+  where
+    joined : bytes ++ drop count text ≡ text
+    joined = ap (λ front. front ++ drop count text) first ∙ take-append-drop count text
+
+    no_rest : drop count text ≡ []
+    no_rest = no_prefix b a (drop count text) is_b is_a (ap (λ front. front ++ drop count text) (sym spells_b) ∙ joined ∙ spells_a)
+
+-- what a plan of `chop` shows is a report
+shown_is_report : (generators seed words : ℕ) (name : List ℕ) (files : Files) (plan : Plan) → IsGeneratorCount generators → seed < 2 ^ 64 →
+    IsWordCount words → WritesSeries generators seed words name files plan → IsSpelling plan.shown
+unfolding series_plan
+shown_is_report generators seed words name files plan counted small few writes = (
+  series_report writes.m seed words writes.factors writes.places,
+  series_has_report writes.m seed words writes.basis writes.factors writes.places is small (omega (arith, few.fits)) writes.series,
+  ap (λ (p : Plan). p.shown) writes.plan_is,
+)
+  where
+    is : IsModule writes.m
+    is = subst (λ answer. IfOk answer IsModule) writes.is_module (module_is_module generators name files counted)
+
+pub before_or_after : (generators seed words : ℕ) (name : List ℕ) (fault : Fault) (old new : Files) (bytes : List ℕ) → IsGeneratorCount generators →
+    seed < 2 ^ 64 → IsWordCount words → ChopFails generators seed words name fault old new → file_at new (report_file name) ≡ Some bytes →
+    IsSpelling bytes → IsBeforeOrAfterChop generators seed words name old new
+before_or_after generators seed words name fault old new bytes counted small few fails here spelling =
+    cases (left_by_chop generators seed words name fault old new fails)
+  where
+    some : {x y : List ℕ} → Some x ≡ Some y → x ≡ y
+    some e = cc
+
+    cases : IsLeftByChop generators seed words name old new → IsBeforeOrAfterChop generators seed words name old new
+    cases (inl same) = inl same
+    cases (inr (inl none)) = absurd (let no : Some bytes ≡ None = sym here ∙ none in cc)
+    cases (inr (inr (plan, right, part))) =
+        let shape = plan_puts_report_last generators seed words name old plan right in
+        let shown = shown_is_report generators seed words name old plan counted small few (plan_of_series generators seed words name old plan counted right) in
+        let all : bytes ≡ plan.shown = whole_if_spelling plan.shown bytes part.count shown spelling (some (sym here ∙ part.report)) in
+        inr (
+          plan,
+          right,
+          all_if_whole (report_file name) plan.shown shape.middle old shape.spared plan.steps new shape.steps_are
+              (here ∙ ap Some all) part.others,
+        )
