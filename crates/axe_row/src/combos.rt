@@ -161,8 +161,9 @@ impl Combos {
         ensures kept { (x : ℕ) → x < scalar * filled →
             slice_index_or self.new.rows x [] ≡ slice_index_or self.old.rows x [] }
         ensures sums { (i : ℕ) → i < filled →
+            let earlier = slice_index_or self.old.rows i [] in
             slice_index_or self.new.rows (scalar * filled + i) []
-            ≡ sum_with_multiple (number_field self.old.order) (slice_index_or self.old.rows i []) scalar row.now.entries }
+            ≡ sum_with_multiple (number_field self.old.order) earlier scalar row.now.entries }
         ensures kind { AreOfOneKind self.new self.old }
         ensures well_formed { IsTableOfRows self.new }
     {

@@ -11,7 +11,8 @@ use crate::Row;
 impl Row {
     /// The numbers of four pieces of a row of so many entries each, one after another from an index on: the entries of
     /// a piece, each times a scalar, are the digits of its number in base q, most significant first, where q is the
-    /// order of the field. A piece that goes beyond the end is as short as that makes it, and an empty one has number 0.
+    /// order of the field. A piece that goes beyond the end is as short as that makes it, and an empty one has number
+    /// 0.
     pub fn piece_numbers(&self, scalar: u8, size: usize, at: usize) -> [usize; 4]
         requires element { IsElement self.now.order scalar }
         requires short { size ≤ 4 }

@@ -1,4 +1,4 @@
-use Rattle.std.proofs.Common.{◌≡◌, ◌+◌, ◌≤◌, length, ap, sym, refl, ◌∙◌, arith, lit≤}
+use Rattle.std.proofs.Common.{◌≡◌, ◌+◌, length, ap, sym, refl, ◌∙◌, arith, lit≤}
 use native.Mathlib.Nat.{div-one}
 use Rattle.axe_plane.specs.Planes.{digits_of}
 use Rattle.axe_row.specs.Combinations.{piece_number}
@@ -9,8 +9,12 @@ use Rattle.axe_row.proofs.Row.numbers_of_bits.Goals as goal
 
 pub sixteen_from-bits-requires-clause-inside : goal.sixteen_from-bits-requires-clause-inside
 sixteen_from-bits-requires-clause-inside c =
-    omega (arith, c.requires.inside, ap (λ (r : RowValue). length r.entries) c.self.view_is,
-    length-entries c.self.inside.field (digits_of c.self.inside.constant) (digits_of c.self.inside.linear) (digits_of c.self.inside.quadratic))
+    omega (
+      arith,
+      c.requires.inside,
+      ap (λ (r : RowValue). length r.entries) c.self.view_is,
+      length-entries c.self.inside.field (digits_of c.self.inside.constant) (digits_of c.self.inside.linear) (digits_of c.self.inside.quadratic),
+    )
 
 pub returns : goal.returns
 returns c =
