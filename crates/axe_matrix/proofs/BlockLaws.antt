@@ -1,18 +1,14 @@
 -- The combinations of pieces of rows that the tables of a product hold, and what adding them to a row makes of it.
-use Rattle.std.proofs.Common.{◌≡◌, ℕ, ◌+◌, ◌-◌, ◌*◌, ◌^◌, ◌<◌, ◌≤◌, List, [], length, get_or, min, take, drop, refl, sym, ap, ◌∙◌, subst, arith}
-use Rattle.std.specs.List.{All}
+use Rattle.std.proofs.Common.{◌≡◌, ℕ, ◌+◌, ◌-◌, ◌*◌, ◌<◌, ◌≤◌, List, [], length, get_or, min, drop, refl, sym, ap, ◌∙◌, arith}
 use Rattle.std.specs.Simd.Lanes.{chunk}
-use Rattle.std.proofs.Math.Nat.{pow-le-pow_right}
 use Rattle.std.proofs.lemmas.List.{ext_get_or, get_or-drop, get_or-take, get_or_past, length-drop, length-take}
-use Rattle.std.proofs.lemmas.List.Elements.{All-drop, All-take, All-from_get_or, All-get_or}
-use Rattle.axe_algebra.specs.Digits.{digits, number_with_digits}
-use Rattle.axe_algebra.specs.Lists.{entry, listed, AreElements}
+use Rattle.axe_algebra.specs.Lists.{entry, AreElements}
 use Rattle.axe_algebra.specs.ListArithmetic.{number_sum, combination_entry, combination}
 use Rattle.axe_algebra.specs.NumberField.{NumberField}
-use Rattle.axe_algebra.proofs.ElementNumbers.{zero-below, entry-below, number_sum_same}
+use Rattle.axe_algebra.proofs.ElementNumbers.{entry-below, number_sum_same}
 use Rattle.axe_algebra.proofs.ListEntries.{listed_length, listed_at}
 use Rattle.axe_row.specs.Operations.{sum_with_multiple, multiple}
-use Rattle.axe_row.proofs.OperationLaws.{length-sum_with_multiple, get_or-sum_with_multiple, length-multiple, get_or-multiple}
+use Rattle.axe_row.proofs.OperationLaws.{length-sum_with_multiple, get_or-sum_with_multiple, get_or-multiple}
 use Rattle.axe_matrix.specs.Products.{row_with_terms}
 use Rattle.axe_matrix.proofs.ProductLaws.{get_or-combination}
 use Rattle.axe_matrix.proofs.TermSums.{mul-zero, zero-mul, one-mul, sum-below, mul-number_sum, number_sum_longer, add_terms}

@@ -12,4 +12,4 @@ mod BlockLaws
 mod TableLaws
 mod RewrittenRows
 mod BlockRows
-mod ProductRows
+pub mod ProductRows

@@ -9,14 +9,15 @@ use Rattle.axe_algebra.proofs.ListEntries.{listed_length, listed_at, table_lengt
 use Rattle.axe_field.specs.Order.{Order, IsElement}
 use Rattle.axe_field.specs.NumberFields.{number_field}
 use Rattle.axe_matrix.specs.Matrices.{MatrixValue, IsMatrix, matrix_product, zero_matrix}
+use Rattle.axe_matrix.specs.Multiples.{rows_with_multiple, matrix_with_multiple}
 use Rattle.axe_matrix.specs.PieceTables.{AreTablesFor}
 use Rattle.axe_matrix.specs.declared.products.FourTables.{FourTables}
 use Rattle.axe_matrix.specs.Products.{row_with_terms, rows_with_terms, matrix_with_terms, rows_with_product, matrix_with_product}
 use Rattle.axe_matrix.proofs.BlockLaws.{HasElements, row_with_no_terms, row_with_more_terms}
 use Rattle.axe_matrix.proofs.BlockRows.{element-below, elements-below, entries-below, row_elements}
 use Rattle.axe_matrix.proofs.MatrixLaws.{same_matrix, length-row_of, IsRow-row_of}
-use Rattle.axe_matrix.proofs.ProductLaws.{product_entry-IsElement}
-use Rattle.axe_matrix.proofs.TermSums.{mul-zero, zero-mul, zero-add, one-mul, number_sum_longer}
+use Rattle.axe_matrix.proofs.ProductLaws.{entry-product, product_entry-IsElement}
+use Rattle.axe_matrix.proofs.TermSums.{mul-zero, zero-add, one-mul, number_sum_longer}
 
 pub rows_with_terms-listed : (d : MatrixValue) (c : ℕ) (a b : MatrixValue) (at n : ℕ) →
     record {
@@ -109,23 +110,27 @@ matrix_with_all_terms d c a b n ha hb a_field b_field rows_fit all =
     (entries-below d.order b hb b_field) all
     ∙ sym (listed_at (length d.rows) f i [] inside)))
 
+-- tables of the same entries
+same_table : (m n : ℕ) (f g : ℕ → ℕ → ℕ) → ((i j : ℕ) → i < m → j < n → f i j ≡ g i j) → table m n f ≡ table m n g
+same_table m n f g same =
+    ext_get_or [] (table m n f) (table m n g) (table_length m n f ∙ sym (table_length m n g)) (λ i below.
+    let row : i < m = omega (arith, table_length m n f) in
+    table_row m n f i row
+    ∙ ext_get_or 0 (listed n (f i)) (listed n (g i)) (listed_length n (f i) ∙ sym (listed_length n (g i))) (λ j within.
+    let column : j < n = omega (arith, listed_length n (f i)) in
+    listed_at n (f i) j 0 column ∙ same i j row column ∙ sym (listed_at n (g i) j 0 column))
+    ∙ sym (table_row m n g i row))
+
 zero_rows-is : (K : NumberField) (m n : ℕ) (f : ℕ → ℕ → ℕ) → ((i j : ℕ) → f i j < K.order) →
     table (length (table m n (λ i j. 0))) n (λ i j. K.add (entry (table m n (λ i j. 0)) i j) (K.mul 1 (f i j))) ≡ table m n f
 zero_rows-is K m n f small =
     let zeros : List (List ℕ) = table m n (λ i j. 0) in
-    let g : ℕ → List ℕ = λ i. listed n (λ j. K.add (entry zeros i j) (K.mul 1 (f i j))) in
-    ap (λ k. listed k g) (table_length m n (λ i j. 0))
-    ∙ ext_get_or [] (listed m g) (table m n f) (listed_length m g ∙ sym (table_length m n f)) (λ i below.
-    let row : i < m = omega (arith, listed_length m g) in
-    listed_at m g i [] row
-    ∙ ext_get_or 0 (g i) (listed n (f i)) (listed_length n _ ∙ sym (listed_length n (f i))) (λ j within.
-    let column : j < n = omega (arith, listed_length n (λ j. K.add (entry zeros i j) (K.mul 1 (f i j)))) in
-    listed_at n _ j 0 column
-    ∙ ap (λ x. K.add x (K.mul 1 (f i j))) (table_entry m n (λ i j. 0) i j row column)
+    let g : ℕ → ℕ → ℕ = λ i j. K.add (entry zeros i j) (K.mul 1 (f i j)) in
+    ap (λ k. table k n g) (table_length m n (λ i j. 0))
+    ∙ same_table m n g f (λ i j row column.
+    ap (λ x. K.add x (K.mul 1 (f i j))) (table_entry m n (λ i j. 0) i j row column)
     ∙ ap (K.add 0) (one-mul K (f i j) (small i j))
-    ∙ zero-add K (f i j) (small i j)
-    ∙ sym (listed_at n (f i) j 0 column))
-    ∙ sym (table_row m n f i row))
+    ∙ zero-add K (f i j) (small i j))
 
 entries_of_product : (a b : MatrixValue) (n i j : ℕ) → IsMatrix a → IsMatrix b → a.order ≡ b.order →
     product_entry (number_field a.order) a.rows b.rows n i j < (number_field a.order).order
@@ -154,3 +159,18 @@ length-matrix_with_terms d c a b at n = length-rows_with_terms (number_field d.o
 -- tables for rows of one kind are tables for rows of the same kind
 pub tables_for : (o p : Order) (m n : ℕ) (tables : FourTables) → o ≡ p → m ≡ n → AreTablesFor o m tables → AreTablesFor p n tables
 tables_for o p m n tables order long h = subst (λ k. AreTablesFor p k tables) long (subst (λ q. AreTablesFor q m tables) order h)
+
+-- a multiple of a product that is added is that multiple of the product as a matrix
+pub product_as_multiple : (d : MatrixValue) (c : ℕ) (a b : MatrixValue) → a.order ≡ d.order → b.cols ≡ d.cols → length a.rows ≡ length d.rows →
+    matrix_with_product d c a b ≡ matrix_with_multiple d c (matrix_product a b)
+unfolding rows_with_product rows_with_multiple
+product_as_multiple d c a b field columns rows_fit =
+    let K : NumberField = number_field d.order in
+    let P : List (List ℕ) = product (number_field a.order) b.cols a.rows b.rows in
+    let f : ℕ → ℕ → ℕ = λ i j. K.add (entry d.rows i j) (K.mul c (product_entry K a.rows b.rows (length b.rows) i j)) in
+    let g : ℕ → ℕ → ℕ = λ i j. K.add (entry d.rows i j) (K.mul c (entry P i j)) in
+    same_matrix (matrix_with_product d c a b) (matrix_with_multiple d c (matrix_product a b)) refl refl
+    (same_table (length d.rows) d.cols f g (λ i j row column.
+    ap (λ x. K.add (entry d.rows i j) (K.mul c x))
+    (ap (λ o. product_entry (number_field o) a.rows b.rows (length b.rows) i j) (sym field)
+    ∙ sym (entry-product (number_field a.order) b.cols a.rows b.rows i j (omega (arith, rows_fit)) (omega (arith, columns))))))

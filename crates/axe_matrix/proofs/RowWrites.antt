@@ -4,13 +4,10 @@ use Rattle.std.specs.List.{All}
 use Rattle.std.proofs.lemmas.List.{get_or-map, length-map, length-set, map-set}
 use Rattle.std.proofs.lemmas.List.Elements.{All-set}
 use Rattle.axe_field.specs.Order.{Order, IsElement}
-use Rattle.axe_field.specs.NumberFields.{number_field}
 use Rattle.axe_row.specs.Rows.{RowValue, IsRow}
-use Rattle.axe_row.specs.Operations.{sum_with_multiple, row_with_multiple}
 use Rattle.axe_row.proofs.RowLaws.{same_row}
 use Rattle.axe_matrix.specs.Matrices.{MatrixValue, IsMatrix, row_of}
 use Rattle.axe_matrix.specs.RowLists.{matrix_from_rows, MakeMatrix}
-use Rattle.axe_matrix.proofs.RowListLaws.{IsRow-at, length-at}
 
 -- a matrix with another row
 IsMatrix-set : (m : MatrixValue) (i : ℕ) (row : List ℕ) → IsMatrix m → length row ≡ m.cols → All (IsElement m.order) row →
@@ -32,38 +29,6 @@ order-at o n rows i row h below e = ap (λ (r : RowValue). r.order) e ∙ h.one_
 pub below_rows : (m : MatrixValue) (o : Order) (n : ℕ) (rows : List RowValue) (i : ℕ) → matrix_from_rows o n rows ≡ m → i < length m.rows → i < length rows
 below_rows m o n rows i is below =
     omega (arith, ap (λ (x : MatrixValue). length x.rows) is, length-map rows (λ (r : RowValue). r.entries), below)
-
--- a multiple of a row is added to the row at an index
-pub MakeMatrix-add : (o : Order) (n : ℕ) (rows : List RowValue) (i : ℕ) (old new : RowValue) (c : ℕ) (row : RowValue) → MakeMatrix o n rows →
-    i < length rows → old ≡ get_or rows i old → new ≡ row_with_multiple old c row → length new.entries ≡ length old.entries → IsRow new →
-    MakeMatrix o n (set rows i new)
-MakeMatrix-add o n rows i old new c row h below old_is new_is as_long well_formed = record {
-  one_field = All-set (λ (r : RowValue). r.order ≡ o) rows i new field h.one_field;
-  matrix = subst (λ list. IsMatrix (record { order = o; cols = n; rows = list })) (sym (map-set (λ (r : RowValue). r.entries) rows i new))
-      (IsMatrix-set (matrix_from_rows o n rows) i new.entries h.matrix (as_long ∙ length-at o n rows i old h below old_is)
-      (subst (λ p. All (IsElement p) new.entries) field well_formed.elements));
-}
-  where
-    field : new.order ≡ o
-    field = ap (λ (r : RowValue). r.order) new_is ∙ order-at o n rows i old h below old_is
-
-pub matrix_from_added_rows : (o : Order) (n : ℕ) (rows : List RowValue) (i : ℕ) (old new : RowValue) (c : ℕ) (row : RowValue) → MakeMatrix o n rows →
-    i < length rows → old ≡ get_or rows i old → new ≡ row_with_multiple old c row →
-    matrix_from_rows o n (set rows i new)
-    ≡ record {
-      order = o;
-      cols = n;
-      rows = set (map (λ (r : RowValue). r.entries) rows) i
-          (sum_with_multiple (number_field o) (get_or (map (λ (r : RowValue). r.entries) rows) i []) c row.entries);
-    }
-matrix_from_added_rows o n rows i old new c row h below old_is new_is =
-    ap (λ list. record { order = o; cols = n; rows = list }) (
-    map-set (λ (r : RowValue). r.entries) rows i new
-    ∙ ap (set (map (λ (r : RowValue). r.entries) rows) i) (
-    ap (λ (r : RowValue). r.entries) new_is
-    ∙ ap (λ p. sum_with_multiple (number_field p) old.entries c row.entries) (order-at o n rows i old h below old_is)
-    ∙ ap (λ x. sum_with_multiple (number_field o) x c row.entries)
-    (ap (λ (r : RowValue). r.entries) old_is ∙ sym (get_or-map (λ (r : RowValue). r.entries) rows i old [] below))))
 
 -- another row is written at an index
 pub MakeMatrix-write : (o : Order) (n : ℕ) (rows : List RowValue) (i : ℕ) (new : RowValue) → MakeMatrix o n rows →

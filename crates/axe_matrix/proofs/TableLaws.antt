@@ -1,15 +1,13 @@
 -- The rows of tables that combine pieces of a matrix's rows.
-use Rattle.std.proofs.Common.{◌≡◌, ℕ, ◌+◌, ◌-◌, ◌^◌, ◌<◌, ◌≤◌, List, [], length, get_or, min, map, take, drop, replicate, inl, inr, refl, sym, ap, ◌∙◌, subst, arith}
+use Rattle.std.proofs.Common.{◌≡◌, ℕ, ◌+◌, ◌-◌, ◌^◌, ◌<◌, ◌≤◌, List, [], length, get_or, min, map, take, drop, inl, inr, sym, ap, ◌∙◌, subst, arith}
 use Rattle.std.specs.List.{All}
 use Rattle.std.specs.Simd.Lanes.{chunk}
 use Rattle.std.proofs.Math.Nat.{pow-le-pow_right, pow-zero}
 use Rattle.std.proofs.lemmas.Bool.{cases_lt}
-use Rattle.std.proofs.lemmas.List.{get_or-map, length-drop, length-map, length-take, take_all, drop_all, take-map, drop-map}
+use Rattle.std.proofs.lemmas.List.{length-drop, take_all, drop_all, take-map, drop-map}
 use Rattle.std.proofs.lemmas.List.Elements.{All-drop, All-take, All-from_get_or, All-get_or}
 use Rattle.axe_algebra.specs.Digits.{digits, number_with_digits}
-use Rattle.axe_algebra.specs.Lists.{listed}
 use Rattle.axe_algebra.specs.ListArithmetic.{number_sum, combination_entry, combination}
-use Rattle.axe_algebra.specs.NumberField.{NumberField}
 use Rattle.axe_algebra.proofs.Digits.{number_with_digits-below, digits_of_their_number}
 use Rattle.axe_field.specs.CheckedLaws.{order_number-above}
 use Rattle.axe_field.specs.Order.{Order, order_number, IsElement}

@@ -1,8 +1,8 @@
 -- Sums of some terms over a field of numbers: cut in two, with a factor, and with terms of 0.
-use Rattle.std.proofs.Common.{◌≡◌, ℕ, ◌+◌, ◌<◌, ◌≤◌, sym, ap, ap₂, ◌∙◌, arith}
+use Rattle.std.proofs.Common.{◌≡◌, ℕ, ◌+◌, ◌<◌, ◌≤◌, sym, ap, ap₂, ◌∙◌}
 use Rattle.axe_algebra.specs.Field.{Field}
 use Rattle.axe_algebra.specs.ListArithmetic.{number_sum}
-use Rattle.axe_algebra.specs.Bridge.{ElementOf, field_of, element}
+use Rattle.axe_algebra.specs.Bridge.{field_of, element}
 use Rattle.axe_algebra.specs.NumberField.{NumberField}
 use Rattle.axe_algebra.proofs.ElementNumbers.{zero-below, element_zero, element_add, element_mul, element_number_sum, same_number, number_sum-below}
 use Rattle.axe_algebra.proofs.FieldLaws as Laws

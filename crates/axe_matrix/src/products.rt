@@ -37,7 +37,13 @@ impl Matrix {
     /// Adds a multiple of the product of two matrices over the same field: each entry d becomes d + c s, where c is the
     /// scalar, and s the entry of the product. The first matrix has as many rows as this one, and as many columns as
     /// the second has rows; the second has as many columns as this one. For want of memory nothing is changed.
-    pub fn add_product(&mut self, alloc: Global, scalar: u8, a: &Matrix, b: &Matrix) -> Result<(), Refusal>
+    pub fn add_product(
+        &mut self,
+        alloc: Global,
+        scalar: u8,
+        a: &Matrix,
+        b: &Matrix,
+    ) -> Result<(), Refusal>
         requires a_field { a.now.order ≡ self.old.order }
         requires b_field { b.now.order ≡ self.old.order }
         requires rows_fit { length a.now.rows ≡ length self.old.rows }

@@ -1,12 +1,11 @@
 -- The value of a word, term by term; products of generators, generator by generator.
 use Rattle.std.specs.Prelude.{◌≡◌, ℕ, ◌+◌, ◌<◌, ◌≤◌, List, [], ◌∷◌, ◌++◌, length, take, get_or}
 use Rattle.std.specs.List.{All}
-use Rattle.std.proofs.lemmas.List.{take_more, length-take-le}
+use Rattle.std.proofs.lemmas.List.{take_all, take_more, length-take-le}
 use Rattle.std.proofs.lemmas.List.Elements.{All-take}
 use Rattle.axe_algebra.specs.NumberField.{NumberField}
 use Rattle.axe_algebra.specs.Field.{Field}
-use Rattle.axe_algebra.specs.Vectors.{Matrix, multiply}
-use Rattle.axe_algebra.specs.Modules.{Module, AreGenerators, path_product}
+use Rattle.axe_algebra.specs.Modules.{Module, path_product}
 use Rattle.axe_algebra.specs.Bridge.{field_of, matrix_of, module_of}
 use Rattle.axe_algebra.specs.Lists.{entry, table, IsVectorOver, IsSquareOver}
 use Rattle.axe_algebra.specs.ListArithmetic.{product, identity}
@@ -14,14 +13,16 @@ use Rattle.axe_algebra.specs.WordsOfLists.{IsWordOver, IsWordValue}
 use Rattle.axe_algebra.proofs.ProductLaws.{multiply_identity}
 use Rattle.axe_algebra.proofs.ListEntries.{table_length, table_entry, table_over, square_shape, matrix_entry-below}
 use Rattle.axe_algebra.proofs.ListProducts.{product_over, product_length, identity_over, identity_length}
-use Rattle.axe_algebra.proofs.ListModules.{module_shape, generator_over}
+use Rattle.axe_algebra.proofs.ListModules.{generator_over}
 use Rattle.axe_algebra.proofs.ListWords.{are_generators, empty_product, product_then, empty_sum, term_added, word_value_is_unique}
 use Rattle.axe_field.specs.Order.{Order, order_number, IsElement}
 use Rattle.axe_field.specs.NumberFields.{number_field}
 use Rattle.axe_field.proofs.NumberFields.{number_field-order}
 use Rattle.axe_matrix.specs.Matrices.{MatrixValue, matrix_product, zero_matrix, identity_matrix}
+use Rattle.axe_matrix.specs.Products.{matrix_with_product}
 use Rattle.axe_matrix.specs.Multiples.{rows_with_multiple, matrix_with_multiple}
 use Rattle.axe_matrix.proofs.MatrixLaws.{same_matrix}
+use Rattle.axe_matrix.proofs.ProductRows.{product_as_multiple}
 use Rattle.axe_spin.specs.Modules.{ModuleValue, IsModule, generator_of}
 use Rattle.axe_word.specs.Words.{WordValue, IsWordIn, IsValueOf}
 use Rattle.axe_word.specs.Products.{IsProductOf}
@@ -209,6 +210,19 @@ pub numbers-below : (m : ModuleValue) (word : WordValue) (index : ℕ) (numbers 
     numbers ≡ (get_or word index (0, [])).1 → All (λ number. number < length m.generators) numbers
 numbers-below m word index numbers over inside is =
     subst (All (λ number. number < length m.generators)) (sym is) (over.over.generators index (0, []) inside)
+
+-- one more term, whose last generator is multiplied as the product is added
+pub value-more_by_product : (m : ModuleValue) (word : WordValue) (index k : ℕ) (sum next x g : MatrixValue) (coefficient last : ℕ) (numbers : List ℕ) → IsModule m →
+    IsWordIn m word → index < length word → IsValueOf m (take index word) sum → coefficient ≡ (get_or word index (0, [])).0 →
+    numbers ≡ (get_or word index (0, [])).1 → k + 1 ≡ length numbers → IsProductOf m (take k numbers) x → last ≡ get_or numbers k 0 → g ≡ generator_of m last →
+    next ≡ matrix_with_product sum coefficient x g → IsValueOf m (take (index + 1) word) next
+value-more_by_product m word index k sum next x g coefficient last numbers is_m over inside is_value coefficient_is numbers_is all h last_is g_is is =
+    value-more m word index sum next (matrix_product x (generator_of m last)) coefficient numbers over inside is_value coefficient_is numbers_is
+    (subst (λ list. IsProductOf m list (matrix_product x (generator_of m last))) (take_all (k + 1) numbers (omega (arith, all)))
+    (product-next m numbers k last x (matrix_product x (generator_of m last)) is_m (numbers-below m word index numbers over inside numbers_is) (omega (arith, all)) last_is h refl))
+    (is ∙ ap (matrix_with_product sum coefficient x) g_is
+    ∙ product_as_multiple sum coefficient x (generator_of m last) (h.field ∙ sym is_value.field) (sym is_value.columns)
+    (h.square.length_is ∙ sym is_value.value.square.length_is))
 
 -- the identity has as many rows as the value of a word
 pub identity-fits : (m : ModuleValue) (word : WordValue) (o : Order) (n : ℕ) (x sum : MatrixValue) → x ≡ identity_matrix o n → n ≡ m.dim → IsValueOf m word sum →

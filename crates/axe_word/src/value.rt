@@ -63,9 +63,17 @@ impl Word {
             }
             // One generator is the product, as it stands.
             [number] => sum.add_scaled(term.coefficient, module.generator(usize::from(*number))),
+            // Two generators are multiplied as they are added.
+            [first, second] => {
+                let first = module.generator(usize::from(*first));
+                let second = module.generator(usize::from(*second));
+                sum.add_product(alloc, term.coefficient, first, second)?;
+            }
+            // Of more the last is multiplied as it is added.
             gens => {
-                let product = product(alloc, module, gens)?;
-                sum.add_scaled(term.coefficient, &product);
+                let before = product(alloc, module, &gens[..gens.len() - 1])?;
+                let last = module.generator(usize::from(gens[gens.len() - 1]));
+                sum.add_product(alloc, term.coefficient, &before, last)?;
             }
         }
         Ok(())

@@ -1,4 +1,4 @@
-use Rattle.std.proofs.Common.{◌≡◌, ◌+◌, ◌*◌, ◌<◌, ◌≤◌, ℕ, [], length, get_or, refl, ap, ◌∙◌, arith}
+use Rattle.std.proofs.Common.{◌≡◌, ◌*◌, ◌<◌, ◌≤◌, ℕ, length, get_or, ap, ◌∙◌, arith}
 use Rattle.axe_row.specs.Combinations.{CombosValue, IsRowFor, piece_number}
 use Rattle.axe_matrix.specs.Matrices.{row_of}
 use Rattle.axe_matrix.specs.PieceTables.{IsTableFor}

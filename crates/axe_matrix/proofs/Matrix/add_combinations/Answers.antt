@@ -1,8 +1,7 @@
-use Rattle.std.proofs.Common.{◌≡◌, ◌<◌, length, slice_index, set, ap, ◌∙◌}
+use Rattle.std.proofs.Common.{◌<◌, length, slice_index, set, ap, ◌∙◌}
 use Rattle.axe_row.specs.Combinations.{combination_at, row_with_four}
 use Rattle.axe_row.specs.Rows.{RowValue}
 use Rattle.axe_matrix.specs.Matrices.{MatrixValue, row_of}
-use Rattle.axe_matrix.specs.RowLists.{MakeMatrix}
 use Rattle.axe_matrix.proofs.RowListLaws.{length-at}
 use Rattle.axe_matrix.proofs.RowWrites.{below_rows, order-at, MakeMatrix-write, matrix_from_written_rows}
 use Rattle.axe_matrix.proofs.Matrix.add_combinations.Goals as goal

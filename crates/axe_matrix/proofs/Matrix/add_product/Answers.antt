@@ -1,7 +1,6 @@
-use Rattle.std.proofs.Common.{◌≡◌, ◌+◌, ◌*◌, ◌<◌, ◌≤◌, length, refl, sym, ap, ap₂, ◌∙◌, subst, arith}
+use Rattle.std.proofs.Common.{◌*◌, ◌≤◌, length, refl, sym, ap, ◌∙◌, subst, arith}
 use Rattle.axe_field.specs.Order.{Order, IsElement}
 use Rattle.axe_matrix.specs.Matrices.{MatrixValue}
-use Rattle.axe_matrix.specs.PieceTables.{AreTablesFor}
 use Rattle.axe_matrix.proofs.ProductRows.{matrix_with_no_terms, matrix_with_more_terms, matrix_with_all_terms, tables_for, length-matrix_with_terms}
 use Rattle.axe_matrix.proofs.Matrix.add_product.Goals as goal
 

@@ -1,4 +1,4 @@
-use Rattle.std.proofs.Common.{All, map, ◌≡◌, ◌-◌, ◌≤◌, length, take, drop, sym, ap, ◌∙◌, subst, arith}
+use Rattle.std.proofs.Common.{All, map, ◌≡◌, ◌-◌, length, drop, sym, ap, ◌∙◌, subst}
 use Rattle.std.specs.Simd.Lanes.{chunk}
 use Rattle.std.proofs.lemmas.List.{length-map}
 use Rattle.std.proofs.lemmas.List.Elements.{All-drop, All-take}

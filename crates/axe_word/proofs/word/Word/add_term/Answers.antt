@@ -1,5 +1,5 @@
-use Rattle.std.proofs.Common.{◌≡◌, length, arith}
-use Rattle.axe_word.proofs.ValueLaws.{value-more, product-none, product-one, coefficient-IsElement, numbers-below, identity-fits}
+use Rattle.std.proofs.Common.{◌≡◌, ◌+◌, ◌-◌, length, arith}
+use Rattle.axe_word.proofs.ValueLaws.{value-more, value-more_by_product, product-none, product-one, product-first, coefficient-IsElement, numbers-below, identity-fits}
 use Rattle.axe_word.proofs.word.Word.add_term.Goals as goal
 
 pub add_scaled-requires-clause-rows_fit : goal.add_scaled-requires-clause-rows_fit
@@ -12,10 +12,6 @@ add_scaled-requires-clause-element c =
 
 pub add_scaled-requires-in-len1-clause-element : goal.add_scaled-requires-in-len1-clause-element
 add_scaled-requires-in-len1-clause-element c =
-    coefficient-IsElement c.args.module.now c.args.self.now c.args.index _ _ c.requires.word c.requires.index c.term-term.ensures.coefficient c.requires.before.field
-
-pub add_scaled-requires-in_default-clause-element : goal.add_scaled-requires-in_default-clause-element
-add_scaled-requires-in_default-clause-element c =
     coefficient-IsElement c.args.module.now c.args.self.now c.args.index _ _ c.requires.word c.requires.index c.term-term.ensures.coefficient c.requires.before.field
 
 pub returns-in_ok-one-in-empty-clause-added : goal.returns-in_ok-one-in-empty-clause-added
@@ -35,7 +31,30 @@ returns-in-len1-clause-added c =
     c.from.ensures one)
     c.add_scaled-in-len1.ensures.sum
 
-pub returns-in_ok-product-in_default-clause-added : goal.returns-in_ok-product-in_default-clause-added
-returns-in_ok-product-in_default-clause-added c =
-    value-more c.args.module.now c.args.self.now c.args.index c.args.sum.now _ c.in_ok-product-in_default.product _ _ c.requires.word c.requires.index
-    c.requires.before c.term-term.ensures.coefficient c.term-term.ensures.numbers c.in_ok-product-in_default.ensures.product c.add_scaled-in_default.ensures.sum
+pub add_product-requires-clause-element : goal.add_product-requires-clause-element
+add_product-requires-clause-element c =
+    coefficient-IsElement c.args.module.now c.args.self.now c.args.index _ _ c.requires.word c.requires.index c.term-term.ensures.coefficient c.requires.before.field
+
+pub add_product-requires-in_default-clause-element : goal.add_product-requires-in_default-clause-element
+add_product-requires-in_default-clause-element c =
+    coefficient-IsElement c.args.module.now c.args.self.now c.args.index _ _ c.requires.word c.requires.index c.term-term.ensures.coefficient c.requires.before.field
+
+pub returns-in_ok-add_product-in-len2-clause-added : goal.returns-in_ok-add_product-in-len2-clause-added
+returns-in_ok-add_product-in-len2-clause-added c =
+    let numbers = c.term-term.result.gens.now in
+    let two : 2 ≡ length numbers = omega (arith, c.in-len2.len_at_least, c.in-len2.len_below) in
+    let each = numbers-below c.args.module.now c.args.self.now c.args.index numbers c.requires.word c.requires.index c.term-term.ensures.numbers in
+    value-more_by_product c.args.module.now c.args.self.now c.args.index 1 c.args.sum.now _ c.generator-first.result.now c.generator-second.result.now _ _ numbers
+    c.generator-first.ensures.well_formed c.requires.word c.requires.index c.requires.before c.term-term.ensures.coefficient c.term-term.ensures.numbers two
+    (product-first c.args.module.now numbers _ c.generator-first.result.now c.generator-first.ensures.well_formed each (omega (arith, two)) c.from-in-len2.ensures
+    c.generator-first.ensures.value)
+    c.from-in-len2-2.ensures c.generator-second.ensures.value c.in_ok-add_product-in-len2.ensures.sum
+
+pub returns-in_ok-add_product-in_default-clause-added : goal.returns-in_ok-add_product-in_default-clause-added
+returns-in_ok-add_product-in_default-clause-added c =
+    let numbers = c.term-term.result.gens.now in
+    let all : length numbers - 1 + 1 ≡ length numbers = omega (arith, c.in_default.len_at_least) in
+    value-more_by_product c.args.module.now c.args.self.now c.args.index (length numbers - 1) c.args.sum.now _ c.in_ok-before-in_default.before
+    c.generator-last.result.now _ _ numbers c.generator-last.ensures.well_formed c.requires.word c.requires.index c.requires.before
+    c.term-term.ensures.coefficient c.term-term.ensures.numbers all c.in_ok-before-in_default.ensures.product
+    c.from-in_default.ensures c.generator-last.ensures.value c.in_ok-add_product-in_default.ensures.sum
