@@ -37,6 +37,11 @@ pub answers_more : {T : Type 0} (result : Result T Refusal) (P Q : T → Type 0)
 answers_more (Ok value) P Q h more = more value h
 answers_more (Err refusal) P Q h more = h
 
+-- what else holds of the value
+pub answers_if_ok : {T : Type 0} (result : Result T Refusal) (P Q : T → Type 0) → Answers None P result → IfOk result Q → Answers None Q result
+answers_if_ok (Ok value) P Q h more = more
+answers_if_ok (Err refusal) P Q h more = h
+
 -- ---- refusals that are told by a callee
 
 -- a value that there is was not refused

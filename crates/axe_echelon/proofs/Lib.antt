@@ -12,3 +12,5 @@ pub mod NullLaws
 pub mod NullRowLaws
 pub mod OneMatrix
 pub mod SomeMatrix
+pub mod SubspaceLaws
+pub mod WholeSpace

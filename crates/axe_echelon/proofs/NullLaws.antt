@@ -1,8 +1,8 @@
 -- The null space of a matrix from the rows that are combinations of rows before them.
-use Rattle.std.specs.Prelude.{◌≡◌, ℕ, suc, ◌<◌, ◌≤◌}
+use Rattle.std.specs.Prelude.{◌≡◌, ℕ, suc, ◌<◌}
 use Rattle.axe_algebra.specs.Field.{Field}
 use Rattle.axe_algebra.specs.Vectors.{Vector, Matrix, HasLength, HasRowsOfLength, zero_vector, add_vectors, scale, unit_vector, unit_matrix, times, multiply}
-use Rattle.axe_algebra.specs.Spans.{InSpan, IsIndependent, IsNullVector}
+use Rattle.axe_algebra.specs.Spans.{InSpan, SpanWithin, IsIndependent, IsNullVector}
 use Rattle.axe_algebra.specs.Reduced.{IsReducedBasis, IsReducedBasisOf}
 use Rattle.axe_algebra.proofs.FieldLaws.{neg-mul, one-mul, mul-zero, add_swap, add_left_comm}
 use Rattle.axe_algebra.proofs.ProductLaws.{times_unit, times_identity, identity_row, times_zero, times_times, times_same, times-add_vectors, times-scale}
@@ -85,9 +85,9 @@ module _ (F : Field) where
 
   -- a row that is in the span of the rows before it
   pub state_old : (m : ℕ) (a : Matrix F) (i k : ℕ) (v u : Matrix F) (s : ℕ) (z : Matrix F) (s' : ℕ) (z' : Matrix F) (c y : Vector F) →
-      IsNullState F m a i k v u s z → s ≤ s' → ((t : ℕ) → t < s → z' t ≡ z t) → ((t : ℕ) → t < s' → IsNullVector F m a (z' t)) → InSpan F s' z' y →
+      IsNullState F m a i k v u s z → SpanWithin F s z s' z' → ((t : ℕ) → t < s' → IsNullVector F m a (z' t)) → InSpan F s' z' y →
       y ≡ add_vectors F (unit_vector F i) (scale F (F.neg F.one) (times F k c u)) → IsNullState F m a (suc i) k v u s' z'
-  state_old m a i k v u s z s' z' c y state more same null in_span is = record {
+  state_old m a i k v u s z s' z' c y state within null in_span is = record {
     independent = state.independent;
     images = state.images;
     null = null;
@@ -109,7 +109,7 @@ module _ (F : Field) where
         first = sum.first;
         second = sum.second;
         first_in = sum.first_in;
-        second_in = span_longer F s s' z' sum.second more (span_of_same_rows F s z z' sum.second (λ t below. sym (same t below)) sum.second_in);
+        second_in = span_within F s z s' z' sum.second within sum.second_in;
         equals = sum.equals;
       }
 
@@ -138,7 +138,7 @@ module _ (F : Field) where
     };
   }
 
-  null_vectors_are_space : (m : ℕ) (a : Matrix F) → IsSpace F (IsNullVector F m a)
+  pub null_vectors_are_space : (m : ℕ) (a : Matrix F) → IsSpace F (IsNullVector F m a)
   null_vectors_are_space m a = record {
     zero = record { length = λ j past. refl; vanishes = times_zero F m a };
     sums = λ x y p q. record {

@@ -7,12 +7,13 @@ use Rattle.axe_algebra.specs.Spans
 use Rattle.axe_algebra.specs.Bridge.{element, vector_of, matrix_of}
 use Rattle.axe_algebra.specs.Lists.{unit_row, IsVectorOver, IsMatrixOver}
 use Rattle.axe_algebra.specs.ListArithmetic.{combination}
-use Rattle.axe_algebra.specs.SpansOfLists.{IsSpanned, IsIndependent, IsReducedBasis}
+use Rattle.axe_algebra.specs.SpansOfLists.{IsSpanned, IsIndependent, IsNullVector, IsReducedBasis, HaveSameSpan}
 use Rattle.axe_algebra.proofs.ElementNumbers.{element_neg, element_one}
 use Rattle.axe_algebra.proofs.ListEntries.{rows_length, vector_length}
 use Rattle.axe_algebra.proofs.ListProducts.{vector_of_combination, combination_over}
-use Rattle.axe_algebra.proofs.ListSpans.{appended_length, appended_before, appended_last, appended_row_spanned}
-use Rattle.axe_algebra.proofs.ListVectors.{vector_of_added, vector_of_unit_row}
+use Rattle.axe_algebra.proofs.ListSpans.{appended_length, appended_before, appended_last, appended_spans, appended_row_spanned, row_spanned}
+use Rattle.axe_algebra.proofs.ListVectors.{vector_of_added, vector_of_unit_row, spanned_within}
+use Rattle.axe_algebra.proofs.Spaces.{space_has_span}
 use Rattle.axe_field.specs.Order.{Order, IsElement}
 use Rattle.axe_field.specs.Arithmetic.{field_neg}
 use Rattle.axe_field.specs.NumberFields.{number_field, gf}
@@ -20,12 +21,13 @@ use Rattle.axe_row.specs.Rows.{RowValue, IsRow}
 use Rattle.axe_row.specs.Operations.{sum_with_multiple, row_with_multiple}
 use Rattle.axe_row.proofs.OperationLaws.{get_or-sum_with_multiple}
 use Rattle.axe_matrix.specs.Matrices.{MatrixValue, IsMatrix, vector_product}
-use Rattle.axe_echelon.specs.Echelons.{EchelonValue, IsEchelon, AreCoordinates, IsReducedMatrix, IsNullSpaceMatrix, with_row_where}
+use Rattle.axe_echelon.specs.Echelons.{EchelonValue, IsEchelon, AreCoordinates, IsReducedMatrix, IsNullSpaceMatrix}
 use Rattle.axe_echelon.specs.Inserted.{IsRelation}
+use Rattle.axe_echelon.specs.Subspaces.{SpansOneMore}
 use Rattle.axe_echelon.proofs.FormLaws.{below_or_at}
 use Rattle.axe_echelon.proofs.StepLaws.{over_of_row, below_of_element, negative_of}
 use Rattle.axe_echelon.proofs.InverseLaws.{matrix_over, spanned_of_not_new}
-use Rattle.axe_echelon.proofs.NullLaws.{IsNullState, state_none, state_new, state_old, relation_is_null, null_basis_of_state}
+use Rattle.axe_echelon.proofs.NullLaws.{IsNullState, state_none, state_new, state_old, relation_is_null, null_vectors_are_space, null_basis_of_state}
 use mathlib.Core.Path.{refl, sym, ◌∙◌, ap, ap₂, subst}
 use native.Mathlib.Omega.{arith}
 
@@ -189,56 +191,64 @@ null_so_far_new m i image next units more null row unit so_far inside row_is uni
     units_count = ap (λ (x : MatrixValue). length x.rows) more_is ∙ appended_length K units.rows unit.entries
 
 -- a null vector that was inserted, with the span that it is then in
-record IsNullMore (m : MatrixValue) (a : List (List ℕ)) (null next : EchelonValue) (v : List ℕ) : Type 0 where
-  pub count : length null.rows ≤ length next.rows
-  pub same : (t : ℕ) → t < length null.rows → matrix_of (number_field m.order) next.rows t ≡ matrix_of (number_field m.order) null.rows t
-  pub each : ((t : ℕ) → t < length null.rows → Spans.IsNullVector (gf m.order) (length a) (matrix_of (number_field m.order) a) (matrix_of (number_field m.order) null.rows t)) →
-      Spans.IsNullVector (gf m.order) (length a) (matrix_of (number_field m.order) a) (vector_of (number_field m.order) v) →
-      (t : ℕ) → t < length next.rows → Spans.IsNullVector (gf m.order) (length a) (matrix_of (number_field m.order) a) (matrix_of (number_field m.order) next.rows t)
+record IsNullMore (m : MatrixValue) (null next : EchelonValue) (v : List ℕ) : Type 0 where
+  pub within : Spans.SpanWithin (gf m.order) (length null.rows) (matrix_of (number_field m.order) null.rows)
+      (length next.rows) (matrix_of (number_field m.order) next.rows)
+  pub each : ((t : ℕ) → t < length null.rows → IsNullVector (number_field m.order) m.rows (get_or null.rows t [])) →
+      IsNullVector (number_field m.order) m.rows v →
+      (t : ℕ) → t < length next.rows → IsNullVector (number_field m.order) m.rows (get_or next.rows t [])
   pub spanned : IsSpanned (number_field m.order) next.rows v
 
-null_more : (m : MatrixValue) (null next : EchelonValue) (v : List ℕ) (new : Bool) → null.order ≡ m.order → next ≡ with_row_where new null v →
-    (new ≡ false → IsSpanned (number_field null.order) null.rows v) → IsNullMore m m.rows null next v
-null_more m null next v true field next_is known = record {
-  count = omega (arith, grown);
-  same = λ t below. ap (λ (x : EchelonValue). matrix_of K x.rows t) next_is ∙ appended_before K null.rows v t below;
-  each = λ before last t below. below_or_at (λ t. Spans.IsNullVector (gf m.order) (length m.rows) (matrix_of K m.rows) (matrix_of K next.rows t)) (length null.rows)
-      (λ t below. subst (Spans.IsNullVector (gf m.order) (length m.rows) (matrix_of K m.rows))
-      (sym (ap (λ (x : EchelonValue). matrix_of K x.rows t) next_is ∙ appended_before K null.rows v t below)) (before t below))
-      (subst (Spans.IsNullVector (gf m.order) (length m.rows) (matrix_of K m.rows))
-      (sym (ap (λ (x : EchelonValue). matrix_of K x.rows (length null.rows)) next_is ∙ appended_last K null.rows v)) last)
-      t (omega (arith, grown, below));
-  spanned = subst (λ (rows : List (List ℕ)). IsSpanned K rows v) (sym (ap (λ (x : EchelonValue). x.rows) next_is)) (appended_row_spanned K null.rows v);
+null_more : (m : MatrixValue) (null next : EchelonValue) (v : List ℕ) (new : Bool) → null.order ≡ m.order → SpansOneMore new null v next →
+    (new ≡ false → IsSpanned (number_field null.order) null.rows v) → IsNullMore m null next v
+null_more m null next v true field one_more known = record {
+  within = λ t below. spanned_within K (null.rows ++ v ∷ []) next.rows (get_or null.rows t []) same
+      (appended_spans K null.rows v (get_or null.rows t []) (row_spanned K null.rows t below));
+  each = λ before last t below.
+      space_has_span (gf m.order) (Spans.IsNullVector (gf m.order) (length m.rows) (matrix_of K m.rows))
+      (null_vectors_are_space (gf m.order) (length m.rows) (matrix_of K m.rows))
+      (length (null.rows ++ v ∷ [])) (matrix_of K (null.rows ++ v ∷ []))
+      (λ s inside. below_or_at (λ s. Spans.IsNullVector (gf m.order) (length m.rows) (matrix_of K m.rows) (matrix_of K (null.rows ++ v ∷ []) s)) (length null.rows)
+      (λ s early. subst (Spans.IsNullVector (gf m.order) (length m.rows) (matrix_of K m.rows)) (sym (appended_before K null.rows v s early)) (before s early))
+      (subst (Spans.IsNullVector (gf m.order) (length m.rows) (matrix_of K m.rows)) (sym (appended_last K null.rows v)) last)
+      s (omega (arith, inside, appended_length K null.rows v)))
+      (matrix_of K next.rows t) (same.back t below);
+  spanned = spanned_within K (null.rows ++ v ∷ []) next.rows v same (appended_row_spanned K null.rows v);
 }
   where
     K : NumberField
     K = number_field m.order
 
-    grown : length next.rows ≡ suc (length null.rows)
-    grown = ap (λ (x : EchelonValue). length x.rows) next_is ∙ appended_length K null.rows v
-null_more m null next v false field next_is known = record {
-  count = omega (arith, ap (λ (x : EchelonValue). length x.rows) next_is);
-  same = λ t below. ap (λ (x : EchelonValue). matrix_of (number_field m.order) x.rows t) next_is;
-  each = λ before last t below. subst (Spans.IsNullVector (gf m.order) (length m.rows) (matrix_of (number_field m.order) m.rows))
-      (sym (ap (λ (x : EchelonValue). matrix_of (number_field m.order) x.rows t) next_is))
-      (before t (omega (arith, ap (λ (x : EchelonValue). length x.rows) next_is, below)));
-  spanned = subst (λ (rows : List (List ℕ)). IsSpanned (number_field m.order) rows v) (sym (ap (λ (x : EchelonValue). x.rows) next_is))
-      (subst (λ o. IsSpanned (number_field o) null.rows v) field (known refl));
+    same : HaveSameSpan K (null.rows ++ v ∷ []) next.rows
+    same = subst (λ o. HaveSameSpan (number_field o) (null.rows ++ v ∷ []) next.rows) field one_more.same
+null_more m null next v false field one_more known = record {
+  within = same.forth;
+  each = λ before last t below.
+      space_has_span (gf m.order) (Spans.IsNullVector (gf m.order) (length m.rows) (matrix_of K m.rows))
+      (null_vectors_are_space (gf m.order) (length m.rows) (matrix_of K m.rows))
+      (length null.rows) (matrix_of K null.rows) before (matrix_of K next.rows t) (same.back t below);
+  spanned = spanned_within K null.rows next.rows v same (subst (λ o. IsSpanned (number_field o) null.rows v) field (known refl));
 }
+  where
+    K : NumberField
+    K = number_field m.order
+
+    same : HaveSameSpan K null.rows next.rows
+    same = subst (λ o. HaveSameSpan (number_field o) null.rows next.rows) field one_more.same
 
 -- a row that is not new
 pub null_so_far_old : (m : MatrixValue) (i : ℕ) (image : EchelonValue) (units : MatrixValue) (null next : EchelonValue) (row unit vector : RowValue) (new : Bool) →
     IsNullSpaceSoFar m i image units null → i < length m.rows → row.entries ≡ get_or m.rows i [] →
     unit ≡ record { order = m.order; entries = unit_row (length m.rows) i } → IsRelation image units row.entries unit.entries vector →
-    next ≡ with_row_where new null vector.entries → (¬ (IsSpanned (number_field null.order) null.rows vector.entries) → new ≡ true) → IsEchelon next →
+    SpansOneMore new null vector.entries next → (¬ (IsSpanned (number_field null.order) null.rows vector.entries) → new ≡ true) → IsEchelon next →
     IsNullSpaceSoFar m (i + 1) image units next
-null_so_far_old m i image units null next row unit vector new so_far inside row_is unit_is relation next_is exactly next_h = record {
+null_so_far_old m i image units null next row unit vector new so_far inside row_is unit_is relation one_more exactly next_h = record {
   image_field = so_far.image_field;
   image_columns = so_far.image_columns;
   units_field = so_far.units_field;
   units_columns = so_far.units_columns;
-  null_field = next_field new next_is ∙ so_far.null_field;
-  null_columns = next_columns new next_is ∙ so_far.null_columns;
+  null_field = one_more.field ∙ so_far.null_field;
+  null_columns = one_more.columns ∙ so_far.null_columns;
   image_well_formed = so_far.image_well_formed;
   units_well_formed = so_far.units_well_formed;
   null_well_formed = next_h;
@@ -248,7 +258,7 @@ null_so_far_old m i image units null next row unit vector new so_far inside row_
       (length next.rows) (matrix_of K next.rows)) (sym (add-one i))
       (state_old (gf m.order) (length m.rows) (matrix_of K m.rows) i (length image.rows) (matrix_of K image.rows) (matrix_of K units.rows)
       (length null.rows) (matrix_of K null.rows) (length next.rows) (matrix_of K next.rows) (vector_of K relation.coordinates.entries) (vector_of K vector.entries)
-      so_far.state more.count more.same
+      so_far.state more.within
       (more.each so_far.state.null
       (relation_is_null (gf m.order) (length m.rows) (matrix_of K m.rows) i (length image.rows) (matrix_of K image.rows) (matrix_of K units.rows)
       (length null.rows) (matrix_of K null.rows) (vector_of K relation.coordinates.entries) (vector_of K vector.entries) so_far.state inside combined difference
@@ -259,16 +269,8 @@ null_so_far_old m i image units null next row unit vector new so_far inside row_
     K : NumberField
     K = number_field m.order
 
-    next_field : (b : Bool) → next ≡ with_row_where b null vector.entries → next.order ≡ null.order
-    next_field true is = ap (λ (x : EchelonValue). x.order) is
-    next_field false is = ap (λ (x : EchelonValue). x.order) is
-
-    next_columns : (b : Bool) → next ≡ with_row_where b null vector.entries → next.cols ≡ null.cols
-    next_columns true is = ap (λ (x : EchelonValue). x.cols) is
-    next_columns false is = ap (λ (x : EchelonValue). x.cols) is
-
-    more : IsNullMore m m.rows null next vector.entries
-    more = null_more m null next vector.entries new so_far.null_field next_is
+    more : IsNullMore m null next vector.entries
+    more = null_more m null next vector.entries new so_far.null_field one_more
         (spanned_of_not_new null vector.entries new so_far.null_well_formed (relation.over.length_is ∙ so_far.units_columns ∙ sym so_far.null_columns) exactly)
 
     difference : vector_of K vector.entries ≡ add_vectors (gf m.order) (unit_vector (gf m.order) i) (scale (gf m.order) ((gf m.order).neg (gf m.order).one)

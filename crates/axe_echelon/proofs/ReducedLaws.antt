@@ -104,7 +104,7 @@ module _ (e : EchelonValue) (h : IsEchelon e) where
           (sym (ap (λ (x : Vector F). x j) unit_is_vector ∙ unit_off F pivot j (λ same. other (sym same))))
 
   -- a pivot is a column
-  pivot-below : (j : ℕ) → IsPivot K e.rows j → j < e.cols
+  pub pivot-below : (j : ℕ) → IsPivot K e.rows j → j < e.cols
   pivot-below j pivot = cases (dec_lt j e.cols)
     where
       cases : Dec (j < e.cols) → j < e.cols

@@ -18,12 +18,14 @@ ghost use Rattle.axe_echelon.specs.Steps.{IsEliminated, IsNextStep, IsPivotRow};
 mod inverses;
 mod null_spaces;
 mod spans;
+mod subspace;
 
 use axe_field::Field;
 use axe_matrix::{Matrix, Refusal, Row};
 pub use inverses::inverse;
 pub use null_spaces::null_space;
 pub use spans::span_of;
+pub use subspace::Subspace;
 use std::alloc::Global;
 use std::marker::Model;
 

@@ -8,7 +8,7 @@ ghost use Rattle.axe_matrix.specs.Matrices.{IsMatrix};
 ghost use Rattle.axe_echelon.specs.Echelons.{null_space_refusal, IsNullSpaceMatrix};
 ghost use Rattle.axe_echelon.specs.Inserted.{IsRelation};
 
-use super::Echelon;
+use super::{Echelon, Subspace};
 use axe_matrix::{Matrix, Refusal, Row};
 use std::alloc::Global;
 
@@ -33,7 +33,7 @@ fn null_space_of_rows(alloc: Global, matrix: &Matrix) -> Result<Matrix, Refusal>
     let field = *matrix.field();
     let mut image = Echelon::new(alloc, field, matrix.cols());
     let mut units = Matrix::empty(alloc, field, matrix.rows());
-    let mut null = Echelon::new(alloc, field, matrix.rows());
+    let mut null = Subspace::zero(alloc, field, matrix.rows());
     for index in 0..matrix.rows() {
         let unit = Row::unit(alloc, field, matrix.rows(), index)?;
         let row = matrix.row(index).copy(alloc)?;

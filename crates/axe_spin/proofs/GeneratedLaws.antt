@@ -7,11 +7,13 @@ use Rattle.axe_algebra.specs.NumberField.{NumberField}
 use Rattle.axe_algebra.specs.Field.{Field}
 use Rattle.axe_algebra.specs.Bridge.{field_of, vector_of, matrix_of}
 use Rattle.axe_algebra.specs.Lists.{IsMatrixOver}
-use Rattle.axe_algebra.specs.SpansOfLists.{IsIndependent, IsSpanned, IsReducedBasis}
+use Rattle.axe_algebra.specs.SpansOfLists.{IsIndependent, IsSpanned, HaveSameSpan, IsReducedBasis}
 use Rattle.axe_algebra.specs.ModulesOfLists.{IsInvariant, IsGenerated, Generates}
 use Rattle.axe_algebra.proofs.Spanning.{span_row, span_same, span_within}
 use Rattle.axe_algebra.proofs.Exchange.{span_longer}
+use Rattle.axe_algebra.proofs.ReducedBases.{reduced_of_same_span}
 use Rattle.axe_algebra.proofs.ListEntries.{row_over}
+use Rattle.axe_algebra.proofs.ListVectors.{same_span_sym}
 use Rattle.axe_algebra.proofs.ListSpans.{appended_spans, appended_row_spanned, appended_independent, no_rows_independent}
 use Rattle.axe_algebra.proofs.ListModules.{invariant_by_images}
 use Rattle.axe_algebra.proofs.ListGenerated.{seed_row_generated, image_generated, generates, generated_basis}
@@ -207,12 +209,19 @@ generated_matrix m seed first rows basis span is field columns well_formed row_b
   basis_of_generated = generated_basis (number_field m.order) m.dim m.generators seed.rows rows.rows basis.rows spun.spun.spinning.over
       (spun_generates m is seed.rows first.rows rows.rows over spun.spun row_basis.chosen
       (λ s below. subst (λ o. IsSpanned (number_field o) first.rows (get_or seed.rows s [])) field (row_basis.spanned s below)))
-      (subst (λ (r : List (List ℕ)). IsReducedBasis (number_field m.order) r basis.rows) span_of.same
+      (reduced_of_same_span (field_of (number_field m.order)) (length span.rows) (matrix_of (number_field m.order) span.rows) (length rows.rows)
+      (matrix_of (number_field m.order) rows.rows) (length basis.rows) (matrix_of (number_field m.order) basis.rows) same
       (subst (λ o. IsReducedBasis (number_field o) span.rows basis.rows) span_field reduced.basis));
 }
   where
+    rows_field : rows.order ≡ m.order
+    rows_field = spun.field ∙ row_basis.field ∙ field
+
     span_field : span.order ≡ m.order
-    span_field = span_of.field ∙ spun.field ∙ row_basis.field ∙ field
+    span_field = span_of.field ∙ rows_field
+
+    same : HaveSameSpan (number_field m.order) span.rows rows.rows
+    same = same_span_sym (number_field m.order) rows.rows span.rows (subst (λ o. HaveSameSpan (number_field o) rows.rows span.rows) rows_field span_of.same)
 
     over : IsMatrixOver (number_field m.order) m.dim seed.rows
     over = subst (λ n. IsMatrixOver (number_field m.order) n seed.rows) columns

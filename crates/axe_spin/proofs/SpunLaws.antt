@@ -1,21 +1,28 @@
 -- Rows that are being spun: one image more, the next row, and the end.
-use Rattle.std.specs.Prelude.{◌≡◌, ℕ, suc, ◌+◌, ◌<◌, ◌≤◌, ◌⊎◌, List, [], ◌∷◌, ◌++◌, length, take, get_or, Bool, true, false, cond, eqb}
+use Rattle.std.specs.Prelude.{◌≡◌, ℕ, suc, ◌+◌, ◌<◌, ◌≤◌, ◌⊎◌, List, [], ◌∷◌, ◌++◌, length, take, get_or, Bool, true, false, cond, eqb, if◌then◌else◌}
 use Rattle.std.proofs.Common.{add-one}
 use Rattle.std.proofs.lemmas.Bool.{eq-eqb, ne_eqb}
 use Rattle.std.proofs.lemmas.List.{get_or_append_left, get_or_push, length_push, take-append-le, take_all}
 use Rattle.std.proofs.lemmas.List.Elements.{All-push}
 use Rattle.axe_algebra.specs.Lists.{IsVectorOver, IsMatrixOver}
 use Rattle.axe_algebra.specs.ListArithmetic.{combination}
-use Rattle.axe_algebra.specs.SpansOfLists.{IsIndependent, IsSpanned}
+use Rattle.axe_algebra.specs.NumberField.{NumberField}
+use Rattle.axe_algebra.specs.Bridge.{field_of, matrix_of}
+use Rattle.axe_algebra.specs.SpansOfLists.{IsIndependent, IsSpanned, HaveSameSpan}
 use Rattle.axe_algebra.specs.Standard.{Precedes}
 use Rattle.axe_algebra.proofs.ListEntries.{row_over}
 use Rattle.axe_algebra.proofs.ListProducts.{combination_over}
-use Rattle.axe_algebra.proofs.ListSpans.{appended_row_spanned, appended_independent, independent_rows_are_few}
+use Rattle.axe_algebra.proofs.ListSpans.{appended_spans, appended_row_spanned, appended_independent, independent_rows_are_few, no_rows_independent}
+use Rattle.axe_algebra.proofs.ListVectors.{spanned_within, same_span_refl, same_span_sym, same_span_trans, same_span_by_rows}
+use Rattle.axe_algebra.proofs.Exchange.{exchange}
+use Rattle.axe_field.specs.Order.{Order}
 use Rattle.axe_field.specs.NumberFields.{number_field}
 use Rattle.axe_matrix.specs.Matrices.{MatrixValue, IsMatrix}
 use Rattle.axe_matrix.specs.Limits.{most_rows}
-use Rattle.axe_echelon.specs.Echelons.{EchelonValue, IsEchelon, with_row_where}
+use Rattle.axe_echelon.specs.Echelons.{EchelonValue, IsEchelon}
+use Rattle.axe_echelon.specs.Subspaces.{SpansOneMore}
 use Rattle.axe_echelon.proofs.EliminationLaws.{room_of_rank, full_echelon_spans}
+use Rattle.axe_echelon.proofs.FormLaws.{below_or_at}
 use Rattle.axe_echelon.proofs.InverseLaws.{matrix_over, spanned_of_not_new}
 use Rattle.axe_spin.specs.Modules.{ModuleValue, IsModule}
 use Rattle.axe_spin.specs.Spun.{IsSpanOf, with_row, IsOffered, image_of_row, IsReached, AreSpinning, AreSpun, IsSpunMatrix, IsSpinningUpTo, SpinsOn}
@@ -73,10 +80,23 @@ precedes_before_row a b c count (inl e) below =
     elim (ℕ_discrete a c) [ yes same ↦ inr (same, below) | no other ↦ inl (omega (arith, other)) ]
 precedes_before_row a b c count (inr e) below = absurd (omega (arith, e.1))
 
--- what precedes the first pair of a row precedes each pair of this row and of a later one
-precedes_from_row : (a b c r i : ℕ) → Precedes a b c 0 → c ≤ r → Precedes a b r i
-precedes_from_row a b c r i (inl e) more = inl (omega arith)
-precedes_from_row a b c r i (inr e) more = absurd (omega (arith, e.1))
+-- a pair precedes another, or what precedes the other precedes it
+preceding_or_past : (r i c d : ℕ) → Precedes r i c d ⊎ ((a b : ℕ) → Precedes a b c d → Precedes a b r i)
+preceding_or_past r i c d = at (dec_lt r c) (ℕ_discrete r c) (dec_lt i d)
+  where
+    same : (a b : ℕ) → r ≡ c → d ≤ i → Precedes a b c d → Precedes a b r i
+    same a b e more (inl x) = inl (omega arith)
+    same a b e more (inr x) = inr (x.0 ∙ sym e, omega (arith, x.1))
+
+    later : (a b : ℕ) → c < r → Precedes a b c d → Precedes a b r i
+    later a b more (inl x) = inl (omega arith)
+    later a b more (inr x) = inl (omega (arith, x.0))
+
+    at : Dec (r < c) → Dec (r ≡ c) → Dec (i < d) → Precedes r i c d ⊎ ((a b : ℕ) → Precedes a b c d → Precedes a b r i)
+    at (yes less) _ _ = inl (inl less)
+    at (no no_less) (yes e) (yes below) = inl (inr (e, below))
+    at (no no_less) (yes e) (no past) = inr (λ a b. same a b e (omega (arith, past)))
+    at (no no_less) (no other) _ = inr (λ a b. later a b (omega (arith, no_less, other)))
 
 -- the row of a pair that precedes another
 row_of_preceding : (a b c d n : ℕ) → Precedes a b c d → c < n → a < n
@@ -335,69 +355,131 @@ module _ (m : ModuleValue) where
     reached = λ r i below inside. h.reached r i below inside (inl (omega (arith, below, all)));
   }
 
-  -- where the rows span all of their images, none is new
-  taken_full : (first rows : List (List ℕ)) (source : ℕ) →
+  -- where the rows span all of their images, none is new in the rest of a row
+  taken_rest : (first rows : List (List ℕ)) (source number : ℕ) →
       ((r i : ℕ) → r < length rows → i < length m.generators → IsSpanned (number_field m.order) rows (image_of_row m rows r i)) →
-      IsSpinningUpTo m first rows source 0 → AreSpun m first rows
-  taken_full first rows source spanned h = record {
+      IsSpinningUpTo m first rows source number → IsSpinningUpTo m first rows (source + 1) 0
+  taken_rest first rows source number spanned h = record {
     sources = h.sources;
     numbers = h.numbers;
     spinning = h.spinning;
-    reached = λ r i below inside. at r i below inside (dec_lt r source);
+    before = λ t from small. precedes_in_row _ _ source number (h.before t from small);
+    reached = λ r i below inside earlier. at r i below inside (preceding_or_past r i source number);
   }
     where
-      at : (r i : ℕ) → r < length rows → i < length m.generators → Dec (r < source) → IsReached m (length first) rows h.sources h.numbers r i
-      at r i below inside (yes earlier) = h.reached r i below inside (inl earlier)
-      at r i below inside (no later) =
+      at : (r i : ℕ) → r < length rows → i < length m.generators →
+          Precedes r i source number ⊎ ((a b : ℕ) → Precedes a b source number → Precedes a b r i) →
+          IsReached m (length first) rows h.sources h.numbers r i
+      at r i below inside (inl earlier) = h.reached r i below inside earlier
+      at r i below inside (inr past) =
           reached_by_all (length first) rows h.sources h.numbers r i (spanned r i below inside)
-          (λ t from small. precedes_from_row _ _ source r i (h.before t from small) (omega (arith, later)))
+          (λ t from small. past (h.sources t) (h.numbers t) (h.before t from small))
 
--- a row that was inserted as new leaves room for one more
-pub room_of_new : (span new : EchelonValue) (rows : MatrixValue) (row : List ℕ) (b : Bool) → IsSpanOf span rows → IsEchelon new →
-    new ≡ with_row_where b span row → b ≡ true → length rows.rows < most_rows
-room_of_new span new rows row b is h inserted taken =
-    let more : new.rows ≡ rows.rows ++ row ∷ [] =
-    ap (λ (e : EchelonValue). e.rows) (inserted ∙ ap (λ x. with_row_where x span row) taken) ∙ ap (λ (x : List (List ℕ)). x ++ row ∷ []) is.same in
-    omega (arith, ap length more, length_push rows.rows row, room_of_rank new h, h.columns_fit)
-
--- the echelon form with a new row is that of the matrix with this row
-pub span_of_new : (span new : EchelonValue) (old rows : MatrixValue) (row : List ℕ) (b : Bool) → IsSpanOf span old → new ≡ with_row_where b span row →
-    b ≡ true → rows ≡ with_row old row → IsSpanOf new rows
-span_of_new span new old rows row b is inserted taken appended = record {
-  field = ap (λ (e : EchelonValue). e.order) whole ∙ is.field ∙ sym (ap (λ (x : MatrixValue). x.order) appended);
-  columns = ap (λ (e : EchelonValue). e.cols) whole ∙ is.columns ∙ sym (ap (λ (x : MatrixValue). x.cols) appended);
-  same = ap (λ (e : EchelonValue). e.rows) whole ∙ ap (λ (x : List (List ℕ)). x ++ row ∷ []) is.same
-      ∙ sym (ap (λ (x : MatrixValue). x.rows) appended);
+-- the space of zero is the span of no rows
+pub span_of_none : (m : ModuleValue) (span : EchelonValue) (rows : MatrixValue) (field other : Order) (cols width : ℕ) →
+    span ≡ record { order = field; cols = cols; rows = [] } → rows ≡ record { order = other; cols = width; rows = [] } →
+    field ≡ m.order → other ≡ m.order → cols ≡ m.dim → width ≡ m.dim → IsSpanOf span rows
+span_of_none m span rows field other cols width span_is rows_is field_is other_is cols_is width_is = record {
+  field = ap (λ (e : EchelonValue). e.order) span_is ∙ field_is ∙ sym (ap (λ (x : MatrixValue). x.order) rows_is ∙ other_is);
+  columns = ap (λ (e : EchelonValue). e.cols) span_is ∙ cols_is ∙ sym (ap (λ (x : MatrixValue). x.cols) rows_is ∙ width_is);
+  independent = subst (IsIndependent K) (sym no_rows) (no_rows_independent K);
+  same = subst (HaveSameSpan K rows.rows) (no_rows ∙ sym (ap (λ (e : EchelonValue). e.rows) span_is)) (same_span_refl K rows.rows);
 }
   where
-    whole : new ≡ with_row_where true span row
-    whole = inserted ∙ ap (λ x. with_row_where x span row) taken
+    K : NumberField
+    K = number_field rows.order
 
--- a row is in the span of the matrix's rows where it is in that of the echelon form's rows
+    no_rows : rows.rows ≡ []
+    no_rows = ap (λ (x : MatrixValue). x.rows) rows_is
+
+-- a row is in the span of the matrix's rows exactly where it is in the subspace
 spanned_by_rows : (span : EchelonValue) (rows : MatrixValue) (row : List ℕ) → IsSpanOf span rows →
     IsSpanned (number_field span.order) span.rows row → IsSpanned (number_field rows.order) rows.rows row
 spanned_by_rows span rows row is spanned =
-    subst (λ (x : List (List ℕ)). IsSpanned (number_field rows.order) x row) is.same
+    spanned_within (number_field rows.order) span.rows rows.rows row (same_span_sym (number_field rows.order) rows.rows span.rows is.same)
     (subst (λ o. IsSpanned (number_field o) span.rows row) is.field spanned)
 
 spanned_by_span : (span : EchelonValue) (rows : MatrixValue) (row : List ℕ) → IsSpanOf span rows →
     IsSpanned (number_field rows.order) rows.rows row → IsSpanned (number_field span.order) span.rows row
 spanned_by_span span rows row is spanned =
     subst (λ o. IsSpanned (number_field o) span.rows row) (sym is.field)
-    (subst (λ (x : List (List ℕ)). IsSpanned (number_field rows.order) x row) (sym is.same) spanned)
+    (spanned_within (number_field rows.order) rows.rows span.rows row is.same spanned)
+
+-- with a row outside their span the rows of a matrix stay independent
+independent_with_new : (span : EchelonValue) (rows : MatrixValue) (row : List ℕ) → IsMatrix rows → IsSpanOf span rows → length row ≡ rows.cols →
+    ¬ (IsSpanned (number_field span.order) span.rows row) → IsIndependent (number_field rows.order) (rows.rows ++ row ∷ [])
+independent_with_new span rows row h is long outside =
+    appended_independent (number_field rows.order) rows.cols rows.rows row (matrix_over rows h) long is.independent
+    (λ spanned. outside (spanned_by_span span rows row is spanned))
+
+-- a row that is new leaves room for one more
+pub room_of_new : (span new : EchelonValue) (rows : MatrixValue) (row : List ℕ) (b : Bool) → IsSpanOf span rows → IsEchelon new →
+    SpansOneMore b span row new → b ≡ true → length rows.rows < most_rows
+room_of_new span new rows row b is h inserted taken = omega (arith, no_more, count, room_of_rank new h, h.columns_fit)
+  where
+    no_more : length rows.rows ≤ length span.rows
+    no_more = exchange (field_of (number_field rows.order)) (length rows.rows) (matrix_of (number_field rows.order) rows.rows) (length span.rows)
+        (matrix_of (number_field rows.order) span.rows) is.independent is.same.forth
+
+    count : length new.rows ≡ suc (length span.rows)
+    count = subst (λ (x : Bool). length new.rows ≡ (if x then suc (length span.rows) else length span.rows)) taken inserted.count
+
+-- with one row more on both sides lists of rows have one span
+same_span_with_row : (K : NumberField) (rows others : List (List ℕ)) (row : List ℕ) → HaveSameSpan K rows others →
+    HaveSameSpan K (rows ++ row ∷ []) (others ++ row ∷ [])
+same_span_with_row K rows others row same =
+    same_span_by_rows K (rows ++ row ∷ []) (others ++ row ∷ []) (within rows others same)
+    (within others rows (same_span_sym K rows others same))
+  where
+    within : (a b : List (List ℕ)) → HaveSameSpan K a b → (t : ℕ) → t < length (a ++ row ∷ []) → IsSpanned K (b ++ row ∷ []) (get_or (a ++ row ∷ []) t [])
+    within a b one t below =
+        below_or_at (λ t. IsSpanned K (b ++ row ∷ []) (get_or (a ++ row ∷ []) t [])) (length a)
+        (λ t before. subst (IsSpanned K (b ++ row ∷ [])) (sym (get_or_append_left a (row ∷ []) [] t before))
+        (appended_spans K b row (get_or a t []) (one.forth t before)))
+        (subst (IsSpanned K (b ++ row ∷ [])) (sym (get_or_push a row [] (length a) refl)) (appended_row_spanned K b row))
+        t (omega (arith, below, length_push a row))
+
+-- the subspace with a new row is the span of the matrix with this row
+pub span_of_new : (span new : EchelonValue) (old rows : MatrixValue) (row : List ℕ) (b : Bool) → IsMatrix old → IsSpanOf span old →
+    SpansOneMore b span row new → length row ≡ old.cols → (b ≡ true → ¬ (IsSpanned (number_field span.order) span.rows row)) → b ≡ true →
+    rows ≡ with_row old row → IsSpanOf new rows
+span_of_new span new old rows row b h is inserted long outside taken appended =
+    subst (IsSpanOf new) (sym appended) (record {
+      field = inserted.field ∙ is.field;
+      columns = inserted.columns ∙ is.columns;
+      independent = independent_with_new span old row h is long (outside taken);
+      same = same_span_trans K (old.rows ++ row ∷ []) (span.rows ++ row ∷ []) new.rows (same_span_with_row K old.rows span.rows row is.same)
+          (subst (λ o. HaveSameSpan (number_field o) (span.rows ++ row ∷ []) new.rows) is.field
+          (subst (λ (x : Bool). HaveSameSpan (number_field span.order) (if x then span.rows ++ row ∷ [] else span.rows) new.rows) taken inserted.same));
+    })
+  where
+    K : NumberField
+    K = number_field old.order
+
+-- the subspace without a new row is the span of the same rows
+pub span_of_old : (span new : EchelonValue) (rows : MatrixValue) (row : List ℕ) (b : Bool) → IsSpanOf span rows → SpansOneMore b span row new →
+    b ≡ false → IsSpanOf new rows
+span_of_old span new rows row b is inserted not_taken = record {
+  field = inserted.field ∙ is.field;
+  columns = inserted.columns ∙ is.columns;
+  independent = is.independent;
+  same = same_span_trans (number_field rows.order) rows.rows span.rows new.rows is.same
+      (subst (λ o. HaveSameSpan (number_field o) span.rows new.rows) is.field
+      (subst (λ (x : Bool). HaveSameSpan (number_field span.order) (if x then span.rows ++ row ∷ [] else span.rows) new.rows) not_taken inserted.same));
+}
 
 -- what was offered
 pub offered_new : (span : EchelonValue) (old new : MatrixValue) (row : List ℕ) (b : Bool) → IsSpanOf span old →
     (b ≡ true → ¬ (IsSpanned (number_field span.order) span.rows row)) → b ≡ true → new ≡ with_row old row → IsOffered old row new
 offered_new span old new row b is outside taken appended = inr ((λ spanned. outside taken (spanned_by_span span old row is spanned)), appended)
 
-pub offered_old : (span new : EchelonValue) (rows : MatrixValue) (row : List ℕ) (b : Bool) → IsSpanOf span rows → IsEchelon new →
-    length row ≡ rows.cols → new ≡ with_row_where b span row → (¬ (IsSpanned (number_field span.order) span.rows row) → b ≡ true) → b ≡ false →
-    IsOffered rows row rows
-offered_old span new rows row b is h long inserted exactly not_taken =
+pub offered_old : (span : EchelonValue) (rows : MatrixValue) (row : List ℕ) (b : Bool) → IsMatrix rows → IsSpanOf span rows →
+    length row ≡ rows.cols → (¬ (IsSpanned (number_field span.order) span.rows row) → b ≡ true) → b ≡ false → IsOffered rows row rows
+offered_old span rows row b h is long exactly not_taken =
     inl (
-      spanned_by_rows span rows row is
-          (spanned_of_not_new span row b (subst IsEchelon (inserted ∙ ap (λ x. with_row_where x span row) not_taken) h) (long ∙ sym is.columns) exactly not_taken),
+      spanned_of_not_new (record { order = rows.order; cols = rows.cols; rows = rows.rows }) row b
+          (record { some_column = h.some_column; columns_fit = h.columns_fit; over = matrix_over rows h; independent = is.independent }) long
+          (λ outside. exactly (λ spanned. outside (spanned_by_rows span rows row is spanned))) not_taken,
       refl,
     )
 
@@ -452,55 +534,52 @@ module _ (m : ModuleValue) where
     taken = λ first h. taken_row m first rows.rows source count all h;
   }
 
-  -- what leads on from the first pair begins with the rows of an echelon form
-  begun : (span : EchelonValue) (old new : MatrixValue) (source : ℕ) → IsEchelon span → IsSpanOf span old → IsMatrix old → old.order ≡ m.order →
+  -- where the rows span everything, no image is new
+  pub spins_to_row_of_full : (span : EchelonValue) (rows : MatrixValue) (source number : ℕ) → IsModule m → IsEchelon span → IsSpanOf span rows →
+      rows.order ≡ m.order → rows.cols ≡ m.dim → length span.rows ≡ m.dim → SpinsOn m rows rows source number (source + 1) 0
+  spins_to_row_of_full span rows source number module_is h is field fits full = record {
+    field = refl;
+    columns = refl;
+    grown = omega arith;
+    taken = λ first spinning. taken_rest m first rows.rows source number (spanned spinning.spinning.over) spinning;
+  }
+    where
+      columns : span.cols ≡ m.dim
+      columns = is.columns ∙ fits
+
+      spanned : IsMatrixOver (number_field m.order) m.dim rows.rows → (r i : ℕ) → r < length rows.rows → i < length m.generators →
+          IsSpanned (number_field m.order) rows.rows (image_of_row m rows.rows r i)
+      spanned over r i below inside =
+          let long = (image_over m rows.rows r i module_is over below inside).length_is in
+          subst (λ o. IsSpanned (number_field o) rows.rows (image_of_row m rows.rows r i)) field
+          (spanned_by_rows span rows (image_of_row m rows.rows r i) is
+          (full_echelon_spans span (image_of_row m rows.rows r i) h (full ∙ sym columns) (long ∙ sym columns)))
+
+  -- what leads on from the first pair begins with independent rows
+  begun : (span : EchelonValue) (old new : MatrixValue) (source : ℕ) → IsSpanOf span old → IsMatrix old → old.order ≡ m.order →
       old.cols ≡ m.dim → SpinsOn m old new 0 0 source 0 → IsSpinningUpTo m old.rows new.rows source 0
-  begun span old new source h is old_is field fits spins = spins.taken old.rows (taken_none m old.rows over independent)
+  begun span old new source is old_is field fits spins = spins.taken old.rows (taken_none m old.rows over independent)
     where
       over : IsMatrixOver (number_field m.order) m.dim old.rows
       over = subst (λ n. IsMatrixOver (number_field m.order) n old.rows) fits
           (subst (λ o. IsMatrixOver (number_field o) old.cols old.rows) field (matrix_over old old_is))
 
       independent : IsIndependent (number_field m.order) old.rows
-      independent = subst (IsIndependent (number_field m.order)) is.same
-          (subst (λ o. IsIndependent (number_field o) span.rows) (is.field ∙ field) h.independent)
+      independent = subst (λ o. IsIndependent (number_field o) old.rows) field is.independent
 
   -- at the end, where all rows were taken
-  pub spun_of_taken : (span : EchelonValue) (old new : MatrixValue) (source : ℕ) → IsEchelon span → IsSpanOf span old → IsMatrix old → old.order ≡ m.order →
+  pub spun_of_taken : (span : EchelonValue) (old new : MatrixValue) (source : ℕ) → IsSpanOf span old → IsMatrix old → old.order ≡ m.order →
       old.cols ≡ m.dim → SpinsOn m old new 0 0 source 0 → length new.rows ≤ source → IsSpunMatrix m old new
-  spun_of_taken span old new source h is old_is field fits spins all = record {
+  spun_of_taken span old new source is old_is field fits spins all = record {
     field = spins.field;
     columns = spins.columns;
-    spun = taken_all m old.rows new.rows source all (begun span old new source h is old_is field fits spins);
+    spun = taken_all m old.rows new.rows source all (begun span old new source is old_is field fits spins);
   }
 
   -- as many as there are columns are all, since independent rows are no more
-  pub spun_of_columns : (span : EchelonValue) (old new : MatrixValue) (source : ℕ) → IsEchelon span → IsSpanOf span old → IsMatrix old → old.order ≡ m.order →
+  pub spun_of_columns : (span : EchelonValue) (old new : MatrixValue) (source : ℕ) → IsSpanOf span old → IsMatrix old → old.order ≡ m.order →
       old.cols ≡ m.dim → SpinsOn m old new 0 0 source 0 → span.cols ≤ source → IsSpunMatrix m old new
-  spun_of_columns span old new source h is old_is field fits spins all =
-      let spinning = (begun span old new source h is old_is field fits spins).spinning in
-      spun_of_taken span old new source h is old_is field fits spins
+  spun_of_columns span old new source is old_is field fits spins all =
+      let spinning = (begun span old new source is old_is field fits spins).spinning in
+      spun_of_taken span old new source is old_is field fits spins
       (omega (arith, independent_rows_are_few (number_field m.order) m.dim new.rows spinning.over spinning.independent, is.columns, fits, all))
-
-  -- at the end, where the rows span everything
-  pub spun_of_full : (span now : EchelonValue) (old new : MatrixValue) (source : ℕ) → IsModule m → IsEchelon span → IsSpanOf span old → IsMatrix old →
-      old.order ≡ m.order → old.cols ≡ m.dim → SpinsOn m old new 0 0 source 0 → IsEchelon now → IsSpanOf now new → length now.rows ≡ m.dim →
-      IsSpunMatrix m old new
-  spun_of_full span now old new source module_is h is old_is field fits spins now_h now_is full = record {
-    field = spins.field;
-    columns = spins.columns;
-    spun = taken_full m old.rows new.rows source spanned begins;
-  }
-    where
-      columns : now.cols ≡ m.dim
-      columns = now_is.columns ∙ spins.columns ∙ fits
-
-      begins : IsSpinningUpTo m old.rows new.rows source 0
-      begins = begun span old new source h is old_is field fits spins
-
-      spanned : (r i : ℕ) → r < length new.rows → i < length m.generators → IsSpanned (number_field m.order) new.rows (image_of_row m new.rows r i)
-      spanned r i below inside =
-          let long = (image_over m new.rows r i module_is begins.spinning.over below inside).length_is in
-          subst (λ o. IsSpanned (number_field o) new.rows (image_of_row m new.rows r i)) (spins.field ∙ field)
-          (spanned_by_rows now new (image_of_row m new.rows r i) now_is
-          (full_echelon_spans now (image_of_row m new.rows r i) now_h (full ∙ sym columns) (long ∙ sym columns)))

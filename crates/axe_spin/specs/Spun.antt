@@ -2,18 +2,19 @@
 use Rattle.std.specs.Prelude.{◌≡◌, ℕ, ◌<◌, ◌≤◌, ◌⊎◌, List, [], ◌∷◌, ◌++◌, length, take, get_or}
 use Rattle.axe_algebra.specs.Lists.{IsMatrixOver}
 use Rattle.axe_algebra.specs.ListArithmetic.{combination}
-use Rattle.axe_algebra.specs.SpansOfLists.{IsIndependent, IsSpanned}
+use Rattle.axe_algebra.specs.SpansOfLists.{IsIndependent, IsSpanned, HaveSameSpan}
 use Rattle.axe_algebra.specs.Standard.{Precedes}
 use Rattle.axe_field.specs.NumberFields.{number_field}
 use Rattle.axe_matrix.specs.Matrices.{MatrixValue}
 use Rattle.axe_echelon.specs.Echelons.{EchelonValue}
 use Rattle.axe_spin.specs.Modules.{ModuleValue}
 
--- the echelon form is that of the matrix's rows
+-- the subspace is the span of the matrix's rows, and these are independent
 pub record IsSpanOf (span : EchelonValue) (rows : MatrixValue) : Type 0 where
   pub field : span.order ≡ rows.order
   pub columns : span.cols ≡ rows.cols
-  pub same : span.rows ≡ rows.rows
+  pub independent : IsIndependent (number_field rows.order) rows.rows
+  pub same : HaveSameSpan (number_field rows.order) rows.rows span.rows
 
 -- one more row of a matrix
 abbrev pub with_row : MatrixValue → List ℕ → MatrixValue

@@ -8,7 +8,7 @@ ghost use Rattle.axe_spin.specs.Spun.{IsSpanOf};
 
 use crate::module::Module;
 use crate::spinning::{offer, spin};
-use axe_echelon::Echelon;
+use axe_echelon::Subspace;
 use axe_matrix::{Matrix, Refusal};
 use std::alloc::Global;
 
@@ -21,7 +21,7 @@ pub fn generate(alloc: Global, module: &Module, seed: &Matrix) -> Result<Matrix,
     ensures well_formed { IfOk result IsMatrix }
 {
     check_seed(module, seed)?;
-    let mut span = Echelon::new(alloc, *module.field(), module.dim());
+    let mut span = Subspace::zero(alloc, *module.field(), module.dim());
     let mut rows = Matrix::empty(alloc, *module.field(), module.dim());
     offer_all(alloc, &mut span, &mut rows, seed)?;
     spin(alloc, module, &mut span, &mut rows)?;
@@ -56,7 +56,7 @@ pub fn has_only_zeros(matrix: &Matrix) -> bool
 /// appended.
 fn offer_all(
     alloc: Global,
-    span: &mut Echelon,
+    span: &mut Subspace,
     rows: &mut Matrix,
     matrix: &Matrix,
 ) -> Result<(), Refusal>

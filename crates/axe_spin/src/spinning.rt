@@ -7,14 +7,14 @@ ghost use Rattle.axe_matrix.specs.Matrices.{IsMatrix};
 ghost use Rattle.axe_spin.specs.Spun.{IsSpanOf, IsOffered, IsSpunMatrix, SpinsOn};
 
 use crate::module::Module;
-use axe_echelon::Echelon;
+use axe_echelon::Subspace;
 use axe_matrix::{Matrix, Refusal, Row};
 use std::alloc::Global;
 
-/// Appends a row to independent rows, and to the echelon form of their span, where it is not in that span.
+/// Appends a row to independent rows, and enlarges their span by it, where it is not in that span.
 pub(crate) fn offer(
     alloc: Global,
-    span: &mut Echelon,
+    span: &mut Subspace,
     rows: &mut Matrix,
     row: Row,
 ) -> Result<(), Refusal>
@@ -38,7 +38,7 @@ pub(crate) fn offer(
 pub(crate) fn spin(
     alloc: Global,
     module: &Module,
-    span: &mut Echelon,
+    span: &mut Subspace,
     rows: &mut Matrix,
 ) -> Result<(), Refusal>
     requires well_formed { IsMatrix rows.old }
@@ -51,8 +51,7 @@ pub(crate) fn spin(
 {
     // There are no more independent rows than columns.
     for source in 0..span.cols() {
-        // Once the rows span everything, no image is new.
-        if source == rows.rows() || span.rank() == module.dim() {
+        if source == rows.rows() {
             break;
         }
         take_images(alloc, module, span, rows, source)?;
@@ -64,7 +63,7 @@ pub(crate) fn spin(
 fn take_images(
     alloc: Global,
     module: &Module,
-    span: &mut Echelon,
+    span: &mut Subspace,
     rows: &mut Matrix,
     source: usize,
 ) -> Result<(), Refusal>
@@ -78,6 +77,10 @@ fn take_images(
     ensures well_formed { Answers None (λ _. IsMatrix rows.new) result }
 {
     for number in 0..module.gens() {
+        // Once the rows span everything, no image is new.
+        if span.dim() == module.dim() {
+            break;
+        }
         let image = module.generator(number).vec_mul(alloc, rows.row(source))?;
         offer(alloc, span, rows, image)?;
     }

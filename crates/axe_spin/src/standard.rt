@@ -9,7 +9,7 @@ ghost use Rattle.axe_spin.specs.Spinning.{HasSpunRows};
 
 use crate::module::Module;
 use crate::spinning::{offer, spin};
-use axe_echelon::Echelon;
+use axe_echelon::Subspace;
 use axe_matrix::{Matrix, Refusal, Row};
 use std::alloc::Global;
 
@@ -22,7 +22,7 @@ pub fn standard_basis(alloc: Global, module: &Module, vector: &Row) -> Result<Ma
     ensures basis { Answers None (IsStandardMatrix «module».now vector.now) result }
     ensures well_formed { IfOk result IsMatrix }
 {
-    let mut span = Echelon::new(alloc, *module.field(), module.dim());
+    let mut span = Subspace::zero(alloc, *module.field(), module.dim());
     let mut rows = Matrix::empty(alloc, *module.field(), module.dim());
     let first = vector.copy(alloc)?;
     offer(alloc, &mut span, &mut rows, first)?;

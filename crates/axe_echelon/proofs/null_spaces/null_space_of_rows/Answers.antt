@@ -23,10 +23,10 @@ loop-index-init c =
     rw (← c.field-field.ensures.order, ← c.cols.ensures.count) c.new-image.ensures.no_rows in
     let units : c.empty-units.result ≡ record { order = c.args.matrix.now.order; cols = length c.args.matrix.now.rows; rows = [] } =
     rw (← c.field-field.ensures.order, ← c.rows.ensures.count) c.empty-units.ensures.no_rows in
-    let null : c.new-null.result ≡ record { order = c.args.matrix.now.order; cols = length c.args.matrix.now.rows; rows = [] } =
-    rw (← c.field-field.ensures.order, ← c.rows-2.ensures.count) c.new-null.ensures.no_rows in
-    null_so_far_none c.args.matrix.now c.new-image.result c.empty-units.result c.new-null.result image units null
-    c.new-image.ensures.well_formed c.empty-units.ensures.well_formed c.new-null.ensures.well_formed
+    let null : c.zero-null.result ≡ record { order = c.args.matrix.now.order; cols = length c.args.matrix.now.rows; rows = [] } =
+    rw (← c.field-field.ensures.order, ← c.rows-2.ensures.count) c.zero-null.ensures.no_rows in
+    null_so_far_none c.args.matrix.now c.new-image.result c.empty-units.result c.zero-null.result image units null
+    c.new-image.ensures.well_formed c.empty-units.ensures.well_formed c.zero-null.ensures.well_formed
 
 pub append-requires-clause-fits : goal.append-requires-clause-fits
 append-requires-clause-fits c =

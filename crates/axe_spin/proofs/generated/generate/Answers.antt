@@ -6,6 +6,7 @@ use Rattle.axe_echelon.proofs.Exits.{answers_more}
 use Rattle.axe_spin.specs.Spinning.{seed_refusal}
 use Rattle.axe_spin.proofs.SeedLaws.{seed_if_not_refused}
 use Rattle.axe_spin.proofs.GeneratedLaws.{generated_matrix}
+use Rattle.axe_spin.proofs.SpunLaws.{span_of_none}
 use Rattle.axe_spin.proofs.generated.generate.Goals as goal
 use mathlib.Core.Path.{◌∙◌}
 
@@ -53,3 +54,8 @@ spin-requires-clause-well_formed c = c.in_ok-offer_all.ensures.well_formed
 
 pub spin-requires-clause-span : goal.spin-requires-clause-span
 spin-requires-clause-span c = c.in_ok-offer_all.ensures.span
+
+pub offer_all-requires-clause-span : goal.offer_all-requires-clause-span
+offer_all-requires-clause-span c =
+    span_of_none c.args.module.now c.zero-span.result c.empty-rows.result _ _ _ _ c.zero-span.ensures.no_rows c.empty-rows.ensures.no_rows
+    c.field.ensures.order c.field-2.ensures.order c.dim.ensures.count c.dim-2.ensures.count

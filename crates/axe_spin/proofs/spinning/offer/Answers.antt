@@ -1,5 +1,5 @@
 use Rattle.axe_echelon.proofs.Exits.{no_memory}
-use Rattle.axe_spin.proofs.SpunLaws.{room_of_new, span_of_new, offered_new, offered_old}
+use Rattle.axe_spin.proofs.SpunLaws.{room_of_new, span_of_new, span_of_old, offered_new, offered_old}
 use Rattle.axe_spin.proofs.spinning.offer.Goals as goal
 
 pub append-requires-clause-room : goal.append-requires-clause-room
@@ -15,15 +15,20 @@ returns-in_ok-append-clause-offered c =
 
 pub returns-else-branch-clause-offered : goal.returns-else-branch-clause-offered
 returns-else-branch-clause-offered c =
-    let offered = offered_old c.args.span.now c.insert.new.self c.args.rows.now c.in_ok-copy.copy.entries c.in_ok-insert.field-0 c.requires.span
-    c.insert.ensures.well_formed (rw c.in_ok-copy.ensures.copied c.requires.fits) c.in_ok-insert.ensures.inserted c.in_ok-insert.ensures.exactly.1
-    c.if-branch.false in
+    let offered = offered_old c.args.span.now c.args.rows.now c.in_ok-copy.copy.entries c.in_ok-insert.field-0 c.requires.well_formed
+    c.requires.span (rw c.in_ok-copy.ensures.copied c.requires.fits) c.in_ok-insert.ensures.exactly.1 c.if-branch.false in
     rw c.in_ok-copy.ensures.copied at offered
 
 pub returns-in_ok-append-clause-span : goal.returns-in_ok-append-clause-span
 returns-in_ok-append-clause-span c =
-    span_of_new c.args.span.now c.insert.new.self c.args.rows.now c.append.new.self c.in_ok-copy.copy.entries c.in_ok-insert.field-0 c.requires.span
-    c.in_ok-insert.ensures.inserted c.if-branch.true (rw c.in_ok-copy.ensures.copied c.in_ok-append.ensures.appended)
+    span_of_new c.args.span.now c.insert.new.self c.args.rows.now c.append.new.self c.in_ok-copy.copy.entries c.in_ok-insert.field-0 c.requires.well_formed
+    c.requires.span c.in_ok-insert.ensures.inserted (rw c.in_ok-copy.ensures.copied c.requires.fits) c.in_ok-insert.ensures.exactly.0 c.if-branch.true
+    (rw c.in_ok-copy.ensures.copied c.in_ok-append.ensures.appended)
+
+pub returns-else-branch-clause-span : goal.returns-else-branch-clause-span
+returns-else-branch-clause-span c =
+    span_of_old c.args.span.now c.insert.new.self c.args.rows.now c.in_ok-copy.copy.entries c.in_ok-insert.field-0 c.requires.span
+    c.in_ok-insert.ensures.inserted c.if-branch.false
 
 pub returns-in_err-copy-clause-offered : goal.returns-in_err-copy-clause-offered
 returns-in_err-copy-clause-offered c = no_memory _ c.from_residual.result _ c.from_residual.ensures.1 c.in_err-copy.ensures.copied

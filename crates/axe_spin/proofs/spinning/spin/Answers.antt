@@ -1,6 +1,5 @@
-use Rattle.std.proofs.Common.{◌≤◌, ◌+◌, length, sym, ◌∙◌, arith}
-use Rattle.axe_spin.proofs.SpunLaws.{spins_nowhere, spins_on, spun_of_taken, spun_of_columns, spun_of_full}
-use Rattle.axe_spin.proofs.spinning.spin.Goals.{then-source-rows-via-then-source-rows, then-source-rows-via-else-source-rows+then-rank-dim}
+use Rattle.std.proofs.Common.{◌≤◌, ◌+◌, length, arith}
+use Rattle.axe_spin.proofs.SpunLaws.{spins_nowhere, spins_on, spun_of_taken, spun_of_columns}
 use Rattle.axe_spin.proofs.spinning.spin.Goals as goal
 
 pub loop-source-init : goal.loop-source-init
@@ -27,17 +26,11 @@ loop-source-preserved c =
 pub returns-after-loop-source-clause-spun : goal.returns-after-loop-source-clause-spun
 returns-after-loop-source-clause-spun c =
     let all : c.args.span.now.cols ≤ c.loop-source.source = omega (arith, c.loop-source-test.false, c.cols-source-end.ensures.count) in
-    spun_of_columns c.args.module.now c.args.span.now c.args.rows.now c.loop-source.rows c.loop-source.source c.cols-source-end.ensures.well_formed
+    spun_of_columns c.args.module.now c.args.span.now c.args.rows.now c.loop-source.rows c.loop-source.source
     c.requires.span c.requires.well_formed c.requires.field c.requires.fits c.loop-source.invariant.spins all
 
 pub returns-then-source-rows-clause-spun : goal.returns-then-source-rows-clause-spun
-returns-then-source-rows-clause-spun c = elim c.then-source-rows.branch [
-  | then-source-rows-via-then-source-rows w ↦
-      spun_of_taken c.args.module.now c.args.span.now c.args.rows.now c.loop-source.rows c.loop-source.source c.cols-source-end.ensures.well_formed
-      c.requires.span c.requires.well_formed c.requires.field c.requires.fits c.loop-source.invariant.spins
-      (omega (arith, w.if-source-rows.true, c.rows.ensures.count))
-  | then-source-rows-via-else-source-rows+then-rank-dim w ↦
-      spun_of_full c.args.module.now c.args.span.now c.loop-source.span c.args.rows.now c.loop-source.rows c.loop-source.source w.dim.ensures.well_formed
-      c.cols-source-end.ensures.well_formed c.requires.span c.requires.well_formed c.requires.field c.requires.fits c.loop-source.invariant.spins
-      w.rank.ensures.well_formed c.loop-source.invariant.span (sym w.rank.ensures.count ∙ w.if-rank-dim.true ∙ w.dim.ensures.count)
-]
+returns-then-source-rows-clause-spun c =
+    spun_of_taken c.args.module.now c.args.span.now c.args.rows.now c.loop-source.rows c.loop-source.source
+    c.requires.span c.requires.well_formed c.requires.field c.requires.fits c.loop-source.invariant.spins
+    (omega (arith, c.if-source-rows.true, c.rows.ensures.count))

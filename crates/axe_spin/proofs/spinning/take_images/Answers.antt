@@ -5,7 +5,7 @@ use Rattle.axe_row.specs.Rows.{RowValue}
 use Rattle.axe_matrix.specs.Matrices.{MatrixValue}
 use Rattle.axe_matrix.proofs.ProductLaws.{length-combination}
 use Rattle.axe_spin.specs.Spun.{image_of_row}
-use Rattle.axe_spin.proofs.SpunLaws.{spins_nowhere, spins_on, spins_to_next, spins_to_row}
+use Rattle.axe_spin.proofs.SpunLaws.{spins_nowhere, spins_on, spins_to_next, spins_to_row, spins_to_row_of_full}
 use Rattle.axe_spin.proofs.spinning.take_images.Goals as goal
 use mathlib.Core.Path.{ap₂}
 
@@ -39,8 +39,17 @@ loop-number-preserved c =
       well_formed = c.in_ok-offer.ensures.well_formed;
     }
 
-pub returns-clause-taken : goal.returns-clause-taken
-returns-clause-taken c =
+pub returns-then-dim-clause-taken : goal.returns-then-dim-clause-taken
+returns-then-dim-clause-taken c =
+    let spins = c.loop-number.invariant.spins in
+    spins_on c.args.module.now c.args.rows.now c.loop-number.rows c.loop-number.rows c.args.source 0 c.args.source c.loop-number.number (c.args.source + 1) 0
+    spins
+    (spins_to_row_of_full c.args.module.now c.loop-number.span c.loop-number.rows c.args.source c.loop-number.number c.gens-number-end.ensures.well_formed
+    c.dim.ensures.well_formed c.loop-number.invariant.span (spins.field ∙ c.requires.field) (spins.columns ∙ c.requires.fits)
+    (sym c.dim.ensures.count ∙ c.if-dim.true ∙ c.dim-in-loop-number.ensures.count))
+
+pub returns-after-loop-number-clause-taken : goal.returns-after-loop-number-clause-taken
+returns-after-loop-number-clause-taken c =
     let all : length c.args.module.now.generators ≤ c.loop-number.number = omega (arith, c.loop-number-test.false, c.gens-number-end.ensures.count) in
     spins_on c.args.module.now c.args.rows.now c.loop-number.rows c.loop-number.rows c.args.source 0 c.args.source c.loop-number.number (c.args.source + 1) 0
     c.loop-number.invariant.spins (spins_to_row c.args.module.now c.loop-number.rows c.args.source c.loop-number.number all)

@@ -2,6 +2,7 @@ use Rattle.std.proofs.Common.{ap}
 use Rattle.std.proofs.lemmas.Result.{IfOk-from_err}
 use Rattle.axe_matrix.specs.Matrices.{MatrixValue, IsMatrix}
 use Rattle.axe_echelon.proofs.Exits.{no_memory}
+use Rattle.axe_spin.proofs.SpunLaws.{span_of_none}
 use Rattle.axe_spin.proofs.StandardLaws.{first_is_offered, standard_matrix}
 use Rattle.axe_spin.proofs.standard.standard_basis.Goals as goal
 
@@ -44,3 +45,8 @@ returns-in_err-spin-clause-basis c = no_memory _ c.from_residual-in_err-spin.res
 
 pub returns-in_err-spin-clause-well_formed : goal.returns-in_err-spin-clause-well_formed
 returns-in_err-spin-clause-well_formed c = IfOk-from_err c.from_residual-in_err-spin.result IsMatrix c.from_residual-in_err-spin.ensures.0
+
+pub offer-requires-clause-span : goal.offer-requires-clause-span
+offer-requires-clause-span c =
+    span_of_none c.args.module.now c.zero-span.result c.empty-rows.result _ _ _ _ c.zero-span.ensures.no_rows c.empty-rows.ensures.no_rows
+    c.field.ensures.order c.field-2.ensures.order c.dim.ensures.count c.dim-2.ensures.count

@@ -1,0 +1,209 @@
+//! Subspaces, each by an echelon form of it.
+
+ghost use Rattle.std.specs.Prelude.{◌≡◌, ◌<◌, ◌≤◌, ◌↔◌, [], length, IsTrue, None, IfOk, MatchOption, OnErr};
+ghost use Rattle.axe_algebra.specs.SpansOfLists.{IsPivot, IsRepresentative, IsSpanned};
+ghost use Rattle.axe_field.specs.NumberFields.{number_field};
+ghost use Rattle.axe_row.specs.Refusals.{Answers};
+ghost use Rattle.axe_row.specs.Rows.{IsRow};
+ghost use Rattle.axe_matrix.specs.Limits.{most_columns};
+ghost use Rattle.axe_matrix.specs.Matrices.{IsMatrix};
+ghost use Rattle.axe_echelon.specs.Echelons.{IsEchelon, IsReducedMatrix};
+ghost use Rattle.axe_echelon.specs.Steps.{IsPivotRow};
+ghost use Rattle.axe_echelon.specs.Subspaces.{IsNextRow, SpansOneMore};
+
+use axe_field::Field;
+use axe_matrix::{Matrix, Refusal, Row};
+use std::alloc::Global;
+use std::marker::Model;
+
+/// A row of the echelon form of a subspace: 1 at its pivot, 0 before it and at the pivots of the rows before.
+#[derive(Drop)]
+struct PivotRow {
+    pivot: usize,
+    row: Row,
+}
+
+/// The span of the vectors that were inserted, which are all of one length over one field. Unlike an [`Echelon`], it
+/// doesn't keep the vectors themselves, nor how the rows of its echelon form combine from them.
+///
+/// [`Echelon`]: crate::Echelon
+#[derive(Drop)]
+pub struct Subspace {
+    field: Field,
+    cols: usize,
+    rows: Vec<PivotRow>,
+    /// Whether each column is a pivot. It is empty until a vector is inserted, and no column past its end is one.
+    pivots: Vec<bool>,
+}
+
+impl Model for Subspace {
+    ghost use Rattle.axe_echelon.specs.Echelons.{EchelonValue};
+
+    ghost Value = { EchelonValue };
+
+    ghost use Rattle.axe_echelon.specs.Steps.{echelon_of, AreTabledSteps};
+    ghost use Rattle.axe_echelon.specs.Subspaces.{steps_of};
+
+    ghost view = { λ a. echelon_of a.field a.cols (steps_of a.field a.cols a.rows.items) };
+
+    ghost invariant = { λ a. AreTabledSteps a.field a.cols (steps_of a.field a.cols a.rows.items) a.pivots.items };
+}
+
+impl Subspace {
+    /// The space of zero alone, of vectors of so many entries. It takes no memory until a vector is inserted.
+    pub fn zero(alloc: Global, field: Field, cols: usize) -> Subspace
+        requires some_column { 1 ≤ cols }
+        requires columns_fit { cols ≤ most_columns }
+        ensures no_rows { result ≡ record { order = field; cols = cols; rows = [] } }
+        ensures well_formed { IsEchelon result }
+    {
+        Subspace {
+            field,
+            cols,
+            rows: Vec::new(alloc),
+            pivots: Vec::new(alloc),
+        }
+    }
+
+    /// The field of the vectors.
+    pub fn field(&self) -> &Field
+        ensures order { result.now ≡ self.now.order }
+        ensures well_formed { IsEchelon self.now }
+    {
+        &self.field
+    }
+
+    /// How many entries each vector has.
+    pub fn cols(&self) -> usize
+        ensures count { result ≡ self.now.cols }
+        ensures well_formed { IsEchelon self.now }
+    {
+        self.cols
+    }
+
+    /// The dimension.
+    pub fn dim(&self) -> usize
+        ensures count { result ≡ length self.now.rows }
+        ensures well_formed { IsEchelon self.now }
+    {
+        self.rows.len()
+    }
+
+    /// Inserts a vector over the field with an entry for each column, and tells whether it is new: whether it was not
+    /// in the space. A vector that is not new changes nothing, nor does one for which there is no memory.
+    pub fn insert(&mut self, row: Row) -> Result<bool, Refusal>
+        requires field { row.order ≡ self.old.order }
+        requires fits { length row.entries ≡ self.old.cols }
+        ensures exactly { IfOk result
+            (λ new. IsTrue new ↔ ¬ (IsSpanned (number_field self.old.order) self.old.rows row.entries)) }
+        ensures inserted { Answers None (λ new. SpansOneMore new self.old row.entries self.new) result }
+        ensures unchanged { OnErr result (self.new ≡ self.old) }
+        ensures well_formed { IsEchelon self.new }
+    {
+        // As many independent rows as columns span every vector.
+        if self.dim() == self.cols() {
+            return Ok(false);
+        }
+        let Some(next) = self.next_row(row) else {
+            return Ok(false);
+        };
+        let pivot = next.pivot;
+        // The table is made first: a longer one tells the same, so where the push finds no memory nothing has changed.
+        self.pivots.resize(self.cols, false)?;
+        self.rows.push(next)?;
+        self.pivots[pivot] = true;
+        Ok(true)
+    }
+
+    /// The row of the echelon form that one more vector gives, or `None` where the vector is in the space.
+    fn next_row(&self, row: Row) -> Option<PivotRow>
+        requires field { row.order ≡ self.now.order }
+        requires fits { length row.entries ≡ self.now.cols }
+        requires room { length self.now.rows < self.now.cols }
+        ensures { MatchOption result
+            (IsSpanned (number_field self.now.order) self.now.rows row.entries)
+            (IsNextRow self.now row.entries) }
+    {
+        let mut rest = row;
+        self.reduce(&mut rest);
+        let Some(pivot) = rest.first_nonzero() else {
+            return None;
+        };
+        let scalar = self.field().inv(rest.get(pivot));
+        rest.scale(scalar);
+        Some(PivotRow { pivot, row: rest })
+    }
+
+    /// Makes a vector over the field the one vector of its coset modulo the space that is 0 at each pivot.
+    pub fn reduce(&self, row: &mut Row)
+        requires field { row.old.order ≡ self.now.order }
+        requires fits { length row.old.entries ≡ self.now.cols }
+        ensures representative { IsRepresentative (number_field self.now.order) self.now.rows
+            row.old.entries row.new.entries }
+        ensures same_field { row.new.order ≡ self.now.order }
+        ensures as_long { length row.new.entries ≡ self.now.cols }
+        ensures row_well_formed { IsRow row.new }
+        ensures well_formed { IsEchelon self.now }
+    {
+        let field = *row.field();
+        for pivot_row in &self.rows {
+            let entry = row.get(pivot_row.pivot);
+            if entry != 0 {
+                let factor = field.neg(entry);
+                row.add_scaled(factor, &pivot_row.row);
+            }
+        }
+    }
+
+    /// The reduced basis: for each pivot, in ascending order, the vector of the space that is 1 there and 0 at all
+    /// other pivots.
+    pub fn reduced(&self, alloc: Global) -> Result<Matrix, Refusal>
+        ensures basis { Answers None (IsReducedMatrix self.now) result }
+        ensures matrix_well_formed { Answers None IsMatrix result }
+        ensures well_formed { IsEchelon self.now }
+    {
+        // The unit vectors are the reduced basis of the whole space.
+        if self.dim() == self.cols() {
+            return Matrix::identity(alloc, *self.field(), self.cols());
+        }
+        self.reduced_rows(alloc)
+    }
+
+    /// The reduced basis, whose rows are made one for each pivot.
+    fn reduced_rows(&self, alloc: Global) -> Result<Matrix, Refusal>
+        ensures basis { Answers None (IsReducedMatrix self.now) result }
+        ensures matrix_well_formed { Answers None IsMatrix result }
+    {
+        let mut reduced = Matrix::empty(alloc, *self.field(), self.cols());
+        for column in 0..self.cols() {
+            if self.is_pivot(column) {
+                let row = self.pivot_row(alloc, column)?;
+                reduced.append(row)?;
+            }
+        }
+        Ok(reduced)
+    }
+
+    /// The vector of the space that is 1 at a pivot and 0 at all other pivots.
+    fn pivot_row(&self, alloc: Global, pivot: usize) -> Result<Row, Refusal>
+        requires within { pivot < self.now.cols }
+        requires pivot { IsPivot (number_field self.now.order) self.now.rows pivot }
+        ensures { Answers None (IsPivotRow self.now pivot) result }
+    {
+        let field = *self.field();
+        let mut row = Row::unit(alloc, field, self.cols(), pivot)?;
+        self.reduce(&mut row);
+        // The unit vector less what is left of it is in the space, and 0 at every other pivot, since what is left is 0
+        // at each pivot. It is the negative of what is left, but for the 1 at the pivot.
+        row.scale(field.neg(1));
+        row.set(pivot, 1);
+        Ok(row)
+    }
+
+    /// Whether a column is a pivot: whether some vector of the space has its first nonzero entry there.
+    pub fn is_pivot(&self, column: usize) -> bool
+        ensures { IsTrue result ↔ IsPivot (number_field self.now.order) self.now.rows column }
+    {
+        self.pivots.get(column).copied().unwrap_or(false)
+    }
+}
