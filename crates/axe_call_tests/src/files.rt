@@ -47,6 +47,11 @@ read_text | 1 2 1 0 | BadCols
 read_text | 1 3 2 2\n12\n0 | TooFewDigits
 read_text | 1 3 2 2\n12\n01\nx | TrailingText at 14
 read_text | 1 2 0 5 | 2: 0x5
+read_text | 1 2 0000000001 1 | BadHeader at 13
+read_text | 1 2 0 2048 | 2: 0x2048
+read_text | 1 2 0 2049 | BadCols
+read_text | matrix field=2 rows=0 cols=12 | 2: 0x12
+read_text | matrix field=2 rows=0 cols=1 | 2: 0x1
 ";
 
 /// `write_text`: a text that is read, and what is written for its matrix. A line has eighty digits.

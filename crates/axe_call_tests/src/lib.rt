@@ -8,6 +8,8 @@
 #![tactic(auto)]
 
 #[cfg(test)]
+mod changed;
+#[cfg(test)]
 mod echelons;
 #[cfg(test)]
 mod fields;

@@ -1,9 +1,10 @@
 //! Reports: read, refused and written; names of constituents.
 use axe_report::{Report, ReportFault, constituent_name, read_report, write_report};
+use std::alloc::{AllocError, Global};
 use std::process::Abort;
 
 /// The report of a module of dimension 3 over the field of two elements, with two constituents.
-const REPORT: &str = "\
+pub(crate) const REPORT: &str = "\
 chop 1 field=2 dim=3 gens=2 seed=1 words=400
 factor 2a dim=2 mult=1
 factor 1a dim=1 mult=1
@@ -56,6 +57,31 @@ const REFUSED: [(&str, usize); 12] = [
     ),
 ];
 
+/// Parts of the report, what stands in the place of each, and the line that fails then.
+const PARTS_REFUSED: [(&str, &str, usize); 7] = [
+    ("words=400", "words=10001", 1),
+    ("seed=1", "seed=18446744073709551616", 1),
+    ("dim=3", "dim=03", 1),
+    ("factor 2a", "factor 2b", 2),
+    ("mult=1", "mult=0", 2),
+    ("factor 2a dim=2", "factor 0a dim=0", 2),
+    ("2a 1a\n", "2a 1a\n\n", 5),
+];
+
+/// Parts of the report, and what may stand in the place of each.
+const PARTS_ACCEPTED: [(&str, &str); 4] = [
+    ("words=400", "words=10000"),
+    ("words=400", "words=0"),
+    ("seed=1", "seed=18446744073709551615"),
+    ("gens=2", "gens=16"),
+];
+
+/// The report with another part in the place of the first such one.
+fn with_part(alloc: Global, part: &str, other: &str) -> Result<String, AllocError> {
+    let (before, after) = REPORT.split_once(part).unwrap_or((REPORT, ""));
+    format!(in alloc; "{before}{other}{after}")
+}
+
 /// The line at which the reader refuses a text.
 fn refused_at(answer: Result<Report, ReportFault>) -> Option<usize> {
     match answer {
@@ -96,6 +122,27 @@ fn other_texts_are_refused_at_the_first_line_that_fails(rt: HostRuntime) {
         let answer = read_report(rt.alloc(), text.as_bytes());
         assert!(&rt; refused_at(answer) == Some(line), "{text}");
     }
+}
+
+#[test]
+fn other_parts_are_refused_at_their_line(rt: HostRuntime) -> Result<(), ReportFault> {
+    for (part, other, line) in PARTS_REFUSED {
+        let text = with_part(rt.alloc(), part, other)?;
+        let answer = read_report(rt.alloc(), text.as_bytes());
+        assert!(&rt; refused_at(answer) == Some(line), "{text}");
+    }
+    Ok(())
+}
+
+#[test]
+fn parts_up_to_the_limits_are_read(rt: HostRuntime) -> Result<(), ReportFault> {
+    for (part, other) in PARTS_ACCEPTED {
+        let text = with_part(rt.alloc(), part, other)?;
+        let report = read_report(rt.alloc(), text.as_bytes())?;
+        let bytes = write_report(rt.alloc(), &report)?;
+        assert!(&rt; bytes.as_slice() == text.as_bytes(), "{text}");
+    }
+    Ok(())
 }
 
 #[test]

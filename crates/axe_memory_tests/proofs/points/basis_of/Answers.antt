@@ -1,0 +1,5 @@
+use Rattle.axe_memory_tests.proofs.NullSpaceAnswers.{reduced_if_answered}
+use Rattle.axe_memory_tests.proofs.points.basis_of.Goals as goal
+
+pub returns : goal.returns
+returns c = reduced_if_answered _ _ c.null_space.result c.null_space.ensures.basis

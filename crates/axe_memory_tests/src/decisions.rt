@@ -1,0 +1,128 @@
+//! What words decide of modules, and standard forms and matches of those that are irreducible.
+
+use crate::tables::{Topic, each_call, is_row, is_still};
+use crate::values::{is_still_module, module_of};
+use axe_iso::{Form, form_of, matches};
+use axe_matrix::Refusal;
+use axe_norton::{At, Verdict, decide, decide_at};
+use axe_spin::Module;
+use axe_test_values::{TableFault, three_fields, two_fields};
+use axe_word::{Term, Word};
+use std::alloc::Global;
+use std::process::Abort;
+
+/// The seed of the words.
+const SEED: u64 = 1;
+
+/// - `irreducible`: a module that word 0 shows to be irreducible, and by which point;
+/// - `reducible`: a module that word 0 shows to be reducible, and by which submodule;
+/// - `reducible_at`: the same of the word that is the first generator;
+/// - `form_of`: a module, and the basis of its standard form;
+/// - `matches`: a module, one that is matched with its form, and the isomorphism.
+const DECIDED: &str = "\
+irreducible | 2: 01/11 | 2: 01
+reducible | 2: 10/01 | 2: 01
+reducible_at | 2: 00/01, 2: 11/01 | 2: 01
+form_of | 2: 01/11 | 2: 01/11
+matches | 2: 01/11 | 2: 11/10 | 2: 01/10
+";
+
+fn shows_point(alloc: Global, module: &Module, wanted: &str) -> Result<bool, TableFault> {
+    match decide(alloc, module, SEED, 0) {
+        Ok(Verdict::Irreducible { word: 0, vector }) => is_row(alloc, Ok(vector), wanted),
+        Ok(_) => Ok(false),
+        Err(refusal) => Ok(refusal == Refusal::Memory),
+    }
+}
+
+fn shows_space(alloc: Global, module: &Module, wanted: &str) -> Result<bool, TableFault> {
+    match decide(alloc, module, SEED, 0) {
+        Ok(Verdict::Reducible(space)) => is_still(alloc, &space, wanted),
+        Ok(_) => Ok(false),
+        Err(refusal) => Ok(refusal == Refusal::Memory),
+    }
+}
+
+/// What the word says that is the first generator.
+fn said(rt: &impl Abort, alloc: Global, module: &Module) -> Result<At, Refusal> {
+    let word = Word::from_terms(&[Term {
+        coefficient: 1,
+        gens: &[0],
+    }]);
+    let word = word.expect(rt, "a word of one term");
+    assert!(rt; word.is_word_in(module));
+    decide_at(alloc, module, &word)
+}
+
+fn says_space(
+    rt: &impl Abort,
+    alloc: Global,
+    module: &Module,
+    wanted: &str,
+) -> Result<bool, TableFault> {
+    match said(rt, alloc, module) {
+        Ok(At::Reducible(space)) => is_still(alloc, &space, wanted),
+        Ok(_) => Ok(false),
+        Err(refusal) => Ok(refusal == Refusal::Memory),
+    }
+}
+
+/// The form of an irreducible module from the vector by which word 0 shows that it is irreducible.
+fn form_by_word_0(rt: &impl Abort, alloc: Global, module: &Module) -> Result<Form, TableFault> {
+    match decide(alloc, module, SEED, 0)? {
+        Verdict::Irreducible { word, vector } => {
+            Ok(form_of(alloc, module, SEED, word, &vector)?)
+        }
+        Verdict::Reducible(_) => panic!(rt; "a reducible module"),
+        Verdict::Undecided => panic!(rt; "a module that word 0 leaves open"),
+    }
+}
+
+fn decides(rt: &impl Abort, alloc: Global, call: &str, line: &str) -> Result<bool, TableFault> {
+    let (text, wanted) = two_fields(line)?;
+    let module = module_of(alloc, text)?;
+    let is_right = match call {
+        "irreducible" => shows_point(alloc, &module, wanted)?,
+        "reducible" => shows_space(alloc, &module, wanted)?,
+        _ => says_space(rt, alloc, &module, wanted)?,
+    };
+    Ok(is_right && is_still_module(alloc, &module, text)?)
+}
+
+fn forms(rt: &impl Abort, alloc: Global, line: &str) -> Result<bool, TableFault> {
+    let (text, wanted) = two_fields(line)?;
+    let module = module_of(alloc, text)?;
+    let form = form_by_word_0(rt, alloc, &module)?;
+    Ok(is_still(alloc, form.basis(), wanted)? && is_still_module(alloc, &module, text)?)
+}
+
+fn matches_form(rt: &impl Abort, alloc: Global, line: &str) -> Result<bool, TableFault> {
+    let (formed, module, wanted) = three_fields(line)?;
+    let form = form_by_word_0(rt, alloc, &module_of(alloc, formed)?)?;
+    let module = module_of(alloc, module)?;
+    assert!(rt; module.field().order() == form.matrices().field().order());
+    assert!(rt; module.gens() == form.matrices().gens());
+    match matches(alloc, &form, &module)? {
+        Some(isomorphism) => is_still(alloc, &isomorphism, wanted),
+        None => Ok(false),
+    }
+}
+
+/// Whether a call answers what its line says, or Memory.
+pub(crate) fn answers(
+    rt: &impl Abort,
+    alloc: Global,
+    call: &str,
+    line: &str,
+) -> Result<bool, TableFault> {
+    match call {
+        "form_of" => forms(rt, alloc, line),
+        "matches" => matches_form(rt, alloc, line),
+        _ => decides(rt, alloc, call, line),
+    }
+}
+
+#[test]
+fn words_decide_or_there_is_no_memory(rt: HostRuntime) {
+    each_call(&rt, rt.alloc(), Topic::Decisions, DECIDED);
+}
