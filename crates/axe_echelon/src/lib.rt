@@ -25,9 +25,9 @@ use axe_matrix::{Matrix, Refusal, Row};
 pub use inverses::inverse;
 pub use null_spaces::null_space;
 pub use spans::span_of;
-pub use subspace::Subspace;
 use std::alloc::Global;
 use std::marker::Model;
+pub use subspace::Subspace;
 
 /// What one new row gave: the row as it was inserted, and a row of the echelon form with its pivot. The latter is the
 /// combination of the inserted rows with these coefficients, of which only as many as there are rows may differ from 0.

@@ -42,10 +42,10 @@ pub invariant_of-self-2 : goal.invariant_of-self-2
 invariant_of-self-2 c =
     let long : length c.resize.new.self.items ≡ c.self.inside.cols = omega (arith, c.in_ok-resize.ensures.len, c.resize.new.self.ok.0) in
     let filled : AreTabledSteps c.self.inside.field c.self.inside.cols (steps_of c.self.inside.field c.self.inside.cols c.self.inside.rows.items)
-        c.resize.new.self.items =
+    c.resize.new.self.items =
     table_filled_up _ _ _ c.self.inside.pivots.items c.resize.new.self.items _ c.self.invariant c.in_ok-resize.ensures.items long in
     let given : IsNextRow (echelon_of c.self.inside.field c.self.inside.cols (steps_of c.self.inside.field c.self.inside.cols c.self.inside.rows.items))
-        c.args.row.entries c.in-Some.next =
+    c.args.row.entries c.in-Some.next =
     rw c.self.view_is c.in-Some.ensures in
     tabled_more _ _ c.self.inside.rows.items c.push.new.self.items c.in-Some.next c.args.row.entries c.resize.new.self.items c.in_ok-push.ensures.items filled given long
 
