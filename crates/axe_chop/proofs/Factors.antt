@@ -100,22 +100,18 @@ IsNewName bytes names = AllByRecursion (λ name. name ≡ bytes → ⊥) names
 
 -- one more factor is inserted: its name is new, so it goes last
 pub first_more : (forms : List FormValue) (places dims : List ℕ) (entries : List (String Global × Factor))
-    (form : FormValue) (name : String Global) (factor : Factor) (d k : ℕ)
-    → AreFirst forms places dims entries → d ≡ form.matrices.dim → d ≤ 2048
-    → k ≡ count_of d dims → string_bytes name ≡ constituent_name d k
+    (form : FormValue) (name : String Global) (factor : Factor) (d : ℕ)
+    → AreFirst forms places dims entries → d ≡ form.matrices.dim → form.matrices.dim ≤ 2048
+    → string_bytes name ≡ constituent_name form.matrices.dim (count_of form.matrices.dim dims)
     → factor.form ≡ form → factor.multiplicity ≡ count_of (length dims) places
     → AreFirst (forms ++ form ∷ []) places (dims ++ d ∷ []) (insert_entry string_eq entries name factor)
-first_more forms places dims entries form name factor d k h is_dim fits earlier named is counted =
-    let known : string_bytes name ≡ constituent_name d (count_of d dims) =
-    named ∙ ap (λ (n : ℕ). constituent_name d n) earlier in
-    let of_form : string_bytes name ≡ constituent_name form.matrices.dim (count_of form.matrices.dim dims) =
-    known ∙ ap (λ (n : ℕ). constituent_name n (count_of n dims)) is_dim in
-    let pushed = first_push forms places dims entries form name factor h (omega (arith, is_dim, fits)) of_form is counted in
+first_more forms places dims entries form name factor d h is_dim fits named is counted =
+    let pushed = first_push forms places dims entries form name factor h fits named is counted in
     let keys : map string_bytes (keys_of entries) ≡ names_of dims =
     h.factors.names_are ∙ ap names_of (sym h.dims_are) in
     let new : IsNewName (string_bytes name) (map string_bytes (keys_of entries)) =
     subst (λ (l : List (List ℕ)). IsNewName (string_bytes name) l) (sym keys)
-    (subst (λ (n : List ℕ). IsNewName n (names_of dims)) (sym known) (name_is_new d dims fits h.small)) in
+    (subst (λ (n : List ℕ). IsNewName n (names_of dims)) (sym named) (name_is_new form.matrices.dim dims fits h.small)) in
     let last = new_key_last Factor name factor entries new in
     subst (λ (l : List (String Global × Factor)). AreFirst (forms ++ form ∷ []) places (dims ++ d ∷ []) l) (sym last)
     (subst (λ (n : ℕ). AreFirst (forms ++ form ∷ []) places (dims ++ n ∷ []) (entries ++ (name, factor) ∷ []))

@@ -1,10 +1,10 @@
 -- What the steps of the search find, and what it answers.
-use Rattle.std.specs.Prelude.{◌≡◌, ℕ, List, length, Option, Some, None}
+use Rattle.std.specs.Prelude.{◌≡◌, ℕ, List, ◌∷◌, length, Option, Some, None}
 use Rattle.axe_row.specs.Rows.{RowValue}
 use Rattle.axe_matrix.specs.Matrices.{MatrixValue, IsMatrix}
 use Rattle.axe_spin.specs.Modules.{ModuleValue}
 use Rattle.axe_iso.specs.Forms.{FormValue}
-use Rattle.axe_series.specs.Sections.{SectionValue, lifted_rows}
+use Rattle.axe_series.specs.Sections.{SectionValue, IsCut, lifted_rows}
 use Rattle.axe_series.specs.Runs.{FoundValue, with_place, with_factor, complete, open_section, AreOfOthers, IsKnownAs}
 use Rattle.axe_series.specs.Runs.{IsNewForm, RunOf}
 use Rattle.axe_series.specs.Series.{basis_of_rows}
@@ -34,6 +34,13 @@ pub data IsPlacedIn (found : FoundValue) (section : SectionValue) (seed word : �
       IsPlacedIn found section seed word v (with_place found (lifted_rows section t).rows number)
   as_new : (form : FormValue) → AreOfOthers found.forms section.action → IsNewForm section.action seed word v form →
       IsPlacedIn found section seed word v (with_factor found (lifted_rows section form.basis).rows form)
+
+-- the two parts into which a submodule cuts a section stand before the other sections, the submodule's first
+pub record ArePartsBefore (section : SectionValue) (space : MatrixValue) (others all : List SectionValue) : Type 0 where
+  pub sub : SectionValue
+  pub quotient : SectionValue
+  pub cut : IsCut section space sub quotient
+  pub order : all ≡ sub ∷ quotient ∷ others
 
 -- what a search gives is what a run finds, the basis being over the module's field and of its columns
 abbrev pub IsSearched : ModuleValue → ℕ → ℕ → Searched → Type 0

@@ -1,9 +1,9 @@
 //! Composition series, their factors under names.
 
-ghost use Rattle.std.specs.Prelude.{◌≡◌, None, IfOk};
+ghost use Rattle.std.specs.Prelude.{◌≡◌, length, string_bytes, None, IfOk};
 ghost use Rattle.indexmap.specs.IndexMap.{keys, values};
 ghost use Rattle.axe_row.specs.Refusals.{Answers};
-ghost use Rattle.axe_report.specs.Names.{count_of};
+ghost use Rattle.axe_report.specs.Names.{constituent_name, count_of};
 ghost use Rattle.axe_chop.specs.Searches.{found_value};
 ghost use Rattle.axe_chop.specs.Chopped.{AreFactorsOf, IsNamed};
 
@@ -12,7 +12,7 @@ use axe_iso::Form;
 use axe_matrix::{Matrix, Refusal};
 use axe_report::constituent_name;
 use indexmap::IndexMap;
-use std::alloc::Global;
+use std::alloc::{AllocError, Global};
 
 /// A factor of a composition series: a constituent of the module, up to isomorphism.
 #[derive(Drop)]
@@ -61,12 +61,29 @@ fn factors(
     let mut dims = Vec::new(alloc);
     for form in forms {
         let dim = form.matrices().dim();
-        let name = constituent_name(alloc, dim, count_dim(&dims, dim))?;
-        let multiplicity = count_place(places, dims.len());
-        factors.insert(name, Factor { form, multiplicity })?;
+        let (name, factor) = named_factor(alloc, form, &dims, places)?;
+        factors.insert(name, factor)?;
         dims.push(dim)?;
     }
     Ok(factors)
+}
+
+/// The factor with this form under its name, after factors of these dimensions, in a series with these places.
+fn named_factor(
+    alloc: Global,
+    form: Form,
+    dims: &[usize],
+    places: &[u16],
+) -> Result<(String, Factor), AllocError>
+    ensures name { IfOk result (λ entry. string_bytes entry.0
+        ≡ constituent_name form.matrices.dim (count_of form.matrices.dim dims.now)) }
+    ensures form { IfOk result (λ entry. entry.1.form ≡ form) }
+    ensures multiplicity { IfOk result (λ entry. entry.1.multiplicity ≡ count_of (length dims.now) places.now) }
+{
+    let dim = form.matrices().dim();
+    let name = constituent_name(alloc, dim, count_dim(dims, dim))?;
+    let multiplicity = count_place(places, dims.len());
+    Ok((name, Factor { form, multiplicity }))
 }
 
 /// How many of the dimensions are this one.

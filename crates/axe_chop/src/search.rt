@@ -1,11 +1,13 @@
 //! The search for a composition series.
 
-ghost use Rattle.std.specs.Prelude.{◌≡◌, ◌≤◌, ◌+◌, ◌∷◌, length, All, None, IfOk};
+ghost use Rattle.std.specs.Prelude.{◌≡◌, ◌≤◌, ◌+◌, [], ◌∷◌, length, All, None, IfOk};
 ghost use Rattle.axe_row.specs.Refusals.{Answers};
 ghost use Rattle.axe_matrix.specs.Limits.{most_rows};
 ghost use Rattle.axe_matrix.specs.Matrices.{IsMatrix};
-ghost use Rattle.axe_chop.specs.Stages.{IsRowsLike, sections_dim, with_sections};
-ghost use Rattle.axe_chop.specs.Searches.{IsSearched};
+ghost use Rattle.axe_norton.specs.Spaces.{IsProperSubmodule};
+ghost use Rattle.axe_series.specs.Sections.{whole_section};
+ghost use Rattle.axe_chop.specs.Stages.{IsSection, IsRowsLike, sections_dim, with_sections};
+ghost use Rattle.axe_chop.specs.Searches.{ArePartsBefore, IsSearched};
 ghost use Rattle.axe_chop.specs.declared.search.Searched.TheVariants.{Open};
 
 use crate::found::{Found, append_rows};
@@ -40,24 +42,46 @@ pub(crate) fn search(
     requires words { words ≤ MAX_WORDS }
     ensures { Answers None (IsSearched «module».now seed words) result }
 {
-    let mut found = Found::nothing(alloc, module);
     // Sections still to be decided, the lowest one first.
-    let mut sections = VecDeque::new(alloc);
-    sections.push_front(Section::whole(alloc, module)?)?;
+    let mut sections = first_sections(alloc, module)?;
+    let mut found = Found::nothing(alloc, module);
     while let Some(section) = sections.pop_front() {
         match decide(alloc, section.action(), seed, words)? {
             Verdict::Irreducible { word, vector } => {
                 found.place(alloc, &section, seed, word, &vector)?;
             }
-            Verdict::Reducible(space) => {
-                let (sub, quotient) = section.cut(alloc, &space)?;
-                sections.push_front(quotient)?;
-                sections.push_front(sub)?;
-            }
+            Verdict::Reducible(space) => put_parts(alloc, &mut sections, &section, &space)?,
             Verdict::Undecided => return open_at(alloc, found, &section, &sections),
         }
     }
     Ok(Searched::Complete(found))
+}
+
+/// The sections to be decided at first: the module itself.
+fn first_sections(alloc: Global, module: &Module) -> Result<VecDeque<Section>, Refusal>
+    ensures whole { Answers None (λ sections. sections.items ≡ whole_section «module».now ∷ []) result }
+    ensures well_formed { IfOk result (λ _. IsSection (whole_section «module».now)) }
+{
+    let mut sections = VecDeque::new(alloc);
+    sections.push_front(Section::whole(alloc, module)?)?;
+    Ok(sections)
+}
+
+/// Puts the two sections into which a submodule cuts a section before the others: first the submodule's, then the
+/// quotient by it.
+fn put_parts(
+    alloc: Global,
+    sections: &mut VecDeque<Section>,
+    section: &Section,
+    space: &Matrix,
+) -> Result<(), Refusal>
+    requires space { IsProperSubmodule section.now.action space.now }
+    ensures { Answers None (λ _. ArePartsBefore section.now space.now sections.old.items sections.new.items) result }
+{
+    let (sub, quotient) = section.cut(alloc, space)?;
+    sections.push_front(quotient)?;
+    sections.push_front(sub)?;
+    Ok(())
 }
 
 /// The outcome where a section stays undecided: the rows so far, then the section's, and then those of the sections

@@ -1,9 +1,13 @@
-//! Composition series.
+//! Composition series and their reports.
+
+ghost use Rattle.axe_chop.specs.Answers.{IsChopped};
 
 use crate::tables::{Topic, each_call};
 use crate::values::module_of;
-use axe_chop::{ChopFault, Chopped, chop};
+use axe_chop::{ChopFault, Chopped, chop, report_of};
 use axe_matrix::Refusal;
+use axe_report::{ReportFault, write_report};
+use axe_spin::Module;
 use axe_test_values::{TableFault, four_fields, is_matrix};
 use std::alloc::{AllocError, Global};
 use std::process::Abort;
@@ -11,7 +15,7 @@ use std::process::Abort;
 /// The seed of the words, and the number of the last word.
 const SEED: u64 = 1;
 
-const WORDS: u32 = 20;
+const WORDS: u32 = 400;
 
 /// A module, the names of its constituents from the bottom, the multiplicities of its factors, and the basis.
 const SERIES: &str = "\
@@ -25,6 +29,41 @@ chop | 4: 20/03 | 1a 1b | 1 1 | 4: 01/10
 chop | 5: 0 | 1a | 1 | 5: 1
 chop | 2: 1000/0100/0010/0001 | 1a 1a 1a 1a | 4 | 2: 0001/0010/0100/1000
 ";
+
+/// The same modules, and the reports of their composition series.
+const REPORTS: [(&str, &str); 7] = [
+    (
+        "2: 01/11",
+        "chop 1 field=2 dim=2 gens=1 seed=1 words=400\nfactor 2a dim=2 mult=1\nseries 2a\n",
+    ),
+    (
+        "3: 010/100/001, 3: 010/001/100",
+        "chop 1 field=3 dim=3 gens=2 seed=1 words=400\n\
+         factor 1a dim=1 mult=2\nfactor 1b dim=1 mult=1\nseries 1a 1b 1a\n",
+    ),
+    (
+        "2: 010/100/001, 2: 010/001/100",
+        "chop 1 field=2 dim=3 gens=2 seed=1 words=400\n\
+         factor 2a dim=2 mult=1\nfactor 1a dim=1 mult=1\nseries 2a 1a\n",
+    ),
+    (
+        "2: 0100/1100/0011/0010",
+        "chop 1 field=2 dim=4 gens=1 seed=1 words=400\nfactor 2a dim=2 mult=2\nseries 2a 2a\n",
+    ),
+    (
+        "4: 20/03",
+        "chop 1 field=4 dim=2 gens=1 seed=1 words=400\n\
+         factor 1a dim=1 mult=1\nfactor 1b dim=1 mult=1\nseries 1a 1b\n",
+    ),
+    (
+        "5: 0",
+        "chop 1 field=5 dim=1 gens=1 seed=1 words=400\nfactor 1a dim=1 mult=1\nseries 1a\n",
+    ),
+    (
+        "2: 1000/0100/0010/0001",
+        "chop 1 field=2 dim=4 gens=1 seed=1 words=400\nfactor 1a dim=1 mult=4\nseries 1a 1a 1a 1a\n",
+    ),
+];
 
 /// The companion matrix of x^10 + x^3 + 1, which is irreducible; each value is zero or invertible.
 const OPEN: &str = "\
@@ -87,6 +126,26 @@ fn chops(alloc: Global, line: &str) -> Result<bool, TableFault> {
     }
 }
 
+/// The text of the report of a composition series.
+fn report_text(alloc: Global, module: &Module, chopped: &Chopped) -> Result<Vec<u8>, ReportFault>
+    requires { IsChopped «module».now SEED WORDS chopped.now }
+{
+    let report = report_of(alloc, module, chopped, SEED, WORDS)?;
+    write_report(alloc, &report)
+}
+
+/// Whether the report of a module's composition series is this text.
+fn is_reported(alloc: Global, module: &str, text: &str) -> Result<bool, TableFault> {
+    let module = module_of(alloc, module)?;
+    let Ok(chopped) = chop(alloc, &module, SEED, WORDS) else {
+        return Ok(false);
+    };
+    match report_text(alloc, &module, &chopped) {
+        Ok(bytes) => Ok(bytes.as_slice() == text.as_bytes()),
+        Err(_) => Err(TableFault::Refused(Refusal::Memory)),
+    }
+}
+
 /// Whether a call answers what its line says.
 pub(crate) fn answers(
     rt: &impl Abort,
@@ -103,6 +162,14 @@ pub(crate) fn answers(
 #[test]
 fn modules_are_chopped(rt: HostRuntime) -> Result<(), TableFault> {
     each_call(&rt, rt.alloc(), Topic::Chops, SERIES)
+}
+
+#[test]
+fn series_are_reported(rt: HostRuntime) -> Result<(), TableFault> {
+    for (module, text) in REPORTS {
+        assert!(&rt; is_reported(rt.alloc(), module, text)?, "{text}");
+    }
+    Ok(())
 }
 
 #[test]

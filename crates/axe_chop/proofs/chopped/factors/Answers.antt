@@ -1,7 +1,6 @@
-use Rattle.std.proofs.Common.{ℕ, ◌≡◌, ◌≤◌, ◌++◌, [], ◌∷◌, length, refl, sym, ap, ◌∙◌, append_assoc, rules, arith}
+use Rattle.std.proofs.Common.{◌≡◌, ◌≤◌, ◌++◌, [], ◌∷◌, sym, ap, ◌∙◌, append_assoc, rules, arith}
 use Rattle.std.specs.Vec.Iter.{into_iter_items}
 use Rattle.axe_spin.specs.Modules.{ModuleValue}
-use Rattle.axe_report.specs.Names.{count_of}
 use Rattle.axe_chop.proofs.Factors.{none_first, first_more}
 use Rattle.axe_chop.proofs.chopped.factors.Goals as goal
 
@@ -15,15 +14,14 @@ pub loop-form-preserved : goal.loop-form-preserved
 loop-form-preserved c =
     let dim : c.dim-dim.result ≡ c.in-Some.form.matrices.dim =
     c.dim-dim.ensures.count ∙ ap (λ (m : ModuleValue). m.dim) c.matrices.ensures.value in
-    let fits : c.dim-dim.result ≤ 2048 = omega (arith, c.dim-dim.ensures.count, c.dim-dim.ensures.well_formed.dim_fits) in
-    let earlier = c.count_dim.ensures ∙ ap (λ (l : _). count_of c.dim-dim.result l) c.deref.ensures.value in
-    let number : c.len.result ≡ length c.loop-form.dims.items = omega (arith, c.len.ensures) in
-    let count = c.count_place-multiplicity.ensures ∙ ap (λ (n : ℕ). count_of n c.args.places.now) number in
+    let fits : c.in-Some.form.matrices.dim ≤ 2048 =
+    omega (arith, dim, c.dim-dim.ensures.count, c.dim-dim.ensures.well_formed.dim_fits) in
     record {
       items = append_assoc c.loop-form.yielded (c.in-Some.form ∷ []) (into_iter_items c.next.new.self)
           ∙ ap (λ rest. c.loop-form.yielded ++ rest) (sym c.in-Some.ensures.steps.0) ∙ c.loop-form.invariant.items;
       first = rw (c.in_ok-push.ensures.items, c.in_ok-insert.ensures.entries)
           (first_more c.loop-form.yielded c.args.places.now c.loop-form.dims.items c.loop-form.factors.entries
-          c.in-Some.form c.in_ok-name.name _ c.dim-dim.result _
-          c.loop-form.invariant.first dim fits earlier c.in_ok-name.ensures refl count);
+          c.in-Some.form c.in_ok-name.name c.in_ok-name.factor c.dim-dim.result c.loop-form.invariant.first dim fits
+          (rw c.deref.ensures.value at c.in_ok-name.ensures.name) c.in_ok-name.ensures.form
+          (rw c.deref.ensures.value at c.in_ok-name.ensures.multiplicity));
     }

@@ -1,15 +1,63 @@
-use Rattle.std.proofs.Common.{subst}
-use Rattle.axe_chop.specs.Stages.{IsSection}
-use Rattle.axe_chop.proofs.Stepping.{popped, popped_none, pushed_first, pushed_two, decided_as, true_as, reached_first, reached_end, rest_rows_like, answered_open, reached_cut, less_after_cut, reached_placed, less_after_place}
+use Rattle.std.proofs.Common.{sym}
+use Rattle.axe_chop.proofs.Stepping.{popped, popped_none, decided_as, true_as, reached_first, reached_end, forms_like_first, first_rows_like, rest_rows_like, room_left, room_first, answered_open, reached_cut, less_after_cut, reached_placed, less_after_place}
 use Rattle.axe_chop.proofs.search.search.Goals as goal
-use Rattle.axe_chop.proofs.search.search.Goals.{in-Irreducible+in_ok-place-in-Irreducible+in-Bits-1, in-Irreducible+in_ok-place-in-Irreducible+in-Bytes-1, in-Reducible+in_ok-sub-in-Reducible+in_ok-push_front-in-Reducible+in_ok-push_front-in-Reducible-2}
+use Rattle.axe_chop.proofs.search.search.Goals.{in-Irreducible+in_ok-place-in-Irreducible+in-Bits-1, in-Irreducible+in_ok-place-in-Irreducible+in-Bytes-1, in-Reducible+in_ok-put_parts-in-Reducible}
 
 pub loop-section-init : goal.loop-section-init
 loop-section-init c =
-    reached_first c.args.module.now c.args.seed c.args.words c.nothing-found.result c.push_front.new.self.items
+    reached_first c.args.module.now c.args.seed c.args.words c.nothing-found.result c.in_ok-sections.sections.items
     c.nothing-found.ensures.basis c.nothing-found.ensures.forms c.nothing-found.ensures.places c.nothing-found.ensures.well_formed
-    (subst IsSection c.in_ok-whole.ensures.whole c.in_ok-whole.ensures.well_formed)
-    (pushed_first _ _ _ _ c.in_ok-whole.ensures.whole c.new-sections.ensures.items c.in_ok-push_front.ensures.items)
+    c.in_ok-sections.ensures.well_formed c.in_ok-sections.ensures.whole
+
+pub place-requires-clause-decided : goal.place-requires-clause-decided
+place-requires-clause-decided c = (
+  c.args.words,
+  decided_as c.action.result.now _ c.args.seed c.args.words _ _ c.action.ensures.value c.in-Irreducible.is c.in_ok-word.ensures.decides,
+)
+
+pub place-requires-clause-like : goal.place-requires-clause-like
+place-requires-clause-like c =
+    forms_like_first c.args.module.now c.args.seed c.args.words c.loop-section.found c.loop-section.sections.items c.loop-section.invariant
+    c.in-Some.section c.pop_front.new.self.items
+    (popped _ _ c.pop_front.result c.in-Some.section c.in-Some.is c.pop_front.ensures.items)
+
+pub place-requires-clause-field : goal.place-requires-clause-field
+place-requires-clause-field c =
+    sym (first_rows_like c.args.module.now c.args.seed c.args.words c.loop-section.found c.loop-section.sections.items c.loop-section.invariant
+    c.in-Some.section c.pop_front.new.self.items
+    (popped _ _ c.pop_front.result c.in-Some.section c.in-Some.is c.pop_front.ensures.items)).field
+
+pub place-requires-clause-fits : goal.place-requires-clause-fits
+place-requires-clause-fits c =
+    sym (first_rows_like c.args.module.now c.args.seed c.args.words c.loop-section.found c.loop-section.sections.items c.loop-section.invariant
+    c.in-Some.section c.pop_front.new.self.items
+    (popped _ _ c.pop_front.result c.in-Some.section c.in-Some.is c.pop_front.ensures.items)).columns
+
+pub place-requires-clause-room : goal.place-requires-clause-room
+place-requires-clause-room c =
+    room_first c.args.module.now c.args.seed c.args.words c.loop-section.found c.loop-section.sections.items c.loop-section.invariant
+    c.in-Some.section c.pop_front.new.self.items
+    (popped _ _ c.pop_front.result c.in-Some.section c.in-Some.is c.pop_front.ensures.items)
+
+pub place-requires-clause-few_forms : goal.place-requires-clause-few_forms
+place-requires-clause-few_forms c = c.loop-section.invariant.few_forms
+
+pub put_parts-requires : goal.put_parts-requires
+put_parts-requires c = record {
+  space = true_as c.action.result.now _ _ _ c.action.ensures.value c.in-Reducible.is c.in_ok-word.ensures.holds;
+}
+
+pub open_at-requires-clause-like : goal.open_at-requires-clause-like
+open_at-requires-clause-like c =
+    first_rows_like c.args.module.now c.args.seed c.args.words c.loop-section.found c.loop-section.sections.items c.loop-section.invariant
+    c.in-Some.section c.pop_front.new.self.items
+    (popped _ _ c.pop_front.result c.in-Some.section c.in-Some.is c.pop_front.ensures.items)
+
+pub open_at-requires-clause-room : goal.open_at-requires-clause-room
+open_at-requires-clause-room c =
+    room_left c.args.module.now c.args.seed c.args.words c.loop-section.found c.loop-section.sections.items c.loop-section.invariant
+    c.in-Some.section c.pop_front.new.self.items
+    (popped _ _ c.pop_front.result c.in-Some.section c.in-Some.is c.pop_front.ensures.items)
 
 pub open_at-requires-clause-after_like : goal.open_at-requires-clause-after_like
 open_at-requires-clause-after_like c =
@@ -27,7 +75,7 @@ returns-in-Undecided c =
 
 pub loop-section-preserved : goal.loop-section-preserved
 loop-section-preserved c =
-    elim c.match-branch-4.branch [
+    elim c.match-branch-3.branch [
       | in-Irreducible+in_ok-place-in-Irreducible+in-Bits-1 w ↦
           rw (w.found-is, w.sections-is) (reached_placed c.args.module.now c.args.seed c.args.words c.loop-section.found c.loop-section.sections.items c.loop-section.invariant
           c.in-Some.section c.pop_front.new.self.items
@@ -42,20 +90,20 @@ loop-section-preserved c =
           _ _ (decided_as c.action.result.now _ c.args.seed c.args.words _ _ c.action.ensures.value w.in-Irreducible.is c.in_ok-word.ensures.decides)
           w.place.new.self w.in_ok-place-in-Irreducible.ensures.placed w.in_ok-place-in-Irreducible.ensures.basis
           (w.in_ok-place-in-Irreducible.ensures.well_formed c.loop-section.invariant.formed))
-      | in-Reducible+in_ok-sub-in-Reducible+in_ok-push_front-in-Reducible+in_ok-push_front-in-Reducible-2 w ↦
+      | in-Reducible+in_ok-put_parts-in-Reducible w ↦
           rw (w.found-is, w.sections-is) (reached_cut c.args.module.now c.args.seed c.args.words c.loop-section.found c.loop-section.sections.items c.loop-section.invariant
           c.in-Some.section c.pop_front.new.self.items
           (popped _ _ c.pop_front.result c.in-Some.section c.in-Some.is c.pop_front.ensures.items)
           _ (decided_as c.action.result.now _ c.args.seed c.args.words _ _ c.action.ensures.value w.in-Reducible.is c.in_ok-word.ensures.decides)
-          (true_as c.action.result.now _ _ _ c.action.ensures.value w.in-Reducible.is c.in_ok-word.ensures.holds) _ _
-          w.in_ok-sub-in-Reducible.ensures w.push_front-in-Reducible-2.new.self.items
-          (pushed_two _ _ _ _ _ w.in_ok-push_front-in-Reducible.ensures.items
-          w.in_ok-push_front-in-Reducible-2.ensures.items))
+          (true_as c.action.result.now _ _ _ c.action.ensures.value w.in-Reducible.is c.in_ok-word.ensures.holds)
+          w.in_ok-put_parts-in-Reducible.ensures.sub w.in_ok-put_parts-in-Reducible.ensures.quotient
+          w.in_ok-put_parts-in-Reducible.ensures.cut w.put_parts.new.sections.items
+          w.in_ok-put_parts-in-Reducible.ensures.order)
     ]
 
 pub loop-section-smaller : goal.loop-section-smaller
 loop-section-smaller c =
-    elim c.match-branch-4.branch [
+    elim c.match-branch-3.branch [
       | in-Irreducible+in_ok-place-in-Irreducible+in-Bits-1 w ↦
           rw w.sections-is (less_after_place c.args.module.now c.args.seed c.args.words c.loop-section.found c.loop-section.sections.items c.loop-section.invariant
           c.in-Some.section c.pop_front.new.self.items
@@ -64,15 +112,15 @@ loop-section-smaller c =
           rw w.sections-is (less_after_place c.args.module.now c.args.seed c.args.words c.loop-section.found c.loop-section.sections.items c.loop-section.invariant
           c.in-Some.section c.pop_front.new.self.items
           (popped _ _ c.pop_front.result c.in-Some.section c.in-Some.is c.pop_front.ensures.items))
-      | in-Reducible+in_ok-sub-in-Reducible+in_ok-push_front-in-Reducible+in_ok-push_front-in-Reducible-2 w ↦
+      | in-Reducible+in_ok-put_parts-in-Reducible w ↦
           rw w.sections-is (less_after_cut c.args.module.now c.args.seed c.args.words c.loop-section.found c.loop-section.sections.items c.loop-section.invariant
           c.in-Some.section c.pop_front.new.self.items
           (popped _ _ c.pop_front.result c.in-Some.section c.in-Some.is c.pop_front.ensures.items)
           _ (decided_as c.action.result.now _ c.args.seed c.args.words _ _ c.action.ensures.value w.in-Reducible.is c.in_ok-word.ensures.decides)
-          (true_as c.action.result.now _ _ _ c.action.ensures.value w.in-Reducible.is c.in_ok-word.ensures.holds) _ _
-          w.in_ok-sub-in-Reducible.ensures w.push_front-in-Reducible-2.new.self.items
-          (pushed_two _ _ _ _ _ w.in_ok-push_front-in-Reducible.ensures.items
-          w.in_ok-push_front-in-Reducible-2.ensures.items))
+          (true_as c.action.result.now _ _ _ c.action.ensures.value w.in-Reducible.is c.in_ok-word.ensures.holds)
+          w.in_ok-put_parts-in-Reducible.ensures.sub w.in_ok-put_parts-in-Reducible.ensures.quotient
+          w.in_ok-put_parts-in-Reducible.ensures.cut w.put_parts.new.sections.items
+          w.in_ok-put_parts-in-Reducible.ensures.order)
     ]
 
 pub returns : goal.returns
