@@ -43,11 +43,13 @@ test:
 cases: build
 	tests/run
 	tests/disk
+	tests/changes
 	tests/documents
 	tests/installed
 
 bench: build
 	-AXE=$(abspath $(AXE)) bench/run
+	-AXE=$(abspath $(AXE)) bench/products
 	-AXE=$(abspath $(AXE)) bench/chop
 
 install: build
