@@ -14,8 +14,11 @@ rows_with_product K columns d c a b =
 
 -- the matrix d plus c times the product of a and b
 abbrev pub matrix_with_product : MatrixValue → ℕ → MatrixValue → MatrixValue → MatrixValue
-matrix_with_product d c a b =
-    record { order = d.order; cols = d.cols; rows = rows_with_product (number_field d.order) d.cols d.rows c a.rows b.rows }
+matrix_with_product d c a b = record {
+  order = d.order;
+  cols = d.cols;
+  rows = rows_with_product (number_field d.order) d.cols d.rows c a.rows b.rows;
+}
 
 -- a row r of so many columns plus c times n terms, from term `at` on, of the vector v times the matrix b: entry j is
 -- r[j] + c s, where s is the sum over t below n of v[at + t] b[at + t][j]

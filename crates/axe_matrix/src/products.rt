@@ -153,7 +153,8 @@ impl FourTables {
         })
     }
 
-    /// Makes the tables those of the combinations of four pieces of a matrix's rows, one after another from an index on.
+    /// Makes the tables those of the combinations of four pieces of a matrix's rows, one after another from an index
+    /// on.
     fn fill(&mut self, b: &Matrix, at: usize)
         requires within { at < length b.now.rows }
         requires tables { AreTablesFor b.now.order b.now.cols self.old }
