@@ -11,3 +11,4 @@ pub mod TablePlanes
 pub mod TableSums
 pub mod PieceNumbers
 pub mod CombinationLaws
+pub mod MultiplesByX

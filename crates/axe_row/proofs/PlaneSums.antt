@@ -147,14 +147,14 @@ pub record AreSummands (o : Order) (n k : ℕ) (c l q c' l' q' : Plane) (f0 f1 f
   pub to_linear : IsColumn o k 1 f1
   pub to_quadratic : IsColumn o k 2 f2
 
-present : (i d n : ℕ) → i < d → cond (ltb i d) n 0 ≡ n
+pub present : (i d n : ℕ) → i < d → cond (ltb i d) n 0 ≡ n
 present i d n below = ap (λ b. cond b n 0) (lt-ltb i d below)
 
 -- the plane of constants in the form of the others
 constant_plane : (o : Order) (n : ℕ) (c : Plane) → IsPlaneOf (prime_of o) n c → IsPlaneOf (prime_of o) (cond (ltb 0 (degree_of o)) n 0) c
 constant_plane o n c h = subst (λ m. IsPlaneOf (prime_of o) m c) (sym (constant_is_there o n)) h
 
-addable_one : (o : Order) (n k i j f : ℕ) (plane other : Plane) → i < 3 → j < 3 → IsElement o k →
+pub addable_one : (o : Order) (n k i j f : ℕ) (plane other : Plane) → i < 3 → j < 3 → IsElement o k →
     IsPlaneOf (prime_of o) (cond (ltb j (degree_of o)) n 0) plane → IsPlaneOf (prime_of o) (cond (ltb i (degree_of o)) n 0) other →
     f ≡ entry (matrix_of_multiplication o k) i j → IsAddable plane f other
 addable_one o n k i j f plane other hi hj hk h ho ef = record {

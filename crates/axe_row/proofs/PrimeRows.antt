@@ -215,7 +215,7 @@ prime_entries_sum o n m k c l q c' l' q' after e h h' hk is =
     ∙ prime_sum o (digits_of c) k (digits_of c') e hk h.constant.digits h'.constant.digits
     ∙ sym (ap₂ (λ (x y : List ℕ). sum_with_multiple (number_field o) x k y) (one_plane o n c l q e h) (one_plane o m c' l' q' e h'))
 
-multiple_is_below : (p k : ℕ) (a : List ℕ) → 0 < p → AreDigits p (lane.multiple p k a)
+pub multiple_is_below : (p k : ℕ) (a : List ℕ) → 0 < p → AreDigits p (lane.multiple p k a)
 multiple_is_below p k a positive = All-map (λ x. x < p) (λ x. (k * x) % p) a (λ i d inside. mod-lt _ positive)
 
 pub prime_planes_multiple : (o : Order) (n k : ℕ) (c l q after : Plane) → degree_of o ≡ 1 → ArePlanes o n c l q →

@@ -1,9 +1,11 @@
 -- Sums, multiples and dot products of row vectors, and their nonzero entries.
-use Rattle.std.specs.Prelude.{◌≡◌, ◌≢◌, ℕ, ◌<◌, List, length, slice_index, All}
+use Rattle.std.specs.Prelude.{◌≡◌, ◌≢◌, ℕ, zero, suc, ◌<◌, List, length, slice_index, All}
 use Rattle.axe_algebra.specs.Lists.{listed}
 use Rattle.axe_algebra.specs.ListArithmetic.{number_sum}
 use Rattle.axe_algebra.specs.NumberField.{NumberField}
+use Rattle.axe_field.specs.Arithmetic.{field_mul}
 use Rattle.axe_field.specs.NumberFields.{number_field}
+use Rattle.axe_field.specs.Order.{Order, prime_of}
 use Rattle.axe_row.specs.Rows.{RowValue}
 
 -- a vector plus a multiple of another of its length: entry j is a[j] + c b[j] (any linear algebra text)
@@ -26,6 +28,11 @@ row_with_multiple a c b =
 -- c times the row a
 abbrev pub multiple_row : ℕ → RowValue → RowValue
 multiple_row c a = record { order = a.order; entries = multiple (number_field a.order) c a.entries }
+
+-- the power x^k of the element x, whose number is the prime (any algebra text)
+unfoldable pub power_of_x : Order → ℕ → ℕ
+power_of_x o zero = 1
+power_of_x o (suc k) = field_mul o (prime_of o) (power_of_x o k)
 
 -- each entry is 0
 abbrev pub IsZeroVector : List ℕ → Type 0

@@ -46,3 +46,10 @@ abbrev pub earlier_of : Option ℕ → Option ℕ → Option ℕ
 earlier_of (Some i) (Some j) = Some (min i j)
 earlier_of (Some i) None = Some i
 earlier_of None right = right
+
+-- the planes after are those before, moved to the next powers of x, and that of the highest power, 1 or 2, is that of
+-- the constants
+pub record AreRotated (degree : ℕ) (c l q c' l' q' : Plane) : Type 0 where
+  pub linear : l' ≡ c
+  pub by_three : degree ≡ 3 → (c' ≡ q) × (q' ≡ l)
+  pub by_two : degree ≢ 3 → (c' ≡ l) × (q' ≡ q)

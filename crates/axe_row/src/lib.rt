@@ -14,12 +14,14 @@ mod combos;
 mod pieces;
 mod planes;
 mod refusals;
+mod scaling;
 
 use axe_field::Field;
 use axe_plane::Plane;
 pub use combos::{Combos, most_combined};
 use planes::{add_multiples, digits_in_plane, earlier, element, plane_of};
 pub use refusals::Refusal;
+use scaling::exponent;
 use std::alloc::Global;
 use std::marker::Model;
 
@@ -189,8 +191,11 @@ impl Row {
     {
         if self.field.degree() == 1 {
             self.constant.scale(scalar);
-        } else if scalar != 1 {
-            self.scale_by_entries(scalar);
+        } else if scalar == 0 {
+            self.make_zero();
+        } else {
+            let exponent = exponent(&self.field, scalar);
+            self.multiply_by_power(exponent);
         }
     }
 
@@ -270,18 +275,6 @@ impl Row {
             linear,
             quadratic,
         );
-    }
-
-    /// Multiplies the row by an element, entry by entry.
-    fn scale_by_entries(&mut self, scalar: u8)
-        requires { IsElement self.old.order scalar }
-        ensures multiple { self.new ≡ multiple_row scalar self.old }
-        ensures well_formed { IsRow self.new }
-    {
-        let field = *self.field();
-        for index in 0..self.len() {
-            self.set(index, field.mul(scalar, self.get(index)));
-        }
     }
 
     /// The dot product with another row, entry by entry.

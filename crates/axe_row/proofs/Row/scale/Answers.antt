@@ -2,7 +2,7 @@ use Rattle.std.proofs.Common.{length, ap, subst, sym, ◌∙◌, arith}
 use Rattle.axe_row.specs.Rows.{RowValue, IsRow}
 use Rattle.axe_row.proofs.OperationLaws.{length-multiple}
 use Rattle.axe_row.proofs.RowPlanes.{IsRow-of_planes, with_length, element_along}
-use Rattle.axe_row.proofs.PrimeRows.{prime_planes_multiple, prime_row_multiple, row_by_one, scalar_is_digit}
+use Rattle.axe_row.proofs.PrimeRows.{prime_planes_multiple, prime_row_multiple, scalar_is_digit}
 use Rattle.axe_row.proofs.Row.scale.Goals as goal
 
 pub scale-requires : goal.scale-requires
@@ -24,12 +24,12 @@ returns-then-degree-eq1-clause-as_long c = ap (λ (r : RowValue). length r.entri
 pub returns-then-degree-eq1-clause-well_formed : goal.returns-then-degree-eq1-clause-well_formed
 returns-then-degree-eq1-clause-well_formed c = IsRow-of_planes _ _ _ _ _ (invariant_of-self c)
 
-pub returns-then-scalar-ne1-clause-as_long : goal.returns-then-scalar-ne1-clause-as_long
-returns-then-scalar-ne1-clause-as_long c = ap (λ (r : RowValue). length r.entries) c.scale_by_entries.ensures.multiple ∙ length-multiple _ _ _
+pub returns-then-scalar-eq0-clause-as_long : goal.returns-then-scalar-eq0-clause-as_long
+returns-then-scalar-eq0-clause-as_long c = ap (λ (r : RowValue). length r.entries) c.make_zero.ensures.multiple ∙ length-multiple _ _ _
 
-pub returns-else-scalar-ne1-clause-multiple : goal.returns-else-scalar-ne1-clause-multiple
-returns-else-scalar-ne1-clause-multiple c =
-    row_by_one c.args.self.now c.args.scalar (subst IsRow c.self.view_is (IsRow-of_planes _ _ _ _ _ c.self.invariant)) (omega arith)
+pub multiply_by_power-requires-clause-well_formed : goal.multiply_by_power-requires-clause-well_formed
+multiply_by_power-requires-clause-well_formed c = subst IsRow c.self.view_is (IsRow-of_planes _ _ _ _ _ c.self.invariant)
 
-pub returns-else-scalar-ne1-clause-well_formed : goal.returns-else-scalar-ne1-clause-well_formed
-returns-else-scalar-ne1-clause-well_formed c = subst IsRow c.self.view_is (IsRow-of_planes _ _ _ _ _ c.self.invariant)
+pub returns-else-scalar-eq0-clause-as_long : goal.returns-else-scalar-eq0-clause-as_long
+returns-else-scalar-eq0-clause-as_long c =
+    ap (λ (r : RowValue). length r.entries) c.multiply_by_power.ensures.multiple ∙ length-multiple _ _ _
