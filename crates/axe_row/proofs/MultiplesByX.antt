@@ -1,5 +1,5 @@
 -- Multiples of rows by x and by its powers, plane by plane.
-use Rattle.std.proofs.Common.{◌≡◌, ◌≢◌, ℕ, zero, suc, ◌+◌, ◌-◌, ◌*◌, ◌%◌, ◌<◌, Bool, true, false, ◌&&◌, ◌||◌, eqb, ltb, List, [], ◌∷◌, length, get_or, map, cond, refl, sym, ap, ap₂, subst, ◌∙◌, arith, inl, inr, lit<, add-one}
+use Rattle.std.proofs.Common.{◌≡◌, ◌≢◌, ℕ, zero, suc, ◌+◌, ◌-◌, ◌*◌, ◌%◌, ◌<◌, Bool, true, false, ◌&&◌, ◌||◌, eqb, ltb, List, [], ◌∷◌, length, get_or, cond, refl, sym, ap, ap₂, subst, ◌∙◌, arith, inl, inr, lit<, add-one}
 use Rattle.std.specs.List.{All}
 use Rattle.std.proofs.lemmas.Bool.{and_parts, or_cases, eqb-true, ltb-true}
 use Rattle.std.proofs.lemmas.List.{ext_get_or, get_or_past, get_or-map, length-map}
@@ -10,7 +10,7 @@ use Rattle.axe_field.specs.NumberFields.{number_field}
 use Rattle.axe_field.specs.Order.{Order, Two, Three, Four, Five, Seven, Eight, Nine, order_number, prime_of, degree_of, IsElement}
 use Rattle.axe_field.specs.Planes.{monomial, coefficients_of_multiple, matrix_of_multiplication, coefficient, element_of}
 use Rattle.axe_field.proofs.CoefficientLaws.{coefficient-below, element_of-coefficients, matrix_of_multiplication-below}
-use Rattle.axe_field.proofs.Laws.{field_zero-mul, field_one-mul}
+use Rattle.axe_field.proofs.Laws.{field_zero-mul}
 use Rattle.axe_lane.specs.Bytes as lane
 use Rattle.axe_plane.specs.Digits.{AreDigits, digits_with_multiple}
 use Rattle.axe_plane.specs.Planes.{prime_of_plane, digits_of, IsPlane, IsPlaneOf}
@@ -19,11 +19,11 @@ use Rattle.axe_plane.proofs.DigitLaws.{AreDigits-sum, length-digits_with_multipl
 use Rattle.axe_row.specs.Operations.{multiple, multiple_row, power_of_x}
 use Rattle.axe_row.specs.Planes.{ArePlanes, IsAddable, AreRotated}
 use Rattle.axe_row.specs.Rows.{RowValue, IsRow}
-use Rattle.axe_row.proofs.RowLaws.{same_row, one-IsElement, zero-IsElement}
+use Rattle.axe_row.proofs.RowLaws.{one-IsElement}
 use Rattle.axe_row.proofs.OperationLaws.{length-multiple, get_or-multiple_row}
 use Rattle.axe_row.proofs.RowPlanes.{entries_of, length-entries, entries-at, element_at, prime-positive, element_of-zeros}
 use Rattle.axe_row.proofs.PlaneSums.{present, addable_one}
-use Rattle.axe_row.proofs.PrimeRows.{multiple_is_below}
+use Rattle.axe_row.proofs.PrimeRows.{multiple_is_below, row_by_one}
 
 -- ---- degrees
 
@@ -407,11 +407,6 @@ multiple_twice o a b s ha hb hs =
     ∙ sym (field_mul_assoc o a b (get_or s e 0) ha hb (hs e 0 here))
     ∙ sym (get_or-multiple_row o (field_mul o a b) s e here))
 
-multiple_by_one : (o : Order) (s : List ℕ) → All (IsElement o) s → s ≡ multiple (number_field o) 1 s
-multiple_by_one o s hs =
-    ext_get_or 0 s (multiple (number_field o) 1 s) (sym (length-multiple (number_field o) 1 s)) (λ e inside.
-    sym (get_or-multiple_row o 1 s e inside ∙ field_one-mul o (get_or s e 0) (hs e 0 inside)))
-
 -- a row times x^k
 pub record IsTimesPower (k : ℕ) (before row : RowValue) : Type 0 where
   pub start : IsRow before
@@ -422,7 +417,7 @@ pub IsTimesPower-none : (before : RowValue) → IsRow before → IsTimesPower 0 
 unfolding power_of_x
 IsTimesPower-none before h = record {
   start = h;
-  multiple = same_row before (multiple_row 1 before) refl (multiple_by_one before.order before.entries h.elements);
+  multiple = row_by_one before 1 h refl;
   well_formed = h;
 }
 

@@ -1,7 +1,7 @@
-use Rattle.std.proofs.Common.{length, ap, subst, sym, ◌∙◌, arith}
+use Rattle.std.proofs.Common.{length, ap, subst, sym, ◌∙◌}
 use Rattle.axe_row.specs.Rows.{RowValue, IsRow}
 use Rattle.axe_row.proofs.OperationLaws.{length-multiple}
-use Rattle.axe_row.proofs.RowPlanes.{IsRow-of_planes, with_length, element_along}
+use Rattle.axe_row.proofs.RowPlanes.{IsRow-of_planes, with_length}
 use Rattle.axe_row.proofs.PrimeRows.{prime_planes_multiple, prime_row_multiple, scalar_is_digit}
 use Rattle.axe_row.proofs.Row.scale.Goals as goal
 
