@@ -5,6 +5,7 @@ pub mod RowPlanes
 pub mod PlaneSums
 pub mod PrimeRows
 pub mod FirstEntries
+pub mod PlaneDots
 pub mod ElementPlanes
 pub mod TableRows
 pub mod TablePlanes

@@ -11,6 +11,7 @@ ghost use Rattle.axe_row.specs.Rows.{RowValue, IsRow};
 ghost use Rattle.axe_row.specs.Refusals.{Answers};
 
 mod combos;
+mod dots;
 mod pieces;
 mod planes;
 mod refusals;
@@ -210,7 +211,7 @@ impl Row {
         if self.field.degree() == 1 {
             self.constant.dot(&other.constant)
         } else {
-            self.dot_by_entries(other)
+            self.dot_by_planes(other)
         }
     }
 
@@ -275,21 +276,5 @@ impl Row {
             linear,
             quadratic,
         );
-    }
-
-    /// The dot product with another row, entry by entry.
-    fn dot_by_entries(&self, other: &Row) -> u8
-        requires field { other.now.order ≡ self.now.order }
-        requires fits { length other.now.entries ≡ length self.now.entries }
-        ensures value { result ≡ dot_product (number_field self.now.order) self.now.entries other.now.entries }
-        ensures element { IsElement self.now.order result }
-    {
-        let field = self.field();
-        let mut sum = 0;
-        for index in 0..self.len() {
-            let product = field.mul(self.get(index), other.get(index));
-            sum = field.add(sum, product);
-        }
-        sum
     }
 }
