@@ -11,6 +11,7 @@ pub mod Layouts
 pub mod Checks
 pub mod Scans
 pub mod Magic
+pub mod MarkTables
 pub mod TextSteps
 pub mod TextParts
 pub mod TextWords

@@ -49,3 +49,7 @@ bytes_per_row o columns = div_ceil columns (marks_per_byte o)
 unfoldable pub row_marks : Order → ℕ → List ℕ → List ℕ
 row_marks o columns bytes =
     listed columns (λ j. mark_of o (slice_index bytes (j / marks_per_byte o)) (j % marks_per_byte o))
+
+-- the marks of the bytes 0, .., 255, one byte's after the other's
+unfoldable pub marks_of_bytes : Order → List ℕ
+marks_of_bytes o = listed (256 * marks_per_byte o) (λ i. mark_of o (i / marks_per_byte o) (i % marks_per_byte o))

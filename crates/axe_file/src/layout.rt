@@ -67,6 +67,9 @@ impl Layout {
         requires { place < bytes_per_row self.now.field self.now.columns }
         ensures { result ≡ has_unused_mark self.now.field self.now.columns place byte }
     {
+        if place + 1 < self.width {
+            return false;
+        }
         for index in 0..self.marks {
             let column = place * self.marks + index;
             if self.columns <= column && self.mark_of(byte, index) != 0 {

@@ -1,12 +1,12 @@
 //! Reading the packed form: first all checks, which take no memory, then the matrix.
 
-ghost use Rattle.std.specs.Prelude.{◌≡◌, ◌+◌, ◌<◌, ◌≤◌, [], None, Some, length, slice_get, slice_range, IfOk, OnOk};
-ghost use Rattle.std.specs.Prelude.{IfErr};
+ghost use Rattle.std.specs.Prelude.{◌≡◌, ◌+◌, ◌%◌, ◌<◌, ◌≤◌, [], None, Some, length, slice_get, slice_range, IfOk};
+ghost use Rattle.std.specs.Prelude.{OnOk, IfErr};
 ghost use Rattle.std.specs.List.{flat_map, range_with_len};
 ghost use Rattle.std.specs.Int.{w32, from_le_bytes};
 ghost use Rattle.axe_matrix.specs.Matrices.{MatrixValue, IsMatrix};
 ghost use Rattle.axe_matrix.specs.Limits.{most_rows};
-ghost use Rattle.axe_file.specs.Marks.{bytes_per_row, row_marks};
+ghost use Rattle.axe_file.specs.Marks.{bytes_per_row, marks_of_bytes, row_marks};
 ghost use Rattle.axe_file.specs.Packed.{packed, packed_fault, unpacked, header_faults, data_faults, byte_faults};
 ghost use Rattle.axe_file.specs.Packed.{header_rows, data_length};
 ghost use Rattle.axe_file.specs.Headers.{Says};
@@ -18,7 +18,7 @@ use crate::layout::{HEADER_LENGTH, Layout, MAGIC};
 use axe_field::Field;
 use axe_matrix::{MAX_COLUMNS, MAX_ROWS, Matrix};
 use axe_row::Row;
-use std::alloc::Global;
+use std::alloc::{AllocError, Global};
 
 /// What a header without fault says.
 #[derive(Clone, Copy)]
@@ -113,16 +113,22 @@ fn check_bytes(layout: &Layout, bytes: &[u8], count: usize) -> Result<(), FileFa
     ensures fault { IfErr result (λ fault.
         slice_get (flat_map (byte_faults bytes.now) (range_with_len 0 count)) 0 ≡ Some fault) }
 {
+    let mut in_row = 0;
     for place in 0..count {
-        check_byte(layout, bytes, place)?;
+        check_byte(layout, bytes, place, in_row)?;
+        in_row += 1;
+        if in_row == layout.width {
+            in_row = 0;
+        }
     }
     Ok(())
 }
 
-/// Looks for a fault in one byte of the rows, counted from the first row on.
-fn check_byte(layout: &Layout, bytes: &[u8], place: usize) -> Result<(), FileFault>
+/// Looks for a fault in one byte of the rows, counted from the first row on, and in its row from the first byte.
+fn check_byte(layout: &Layout, bytes: &[u8], place: usize, in_row: usize) -> Result<(), FileFault>
     requires says { Says bytes.now layout.now.field (header_rows bytes.now) layout.now.columns }
     requires place { place < data_length bytes.now }
+    requires in_row { in_row ≡ place % layout.now.width }
     requires long { 16 + place < length bytes.now }
     ensures faultless { OnOk result (byte_faults bytes.now place ≡ []) }
     ensures fault { IfErr result (λ fault. slice_get (byte_faults bytes.now place) 0 ≡ Some fault) }
@@ -132,7 +138,7 @@ fn check_byte(layout: &Layout, bytes: &[u8], place: usize) -> Result<(), FileFau
     if u16::from(byte) >= layout.limit {
         return Err(FileFault::BadByte(offset));
     }
-    if layout.has_unused_mark(byte, place % layout.width) {
+    if layout.has_unused_mark(byte, in_row) {
         return Err(FileFault::BadPadding(offset));
     }
     Ok(())
@@ -147,38 +153,55 @@ fn matrix_of(alloc: Global, header: &Header, bytes: &[u8]) -> Result<Matrix, Fil
     ensures memory { IfErr result (λ fault. fault ≡ Memory) }
 {
     let layout = &header.layout;
+    let table = marks_of_bytes(alloc, layout)?;
     let mut matrix = Matrix::empty(alloc, layout.field, layout.columns);
     for index in 0..header.rows {
         let start = HEADER_LENGTH + index * layout.width;
-        let row = row_of(alloc, layout, &bytes[start..start + layout.width])?;
+        let row = row_of(alloc, layout, &table, &bytes[start..start + layout.width])?;
         matrix.push_row(row).map_err(|_row| FileFault::Memory)?;
     }
     Ok(matrix)
 }
 
+/// The marks of each byte, one byte's after the other's.
+fn marks_of_bytes(alloc: Global, layout: &Layout) -> Result<Vec<u8>, AllocError>
+    ensures { IfOk result (λ table. table.items ≡ marks_of_bytes layout.now.field) }
+{
+    let count = 256 * layout.marks;
+    let mut table = Vec::with_capacity(alloc, count)?;
+    for index in 0..count {
+        let byte = (index / layout.marks) as u8;
+        table.push(layout.mark_of(byte, index % layout.marks))?;
+    }
+    Ok(table)
+}
+
 /// The row that some bytes hold.
-fn row_of(alloc: Global, layout: &Layout, bytes: &[u8]) -> Result<Row, FileFault>
-    requires { length bytes.now ≡ bytes_per_row layout.now.field layout.now.columns }
+fn row_of(alloc: Global, layout: &Layout, table: &[u8], bytes: &[u8]) -> Result<Row, FileFault>
+    requires table { table.now ≡ marks_of_bytes layout.now.field }
+    requires bytes { length bytes.now ≡ bytes_per_row layout.now.field layout.now.columns }
     ensures value { IfOk result (λ row. row ≡ record {
       order = layout.now.field;
       entries = row_marks layout.now.field layout.now.columns bytes.now;
     }) }
     ensures memory { IfErr result (λ fault. fault ≡ Memory) }
 {
-    let marks = marks_of(alloc, layout, bytes)?;
+    let marks = marks_of(alloc, layout, table, bytes)?;
     Row::from_elements(alloc, layout.field, &marks).map_err(|_refusal| FileFault::Memory)
 }
 
 /// The marks of the row that some bytes hold.
-fn marks_of(alloc: Global, layout: &Layout, bytes: &[u8]) -> Result<Vec<u8>, FileFault>
-    requires { length bytes.now ≡ bytes_per_row layout.now.field layout.now.columns }
+fn marks_of(alloc: Global, layout: &Layout, table: &[u8], bytes: &[u8]) -> Result<Vec<u8>, FileFault>
+    requires table { table.now ≡ marks_of_bytes layout.now.field }
+    requires bytes { length bytes.now ≡ bytes_per_row layout.now.field layout.now.columns }
     ensures value { IfOk result (λ marks. marks.items ≡ row_marks layout.now.field layout.now.columns bytes.now) }
     ensures memory { IfErr result (λ fault. fault ≡ Memory) }
 {
     let mut marks = Vec::with_capacity(alloc, layout.columns)?;
-    for column in 0..layout.columns {
-        let byte = bytes[column / layout.marks];
-        marks.push(layout.mark_of(byte, column % layout.marks))?;
+    for place in 0..layout.width {
+        let count = layout.marks.min(layout.columns - marks.len());
+        let start = usize::from(bytes[place]) * layout.marks;
+        marks.extend_from_slice(&table[start..start + count])?;
     }
     Ok(marks)
 }

@@ -9,26 +9,21 @@ returns-then-from-layout-clause-fault c =
     let f = fit c.args.bytes.now c.args.layout.now c.requires.says in
     bad_byte c.args.bytes.now c.args.place (rw (← f.limit, ← c.from.ensures) c.if-from-layout.true)
 
-pub nonzero_rem-place : goal.nonzero_rem-place
-nonzero_rem-place c =
-    let f = fit c.args.bytes.now c.args.layout.now c.requires.says in
-    f.some_width c.args.place c.requires.place
-
 pub has_unused_mark-requires : goal.has_unused_mark-requires
 has_unused_mark-requires c =
     let f = fit c.args.bytes.now c.args.layout.now c.requires.says in
-    f.inside c.args.place c.requires.place
+    rw c.requires.in_row (f.inside c.args.place c.requires.place)
 
 pub returns-then-has_unused_mark-clause-fault : goal.returns-then-has_unused_mark-clause-fault
 returns-then-has_unused_mark-clause-fault c =
     let f = fit c.args.bytes.now c.args.layout.now c.requires.says in
     bad_padding c.args.bytes.now c.args.place (rw (← f.limit, ← c.from.ensures) c.if-from-layout.false)
-    (padding_by_layout c.args.bytes.now c.args.layout.now c.args.place c.requires.says ∙ sym c.has_unused_mark.ensures ∙ c.if-has_unused_mark.true)
+    ((rw (← c.requires.in_row) at (padding_by_layout c.args.bytes.now c.args.layout.now c.args.place c.requires.says)) ∙ sym c.has_unused_mark.ensures ∙ c.if-has_unused_mark.true)
 
 pub returns-clause-faultless : goal.returns-clause-faultless
 returns-clause-faultless c =
     let f = fit c.args.bytes.now c.args.layout.now c.requires.says in
     byte_is_sound c.args.bytes.now c.args.place (record {
       below = rw (← f.limit, ← c.from.ensures) c.if-from-layout.false;
-      padding = padding_by_layout c.args.bytes.now c.args.layout.now c.args.place c.requires.says ∙ sym c.has_unused_mark.ensures ∙ c.if-has_unused_mark.false;
+      padding = (rw (← c.requires.in_row) at (padding_by_layout c.args.bytes.now c.args.layout.now c.args.place c.requires.says)) ∙ sym c.has_unused_mark.ensures ∙ c.if-has_unused_mark.false;
     })

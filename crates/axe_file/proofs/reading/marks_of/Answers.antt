@@ -1,21 +1,33 @@
-use Rattle.std.proofs.Common.{◌≡◌, ◌/◌, ◌%◌, [], get_or, arith}
-use Rattle.axe_file.specs.Marks.{mark_of, row_marks}
-use Rattle.axe_file.proofs.Bytes.{byte_of_column}
-use Rattle.axe_file.proofs.Lists.{listed_more}
+use Rattle.std.proofs.Common.{rules, ◌≡◌, ◌+◌, ◌-◌, ◌*◌, ◌<◌, ◌≤◌, ℕ, List, ◌++◌, min, length, ap, ◌∙◌, arith}
+use Rattle.axe_file.proofs.Lists.{length-listed}
+use Rattle.axe_file.proofs.MarkTables.{byte_begins_inside, piece_of_table, marks_more, marks_all}
 use Rattle.axe_file.proofs.reading.marks_of.Goals as goal
 
-pub bounds-bytes-column : goal.bounds-bytes-column
-bounds-bytes-column c =
-    rw (c.requires, c.args.layout.now.marks_is) (byte_of_column c.args.layout.now.field c.args.layout.now.columns c.loop-column.column c.loop-column-test.true)
+pub overflow_sub-layout : goal.overflow_sub-layout
+overflow_sub-layout c =
+    let long : length c.loop-place.marks.items ≡ min c.args.layout.now.columns (c.loop-place.place * c.args.layout.now.marks) = rw c.loop-place.invariant (length-listed _ _) in
+    omega (arith, c.len.ensures, long)
 
-pub loop-column-preserved : goal.loop-column-preserved
-loop-column-preserved c =
-    listed_more [] c.loop-column.marks.items c.push.new.self.items
-    (λ j. mark_of c.args.layout.now.field (get_or c.args.bytes.now (j / c.args.layout.now.marks) 0) (j % c.args.layout.now.marks))
-    c.loop-column.column c.mark_of.result c.loop-column.invariant c.mark_of.ensures.value c.in_ok-push.ensures.items
+pub slice_bounds-extend_from_slice-end : goal.slice_bounds-extend_from_slice-end
+slice_bounds-extend_from_slice-end c =
+    let layout = c.args.layout.now in
+    let byte : c.from.result < 256 = search rules in
+    let piece = piece_of_table layout.field layout.marks c.from.result c.min-count.result c.args.table.now c.requires.table layout.marks_is byte (omega (arith, c.min-count.ensures)) in
+    let end : c.from.result * layout.marks + c.min-count.result ≤ length c.args.table.now = piece.0 in
+    search rules
+
+pub loop-place-preserved : goal.loop-place-preserved
+loop-place-preserved c =
+    let layout = c.args.layout.now in
+    let byte : c.from.result < 256 = search rules in
+    let piece = piece_of_table layout.field layout.marks c.from.result c.min-count.result c.args.table.now c.requires.table layout.marks_is byte (omega (arith, c.min-count.ensures)) in
+    let inside = byte_begins_inside layout.field layout.columns c.loop-place.place layout.marks layout.marks_is (rw layout.width_is at c.loop-place-test.true) in
+    let length_is : c.len.result ≡ length c.loop-place.marks.items = omega (arith, c.len.ensures, c.loop-place.marks.ok.0) in
+    marks_more layout.field layout.marks layout.columns c.loop-place.place c.from.result c.min-count.result c.args.bytes.now c.loop-place.marks.items c.extend_from_slice.new.self.items c.loop-place.invariant inside c.from.ensures
+    (c.min-count.ensures ∙ ap (λ (l : ℕ). min layout.marks (layout.columns - l)) length_is)
+    (c.in_ok-extend_from_slice.ensures.items ∙ ap (λ (xs : List ℕ). c.loop-place.marks.items ++ xs) piece.1)
 
 pub returns-clause-value : goal.returns-clause-value
-unfolding row_marks
 returns-clause-value c =
-    let all : c.loop-column.column ≡ c.args.layout.now.columns = omega arith in
-    rw (← all, ← c.args.layout.now.marks_is) c.loop-column.invariant
+    let layout = c.args.layout.now in
+    marks_all layout.field layout.marks layout.columns c.loop-place.place c.args.bytes.now c.loop-place.marks.items c.loop-place.invariant layout.marks_is (rw (← layout.width_is) (omega arith))

@@ -1,7 +1,18 @@
 use Rattle.std.proofs.Common.{sym, ◌∙◌, arith}
 use Rattle.axe_file.proofs.Bytes.{eight-marks}
-use Rattle.axe_file.proofs.Layouts.{column_fits, no_unused_mark, an_unused_mark}
+use Rattle.axe_file.proofs.Layouts.{column_fits, width_fits, no_unused_mark, an_unused_mark}
+use Rattle.axe_file.proofs.MarkTables.{marks_before_last}
 use Rattle.axe_file.proofs.layout.Layout.has_unused_mark.Goals as goal
+
+pub overflow_add-place : goal.overflow_add-place
+overflow_add-place c = omega (arith, c.requires, width_fits c.args.self.now.field c.args.self.now.columns c.args.self.now.columns_fit)
+
+pub returns-then-place-self : goal.returns-then-place-self
+returns-then-place-self c =
+    sym (no_unused_mark c.args.self.now.field c.args.self.now.columns c.args.place c.args.self.now.marks c.args.byte c.args.self.now.marks_is
+    (λ j lt past.
+    absurd (marks_before_last c.args.self.now.field c.args.self.now.columns c.args.place c.args.self.now.marks j c.args.self.now.marks_is
+    (rw c.args.self.now.width_is at c.if-place-self.true) lt past)))
 
 pub overflow_mul-column : goal.overflow_mul-column
 overflow_mul-column c =
