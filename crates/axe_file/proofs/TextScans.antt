@@ -5,7 +5,7 @@ use Rattle.std.specs.List.{filter, prefix_len}
 use Rattle.std.proofs.lemmas.Bool.{cases_Bool, cases_lt, and_parts}
 use Rattle.std.proofs.lemmas.Grind.{pow_more}
 use Rattle.std.proofs.lemmas.List.{drop_more, drop_all, drop-drop, length-map, length_push, take_more_set}
-use Rattle.std.proofs.lemmas.List.Elements.{All-head, All-tail}
+use Rattle.std.proofs.lemmas.List.Elements.{All-head, All-tail, All-push}
 use Rattle.std.proofs.lemmas.List.Sums.{prefix_len_stops}
 use Rattle.axe_field.specs.Order.{Order, order_number}
 use Rattle.axe_matrix.specs.Matrices.{MatrixValue}
@@ -300,22 +300,21 @@ next_digit q bytes end at e all some =
     }
 
 -- so many entries of a row are read, up to an offset
-pub record RowRead (field : Order) (columns : ℕ) (bytes : List ℕ) (start column end : ℕ) (row : RowValue) : Type 0 where
+pub record RowRead (field : Order) (bytes : List ℕ) (start column end : ℕ) (entries : List ℕ) : Type 0 where
   pub within : end ≤ length bytes
-  pub order : row.order ≡ field
-  pub long : length row.entries ≡ columns
-  pub digits : take column row.entries ++ map digit_value (filter is_dark (drop end bytes)) ≡ map digit_value (filter is_dark (drop start bytes))
+  pub long : length entries ≡ column
+  pub fit : All (λ a. a < order_number field) entries
+  pub digits : entries ++ map digit_value (filter is_dark (drop end bytes)) ≡ map digit_value (filter is_dark (drop start bytes))
   pub elements : All (IsDigitOf (order_number field)) (filter is_dark (drop end bytes))
 
 -- while columns are left, there is a next digit
-pub digit_left : (field : Order) (columns : ℕ) (bytes : List ℕ) (start column end at : ℕ) (row : RowValue) → RowRead field columns bytes start column end row → column < columns
+pub digit_left : (field : Order) (columns : ℕ) (bytes : List ℕ) (start column end at : ℕ) (entries : List ℕ) → RowRead field bytes start column end entries → column < columns
     → columns ≤ length (filter is_dark (drop start bytes)) → at ≡ end + prefix_len is_white (drop end bytes) → NextDigit (order_number field) bytes end at
-digit_left field columns bytes start column end at row r lt enough e =
-    let taken : length (take column row.entries) ≡ column = length-take-le column row.entries (omega (arith, r.long)) in
-    let both : length (take column row.entries) + length (map digit_value (filter is_dark (drop end bytes))) ≡ length (map digit_value (filter is_dark (drop start bytes))) =
-    sym (length-append (take column row.entries) (map digit_value (filter is_dark (drop end bytes)))) ∙ ap length r.digits in
+digit_left field columns bytes start column end at entries r lt enough e =
+    let both : length entries + length (map digit_value (filter is_dark (drop end bytes))) ≡ length (map digit_value (filter is_dark (drop start bytes))) =
+    sym (length-append entries (map digit_value (filter is_dark (drop end bytes)))) ∙ ap length r.digits in
     let some : 0 < length (filter is_dark (drop end bytes)) =
-    omega (arith, length-map (filter is_dark (drop end bytes)) digit_value, length-map (filter is_dark (drop start bytes)) digit_value) in
+    omega (arith, r.long, length-map (filter is_dark (drop end bytes)) digit_value, length-map (filter is_dark (drop start bytes)) digit_value) in
     next_digit (order_number field) bytes end at e r.elements some
 
 pub digit_above : (q b : ℕ) → is_element_digit q b ≡ true → 48 ≤ b
@@ -326,32 +325,24 @@ pub digit_below : (q b : ℕ) → is_element_digit q b ≡ true → b - 48 < q
 unfolding digit_value
 digit_below q b e = value_below q b e
 
-pub row_more : (field : Order) (columns : ℕ) (bytes : List ℕ) (start column end at d : ℕ) (row next : RowValue) → RowRead field columns bytes start column end row → column < columns → NextDigit (order_number field) bytes end at
-    → d ≡ get_or bytes at 0 - 48 → next ≡ record { order = row.order; entries = set row.entries column d } → RowRead field columns bytes start (column + 1) (at + 1) next
-row_more field columns bytes start column end at d row next r lt n e new =
-    let entries : next.entries ≡ set row.entries column d = ap (λ (x : RowValue). x.entries) new in
+pub row_more : (field : Order) (bytes : List ℕ) (start column end at d : ℕ) (entries next : List ℕ) → RowRead field bytes start column end entries → NextDigit (order_number field) bytes end at
+    → d ≡ get_or bytes at 0 - 48 → next ≡ entries ++ d ∷ [] → RowRead field bytes start (column + 1) (at + 1) next
+row_more field bytes start column end at d entries next r n e new =
     let left = map digit_value (filter is_dark (drop (at + 1) bytes)) in
     let value : d ≡ digit_value (get_or bytes at 0) = digit_is_value (get_or bytes at 0) d e in
-    let in' : column < length row.entries = omega (arith, r.long) in
+    let below : d < order_number field = rw e (digit_below (order_number field) (get_or bytes at 0) n.digit) in
     record {
       within = omega (arith, n.within);
-      order = ap (λ (x : RowValue). x.order) new ∙ r.order;
-      long = ap length entries ∙ length-set row.entries column d ∙ r.long;
+      long = ap length new ∙ length-append entries (d ∷ []) ∙ omega (arith, r.long);
+      fit = rw new (All-push (λ a. a < order_number field) entries d r.fit below);
       digits =
-          ap (λ (x : List ℕ). take (column + 1) x ++ left) entries
-          ∙ ap (λ (x : List ℕ). x ++ left) (take_more_set row.entries column d in')
-          ∙ append_assoc (take column row.entries) (d ∷ []) left
-          ∙ ap (λ (v : ℕ). take column row.entries ++ (v ∷ left)) value
-          ∙ ap (λ (x : List ℕ). take column row.entries ++ map digit_value x) (sym n.rest)
+          ap (λ (x : List ℕ). x ++ left) new
+          ∙ append_assoc entries (d ∷ []) left
+          ∙ ap (λ (v : ℕ). entries ++ (v ∷ left)) value
+          ∙ ap (λ (x : List ℕ). entries ++ map digit_value x) (sym n.rest)
           ∙ r.digits;
       elements = n.elements;
     }
-
--- all entries of a row are read
-pub row_done : (field : Order) (columns : ℕ) (bytes : List ℕ) (start column end : ℕ) (row : RowValue) → RowRead field columns bytes start column end row → columns ≤ column
-    → row.entries ++ map digit_value (filter is_dark (drop end bytes)) ≡ map digit_value (filter is_dark (drop start bytes))
-row_done field columns bytes start column end row r le =
-    ap (λ (x : List ℕ). x ++ map digit_value (filter is_dark (drop end bytes))) (sym (take_all column row.entries (omega (arith, r.long)))) ∙ r.digits
 
 -- ---- matrices
 
