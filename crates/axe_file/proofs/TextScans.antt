@@ -1,15 +1,14 @@
 -- The loops that read a text, a byte at a time.
-use Rattle.std.proofs.Common.{◌≡◌, ℕ, zero, suc, ◌+◌, ◌-◌, ◌*◌, ◌^◌, ◌<◌, ◌≤◌, true, false, eqb, List, [], ◌∷◌, ◌++◌, length, map, take, drop, get_or, Result, Ok, Err, None, Some, min, leb, ltb, ◌⊎◌, refl, sym, ap, subst, ◌∙◌, inl, inr, leb-true, ltb-true, ap₂, set, append_assoc, append-nil, length-append, length-drop, length-set, length-take-le, get_or-drop, take_at, drop_at, take_all, arith}
+use Rattle.std.proofs.Common.{◌≡◌, ℕ, zero, suc, ◌+◌, ◌-◌, ◌*◌, ◌^◌, ◌<◌, ◌≤◌, true, false, eqb, List, [], ◌∷◌, ◌++◌, length, map, drop, get_or, Result, Ok, Err, None, Some, min, leb, ltb, ◌⊎◌, refl, sym, ap, subst, ◌∙◌, inl, inr, leb-true, ltb-true, ap₂, append_assoc, append-nil, length-append, length-drop, get_or-drop, take_at, drop_at, arith}
 use Rattle.std.specs.Prelude.{All}
 use Rattle.std.specs.List.{filter, prefix_len}
 use Rattle.std.proofs.lemmas.Bool.{cases_Bool, cases_lt, and_parts}
 use Rattle.std.proofs.lemmas.Grind.{pow_more}
-use Rattle.std.proofs.lemmas.List.{drop_more, drop_all, drop-drop, length-map, length_push, take_more_set}
+use Rattle.std.proofs.lemmas.List.{drop_more, drop_all, drop-drop, length-map, length_push}
 use Rattle.std.proofs.lemmas.List.Elements.{All-head, All-tail, All-push}
 use Rattle.std.proofs.lemmas.List.Sums.{prefix_len_stops}
 use Rattle.axe_field.specs.Order.{Order, order_number}
 use Rattle.axe_matrix.specs.Matrices.{MatrixValue}
-use Rattle.axe_row.specs.Rows.{RowValue}
 use Rattle.axe_file.specs.TextGrammar.{is_white, is_dark, is_digit, digit_value, is_element_digit}
 use Rattle.axe_file.specs.TextReading.{Reading, GoesOn, read_space, read_gap, read_word, read_digits, read_numeral, read_parts, digits_fault, in_rows}
 use Rattle.axe_file.specs.declared.fault.FileFault.{FileFault}

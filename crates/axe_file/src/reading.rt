@@ -191,7 +191,12 @@ fn row_of(alloc: Global, layout: &Layout, table: &[u8], bytes: &[u8]) -> Result<
 }
 
 /// The marks of the row that some bytes hold.
-fn marks_of(alloc: Global, layout: &Layout, table: &[u8], bytes: &[u8]) -> Result<Vec<u8>, FileFault>
+fn marks_of(
+    alloc: Global,
+    layout: &Layout,
+    table: &[u8],
+    bytes: &[u8],
+) -> Result<Vec<u8>, FileFault>
     requires table { table.now ≡ marks_of_bytes layout.now.field }
     requires bytes { length bytes.now ≡ bytes_per_row layout.now.field layout.now.columns }
     ensures value { IfOk result (λ marks. marks.items ≡ row_marks layout.now.field layout.now.columns bytes.now) }

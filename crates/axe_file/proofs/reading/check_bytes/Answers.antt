@@ -1,4 +1,4 @@
-use Rattle.std.proofs.Common.{◌≡◌, ◌+◌, ◌<◌, refl, sym, ◌∙◌, zero-add, arith}
+use Rattle.std.proofs.Common.{◌+◌, ◌<◌, refl, sym, ◌∙◌, zero-add, arith}
 use Rattle.std.proofs.Math.Nat.{zero-mod}
 use Rattle.std.proofs.lemmas.Result.{err_from_is_err_and}
 use Rattle.axe_file.specs.Packed.{byte_faults, data_length}
@@ -29,11 +29,12 @@ loop-place-preserved c =
     let layout = c.args.layout.now in
     let f = fit c.args.bytes.now layout c.requires.says in
     let place : c.loop-place.place < data_length c.args.bytes.now = omega (arith, c.requires.count, c.loop-place-test.true) in
-    let inside : c.loop-place.in_row < layout.width = rw layout.width_is (omega (arith, f.inside c.loop-place.place place, c.loop-place.invariant.1)) in
-    (no_fault_more (byte_faults c.args.bytes.now) c.loop-place.place c.loop-place.invariant.0 c.in_ok-check_byte.ensures.faultless,
-    elim c.if-in_row-layout.branch [
-      | then-in_row-layout w ↦ w.in_row-is ∙ sym (row_ends c.loop-place.place layout.width c.loop-place.in_row c.loop-place.invariant.1 w.if-in_row-layout.true)
-      | else-in_row-layout w ↦
-          let more : c.loop-place.in_row + 1 < layout.width = omega (arith, inside, w.if-in_row-layout.false) in
-          w.in_row-is ∙ sym (row_goes_on c.loop-place.place layout.width c.loop-place.in_row c.loop-place.invariant.1 more)
-    ])
+    let inside : c.loop-place.in_row < layout.width = rw layout.width_is (omega (arith, f.inside c.loop-place.place place, c.loop-place.invariant.1)) in (
+      no_fault_more (byte_faults c.args.bytes.now) c.loop-place.place c.loop-place.invariant.0 c.in_ok-check_byte.ensures.faultless,
+      elim c.if-in_row-layout.branch [
+        | then-in_row-layout w ↦ w.in_row-is ∙ sym (row_ends c.loop-place.place layout.width c.loop-place.in_row c.loop-place.invariant.1 w.if-in_row-layout.true)
+        | else-in_row-layout w ↦
+            let more : c.loop-place.in_row + 1 < layout.width = omega (arith, inside, w.if-in_row-layout.false) in
+            w.in_row-is ∙ sym (row_goes_on c.loop-place.place layout.width c.loop-place.in_row c.loop-place.invariant.1 more)
+      ],
+    )
