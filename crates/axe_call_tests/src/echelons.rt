@@ -1,7 +1,7 @@
 //! Echelon forms: rows that are inserted, reduced and taken apart, null spaces, and inverses.
 use crate::tables::{Topic, each_call};
-use axe_echelon::{Echelon, inverse, null_space, span_of};
-use axe_matrix::Row;
+use axe_echelon::{Echelon, Subspace, inverse, null_space, span_of};
+use axe_matrix::{Matrix, Row};
 use axe_test_values::{
     TableFault, field_of, four_fields, is_matrix, is_row, matrix_of, number_of, row_of_shape,
     three_fields, truth_of, two_fields,
@@ -32,6 +32,13 @@ coordinates | 2: 101/011 | 2: 110 | 2: 11
 coordinates | 2: 101/011 | 2: 001 | none
 reduce | 2: 101/011 | 2: 111 | 2: 001
 reduced | 2: 111/011 | 2: 100/011
+";
+
+/// - `subspace`: a matrix whose rows are inserted into a subspace, and the reduced basis of it.
+const SUBSPACES: &str = "\
+subspace | 2: 111/011 | 2: 100/011
+subspace | 2: 101/011/110 | 2: 101/011
+subspace | 2: 10/01 | 2: 10/01
 ";
 
 /// A matrix, and its null space or its inverse.
@@ -105,6 +112,23 @@ fn finds_reduced_basis(alloc: Global, line: &str) -> Result<bool, TableFault> {
     is_matrix(alloc, form.reduced(alloc), wanted)
 }
 
+/// The subspace into which each row of a matrix was inserted.
+fn subspace_of(alloc: Global, rows: &Matrix) -> Result<Subspace, TableFault> {
+    let mut space = Subspace::zero(alloc, *rows.field(), rows.cols());
+    for index in 0..rows.rows() {
+        let row = rows.row(index).copy(alloc)?;
+        space.insert(row)?;
+    }
+    Ok(space)
+}
+
+fn finds_subspace(alloc: Global, line: &str) -> Result<bool, TableFault> {
+    let (rows, wanted) = two_fields(line)?;
+    let rows = matrix_of(alloc, rows)?;
+    let space = subspace_of(alloc, &rows)?;
+    is_matrix(alloc, space.reduced(alloc), wanted)
+}
+
 /// The calls that are given a matrix and answer one.
 fn gives_matrix(alloc: Global, call: &str, line: &str) -> Result<bool, TableFault> {
     let (matrix, wanted) = two_fields(line)?;
@@ -125,6 +149,7 @@ pub(crate) fn answers(alloc: Global, call: &str, line: &str) -> Result<bool, Tab
         "coordinates" => takes_apart(alloc, line),
         "reduce" => reduces(alloc, line),
         "reduced" => finds_reduced_basis(alloc, line),
+        "subspace" => finds_subspace(alloc, line),
         "null_space" | "inverse" => gives_matrix(alloc, call, line),
         _ => Err(TableFault::NotWritten),
     }
@@ -133,6 +158,11 @@ pub(crate) fn answers(alloc: Global, call: &str, line: &str) -> Result<bool, Tab
 #[test]
 fn forms_tell_what_they_hold_and_take_rows_apart(rt: HostRuntime) -> Result<(), TableFault> {
     each_call(&rt, rt.alloc(), Topic::Echelons, FORMS)
+}
+
+#[test]
+fn subspaces_have_reduced_bases(rt: HostRuntime) -> Result<(), TableFault> {
+    each_call(&rt, rt.alloc(), Topic::Echelons, SUBSPACES)
 }
 
 #[test]

@@ -10,6 +10,8 @@
 #[cfg(test)]
 mod changed;
 #[cfg(test)]
+mod combos;
+#[cfg(test)]
 mod echelons;
 #[cfg(test)]
 mod fields;

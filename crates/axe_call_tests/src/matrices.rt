@@ -2,8 +2,8 @@
 use crate::tables::{Topic, each_call};
 use axe_matrix::{MAX_COLUMNS, MAX_ROWS, Matrix};
 use axe_test_values::{
-    TableFault, field_of, four_fields, is_matrix, is_row, is_row_answer, matrix_of, number_of,
-    range_of, row_of_shape, small_number_of, three_fields, truth_of, two_fields, zeros,
+    TableFault, element_in, field_of, four_fields, is_matrix, is_row, is_row_answer, matrix_of,
+    number_of, range_of, row_of_shape, small_number_of, three_fields, truth_of, two_fields, zeros,
 };
 use std::alloc::Global;
 use std::process::Abort;
@@ -39,11 +39,16 @@ block | 2: 01/11 | 1..2 | 0..2 | 2: 11
 ";
 
 /// - `mul`, `add`: two matrices, and their product or sum;
+/// - `add_square`: a matrix, a scalar, and the sum of the matrix and of the multiple of its square;
 /// - `transpose`: a matrix, and its transpose;
 /// - `vec_mul`: a matrix, a vector, and the image of the vector.
 const ARITHMETIC: &str = "\
 mul | 2: 11/01 | 2: 10/11 | 2: 01/11
+mul | 2: 11111 | 2: 1/1/1/1/1 | 2: 1
 add | 3: 12/01 | 3: 12/01 | 3: 21/02
+add_square | 3: 12/01 | 2 | 3: 01/00
+add_square | 2: 11/01 | 1 | 2: 01/00
+add_square | 2: 11/01 | 0 | 2: 11/01
 transpose | 3: 12/01 | 3: 10/21
 vec_mul | 2: 01/11 | 2: 11 | 2: 10
 ";
@@ -140,6 +145,16 @@ fn combines(alloc: Global, call: &str, line: &str) -> Result<bool, TableFault> {
     is_matrix(alloc, answer, wanted)
 }
 
+fn adds_square(rt: &impl Abort, alloc: Global, line: &str) -> Result<bool, TableFault> {
+    let (matrix, scalar, wanted) = three_fields(line)?;
+    let matrix = matrix_of(alloc, matrix)?;
+    let scalar = element_in(matrix.field(), scalar)?;
+    assert!(rt; matrix.rows() == matrix.cols());
+    let mut sum = matrix.copy(alloc)?;
+    sum.add_product(alloc, scalar, &matrix, &matrix)?;
+    is_matrix(alloc, Ok(sum), wanted)
+}
+
 fn maps_vector(alloc: Global, line: &str) -> Result<bool, TableFault> {
     let (matrix, vector, wanted) = three_fields(line)?;
     let matrix = matrix_of(alloc, matrix)?;
@@ -165,6 +180,7 @@ pub(crate) fn answers(
         "block" => takes_block(rt, alloc, line),
         "copy" | "transpose" => gives_matrix(alloc, call, line),
         "mul" | "add" => combines(alloc, call, line),
+        "add_square" => adds_square(rt, alloc, line),
         "vec_mul" => maps_vector(alloc, line),
         _ => Err(TableFault::NotWritten),
     }

@@ -1,0 +1,2 @@
+pub mod SubspaceShapes
+pub mod TwoRows
