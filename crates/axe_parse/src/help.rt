@@ -60,7 +60,8 @@ Each digit is the number of an element: see axe help zcv, which takes such a tex
 
 OUT is written when the text is made, so it may be IN itself. Where anything is wrong
 before that, no file changes. Where all goes well, nothing but the text is printed, and
-with OUT nothing.";
+with OUT nothing. A text that can't be shown, as where standard output is closed, changes
+no exit status; one that can't be written to OUT does.";
 
 /// Of `zmu`, in a line.
 pub(crate) const ZMU_ABOUT: &str = "Multiply two matrices";
@@ -69,7 +70,12 @@ pub(crate) const ZMU_ABOUT: &str = "Multiply two matrices";
 pub(crate) const ZMU_LONG_ABOUT: &str = "\
 Multiply two matrices: read A and B, and write the product A times B to OUT.
 
-Both matrices are over the same field, and A has as many columns as B has rows.
+Both matrices are over the same field, and A has as many columns as B has rows. Over the
+field of order 3, for example:
+
+  A  12     B  10     OUT  22
+     01        21          21
+
 OUT is written when the product is made, so it may be A or B itself. Where anything
 is wrong before that, no file changes. Where all goes well, nothing is printed.";
 
@@ -81,6 +87,11 @@ pub(crate) const ZAD_LONG_ABOUT: &str = "\
 Add two matrices: read A and B, and write the sum A plus B to OUT.
 
 Both matrices are over the same field, and have as many rows and columns as each other.
+Over the field of order 3, for example:
+
+  A  12     B  10     OUT  22
+     01        21          22
+
 OUT is written when the sum is made, so it may be A or B itself. Where anything is
 wrong before that, no file changes. Where all goes well, nothing is printed.";
 
@@ -90,6 +101,12 @@ pub(crate) const ZTR_ABOUT: &str = "Transpose a matrix";
 /// Of `ztr`.
 pub(crate) const ZTR_LONG_ABOUT: &str = "\
 Transpose a matrix: read A, and write the matrix whose rows are A's columns to OUT.
+
+For example:
+
+  A  120     OUT  10
+     012          21
+                  02
 
 A has at least one row: without rows its transpose would have no columns.
 OUT is written when the transpose is made, so it may be A itself. Where anything is
@@ -166,6 +183,13 @@ With -a it writes the action on the rows of OUT, too: row i of ACT.j has the coe
 of row i of OUT times generator j, over the rows of OUT. So ACT.1 to ACT.N are the
 submodule over this basis.
 
+For example, over the field of order 2, with M.1 and M.2 the permutations (1 2) and (1 2 3)
+of three points, and the one vector in SEED that has the points 1 and 2:
+
+  M.1  010     M.2  010     SEED  110     OUT  101     OUT with -b  110
+       100          001                        011                  011
+       001          100
+
 The generators are square matrices of one size over one field; SEED is over the same field,
 has as many columns, and a row that is not zero.
 Files are written when all of them are made, so they may be files that are read. Where
@@ -184,6 +208,13 @@ A column is a pivot of a space where some vector of the space has its first nonz
 there. The unit vectors of the columns that are no pivots, ascending, are a basis of the
 quotient, and the matrices that are written are over this basis. So the quotient's
 dimension is that of the module less that of the submodule.
+
+For example, over the field of order 2, with M.1 and M.2 the permutations (1 2) and (1 2 3)
+of three points, and their sum in SUB, axe zqt SUB M Q writes
+
+  M.1  010     M.2  010     SUB  111     Q.1  11     Q.2  01
+       100          001                       01          11
+       001          100
 
 The generators are square matrices of one size over one field; SUB is over the same field
 and has as many columns. Its rows may be dependent, and there may be none; but they do not
