@@ -5,63 +5,68 @@ pub(crate) const ABOUT: &str = "A workbench for modules of matrices over small f
 
 /// Of the program.
 pub(crate) const LONG_ABOUT: &str = "\
-A workbench for modules of matrices over the fields of order 2, 3, 4, 5, 7, 8 and 9.
-It finds composition series of modules. It takes matrices in as text and prints them,
-multiplies, adds, transposes and inverts them, finds their null spaces, spins vectors in
-modules, and takes quotients of modules.";
+A workbench for modules of matrices over the fields of order 2, 3, 4, 5, 7, 8
+and 9. It finds composition series of modules. It takes matrices in as text and
+prints them, multiplies, adds, transposes and inverts them, finds their null
+spaces, spins vectors in modules, and takes quotients of modules.";
 
 /// Of `zcv`, in a line.
 pub(crate) const ZCV_ABOUT: &str = "Convert the text of a matrix to a packed file";
 
 /// Of `zcv`.
 pub(crate) const ZCV_LONG_ABOUT: &str = "\
-Convert the text of a matrix to a packed file: read IN, which is a text, and write the
-matrix to OUT, packed, as the other commands read it.
+Convert the text of a matrix to a packed file: read IN, which is a text, and
+write the matrix to OUT, packed, as the other commands read it.
 
-The text has a header and then the digits of the entries, row after row. The header is the
-mode, which is 1, the order of the field, the number of rows and the number of columns; or
-it is the word matrix with the last three by name. This is one matrix over the field of
-order 3, twice:
+The text has a header and then the digits of the entries, row after row. The
+header is the mode, which is 1, the order of the field, the number of rows and
+the number of columns; or it is the word matrix with the last three by name.
+This is one matrix over the field of order 3, twice:
 
   1 3 2 4            matrix field=3 rows=2 cols=4
   1200               12000121
   0121
 
-White space (spaces, tabs, ends of lines) ends the header. There may be more of it between
-and after the digits, as much and as little as you like, and nothing else. So a text of
-mode 1 with one matrix, as the ATLAS of Group Representations has it, goes in as it is.
-IN has at most 16777216 bytes (16 MiB).
+White space (spaces, tabs, ends of lines) ends the header. There may be more of
+it between and after the digits, as much and as little as you like, and nothing
+else. So a text of mode 1 with one matrix, as the ATLAS of Group
+Representations has it, goes in as it is. IN has at most 16777216 bytes
+(16 MiB).
 
-Each digit is the number of an element. Over the fields of order 2, 3, 5 and 7 the elements
-are the integers modulo the order. Over those of order 4, 8 and 9 they are polynomials
-in x modulo x^2+x+1, x^3+x+1 and x^2+2x+2, and the number of a polynomial is its value
-where x is 2, 2 and 3: over the field of order 9, x+2 has the number 5.
+Each digit is the number of an element. Over the fields of order 2, 3, 5 and 7
+the elements are the integers modulo the order. Over those of order 4, 8 and 9
+they are polynomials in x modulo x^2+x+1, x^3+x+1 and x^2+2x+2, and the number
+of a polynomial is its value where x is 2, 2 and 3: over the field of order 9,
+x+2 has the number 5.
 
-OUT is written when all of IN has been read, so it may be IN itself. Where anything is
-wrong before that, no file changes. Where all goes well, nothing is printed.";
+OUT is written when all of IN has been read, so it may be IN itself. Where
+anything is wrong before that, no file changes. Where all goes well, nothing is
+printed.";
 
 /// Of `zpr`, in a line.
 pub(crate) const ZPR_ABOUT: &str = "Print a matrix as text";
 
 /// Of `zpr`.
 pub(crate) const ZPR_LONG_ABOUT: &str = "\
-Print a matrix as text: read IN, and show its text on standard output, or write the text to
-OUT where that is given.
+Print a matrix as text: read IN, and show its text on standard output, or write
+the text to OUT where that is given.
 
-The text has a header, which names the order of the field, the number of rows and the
-number of columns, and then each row in lines of 80 digits, the last of which has what is
-left of the row. This is a matrix over the field of order 3:
+The text has a header, which names the order of the field, the number of rows
+and the number of columns, and then each row in lines of 80 digits, the last of
+which has what is left of the row. This is a matrix over the field of order 3:
 
   matrix field=3 rows=2 cols=4
   1200
   0121
 
-Each digit is the number of an element: see axe help zcv, which takes such a text back.
+Each digit is the number of an element: see axe help zcv, which takes such a
+text back.
 
-OUT is written when the text is made, so it may be IN itself. Where anything is wrong
-before that, no file changes. Where all goes well, nothing but the text is printed, and
-with OUT nothing. A text that can't be shown, as where standard output is closed, changes
-no exit status; one that can't be written to OUT does.";
+OUT is written when the text is made, so it may be IN itself. Where anything is
+wrong before that, no file changes. Where all goes well, nothing but the text
+is printed, and with OUT nothing. A text that can't be shown, as where standard
+output is closed, changes no exit status; one that can't be written to OUT
+does.";
 
 /// Of `zmu`, in a line.
 pub(crate) const ZMU_ABOUT: &str = "Multiply two matrices";
@@ -70,14 +75,15 @@ pub(crate) const ZMU_ABOUT: &str = "Multiply two matrices";
 pub(crate) const ZMU_LONG_ABOUT: &str = "\
 Multiply two matrices: read A and B, and write the product A times B to OUT.
 
-Both matrices are over the same field, and A has as many columns as B has rows. Over the
-field of order 3, for example:
+Both matrices are over the same field, and A has as many columns as B has rows.
+Over the field of order 3, for example:
 
   A  12     B  10     OUT  22
      01        21          21
 
-OUT is written when the product is made, so it may be A or B itself. Where anything
-is wrong before that, no file changes. Where all goes well, nothing is printed.";
+OUT is written when the product is made, so it may be A or B itself. Where
+anything is wrong before that, no file changes. Where all goes well, nothing is
+printed.";
 
 /// Of `zad`, in a line.
 pub(crate) const ZAD_ABOUT: &str = "Add two matrices";
@@ -86,21 +92,22 @@ pub(crate) const ZAD_ABOUT: &str = "Add two matrices";
 pub(crate) const ZAD_LONG_ABOUT: &str = "\
 Add two matrices: read A and B, and write the sum A plus B to OUT.
 
-Both matrices are over the same field, and have as many rows and columns as each other.
-Over the field of order 3, for example:
+Both matrices are over the same field, and have as many rows and columns as
+each other. Over the field of order 3, for example:
 
   A  12     B  10     OUT  22
      01        21          22
 
-OUT is written when the sum is made, so it may be A or B itself. Where anything is
-wrong before that, no file changes. Where all goes well, nothing is printed.";
+OUT is written when the sum is made, so it may be A or B itself. Where anything
+is wrong before that, no file changes. Where all goes well, nothing is printed.";
 
 /// Of `ztr`, in a line.
 pub(crate) const ZTR_ABOUT: &str = "Transpose a matrix";
 
 /// Of `ztr`.
 pub(crate) const ZTR_LONG_ABOUT: &str = "\
-Transpose a matrix: read A, and write the matrix whose rows are A's columns to OUT.
+Transpose a matrix: read A, and write the matrix whose rows are A's columns to
+OUT.
 
 For example:
 
@@ -108,8 +115,8 @@ For example:
      012          21
                   02
 
-A has at least one row: without rows its transpose would have no columns.
-OUT is written when the transpose is made, so it may be A itself. Where anything is
+A has at least one row: without rows its transpose would have no columns. OUT
+is written when the transpose is made, so it may be A itself. Where anything is
 wrong before that, no file changes. Where all goes well, nothing is printed.";
 
 /// Of `ziv`, in a line.
@@ -119,154 +126,166 @@ pub(crate) const ZIV_ABOUT: &str = "Invert a matrix";
 pub(crate) const ZIV_LONG_ABOUT: &str = "\
 Invert a matrix: read A, and write its inverse to OUT.
 
-The inverse is the matrix whose products with A, from the left and from the right, are the
-identity, which has 1 where row and column agree and 0 elsewhere. Over the field of order 3
-these two matrices are the inverses of one another:
+The inverse is the matrix whose products with A, from the left and from the
+right, are the identity, which has 1 where row and column agree and 0
+elsewhere. Over the field of order 3 these two matrices are the inverses of one
+another:
 
   matrix field=3 rows=2 cols=2       matrix field=3 rows=2 cols=2
   12                                 11
   01                                 01
 
-A has as many rows as columns. It has an inverse where no row of it is a combination of the
-other rows; where one is, A is refused as singular.
-OUT is written when the inverse is made, so it may be A itself. Where anything is wrong
-before that, no file changes. Where all goes well, nothing is printed.";
+A has as many rows as columns. It has an inverse where no row of it is a
+combination of the other rows; where one is, A is refused as singular. OUT is
+written when the inverse is made, so it may be A itself. Where anything is
+wrong before that, no file changes. Where all goes well, nothing is printed.";
 
 /// Of `znu`, in a line.
 pub(crate) const ZNU_ABOUT: &str = "Find the null space of a matrix";
 
 /// Of `znu`.
 pub(crate) const ZNU_LONG_ABOUT: &str = "\
-Find the null space of a matrix: read A, and write the reduced basis of its null space to
-OUT.
+Find the null space of a matrix: read A, and write the reduced basis of its
+null space to OUT.
 
-The null space has all vectors v with v A = 0. Vectors are rows, and v has an entry for each
-row of A: the rows of A, each multiplied by its entry, have the sum 0. So OUT has as many
-columns as A has rows, and it has a row for each row of A that is a combination of the rows
-before it. This is a matrix over the field of order 2 and the reduced basis of its null
-space:
+The null space has all vectors v with v A = 0. Vectors are rows, and v has an
+entry for each row of A: the rows of A, each multiplied by its entry, have the
+sum 0. So OUT has as many columns as A has rows, and it has a row for each row
+of A that is a combination of the rows before it. This is a matrix over the
+field of order 2 and the reduced basis of its null space:
 
   matrix field=2 rows=3 cols=2       matrix field=2 rows=1 cols=3
   10                                 111
   01
   11
 
-In a reduced basis the first entry of each row that is not 0 is 1, stands further to the
-right than that of the row before, and has only 0 above and below it. Every null space has
-one reduced basis, which has no rows where only the zero vector is in the null space.
+In a reduced basis the first entry of each row that is not 0 is 1, stands
+further to the right than that of the row before, and has only 0 above and
+below it. Every null space has one reduced basis, which has no rows where only
+the zero vector is in the null space.
 
-A has at least one row: without rows OUT would have no columns.
-OUT is written when the basis is made, so it may be A itself. Where anything is wrong
-before that, no file changes. Where all goes well, nothing is printed.";
+A has at least one row: without rows OUT would have no columns. OUT is written
+when the basis is made, so it may be A itself. Where anything is wrong before
+that, no file changes. Where all goes well, nothing is printed.";
 
 /// Of `zsp`, in a line.
 pub(crate) const ZSP_ABOUT: &str = "Spin vectors in a module";
 
 /// Of `zsp`.
 pub(crate) const ZSP_LONG_ABOUT: &str = "\
-Spin vectors in a module: read the generators from NAME.1 to NAME.N, and the vectors, the
-rows of a matrix, from SEED, and write the reduced basis of the space that they generate to
-OUT.
+Spin vectors in a module: read the generators from NAME.1 to NAME.N, and the
+vectors, the rows of a matrix, from SEED, and write the reduced basis of the
+space that they generate to OUT.
 
-The generators act on row vectors from the right: g takes v to v g. A space is invariant
-where every generator takes it into itself: a submodule. The space that vectors generate is
-the smallest invariant one that has them all. It is spanned by the vectors and their images
-under all products of generators.
+The generators act on row vectors from the right: g takes v to v g. A space is
+invariant where every generator takes it into itself: a submodule. The space
+that vectors generate is the smallest invariant one that has them all. It is
+spanned by the vectors and their images under all products of generators.
 
-With -b it writes another basis, of the space that the first nonzero row of SEED alone
-generates: the standard basis of that row. It begins with the row. Then the rows found so
-far are taken in turn, and for each the generators in order, and an image that is no
-combination of the rows so far is added at the end. Where an isomorphism takes one vector
-to another, it takes the one's standard basis to the other's.
+With -b it writes another basis, of the space that the first nonzero row of
+SEED alone generates: the standard basis of that row. It begins with the row.
+Then the rows found so far are taken in turn, and for each the generators in
+order, and an image that is no combination of the rows so far is added at the
+end. Where an isomorphism takes one vector to another, it takes the one's
+standard basis to the other's.
 
-With -a it writes the action on the rows of OUT, too: row i of ACT.j has the coefficients
-of row i of OUT times generator j, over the rows of OUT. So ACT.1 to ACT.N are the
-submodule over this basis.
+With -a it writes the action on the rows of OUT, too: row i of ACT.j has the
+coefficients of row i of OUT times generator j, over the rows of OUT. So ACT.1
+to ACT.N are the submodule over this basis.
 
-For example, over the field of order 2, with M.1 and M.2 the permutations (1 2) and (1 2 3)
-of three points, and the one vector in SEED that has the points 1 and 2:
+For example, over the field of order 2, with M.1 and M.2 the permutations (1 2)
+and (1 2 3) of three points, and the one vector in SEED that has the points 1
+and 2:
 
   M.1  010     M.2  010     SEED  110     OUT  101     OUT with -b  110
        100          001                        011                  011
        001          100
 
-The generators are square matrices of one size over one field; SEED is over the same field,
-has as many columns, and a row that is not zero.
-Files are written when all of them are made, so they may be files that are read. Where
-anything is wrong before that, no file changes. Where all goes well, nothing is printed.";
+The generators are square matrices of one size over one field; SEED is over the
+same field, has as many columns, and a row that is not zero. Files are written
+when all of them are made, so they may be files that are read. Where anything
+is wrong before that, no file changes. Where all goes well, nothing is printed.";
 
 /// Of `zqt`, in a line.
 pub(crate) const ZQT_ABOUT: &str = "Take the quotient of a module by a submodule";
 
 /// Of `zqt`.
 pub(crate) const ZQT_LONG_ABOUT: &str = "\
-Take the quotient of a module by a submodule: read rows that span the submodule from SUB,
-and the generators from NAME.1 to NAME.N, and write the generators of the quotient to
-OUTNAME.1 to OUTNAME.N.
+Take the quotient of a module by a submodule: read rows that span the submodule
+from SUB, and the generators from NAME.1 to NAME.N, and write the generators of
+the quotient to OUTNAME.1 to OUTNAME.N.
 
-A column is a pivot of a space where some vector of the space has its first nonzero entry
-there. The unit vectors of the columns that are no pivots, ascending, are a basis of the
-quotient, and the matrices that are written are over this basis. So the quotient's
-dimension is that of the module less that of the submodule.
+A column is a pivot of a space where some vector of the space has its first
+nonzero entry there. The unit vectors of the columns that are no pivots,
+ascending, are a basis of the quotient, and the matrices that are written are
+over this basis. So the quotient's dimension is that of the module less that of
+the submodule.
 
-For example, over the field of order 2, with M.1 and M.2 the permutations (1 2) and (1 2 3)
-of three points, and their sum in SUB, axe zqt SUB M Q writes
+For example, over the field of order 2, with M.1 and M.2 the permutations (1 2)
+and (1 2 3) of three points, and their sum in SUB, axe zqt SUB M Q writes
 
   M.1  010     M.2  010     SUB  111     Q.1  11     Q.2  01
        100          001                       01          11
        001          100
 
-The generators are square matrices of one size over one field; SUB is over the same field
-and has as many columns. Its rows may be dependent, and there may be none; but they do not
-span all vectors, and every generator takes their span into itself: zsp makes such rows.
-Files are written when all of them are made, so they may be files that are read. Where
-anything is wrong before that, no file changes. Where all goes well, nothing is printed.";
+The generators are square matrices of one size over one field; SUB is over the
+same field and has as many columns. Its rows may be dependent, and there may be
+none; but they do not span all vectors, and every generator takes their span
+into itself: zsp makes such rows. Files are written when all of them are made,
+so they may be files that are read. Where anything is wrong before that, no
+file changes. Where all goes well, nothing is printed.";
 
 /// Of `chop`, in a line.
 pub(crate) const CHOP_ABOUT: &str = "Find a composition series of a module";
 
 /// Of `chop`.
 pub(crate) const CHOP_LONG_ABOUT: &str = "\
-Find a composition series of a module: read the generators from NAME.1 to NAME.N, write a
-basis and the irreducible constituents, and show a report of them.
+Find a composition series of a module: read the generators from NAME.1 to
+NAME.N, write a basis and the irreducible constituents, and show a report of
+them.
 
-A module is irreducible where no submodule lies between zero and all of it. A composition
-series is a chain of submodules, from zero up to the module, in which each is as small as it
-can be over the one before: its quotients, the constituents, are irreducible.
+A module is irreducible where no submodule lies between zero and all of it. A
+composition series is a chain of submodules, from zero up to the module, in
+which each is as small as it can be over the one before: its quotients, the
+constituents, are irreducible.
 
-  NAME.bas           the basis: P. P g P^-1 is block lower triangular for each generator g,
-                     and the blocks on its diagonal are the constituents, from the bottom
-  NAME2a.1 .. .N     the constituent 2a, a module of its own; so for each constituent
+  NAME.bas           the basis: P. P g P^-1 is block lower triangular for each
+                     generator g, and the blocks on its diagonal are the
+                     constituents, from the bottom
+  NAME2a.1 .. .N     the constituent 2a, a module of its own; so for each
   NAME.rep           the report, which is shown, too
 
-A constituent's name is its dimension and letters: the first of dimension 2 is 2a, the next
-2b. Constituents have one name just where they are isomorphic. For example, with M.1 and M.2
-the permutations of three points over the field of order 2, axe chop M shows
+A constituent's name is its dimension and letters: the first of dimension 2 is
+2a, the next 2b. Constituents have one name just where they are isomorphic. For
+example, with M.1 and M.2 the permutations of three points over the field of
+order 2, axe chop M shows
 
   chop 1 field=2 dim=3 gens=2 seed=1 words=400
   factor 2a dim=2 mult=1
   factor 1a dim=1 mult=1
   series 2a 1a
 
-So there is one constituent of dimension 2 and one of dimension 1, each stands once in the
-series, and 2a is the lower one. The files are M.bas, M2a.1, M2a.2, M1a.1, M1a.2 and M.rep.
+So there is one constituent of dimension 2 and one of dimension 1, each stands
+once in the series, and 2a is the lower one. The files are M.bas, M2a.1, M2a.2,
+M1a.1, M1a.2 and M.rep.
 
-Each section of the module is looked at with the words 0 to W in the generators, which the
-seed draws, until one shows that it is irreducible or gives a submodule. The same seed and
-W give the same files. Where no word does either, the section stays undecided: try another
-seed, or more words. That never happens to a module with at most 1000 points (vectors whose
-first nonzero entry is 1).
+Each section of the module is looked at with the words 0 to W in the
+generators, which the seed draws, until one shows that it is irreducible or
+gives a submodule. The same seed and W give the same files. Where no word does
+either, the section stays undecided: try another seed, or more words. That
+never happens to a module with at most 1000 points (vectors whose first nonzero
+entry is 1).
 
-Where the module is refused or a section undecided, no file changes. NAME.rep is taken away
-before the first file is written, and written last: where there is one, it tells which files
-belong to it. Files of an earlier run that it doesn't name stay.";
+Where the module is refused or a section undecided, no file changes. NAME.rep
+is taken away before the first file is written, and written last: where there
+is one, it tells which files belong to it. Files of an earlier run that it
+doesn't name stay.";
 
 /// Of the file that a matrix is written to.
 pub(crate) const OUT_MATRIX: &str = "The file to write the matrix to; what it held is replaced";
 
 /// Of the file that a text is written to.
-pub(crate) const OUT_TEXT: &str =
-    "The file to write the text to; what it held is replaced. Without it the text is shown";
+pub(crate) const OUT_TEXT: &str = "The file to write the text to. Without it the text is shown";
 
 /// Of the file that a product is written to.
 pub(crate) const OUT_PRODUCT: &str = "The file to write the product to; what it held is replaced";
@@ -308,19 +327,21 @@ pub(crate) const WORDS: &str = "How many words are tried after word 0, 0 to 1000
 /// Of files and exit statuses, after what is said of the program or of a command.
 pub(crate) const FILES_AND_STATUSES: &str = "\
 Files:
-  All files lie in the working directory. A matrix is kept in a packed file: a header
-  of 16 bytes, which begins with the letters AXP1, and then the rows. zcv makes such
-  a file of a text, and zpr makes a text of such a file. A file's name has 1 to 100
-  characters: letters and digits of ASCII and the signs . _ - +, of which none comes
-  first. A module NAME with N generators is kept in N such files, NAME.1 to NAME.N.
+  All files lie in the working directory. A matrix is kept in a packed file: a
+  header of 16 bytes, which begins with the letters AXP1, and then the rows.
+  zcv makes such a file of a text, and zpr makes a text of such a file. A
+  file's name has 1 to 100 characters: letters and digits of ASCII and the
+  signs . _ - +, of which none comes first. A module NAME with N generators is
+  kept in N such files, NAME.1 to NAME.N.
 
 Exit status:
   0  the command is done, or help was printed
   2  the words are no command line of axe, or one of them is no file name
   3  a file is damaged: it is no packed matrix or, for zcv, no text of a matrix
-  4  the command is refused: the fields differ, the shapes do not fit, a matrix has no
-     rows, a matrix that has to be square is not, or one to be inverted has no inverse;
-     SEED has no nonzero row; the span of SUB is not invariant, or is everything
+  4  the command is refused: the fields differ, the shapes do not fit, a matrix
+     has no rows, a matrix that has to be square is not, or one to be inverted
+     has no inverse; SEED has no nonzero row; the span of SUB is not invariant,
+     or is everything
   5  no word decides a section of the module, which chop is to find a series of
   6  a file is missing or too long, or its device failed
   7  there was not enough memory
