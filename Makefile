@@ -1,5 +1,5 @@
 # make try       a minute: builds axe without a proof, and finds a composition series with it
-# make demo      proves and builds axe, some 13 minutes on four processors, and runs its commands on examples/
+# make demo      proves and builds axe, some 25 minutes on four processors, and runs its commands on examples/
 # make test      everything that CI runs: proofs from nothing, the wrong bodies, the tests and the runs of the program
 # make build     proves and builds crates/axe/out/axe; CPU=x86-64-v3 builds it for processors with AVX2
 # make cases     the runs of the built program alone: cases, disks, transcripts of the documents, what is installed

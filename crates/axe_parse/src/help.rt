@@ -5,10 +5,11 @@ pub(crate) const ABOUT: &str = "A workbench for modules of matrices over small f
 
 /// Of the program.
 pub(crate) const LONG_ABOUT: &str = "\
-A workbench for modules of matrices over the fields of order 2, 3, 4, 5, 7, 8
-and 9. It finds composition series of modules. It takes matrices in as text and
-prints them, multiplies, adds, transposes and inverts them, finds their null
-spaces, spins vectors in modules, and takes quotients of modules.";
+A workbench for modules of matrices over the
+fields of order 2, 3, 4, 5, 7, 8 and 9. It finds composition series of modules.
+It takes matrices in as text and prints them, multiplies, adds, transposes and
+inverts them, finds their null spaces, spins vectors in modules, and takes
+quotients of modules.";
 
 /// Of `zcv`, in a line.
 pub(crate) const ZCV_ABOUT: &str = "Convert the text of a matrix to a packed file";
@@ -212,8 +213,8 @@ pub(crate) const ZQT_ABOUT: &str = "Take the quotient of a module by a submodule
 /// Of `zqt`.
 pub(crate) const ZQT_LONG_ABOUT: &str = "\
 Take the quotient of a module by a submodule: read rows that span the submodule
-from SUB, and the generators from NAME.1 to NAME.N, and write the generators of
-the quotient to OUTNAME.1 to OUTNAME.N.
+from SUB, and the generators from NAME.1 to NAME.N, and write
+the generators of the quotient to OUTNAME.1 to OUTNAME.N.
 
 A column is a pivot of a space where some vector of the space has its first
 nonzero entry there. The unit vectors of the columns that are no pivots,
