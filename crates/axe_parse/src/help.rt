@@ -339,11 +339,12 @@ Exit status:
   0  the command is done, or help was printed
   2  the words are no command line of axe, or one of them is no file name
   3  a file is damaged: it is no packed matrix or, for zcv, no text of a matrix
-  4  the command is refused: the fields differ, the shapes do not fit, a matrix
-     has no rows, a matrix that has to be square is not, or one to be inverted
-     has no inverse; SEED has no nonzero row; the span of SUB is not invariant,
-     or is everything
-  5  no word decides a section of the module, which chop is to find a series of
+  4  the command is refused: of the matrices that are read, two are over
+     different fields or their shapes do not fit (zmu, zad, zsp, zqt, chop), one
+     has no rows (ztr, znu, and as a generator), one is not square (ziv, and as
+     a generator), or it has no inverse (ziv); SEED has only zeros (zsp); the
+     span of SUB is not invariant, or is everything (zqt)
+  5  no word decides a section of the module (chop)
   6  a file is missing or too long, or its device failed
   7  there was not enough memory
 
