@@ -1,5 +1,5 @@
 -- Lists in pieces of one width: piece x of width w is what stands from x w on.
-use Rattle.std.proofs.Common.{◌≡◌, ◌≢◌, ℕ, ◌+◌, ◌-◌, ◌*◌, ◌<◌, ◌≤◌, List, [], ◌++◌, length, get_or, set, take, drop, replicate, refl, sym, ap, subst, ◌∙◌, arith, inl, inr, get_or-set_other, get_or-set_same}
+use Rattle.std.proofs.Common.{◌≡◌, ◌≢◌, ℕ, ◌+◌, ◌-◌, ◌*◌, ◌<◌, ◌≤◌, List, [], ◌++◌, length, get_or, set, take, drop, replicate, sym, ap, subst, ◌∙◌, arith, inl, inr, get_or-set_other, get_or-set_same}
 use Rattle.std.specs.List.{copy_within, All}
 use Rattle.std.specs.Simd.Lanes.{chunk, put_chunk}
 use Rattle.std.proofs.lemmas.Bool.{cases_eq, cases_lt}
@@ -123,3 +123,14 @@ zero_pieces g w count =
   where
     piece : ℕ → List ℕ
     piece x = g (chunk (x * w) w (zeros (count * w)))
+
+-- a part that is taken out of a list, by its entries
+pub taken_part : (start len : ℕ) (items digits : List ℕ) → items ≡ digits → start + len ≤ length digits →
+    take (start + len - start) (drop start items) ≡ listed len (λ j. get_or digits (start + j) 0)
+taken_part start len items digits is room =
+    let f : ℕ → ℕ = λ j. get_or digits (start + j) 0 in
+    let wide : start + len - start ≡ len = omega arith in
+    let long = length-chunk start len digits room in
+    ap (λ n. take n (drop start items)) wide ∙ ap (λ (x : List ℕ). take len (drop start x)) is
+    ∙ ext_get_or 0 (chunk start len digits) (listed len f) (long ∙ sym (listed_length len f)) (λ j inside.
+    let small : j < len = omega (arith, long) in get_or-chunk start len digits j 0 small ∙ sym (listed_at len f j 0 small))

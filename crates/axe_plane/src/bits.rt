@@ -1,12 +1,18 @@
 //! Planes of digits modulo 2.
 ghost use Rattle.std.specs.Int.{bit_at};
-ghost use Rattle.std.specs.Prelude.{ℕ, ◌≡◌, ◌≢◌, ◌+◌, ◌^◌, ◌%◌, ◌<◌, ◌≤◌, ◌↔◌, IsTrue, IfOk, length, replicate};
-ghost use Rattle.std.specs.Prelude.{slice_index, slice_set, All, MatchOption};
+ghost use Rattle.std.specs.Prelude.{ℕ, ◌≡◌, ◌≢◌, ◌+◌, ◌^◌, ◌%◌, ◌<◌, ◌≤◌, ◌↔◌, IsTrue, IfOk, length, map};
+ghost use Rattle.std.specs.Prelude.{replicate, slice_index, slice_set, All, MatchOption};
+ghost use Rattle.axe_algebra.specs.Lists.{listed};
 ghost use Rattle.axe_lane.specs.Bytes.{multiple, sum_of_products};
 ghost use Rattle.axe_lane.specs.Entries.{IsFirstNonzero};
 ghost use Rattle.axe_plane.specs.Bits.{bits, HoldsBits};
 ghost use Rattle.axe_plane.specs.Digits.{AreDigits, digits_at, digits_with_four, digits_with_multiple};
+ghost use Rattle.axe_plane.specs.Digits.{AreSmallSums, numbers_with_multiple};
+ghost use Rattle.axe_plane.specs.Digits.{AreZerosFrom, IsNextNonzero};
+ghost use Rattle.axe_plane.specs.Digits.{AreZerosFrom, IsNextNonzero};
+ghost use Rattle.axe_plane.specs.Digits.{IsNextNonzero, number_from};
 
+use crate::parts::{gathered, lowest, spread, word_from};
 use axe_lane::{any_nonzero, first_set, parity_and, xor_into, xor4_into};
 use std::alloc::{AllocError, Global};
 use std::marker::Model;
@@ -86,6 +92,23 @@ impl BitPlane {
         self.words[word] >> place
     }
 
+    /// The number whose digits in a base up to 9, most significant first, are up to four of the plane's digits from an
+    /// index on: `size` of them or those that there are.
+    #[inline]
+    pub fn number_from(&self, base: usize, size: usize, at: usize) -> usize
+        requires base { base ≤ 9 }
+        requires short { size ≤ 4 }
+        requires counted { at + size < 2 ^ 64 }
+        ensures value { result ≡ number_from base size at self.now }
+        ensures small { result < 6561 }
+    {
+        let mut number = 0;
+        for index in at..self.len.min(at + size) {
+            number = number * base + usize::from(self.get(index));
+        }
+        number
+    }
+
     /// Makes a digit the one at an index; all others stay. From the length on there is none to be changed.
     pub fn set(&mut self, index: usize, digit: u8)
         requires { digit < 2 }
@@ -106,6 +129,55 @@ impl BitPlane {
             len: self.len,
             words,
         })
+    }
+
+    /// The plane of the digits at these indices, in their order.
+    pub fn select(&self, alloc: Global, indices: &[usize]) -> Result<BitPlane, AllocError>
+        requires { All (λ index. index < length self.now) indices.now }
+        ensures { IfOk result (λ plane. plane ≡ map (slice_index self.now) indices.now) }
+    {
+        let len = indices.len();
+        let mut words = vec![in alloc; 0; len.div_ceil(WORD)]?;
+        for at in 0..words.len() {
+            words[at] = gathered(&self.words, indices, at * WORD);
+        }
+        Ok(BitPlane { len, words })
+    }
+
+    /// The plane of the `len` digits from an index on.
+    pub fn part(&self, alloc: Global, start: usize, len: usize) -> Result<BitPlane, AllocError>
+        requires { start + len ≤ length self.now }
+        ensures { IfOk result (λ plane. plane ≡ listed len (λ j. slice_index self.now (start + j))) }
+    {
+        let mut words = vec![in alloc; 0; len.div_ceil(WORD)]?;
+        for at in 0..words.len() {
+            let before = at * WORD;
+            words[at] = lowest(word_from(&self.words, start + before), len - before);
+        }
+        Ok(BitPlane { len, words })
+    }
+
+    /// Writes the digits into a list of the plane's length.
+    pub fn copy_to(&self, numbers: &mut [u8])
+        requires { length numbers.old ≡ length self.now }
+        ensures { numbers.new ≡ self.now }
+    {
+        for at in 0..self.words.len() {
+            let from = at * WORD;
+            let count = WORD.min(self.len - from);
+            spread(self.words[at], &mut numbers[from..from + count]);
+        }
+    }
+
+    /// Adds a multiple of each digit to the number at its index.
+    pub fn add_to(&self, factor: u8, numbers: &mut [u8])
+        requires fits { length self.now ≤ length numbers.old }
+        requires small { AreSmallSums numbers.old factor self.now }
+        ensures { numbers.new ≡ numbers_with_multiple numbers.old factor self.now }
+    {
+        for at in 0..self.len {
+            numbers[at] += factor * self.get(at);
+        }
     }
 
     /// Adds another plane of the same length: each digit becomes its sum with the other's modulo 2.
@@ -170,6 +242,25 @@ impl BitPlane {
         ensures { MatchOption result (All (λ digit. digit ≡ 0) self.now) (IsFirstNonzero self.now) }
     {
         first_set(&self.words)
+    }
+
+    /// The index of the first digit other than 0 from an index on, or `None` where every digit from there on is 0.
+    pub fn next_nonzero(&self, start: usize) -> Option<usize>
+        ensures { MatchOption result (AreZerosFrom self.now start) (IsNextNonzero self.now start) }
+    {
+        if start >= self.len {
+            return None;
+        }
+        let (word, place) = (start / WORD, start % WORD);
+        let rest = self.words[word] >> place;
+        if rest != 0 {
+            return Some(start + rest.trailing_zeros() as usize);
+        }
+        let after = word + 1;
+        match first_set(&self.words[after..]) {
+            Some(index) => Some(after * WORD + index),
+            None => None,
+        }
     }
 
     /// Whether every digit is 0.

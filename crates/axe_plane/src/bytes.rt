@@ -1,9 +1,19 @@
 //! Planes of digits modulo an odd prime.
-ghost use Rattle.std.specs.Prelude.{◌≡◌, ◌/◌, ◌%◌, ◌<◌, ◌↔◌, IsTrue, IfOk, length, map, replicate, slice_index};
-ghost use Rattle.std.specs.Prelude.{slice_set, All, MatchOption};
+ghost use Rattle.axe_algebra.specs.Lists.{listed};
 ghost use Rattle.axe_lane.specs.Bytes.{multiple, sum_of_products};
 ghost use Rattle.axe_lane.specs.Entries.{IsFirstNonzero};
 ghost use Rattle.axe_plane.specs.Digits.{AreDigits, digits_at, digits_with_four, digits_with_multiple};
+ghost use Rattle.axe_plane.specs.Digits.{AreSmallSums, numbers_with_multiple};
+ghost use Rattle.axe_plane.specs.Digits.{AreZerosFrom, IsNextNonzero};
+ghost use Rattle.std.specs.Prelude.{map, replicate, slice_index, slice_set, All, MatchOption};
+ghost use Rattle.std.specs.Prelude.{slice_index, slice_set, All, MatchOption};
+ghost use Rattle.std.specs.Prelude.{slice_set, All, MatchOption};
+ghost use Rattle.std.specs.Prelude.{◌≡◌, ◌+◌, ◌/◌, ◌%◌, ◌<◌, ◌≤◌, ◌↔◌, IsTrue, IfOk, length, map, replicate};
+ghost use Rattle.std.specs.Prelude.{◌≡◌, ◌+◌, ◌/◌, ◌%◌, ◌^◌, ◌<◌, ◌≤◌, ◌↔◌, IsTrue, IfOk, length, map, replicate, slice_index};
+ghost use Rattle.std.specs.Prelude.{◌≡◌, ◌+◌, ◌/◌, ◌%◌, ◌^◌, ◌<◌, ◌≤◌, ◌↔◌, IsTrue, IfOk, length};
+ghost use Rattle.axe_lane.specs.Bytes.{multiple, sum_of_products};
+ghost use Rattle.axe_lane.specs.Entries.{IsFirstNonzero};
+ghost use Rattle.axe_plane.specs.Digits.{IsNextNonzero, number_from};
 ghost use Rattle.axe_plane.specs.Primes.{odd_number, OddDigits};
 
 use crate::primes::OddPrime;
@@ -85,6 +95,23 @@ impl BytePlane {
         }
     }
 
+    /// The number whose digits in a base up to 9, most significant first, are up to four of the plane's digits from an
+    /// index on: `size` of them or those that there are.
+    #[inline]
+    pub fn number_from(&self, base: usize, size: usize, at: usize) -> usize
+        requires base { base ≤ 9 }
+        requires short { size ≤ 4 }
+        requires counted { at + size < 2 ^ 64 }
+        ensures value { result ≡ number_from base size at self.now.digits }
+        ensures small { result < 6561 }
+    {
+        let mut number = 0;
+        for index in at..self.bytes.len().min(at + size) {
+            number = number * base + usize::from(self.get(index));
+        }
+        number
+    }
+
     /// Makes a digit the one at an index; all others stay. From the length on there is none to be changed.
     pub fn set(&mut self, index: usize, digit: u8)
         requires { digit < odd_number self.old.prime }
@@ -104,6 +131,58 @@ impl BytePlane {
             prime: self.prime,
             bytes,
         })
+    }
+
+    /// The plane of the digits at these indices, in their order.
+    pub fn select(&self, alloc: Global, indices: &[usize]) -> Result<BytePlane, AllocError>
+        requires { All (λ index. index < length self.now.digits) indices.now }
+        ensures { IfOk result (λ plane. plane ≡ record {
+          prime = self.now.prime;
+          digits = map (slice_index self.now.digits) indices.now;
+        }) }
+    {
+        let mut bytes = vec![in alloc; 0; indices.len()]?;
+        for at in 0..bytes.len() {
+            bytes[at] = self.bytes[indices[at]];
+        }
+        Ok(BytePlane {
+            prime: self.prime,
+            bytes,
+        })
+    }
+
+    /// The plane of the `len` digits from an index on.
+    pub fn part(&self, alloc: Global, start: usize, len: usize) -> Result<BytePlane, AllocError>
+        requires { start + len ≤ length self.now.digits }
+        ensures { IfOk result (λ plane. plane ≡ record {
+          prime = self.now.prime;
+          digits = listed len (λ j. slice_index self.now.digits (start + j));
+        }) }
+    {
+        let bytes = Vec::from_slice(alloc, &self.bytes[start..start + len])?;
+        Ok(BytePlane {
+            prime: self.prime,
+            bytes,
+        })
+    }
+
+    /// Writes the digits into a list of the plane's length.
+    pub fn copy_to(&self, numbers: &mut [u8])
+        requires { length numbers.old ≡ length self.now.digits }
+        ensures { numbers.new ≡ self.now.digits }
+    {
+        numbers.copy_from_slice(&self.bytes);
+    }
+
+    /// Adds a multiple of each digit to the number at its index.
+    pub fn add_to(&self, factor: u8, numbers: &mut [u8])
+        requires fits { length self.now.digits ≤ length numbers.old }
+        requires small { AreSmallSums numbers.old factor self.now.digits }
+        ensures { numbers.new ≡ numbers_with_multiple numbers.old factor self.now.digits }
+    {
+        for at in 0..self.bytes.len() {
+            numbers[at] += factor * self.bytes[at];
+        }
     }
 
     /// Adds a multiple of another plane modulo the same prime and of the same length.
@@ -198,6 +277,19 @@ impl BytePlane {
         ensures { MatchOption result (All (λ digit. digit ≡ 0) self.now.digits) (IsFirstNonzero self.now.digits) }
     {
         first_byte(&self.bytes)
+    }
+
+    /// The index of the first digit other than 0 from an index on, or `None` where every digit from there on is 0.
+    pub fn next_nonzero(&self, start: usize) -> Option<usize>
+        ensures { MatchOption result (AreZerosFrom self.now.digits start) (IsNextNonzero self.now.digits start) }
+    {
+        if start >= self.bytes.len() {
+            return None;
+        }
+        match first_byte(&self.bytes[start..]) {
+            Some(index) => Some(start + index),
+            None => None,
+        }
     }
 
     /// Whether every digit is 0.

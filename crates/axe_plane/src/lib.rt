@@ -4,10 +4,25 @@
 
 ghost use Rattle.std.specs.Int.{bit_at};
 ghost use Rattle.std.specs.Prelude.{ℕ, ◌≡◌, ◌≢◌, ◌⊎◌, ◌+◌, ◌%◌, ◌<◌, ◌≤◌, ◌↔◌, IsTrue, IfOk, length};
-ghost use Rattle.std.specs.Prelude.{replicate, slice_index, slice_set, All, MatchOption};
+ghost use Rattle.std.specs.Prelude.{map, replicate, slice_index, slice_set, All, MatchOption};
+ghost use Rattle.axe_algebra.specs.Lists.{listed};
 ghost use Rattle.axe_lane.specs.Bytes.{multiple, sum_of_products};
 ghost use Rattle.axe_lane.specs.Entries.{IsFirstNonzero};
 ghost use Rattle.axe_plane.specs.Digits.{AreDigits, digits_at, digits_with_four, digits_with_multiple};
+ghost use Rattle.axe_plane.specs.Digits.{AreSmallSums, numbers_with_multiple};
+ghost use Rattle.axe_plane.specs.Digits.{AreZerosFrom, IsNextNonzero};
+ghost use Rattle.axe_plane.specs.Digits.{AreZerosFrom, IsNextNonzero};
+ghost use Rattle.std.specs.Prelude.{ℕ, ◌≡◌, ◌≢◌, ◌⊎◌, ◌+◌, ◌%◌, ◌^◌, ◌<◌, ◌≤◌, ◌↔◌, IsTrue, IfOk, length};
+ghost use Rattle.std.specs.Prelude.{replicate, slice_index, slice_set, All, MatchOption};
+ghost use Rattle.axe_lane.specs.Bytes.{multiple, sum_of_products};
+ghost use Rattle.axe_lane.specs.Entries.{IsFirstNonzero};
+ghost use Rattle.axe_plane.specs.Digits.{IsNextNonzero, number_from};
+ghost use Rattle.axe_plane.specs.Digits.{AreZerosFrom, IsNextNonzero};
+ghost use Rattle.std.specs.Prelude.{ℕ, ◌≡◌, ◌≢◌, ◌⊎◌, ◌+◌, ◌*◌, ◌%◌, ◌^◌, ◌<◌, ◌≤◌, ◌↔◌, IsTrue, IfOk, length};
+ghost use Rattle.std.specs.Prelude.{replicate, slice_index, slice_set, All, MatchOption};
+ghost use Rattle.axe_lane.specs.Bytes.{multiple, sum_of_products};
+ghost use Rattle.axe_lane.specs.Entries.{IsFirstNonzero};
+ghost use Rattle.axe_plane.specs.Digits.{IsNextNonzero, numbers_from};
 ghost use Rattle.axe_plane.specs.Tables.{plane_at, IsEntryFor};
 
 pub use bit_table::BitTable;
@@ -22,6 +37,7 @@ mod bit_table;
 mod bits;
 mod byte_table;
 mod bytes;
+mod parts;
 mod pieces;
 mod primes;
 mod tables;
@@ -108,6 +124,34 @@ impl Plane {
         }
     }
 
+    /// Four numbers in a base up to 9, the digits of each being up to four of the plane's, most significant first:
+    /// those of the pieces of `size` digits one after another from an index on, as far as the plane goes.
+    #[inline]
+    pub fn numbers_from(&self, base: usize, size: usize, at: usize) -> [usize; 4]
+        requires base { base ≤ 9 }
+        requires short { size ≤ 4 }
+        requires counted { at + 4 * size < 2 ^ 64 }
+        ensures value { result ≡ numbers_from base size at (digits_of self.now) }
+        ensures small { (i : ℕ) → slice_index result i < 6561 }
+    {
+        let (second, third) = (at + size, at + 2 * size);
+        let fourth = at + 3 * size;
+        match self {
+            Plane::Bits(plane) => [
+                plane.number_from(base, size, at),
+                plane.number_from(base, size, second),
+                plane.number_from(base, size, third),
+                plane.number_from(base, size, fourth),
+            ],
+            Plane::Bytes(plane) => [
+                plane.number_from(base, size, at),
+                plane.number_from(base, size, second),
+                plane.number_from(base, size, third),
+                plane.number_from(base, size, fourth),
+            ],
+        }
+    }
+
     /// Makes a digit the one at an index; all others stay. From the length on there is none to be changed.
     #[inline]
     pub fn set(&mut self, index: usize, digit: u8)
@@ -128,6 +172,52 @@ impl Plane {
             Plane::Bits(plane) => Plane::Bits(plane.copy(alloc)?),
             Plane::Bytes(plane) => Plane::Bytes(plane.copy(alloc)?),
         })
+    }
+
+    /// The plane of the digits at these indices, in their order.
+    pub fn select(&self, alloc: Global, indices: &[usize]) -> Result<Plane, AllocError>
+        requires { All (λ index. index < length (digits_of self.now)) indices.now }
+        ensures { IfOk result (IsPlane (prime_of_plane self.now) (map (slice_index (digits_of self.now)) indices.now)) }
+    {
+        Ok(match self {
+            Plane::Bits(plane) => Plane::Bits(plane.select(alloc, indices)?),
+            Plane::Bytes(plane) => Plane::Bytes(plane.select(alloc, indices)?),
+        })
+    }
+
+    /// The plane of the `len` digits from an index on.
+    pub fn part(&self, alloc: Global, start: usize, len: usize) -> Result<Plane, AllocError>
+        requires { start + len ≤ length (digits_of self.now) }
+        ensures { IfOk result (IsPlane (prime_of_plane self.now)
+            (listed len (λ j. slice_index (digits_of self.now) (start + j)))) }
+    {
+        Ok(match self {
+            Plane::Bits(plane) => Plane::Bits(plane.part(alloc, start, len)?),
+            Plane::Bytes(plane) => Plane::Bytes(plane.part(alloc, start, len)?),
+        })
+    }
+
+    /// Writes the digits into a list of the plane's length.
+    pub fn copy_to(&self, numbers: &mut [u8])
+        requires { length numbers.old ≡ length (digits_of self.now) }
+        ensures { numbers.new ≡ digits_of self.now }
+    {
+        match self {
+            Plane::Bits(plane) => plane.copy_to(numbers),
+            Plane::Bytes(plane) => plane.copy_to(numbers),
+        }
+    }
+
+    /// Adds a multiple of each digit to the number at its index; numbers from the plane's length on stay.
+    pub fn add_to(&self, factor: u8, numbers: &mut [u8])
+        requires fits { length (digits_of self.now) ≤ length numbers.old }
+        requires small { AreSmallSums numbers.old factor (digits_of self.now) }
+        ensures { numbers.new ≡ numbers_with_multiple numbers.old factor (digits_of self.now) }
+    {
+        match self {
+            Plane::Bits(plane) => plane.add_to(factor, numbers),
+            Plane::Bytes(plane) => plane.add_to(factor, numbers),
+        }
     }
 
     /// Adds a multiple of another plane modulo the same prime and of the same length: each digit d becomes d + m s
@@ -217,6 +307,17 @@ impl Plane {
         match self {
             Plane::Bits(plane) => plane.first_nonzero(),
             Plane::Bytes(plane) => plane.first_nonzero(),
+        }
+    }
+
+    /// The index of the first digit other than 0 from an index on, or `None` where every digit from there on is 0.
+    pub fn next_nonzero(&self, start: usize) -> Option<usize>
+        ensures { MatchOption result (AreZerosFrom (digits_of self.now) start)
+            (IsNextNonzero (digits_of self.now) start) }
+    {
+        match self {
+            Plane::Bits(plane) => plane.next_nonzero(start),
+            Plane::Bytes(plane) => plane.next_nonzero(start),
         }
     }
 

@@ -1,0 +1,8 @@
+use Rattle.std.proofs.Common.{length, arith, ap}
+use Rattle.axe_plane.proofs.NumberSums.{added_all}
+use Rattle.axe_plane.proofs.bytes.BytePlane.add_to.Goals as goal
+
+pub returns : goal.returns
+returns c =
+    added_all _ _ _ _ _ c.loop-at.invariant
+    (omega (arith, c.loop-at-test.false, c.len-at-end.ensures, ap (λ s. length s.digits) c.self.view_is))

@@ -1,0 +1,53 @@
+use Rattle.std.proofs.Common.{◌≡◌, ℕ, ◌+◌, ◌*◌, ◌<◌, ◌≤◌, List, length, get_or, ap, ◌∙◌, arith, lit<}
+use native.Mathlib.Nat.{mul-le-mul_left}
+use Rattle.axe_plane.specs.Digits.{AreDigits}
+use Rattle.axe_plane.specs.Primes.{odd_number, OddDigits}
+use Rattle.axe_plane.specs.declared.primes.OddPrime.{OddPrime}
+use Rattle.axe_plane.specs.declared.primes.OddPrime.TheVariants.{Three, Five, Seven}
+use Rattle.axe_plane.proofs.DigitLaws.{digit-below}
+use Rattle.axe_plane.proofs.PlaneLaws.{odd_number-positive}
+use Rattle.axe_plane.proofs.PieceDigits.{IsNumberOf-none, IsNumberOf-more, IsNumberOf-small, IsNumberOf-few, IsNumberOf-all}
+use Rattle.axe_plane.proofs.bytes.BytePlane.number_from.Goals as goal
+
+small_prime : (p : OddPrime) → odd_number p < 9
+small_prime Three = lit< tt
+small_prime Five = lit< tt
+small_prime Seven = lit< tt
+
+digit : (p : OddPrime) (bytes : List ℕ) (self : OddDigits) (k : ℕ) → AreDigits (odd_number p) bytes → record { prime = p; digits = bytes } ≡ self →
+    get_or self.digits k 0 < 9
+digit p bytes self k all is =
+    let below : get_or bytes k 0 < odd_number p = digit-below (odd_number p) bytes k (odd_number-positive p) all in
+    omega (arith, below, small_prime p, ap (λ (x : OddDigits). get_or x.digits k 0) is)
+
+pub loop-index-init : goal.loop-index-init
+loop-index-init c = IsNumberOf-none _ _ _
+
+pub overflow_mul-number : goal.overflow_mul-number
+overflow_mul-number c =
+    let few : c.loop-index.index ≤ c.args.at + 4 = omega (arith, c.loop-index-test.true, c.min-index-end.ensures, c.requires.short) in
+    let small : c.loop-index.number < 6561 = IsNumberOf-small _ _ _ _ _ c.loop-index.invariant few in
+    let product : c.loop-index.number * c.args.base ≤ c.loop-index.number * 9 = mul-le-mul_left c.loop-index.number c.requires.base in
+    omega arith
+
+pub overflow_add-number : goal.overflow_add-number
+overflow_add-number c =
+    let few : c.loop-index.index ≤ c.args.at + 4 = omega (arith, c.loop-index-test.true, c.min-index-end.ensures, c.requires.short) in
+    let small : c.loop-index.number < 6561 = IsNumberOf-small _ _ _ _ _ c.loop-index.invariant few in
+    let product : c.loop-index.number * c.args.base ≤ c.loop-index.number * 9 = mul-le-mul_left c.loop-index.number c.requires.base in
+    omega (arith, c.from.ensures, c.get.ensures, digit _ _ _ c.loop-index.index c.self.invariant c.self.view_is)
+
+pub loop-index-preserved : goal.loop-index-preserved
+loop-index-preserved c =
+    let is = c.from.ensures ∙ c.get.ensures in
+    IsNumberOf-more _ _ _ _ _ _ c.loop-index.invariant c.loop-index.auto.index c.requires.base is (omega (arith, is, digit _ _ _ c.loop-index.index c.self.invariant c.self.view_is))
+
+pub returns-clause-value : goal.returns-clause-value
+returns-clause-value c =
+    IsNumberOf-all _ _ c.args.size _ _ _ c.loop-index.invariant
+    (λ inside. omega (arith, c.loop-index.auto.index, c.loop-index.auto.index-end, c.loop-index-test.false, c.min-index-end.ensures, c.len.ensures, ap (λ (s : OddDigits). length s.digits) c.self.view_is))
+
+pub returns-clause-small : goal.returns-clause-small
+returns-clause-small c =
+    IsNumberOf-few _ _ _ _ _ c.loop-index.invariant
+    (λ inside. omega (arith, c.loop-index.auto.index-end, c.loop-index-test.false, c.min-index-end.ensures, c.requires.short, c.len.ensures, ap (λ (s : OddDigits). length s.digits) c.self.view_is))
