@@ -25,7 +25,7 @@ abbrev Finds : Option ℕ → (ℕ → ℕ) → Type 0
 Finds r f = MatchOption r ((j : ℕ) → f j ≡ 0) (IsFirst f)
 
 -- the entries of a list, with 0 past its end
-abbrev at : List ℕ → ℕ → ℕ
+abbrev pub at : List ℕ → ℕ → ℕ
 at xs j = get_or xs j 0
 
 finds_digit : (r : Option ℕ) (xs : List ℕ) → MatchOption r (All (λ x. x ≡ 0) xs) (lane.IsFirstNonzero xs) → Finds r (at xs)
@@ -59,10 +59,10 @@ finds_earlier (Some i) (Some k) f g hf hg = record {
 
 -- ---- entries
 
-abbrev digit_sum : Plane → Plane → Plane → ℕ → ℕ
+abbrev pub digit_sum : Plane → Plane → Plane → ℕ → ℕ
 digit_sum c l q j = at (digits_of c) j + (at (digits_of l) j + at (digits_of q) j)
 
-entry_zero : (o : Order) (n : ℕ) (c l q : Plane) (j : ℕ) → j < length (digits_of c) → digit_sum c l q j ≡ 0 → at (entries_of o c l q) j ≡ 0
+pub entry_zero : (o : Order) (n : ℕ) (c l q : Plane) (j : ℕ) → j < length (digits_of c) → digit_sum c l q j ≡ 0 → at (entries_of o c l q) j ≡ 0
 entry_zero o n c l q j inside none =
     let constant : at (digits_of c) j ≡ 0 = omega arith in
     let linear : at (digits_of l) j ≡ 0 = omega arith in
@@ -82,7 +82,7 @@ zero_has_none Eight = (refl, (refl, refl))
 zero_has_none Nine = (refl, (refl, refl))
 
 -- an element that is 0 has no coefficients
-digits_zero : (o : Order) (n : ℕ) (c l q : Plane) (j : ℕ) → ArePlanes o n c l q → j < length (digits_of c) → at (entries_of o c l q) j ≡ 0 →
+pub digits_zero : (o : Order) (n : ℕ) (c l q : Plane) (j : ℕ) → ArePlanes o n c l q → j < length (digits_of c) → at (entries_of o c l q) j ≡ 0 →
     digit_sum c l q j ≡ 0
 digits_zero o n c l q j h inside none =
     let e = element_at o n c l q j h in
@@ -100,7 +100,7 @@ no_longer : (b : Bool) (n : ℕ) → cond b n 0 ≤ n
 no_longer true n = omega arith
 no_longer false n = omega arith
 
-digits_past : (o : Order) (n : ℕ) (c l q : Plane) (j : ℕ) → ArePlanes o n c l q → length (digits_of c) ≤ j → digit_sum c l q j ≡ 0
+pub digits_past : (o : Order) (n : ℕ) (c l q : Plane) (j : ℕ) → ArePlanes o n c l q → length (digits_of c) ≤ j → digit_sum c l q j ≡ 0
 digits_past o n c l q j h past =
     omega (
       arith,

@@ -5,11 +5,15 @@ pub mod RowPlanes
 pub mod PlaneSums
 pub mod PrimeRows
 pub mod FirstEntries
+pub mod NextEntries
 pub mod PlaneDots
 pub mod ElementPlanes
 pub mod TableRows
 pub mod TablePlanes
 pub mod TableSums
 pub mod PieceNumbers
+pub mod PlaneNumbers
 pub mod CombinationLaws
 pub mod MultiplesByX
+pub mod TakenEntries
+pub mod EntrySums

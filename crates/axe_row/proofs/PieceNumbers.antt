@@ -1,9 +1,9 @@
 -- The number of a piece of a row, digit by digit.
 use Rattle.std.proofs.Common.{◌≡◌, ℕ, ◌+◌, ◌-◌, ◌*◌, ◌/◌, ◌^◌, ◌<◌, ◌≤◌, List, [], ◌∷◌, ◌++◌, length, get_or, map, take, drop, refl, sym, ap, ap₂, subst, ◌∙◌, arith, add-one, lit<}
 use Rattle.std.specs.Int.{bit_at}
-use Rattle.std.proofs.lemmas.List.{drop_more, ext_get_or, get_or-map, get_or-drop, length-drop, length-map, length_push, map_push, take_more}
+use Rattle.std.proofs.lemmas.List.{drop_more, ext_get_or, get_or-map, get_or-drop, length-drop, length-map, map_push, take_more}
 use Rattle.std.proofs.lemmas.Nat.{mul-add-lt}
-use native.Mathlib.Nat.{mul_assoc, mul_comm, add-mul, pow-zero, pow-suc, pow-le-pow_left, pow-le-pow_right}
+use native.Mathlib.Nat.{mul_comm, pow-zero, pow-suc, pow-le-pow_left, pow-le-pow_right}
 use Rattle.axe_algebra.specs.Digits.{number_with_digits}
 use Rattle.axe_algebra.specs.NumberField.{NumberField}
 use Rattle.axe_algebra.proofs.ElementNumbers.{entry-below}
@@ -15,6 +15,7 @@ use Rattle.axe_field.proofs.Orders.{order_number-at_most, order_number-injective
 use Rattle.axe_plane.specs.Planes.{digits_of}
 use Rattle.axe_plane.specs.declared.Plane.{Plane}
 use Rattle.axe_plane.proofs.BitLaws.{bit_at-shifted}
+use Rattle.axe_plane.proofs.PieceDigits.{number_with_digits-push}
 use Rattle.axe_row.specs.Combinations.{piece_number}
 use Rattle.axe_row.specs.Operations.{multiple}
 use Rattle.axe_row.specs.Planes.{ArePlanes}
@@ -22,18 +23,6 @@ use Rattle.axe_row.specs.Rows.{RowValue, IsRow}
 use Rattle.axe_row.proofs.OperationLaws.{length-multiple, get_or-multiple}
 use Rattle.axe_row.proofs.PrimeRows.{one_plane_at}
 use Rattle.axe_row.proofs.RowPlanes.{entries_of, IsRow-of_planes}
-
--- one digit more, at the end
-pub number_with_digits-push : (q : ℕ) (ds : List ℕ) (d : ℕ) → number_with_digits q (ds ++ d ∷ []) ≡ number_with_digits q ds * q + d
-unfolding number_with_digits
-number_with_digits-push q [] d = omega (arith, ap (λ n. d * n) (pow-zero q))
-number_with_digits-push q (e ∷ ds) d =
-    let power : q ^ length (ds ++ d ∷ []) ≡ q ^ length ds * q = ap (λ n. q ^ n) (length_push ds d ∙ add-one (length ds)) ∙ pow-suc q (length ds) in
-    ap₂ (λ (a b : ℕ). e * a + b) power (number_with_digits-push q ds d)
-    ∙ regrouped e (q ^ length ds) q (number_with_digits q ds) d
-  where
-    regrouped : (e p q n d : ℕ) → e * (p * q) + (n * q + d) ≡ (e * p + n) * q + d
-    regrouped e p q n d = omega (arith, mul_assoc e p q, add-mul (e * p) n q)
 
 -- a multiple, entry by entry
 pub multiple-map : (K : NumberField) (c : ℕ) (a : List ℕ) → multiple K c a ≡ map (K.mul c) a

@@ -12,6 +12,8 @@ ghost use Rattle.axe_row.specs.Refusals.{Answers};
 
 mod combos;
 mod dots;
+mod entries;
+mod parts;
 mod pieces;
 mod planes;
 mod refusals;

@@ -24,6 +24,9 @@ impl Row {
                 return self.numbers_of_bits(at);
             }
         }
+        if scalar == 1 {
+            return self.numbers_by_planes(size, at);
+        }
         [
             self.piece_number(scalar, size, at),
             self.piece_number(scalar, size, at + size),
@@ -63,6 +66,39 @@ impl Row {
         }
         number
     }
+
+    /// The numbers of four pieces of a row, by the numbers that the planes have of their digits.
+    fn numbers_by_planes(&self, size: usize, at: usize) -> [usize; 4]
+        requires short { size ≤ 4 }
+        requires counted { at + 4 * size < 2 ^ 64 }
+        ensures { result ≡ piece_numbers self.now 1 size at }
+    {
+        let order = usize::from(self.field.order());
+        let constant = self.constant.numbers_from(order, size, at);
+        if self.field.degree() == 1 {
+            return constant;
+        }
+        let prime = self.field.prime();
+        let linear = self.linear.numbers_from(order, size, at);
+        let quadratic = self.quadratic.numbers_from(order, size, at);
+        [
+            number_of_parts(prime, constant[0], linear[0], quadratic[0]),
+            number_of_parts(prime, constant[1], linear[1], quadratic[1]),
+            number_of_parts(prime, constant[2], linear[2], quadratic[2]),
+            number_of_parts(prime, constant[3], linear[3], quadratic[3]),
+        ]
+    }
+}
+
+/// The number of a piece, by those that its coefficients of 1, x and x^2 have as digits.
+fn number_of_parts(prime: u8, constant: usize, linear: usize, quadratic: usize) -> usize
+    requires constant { constant < 6561 }
+    requires linear { linear < 6561 }
+    requires quadratic { quadratic < 6561 }
+    ensures { result ≡ constant + prime * (linear + prime * quadratic) }
+{
+    let prime = usize::from(prime);
+    constant + prime * (linear + prime * quadratic)
 }
 
 /// The number whose digits in base 2 are the four lowest bits of a word, most significant first.

@@ -1,0 +1,21 @@
+//! The entries of a row other than 0, one after another.
+ghost use Rattle.std.specs.Prelude.{◌≤◌, length, MatchOption};
+ghost use Rattle.axe_row.specs.Operations.{AreZerosFrom, IsNextNonzero};
+
+use crate::Row;
+use crate::planes::earlier;
+
+impl Row {
+    /// The index of the first entry other than 0 from an index on, counted from 0, or `None` where every entry from
+    /// there on is 0.
+    pub fn next_nonzero(&self, start: usize) -> Option<usize>
+        requires { start ≤ length self.now.entries }
+        ensures { MatchOption result (AreZerosFrom self.now.entries start) (IsNextNonzero self.now.entries start) }
+    {
+        let high = earlier(
+            self.linear.next_nonzero(start),
+            self.quadratic.next_nonzero(start),
+        );
+        earlier(self.constant.next_nonzero(start), high)
+    }
+}

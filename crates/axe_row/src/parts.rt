@@ -1,0 +1,64 @@
+//! Parts of rows, and entries at chosen indices.
+ghost use Rattle.std.specs.Prelude.{◌≡◌, ◌+◌, ◌<◌, ◌≤◌, None, length, map, slice_index, All};
+ghost use Rattle.axe_row.specs.Refusals.{Answers};
+ghost use Rattle.axe_row.specs.Rows.{IsRow, part_of};
+
+use crate::planes::digits_in_plane;
+use crate::{Refusal, Row};
+use std::alloc::Global;
+
+impl Row {
+    /// The part of the row that has `len` entries from an index on.
+    pub fn part(&self, alloc: Global, start: usize, len: usize) -> Result<Row, Refusal>
+        requires { start + len ≤ length self.now.entries }
+        ensures part { Answers None (λ part. part ≡ part_of self.now start len) result }
+        ensures well_formed { Answers None IsRow result }
+    {
+        let constant = self.constant.part(alloc, start, len)?;
+        let at = digits_in_plane(&self.field, 1, start);
+        let count = digits_in_plane(&self.field, 1, len);
+        let linear = self.linear.part(alloc, at, count)?;
+        let at = digits_in_plane(&self.field, 2, start);
+        let count = digits_in_plane(&self.field, 2, len);
+        let quadratic = self.quadratic.part(alloc, at, count)?;
+        Ok(Row {
+            field: self.field,
+            constant,
+            linear,
+            quadratic,
+        })
+    }
+
+    /// The row of the entries at these columns, in their order; a column may stand more than once.
+    pub fn select(&self, alloc: Global, columns: &[usize]) -> Result<Row, Refusal>
+        requires { All (λ column. column < length self.now.entries) columns.now }
+        ensures selected { Answers None (λ row. row ≡ record {
+          order = self.now.order;
+          entries = map (slice_index self.now.entries) columns.now;
+        }) result }
+        ensures well_formed { Answers None IsRow result }
+    {
+        let constant = self.constant.select(alloc, columns)?;
+        let in_linear = &columns[..digits_in_plane(&self.field, 1, columns.len())];
+        let linear = self.linear.select(alloc, in_linear)?;
+        let in_quadratic = &columns[..digits_in_plane(&self.field, 2, columns.len())];
+        let quadratic = self.quadratic.select(alloc, in_quadratic)?;
+        Ok(Row {
+            field: self.field,
+            constant,
+            linear,
+            quadratic,
+        })
+    }
+
+    /// Writes the numbers of all entries into a list of the row's length.
+    pub fn copy_to(&self, entries: &mut [u8])
+        requires { length entries.old ≡ length self.now.entries }
+        ensures { entries.new ≡ self.now.entries }
+    {
+        let prime = self.field.prime();
+        self.constant.copy_to(entries);
+        self.linear.add_to(prime, entries);
+        self.quadratic.add_to(prime * prime, entries);
+    }
+}
