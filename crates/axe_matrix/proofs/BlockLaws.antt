@@ -1,7 +1,7 @@
 -- The combinations of pieces of rows that the tables of a product hold, and what adding them to a row makes of it.
-use Rattle.std.proofs.Common.{◌≡◌, ℕ, ◌+◌, ◌-◌, ◌*◌, ◌<◌, ◌≤◌, List, [], length, get_or, min, drop, refl, sym, ap, ◌∙◌, arith}
+use Rattle.std.proofs.Common.{◌≡◌, ℕ, ◌+◌, ◌-◌, ◌*◌, ◌<◌, ◌≤◌, List, [], length, get_or, min, drop, replicate, refl, sym, ap, ◌∙◌, arith, add-one}
 use Rattle.std.specs.Simd.Lanes.{chunk}
-use Rattle.std.proofs.lemmas.List.{ext_get_or, get_or-drop, get_or-take, get_or_past, length-drop, length-take}
+use Rattle.std.proofs.lemmas.List.{ext_get_or, get_or-drop, get_or-take, get_or_past, get_or-replicate, length-drop, length-take}
 use Rattle.axe_algebra.specs.Lists.{entry, AreElements}
 use Rattle.axe_algebra.specs.ListArithmetic.{number_sum, combination_entry, combination}
 use Rattle.axe_algebra.specs.NumberField.{NumberField}
@@ -10,8 +10,8 @@ use Rattle.axe_algebra.proofs.ListEntries.{listed_length, listed_at}
 use Rattle.axe_row.specs.Operations.{sum_with_multiple, multiple}
 use Rattle.axe_row.proofs.OperationLaws.{length-sum_with_multiple, get_or-sum_with_multiple, get_or-multiple}
 use Rattle.axe_matrix.specs.Products.{row_with_terms}
-use Rattle.axe_matrix.proofs.ProductLaws.{get_or-combination}
-use Rattle.axe_matrix.proofs.TermSums.{mul-zero, zero-mul, one-mul, sum-below, mul-number_sum, number_sum_longer, add_terms}
+use Rattle.axe_matrix.proofs.ProductLaws.{get_or-combination, length-combination}
+use Rattle.axe_matrix.proofs.TermSums.{mul-zero, zero-mul, zero-add, one-mul, sum-below, mul-number_sum, number_sum_longer, add_terms}
 
 -- a piece of a list has as many items as that of a list as long
 pub length_of_piece : {A B : Type 0} (at n : ℕ) (xs : List A) (ys : List B) → length xs ≡ length ys → length (chunk at n xs) ≡ length (chunk at n ys)
@@ -66,13 +66,13 @@ module _ (K : NumberField) where
   unfolding row_with_terms
   length-row_with_terms columns r c v b at n = listed_length columns _
 
-  get_or-row_with_terms : (columns : ℕ) (r : List ℕ) (c : ℕ) (v : List ℕ) (b : List (List ℕ)) (at n j : ℕ) → j < columns →
+  pub get_or-row_with_terms : (columns : ℕ) (r : List ℕ) (c : ℕ) (v : List ℕ) (b : List (List ℕ)) (at n j : ℕ) → j < columns →
       get_or (row_with_terms K columns r c v b at n) j 0 ≡ K.add (get_or r j 0) (K.mul c (number_sum K (terms v b at j) n))
   unfolding row_with_terms terms
   get_or-row_with_terms columns r c v b at n j below = listed_at columns _ j 0 below
 
   -- a list with these entries
-  is_row_with_terms : (columns : ℕ) (r : List ℕ) (c : ℕ) (v : List ℕ) (b : List (List ℕ)) (at n : ℕ) (xs : List ℕ) → length xs ≡ columns →
+  pub is_row_with_terms : (columns : ℕ) (r : List ℕ) (c : ℕ) (v : List ℕ) (b : List (List ℕ)) (at n : ℕ) (xs : List ℕ) → length xs ≡ columns →
       ((j : ℕ) → j < columns → get_or xs j 0 ≡ K.add (get_or r j 0) (K.mul c (number_sum K (terms v b at j) n))) →
       xs ≡ row_with_terms K columns r c v b at n
   is_row_with_terms columns r c v b at n xs long same =
@@ -112,6 +112,58 @@ module _ (K : NumberField) where
       ∙ one-mul K _ (K.mul-below c _ c_small (sum-below K (terms v b (at + m) j) n (λ t. terms-below v b (at + m) j t over_v over_b)))
       ∙ ap (K.mul c) (later_terms v b at m n j))
       ∙ add_terms K (get_or r j 0) c (terms v b at j) m n (entry-below K r j over_r) c_small (λ t. terms-below v b at j t over_v over_b))
+
+  -- one more term of an entry
+  next_term : (x c : ℕ) (v : List ℕ) (b : List (List ℕ)) (at n k j : ℕ) → at + n ≡ k → x < K.order → c < K.order → AreElements K v → HasElements b →
+      K.add (K.add x (K.mul c (number_sum K (terms v b at j) n))) (K.mul (K.mul c (get_or v k 0)) (entry b k j))
+      ≡ K.add x (K.mul c (number_sum K (terms v b at j) (n + 1)))
+  unfolding terms number_sum
+  next_term x c v b at n k j is x_small c_small over_v over_b =
+      let small = λ (t : ℕ). terms-below v b at j t over_v over_b in
+      let before = sum-below K (terms v b at j) n small in
+      ap (K.add (K.add x (K.mul c (number_sum K (terms v b at j) n))))
+      (K.mul_assoc c _ _ c_small (entry-below K v k over_v) (over_b k j)
+      ∙ ap (λ (t : ℕ). K.mul c (K.mul (get_or v t 0) (entry b t j))) (sym is))
+      ∙ K.add_assoc x _ _ x_small (K.mul-below c _ c_small before) (K.mul-below c _ c_small (small n))
+      ∙ ap (K.add x) (sym (K.mul-add c _ _ c_small before (small n)) ∙ rw (add-one n) refl)
+
+  -- one more term by a multiple of its row
+  pub row_with_next_term : (columns : ℕ) (r : List ℕ) (c : ℕ) (v : List ℕ) (b : List (List ℕ)) (at n k : ℕ) → at + n ≡ k → c < K.order →
+      AreElements K r → AreElements K v → HasElements b →
+      sum_with_multiple K (row_with_terms K columns r c v b at n) (K.mul c (get_or v k 0)) (get_or b k []) ≡ row_with_terms K columns r c v b at (n + 1)
+  row_with_next_term columns r c v b at n k is c_small over_r over_v over_b =
+      let before = row_with_terms K columns r c v b at n in
+      let factor = K.mul c (get_or v k 0) in
+      let long : length before ≡ columns = length-row_with_terms columns r c v b at n in
+      is_row_with_terms columns r c v b at (n + 1) (sum_with_multiple K before factor (get_or b k [])) (length-sum_with_multiple K before factor (get_or b k []) ∙ long) (λ j below.
+      get_or-sum_with_multiple K before factor (get_or b k []) j (omega arith)
+      ∙ ap (λ x. K.add x (K.mul factor (entry b k j))) (get_or-row_with_terms columns r c v b at n j below)
+      ∙ next_term (get_or r j 0) c v b at n k j is (entry-below K r j over_r) c_small over_v over_b)
+
+  -- more terms, whose factors are 0
+  pub row_with_zero_terms : (columns : ℕ) (r : List ℕ) (c : ℕ) (v : List ℕ) (b : List (List ℕ)) (at m n : ℕ) → m ≤ n →
+      AreElements K v → HasElements b → ((t : ℕ) → m ≤ t → t < n → get_or v (at + t) 0 ≡ 0) →
+      row_with_terms K columns r c v b at m ≡ row_with_terms K columns r c v b at n
+  unfolding terms
+  row_with_zero_terms columns r c v b at m n more over_v over_b zeros =
+      is_row_with_terms columns r c v b at n (row_with_terms K columns r c v b at m) (length-row_with_terms columns r c v b at m) (λ j below.
+      get_or-row_with_terms columns r c v b at m j below
+      ∙ ap (λ x. K.add (get_or r j 0) (K.mul c x))
+      (sym (number_sum_longer K m n (terms v b at j) more (λ t. terms-below v b at j t over_v over_b)
+      (λ t past within. ap (λ x. K.mul x (entry b (at + t) j)) (zeros t past within) ∙ zero-mul K _ (over_b (at + t) j)))))
+
+  -- zeros plus all terms
+  pub zeros_with_terms : (columns : ℕ) (v : List ℕ) (b : List (List ℕ)) → AreElements K v → HasElements b →
+      row_with_terms K columns (replicate columns 0) 1 v b 0 (length b) ≡ combination K columns v b
+  unfolding combination_entry terms
+  zeros_with_terms columns v b over_v over_b =
+      let entries = combination K columns v b in
+      sym (is_row_with_terms columns (replicate columns 0) 1 v b 0 (length b) entries (length-combination K columns v b) (λ j below.
+      let sum = number_sum K (terms v b 0 j) (length b) in
+      let small : sum < K.order = sum-below K (terms v b 0 j) (length b) (λ t. terms-below v b 0 j t over_v over_b) in
+      get_or-combination K columns v b j below
+      ∙ number_sum_same K (length b) _ (terms v b 0 j) (λ t within. ap (λ k. K.mul (get_or v k 0) (entry b k j)) (let same : t ≡ 0 + t = omega arith in same))
+      ∙ sym (ap (λ x. K.add x (K.mul 1 sum)) (get_or-replicate columns j 0 0 below) ∙ ap (K.add 0) (one-mul K sum small) ∙ zero-add K sum small)))
 
   -- terms after terms
   pub row_with_more_terms : (columns : ℕ) (r : List ℕ) (c : ℕ) (v : List ℕ) (b : List (List ℕ)) (at m n : ℕ) → c < K.order →

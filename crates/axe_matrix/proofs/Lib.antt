@@ -12,4 +12,5 @@ mod BlockLaws
 mod TableLaws
 mod RewrittenRows
 mod BlockRows
+mod DirectRows
 pub mod ProductRows

@@ -7,7 +7,6 @@ use Rattle.axe_algebra.specs.NumberField.{NumberField}
 use Rattle.axe_algebra.proofs.ElementNumbers.{zero-below, element_zero, element_add, element_mul, element_number_sum, same_number, number_sum-below}
 use Rattle.axe_algebra.proofs.FieldLaws as Laws
 use Rattle.axe_algebra.proofs.Sums.{sum_split, sum_longer, mul-sum, sum_same}
-use Rattle.axe_algebra.specs.Vectors.{sum}
 
 module _ (K : NumberField) where
   abbrev F : Field

@@ -1,5 +1,5 @@
 -- Matrices over one of the seven fields.
-use Rattle.std.specs.Prelude.{◌≡◌, ℕ, ◌+◌, ◌≤◌, ◌==◌, ◌&&◌, not, List, [], length, slice_index, slice_index_or, All}
+use Rattle.std.specs.Prelude.{◌≡◌, ℕ, ◌+◌, ◌≤◌, ◌==◌, ◌&&◌, not, List, [], length, slice_index_or, All}
 use Rattle.std.specs.Prelude.{Option, Some, None, if◌then◌else◌}
 use Rattle.axe_algebra.specs.Lists.{entry, listed, table}
 use Rattle.axe_algebra.specs.ListArithmetic.{combination, product, matrix_sum, transpose, identity}
@@ -33,10 +33,6 @@ row_of m i = record { order = m.order; entries = slice_index_or m.rows i [] }
 -- column j of a matrix, counted from 0, as a row vector
 abbrev pub column_of : MatrixValue → ℕ → RowValue
 column_of m j = record { order = m.order; entries = listed (length m.rows) (λ i. entry m.rows i j) }
-
--- the part of a row vector that has so many entries from an index on
-abbrev pub part_of : RowValue → ℕ → ℕ → RowValue
-part_of row start len = record { order = row.order; entries = listed len (λ j. slice_index row.entries (start + j)) }
 
 -- why two matrices have no product: they are over different fields, or else the first has not as many columns as the
 -- second has rows

@@ -4,6 +4,7 @@ use Rattle.axe_algebra.specs.NumberField.{NumberField}
 use Rattle.axe_algebra.specs.ListArithmetic.{number_sum, product_entry}
 use Rattle.axe_algebra.specs.Lists.{entry, listed, table}
 use Rattle.axe_field.specs.NumberFields.{number_field}
+use Rattle.axe_row.specs.Rows.{RowValue}
 use Rattle.axe_matrix.specs.Matrices.{MatrixValue}
 
 -- the rows of so many columns of d plus c times the product of a and b: entry i, j is d[i][j] + c s, where s is the sum
@@ -27,6 +28,13 @@ row_with_terms K columns r c v b at n =
     listed columns
     (λ j. K.add (slice_index r j)
     (K.mul c (number_sum K (λ t. K.mul (slice_index v (at + t)) (entry b (at + t) j)) n)))
+
+-- the row r plus c times the product of the row vector v and the matrix b (any linear algebra text)
+abbrev pub row_with_product : RowValue → ℕ → RowValue → MatrixValue → RowValue
+row_with_product r c v b = record {
+  order = r.order;
+  entries = row_with_terms (number_field r.order) b.cols r.entries c v.entries b.rows 0 (length b.rows);
+}
 
 -- the matrix d plus c times n terms, from term `at` on, of the product of a and b, row by row
 unfoldable pub rows_with_terms : NumberField → ℕ → List (List ℕ) → ℕ → List (List ℕ) → List (List ℕ) → ℕ → ℕ →

@@ -107,9 +107,9 @@ impl Matrix {
         ensures well_formed { Answers None IsRow result }
     {
         let mut product = Row::zero(alloc, *self.field(), self.cols())?;
-        for index in 0..self.rows() {
-            product.add_scaled(vector.get(index), self.row(index));
-        }
+        // `len` is called for what it ensures beside the length: that the entries are elements.
+        prove!(vector.len() == self.rows());
+        self.add_vec_mul(1, vector, &mut product);
         Ok(product)
     }
 

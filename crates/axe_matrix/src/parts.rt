@@ -3,7 +3,7 @@
 ghost use Rattle.std.specs.Prelude.{◌≡◌, ◌+◌, ◌<◌, ◌≤◌, length, None, IfOk};
 ghost use Rattle.axe_row.specs.Refusals.{Answers};
 ghost use Rattle.axe_matrix.specs.Limits.{most_rows, most_columns};
-ghost use Rattle.axe_matrix.specs.Matrices.{IsMatrix, part_of, zero_matrix, identity_matrix, matrix_block};
+ghost use Rattle.axe_matrix.specs.Matrices.{IsMatrix, zero_matrix, identity_matrix, matrix_block};
 
 use super::{Matrix, Refusal, Row};
 use axe_field::Field;
@@ -72,23 +72,9 @@ impl Matrix {
     {
         let mut block = Matrix::empty(alloc, *self.field(), cols);
         for index in 0..rows {
-            let part = part_of_row(alloc, self.row(row + index), column, cols)?;
+            let part = self.row(row + index).part(alloc, column, cols)?;
             block.append(part)?;
         }
         Ok(block)
     }
-}
-
-/// The part of a row that has `len` entries from an index on.
-fn part_of_row(alloc: Global, row: &Row, start: usize, len: usize) -> Result<Row, Refusal>
-    requires { start + len ≤ length row.now.entries }
-    ensures { Answers None (λ part. part ≡ part_of row.now start len) result }
-{
-    // `len` is called for what it ensures: that the row has no more entries than an index counts.
-    prove!(len <= row.len());
-    let mut part = Row::zero(alloc, *row.field(), len)?;
-    for index in 0..len {
-        part.set(index, row.get(start + index));
-    }
-    Ok(part)
 }

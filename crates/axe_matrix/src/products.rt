@@ -1,15 +1,16 @@
-//! Products of matrices, by tables of combinations of rows.
+//! Products of matrices, row by row or by tables of combinations of rows.
 
 ghost use Rattle.std.specs.Prelude.{◌≡◌, ◌*◌, ◌<◌, ◌≤◌, None, IfOk, OnErr, length, slice_index, slice_set};
 ghost use Rattle.std.specs.Simd.Lanes.{chunk};
 ghost use Rattle.axe_field.specs.Order.{IsElement};
 ghost use Rattle.axe_row.specs.Combinations.{most_combined, combination_at, row_with_four, Combines, IsRowFor};
 ghost use Rattle.axe_row.specs.Refusals.{Answers};
+ghost use Rattle.axe_row.specs.Rows.{IsRow};
 ghost use Rattle.axe_matrix.specs.Matrices.{IsMatrix, row_of, product_refusal, matrix_product};
 ghost use Rattle.axe_matrix.specs.PieceTables.{IsTableFor, AreTablesFor, CombineFrom};
-ghost use Rattle.axe_matrix.specs.Products.{matrix_with_product, matrix_with_terms};
+ghost use Rattle.axe_matrix.specs.Products.{matrix_with_product, matrix_with_terms, row_with_product};
 
-use super::{Matrix, Refusal};
+use super::{Matrix, Refusal, Row};
 use axe_field::Field;
 use axe_row::{Combos, most_combined};
 use std::alloc::Global;
@@ -57,6 +58,10 @@ impl Matrix {
         // `cols` is called for what it ensures beside their number: that the first matrix is one.
         prove!(a.cols() == b.rows());
         let size = rows_combined(self.field(), self.rows(), b.rows());
+        if direct_is_cheaper(a, size) {
+            self.add_directly(scalar, a, b);
+            return Ok(());
+        }
         let mut tables = FourTables::new(alloc, *self.field(), self.cols(), size)?;
         let mut at = 0;
         while at < b.rows() {
@@ -65,6 +70,65 @@ impl Matrix {
             at += 4 * size;
         }
         Ok(())
+    }
+
+    /// Adds a multiple of the product of two matrices as [`Matrix::add_product`] does, but without tables: for each
+    /// entry of the first matrix other than 0, a multiple of a row of the second. It takes no memory.
+    fn add_directly(&mut self, scalar: u8, a: &Matrix, b: &Matrix)
+        requires a_field { a.now.order ≡ self.old.order }
+        requires b_field { b.now.order ≡ self.old.order }
+        requires rows_fit { length a.now.rows ≡ length self.old.rows }
+        requires inner_fit { a.now.cols ≡ length b.now.rows }
+        requires columns_fit { b.now.cols ≡ self.old.cols }
+        requires element { IsElement self.old.order scalar }
+        ensures sum { self.new ≡ matrix_with_product self.old scalar a.now b.now }
+        ensures well_formed { IsMatrix self.new }
+    {
+        // Called for what `cols` and `rows` ensure beside the numbers: that the two are matrices.
+        prove!(a.cols() == b.rows());
+        for index in 0..self.rows() {
+            self.add_product_to_row(index, scalar, a.row(index), b);
+        }
+    }
+
+    /// Adds a multiple of the product of a row vector and a matrix to the row at an index.
+    fn add_product_to_row(&mut self, index: usize, scalar: u8, vector: &Row, b: &Matrix)
+        requires index { index < length self.old.rows }
+        requires vector_field { vector.now.order ≡ self.old.order }
+        requires b_field { b.now.order ≡ self.old.order }
+        requires inner_fit { length vector.now.entries ≡ length b.now.rows }
+        requires columns_fit { b.now.cols ≡ self.old.cols }
+        requires element { IsElement self.old.order scalar }
+        ensures sum { let sum = row_with_product (row_of self.old index) scalar vector.now b.now in
+            self.new ≡ record self.old { rows = slice_set self.old.rows index sum.entries } }
+        ensures well_formed { IsMatrix self.new }
+    {
+        b.add_vec_mul(scalar, vector, &mut self.rows[index]);
+    }
+
+    /// Adds a multiple of a row vector times this matrix to a row over its field: each entry d of the row becomes
+    /// d + c s, where c is the scalar, and s the entry of the product. The vector has as many entries as the matrix has
+    /// rows, and the row as many as it has columns. Entries of the vector that are 0 are passed over. It takes no
+    /// memory.
+    pub(crate) fn add_vec_mul(&self, scalar: u8, vector: &Row, row: &mut Row)
+        requires vector_field { vector.now.order ≡ self.now.order }
+        requires row_field { row.old.order ≡ self.now.order }
+        requires inner_fit { length vector.now.entries ≡ length self.now.rows }
+        requires columns_fit { length row.old.entries ≡ self.now.cols }
+        requires element { IsElement self.now.order scalar }
+        ensures sum { row.new ≡ row_with_product row.old scalar vector.now self.now }
+        ensures as_long { length row.new.entries ≡ length row.old.entries }
+        ensures well_formed { IsRow row.new }
+    {
+        // `len` is called for what it ensures beside the length: that the entries are elements of the field.
+        prove!(row.len() == self.cols());
+        prove!(vector.len() == self.rows());
+        let mut at = 0;
+        while let Some(index) = vector.next_nonzero(at) {
+            let factor = self.field().mul(scalar, vector.get(index));
+            row.add_scaled(factor, self.row(index));
+            at = index + 1;
+        }
     }
 
     /// Adds a multiple of some terms of the product of two matrices: those for which tables combine four pieces of the
@@ -108,6 +172,42 @@ impl Matrix {
         let (first, second) = (&tables.first, &tables.second);
         self.rows[index].add_four(numbers, first, second, &tables.third, &tables.fourth);
     }
+}
+
+/// Whether a product by rows takes fewer additions of a row than one by tables that combine so many rows each, where
+/// this matrix is the first factor. A product by rows takes one for each of its entries other than 0. For each block of
+/// terms, the tables take about one for each of their combinations, and what two take for each row. Both ways are
+/// right: the answer is a guess, and "no" as soon as the first rows have much more than their share of the entries.
+fn direct_is_cheaper(a: &Matrix, size: usize) -> bool
+    requires some { 1 ≤ size }
+    requires size { size ≤ most_combined a.now.order }
+{
+    let combinations = usize::from(a.field().order()).saturating_pow(size as u32);
+    let blocks = a.cols().div_ceil(4 * size);
+    let fillings = combinations.saturating_mul(4) / a.rows().max(1);
+    let share = blocks.saturating_mul(fillings.saturating_add(2));
+    let mut left = share.saturating_mul(a.rows() / 16);
+    for index in 0..a.rows() {
+        left = left.saturating_add(share);
+        let taken = nonzero_entries(a.row(index));
+        if taken > left {
+            return false;
+        }
+        left -= taken;
+    }
+    true
+}
+
+/// How many entries of a row are other than 0.
+fn nonzero_entries(row: &Row) -> usize {
+    let (mut count, mut at) = (0, 0);
+    // `len` is called for what it says of the length: that it is a number of the machine, so that no sum below wraps.
+    prove!(at <= row.len());
+    while let Some(index) = row.next_nonzero(at) {
+        count += 1;
+        at = index + 1;
+    }
+    count
 }
 
 /// How many rows each of four tables combines, where so many rows are added from it to sums of so many terms: as many

@@ -10,11 +10,11 @@ loop-index-init c = IsPartialMatrix-none _ _ _ _ _ _ c.empty-block.ensures.no_ro
 
 pub append-requires-clause-fits : goal.append-requires-clause-fits
 append-requires-clause-fits c =
-    ap (λ (row : RowValue). length row.entries) c.in_ok-part.ensures ∙ length-listed _ _ ∙ sym c.loop-index.invariant.columns
+    ap (λ (row : RowValue). length row.entries) c.in_ok-part.ensures.part ∙ length-listed _ _ ∙ sym c.loop-index.invariant.columns
 
 pub loop-index-preserved : goal.loop-index-preserved
 loop-index-preserved c =
-    let row = ap (λ (r : RowValue). r.entries) c.in_ok-part.ensures ∙ ap (λ (r : RowValue). listed c.args.cols (λ j. get_or r.entries (c.args.column + j) 0)) c.row.ensures.value in
+    let row = ap (λ (r : RowValue). r.entries) c.in_ok-part.ensures.part ∙ ap (λ (r : RowValue). listed c.args.cols (λ j. get_or r.entries (c.args.column + j) 0)) c.row.ensures.value in
     IsPartialMatrix-more _ _ _ _ _ _ _ c.loop-index.invariant c.in_ok-append.ensures.appended c.append.ensures.well_formed row
 
 pub returns-clause-block : goal.returns-clause-block
