@@ -1,4 +1,5 @@
 pub mod GeneratorLists
+pub mod Images
 pub mod SubRows
 pub mod SubBases
 pub mod QuotientSpans

@@ -1,8 +1,7 @@
 -- The action of a module modulo a span, row by row, and its columns.
-use Rattle.std.specs.Prelude.{◌≡◌, ◌≢◌, ℕ, ◌+◌, ◌<◌, ◌≤◌, List, [], ◌∷◌, ◌++◌, length, get_or, map, None, Result, Bool, true, false, not, IsTrue, ◌↔◌}
+use Rattle.std.specs.Prelude.{◌≡◌, ℕ, ◌+◌, ◌<◌, ◌≤◌, List, [], ◌∷◌, ◌++◌, length, get_or, map, None, Result, Bool, true, false, not, IsTrue, ◌↔◌}
 use Rattle.std.specs.List.{All}
-use Rattle.std.proofs.Common.{set, get_or-set_other, get_or-set_same}
-use Rattle.std.proofs.lemmas.List.{length-append, length-map, length-set, get_or_append_left, get_or-append-add, get_or-map, ext_get_or}
+use Rattle.std.proofs.lemmas.List.{length-append, length-map, get_or_append_left, get_or-append-add, get_or-map}
 use Rattle.std.proofs.lemmas.List.Elements.{All-from_get_or, All-map, All-weaker}
 use Rattle.axe_algebra.specs.NumberField.{NumberField}
 use Rattle.axe_algebra.specs.Bridge.{matrix_of}
@@ -14,7 +13,6 @@ use Rattle.axe_algebra.proofs.ListEntries.{rows_length}
 use Rattle.axe_algebra.proofs.ListQuotients.{IsRowOfQuotient, quotient_action_by_rows}
 use Rattle.axe_field.specs.NumberFields.{number_field, gf}
 use Rattle.axe_row.specs.Rows.{RowValue, IsRow}
-use Rattle.axe_row.proofs.RowLaws.{same_row}
 use Rattle.axe_row.specs.Refusals.{Answers}
 use Rattle.axe_row.specs.declared.refusals.Refusal.{Refusal}
 use Rattle.axe_matrix.specs.Matrices.{MatrixValue, IsMatrix}
@@ -133,34 +131,6 @@ row_is_modulo e columns row rest entries represents field long is_row is = recor
   represents = represents;
   entries = λ s below. ap (λ (x : RowValue). get_or x.entries s 0) is ∙ get_or-map (λ column. get_or rest.entries column 0) columns s 0 0 below;
 }
-
--- so many entries taken
-pub record HasEntriesAt (row : RowValue) (columns : List ℕ) (i : ℕ) (entries : RowValue) : Type 0 where
-  pub field : entries.order ≡ row.order
-  pub fits : length entries.entries ≡ length columns
-  pub taken : (s : ℕ) → s < i → get_or entries.entries s 0 ≡ get_or row.entries (get_or columns s 0) 0
-
-pub entries_more : (row : RowValue) (columns : List ℕ) (i : ℕ) (entries next : RowValue) (number : ℕ) → HasEntriesAt row columns i entries → i < length columns →
-    next ≡ record { order = entries.order; entries = set entries.entries i number } → number ≡ get_or row.entries (get_or columns i 0) 0 →
-    HasEntriesAt row columns (i + 1) next
-entries_more row columns i entries next number so_far below is number_is = record {
-  field = ap (λ (x : RowValue). x.order) is ∙ so_far.field;
-  fits = ap (λ (x : RowValue). length x.entries) is ∙ length-set entries.entries i number ∙ so_far.fits;
-  taken = λ s inside. below_or_at (λ s. get_or next.entries s 0 ≡ get_or row.entries (get_or columns s 0) 0) i
-      (λ s before. ap (λ (x : RowValue). get_or x.entries s 0) is
-      ∙ (let other : s ≢ i = omega arith in get_or-set_other entries.entries i s number 0 other) ∙ so_far.taken s before)
-      (ap (λ (x : RowValue). get_or x.entries i 0) is
-      ∙ (let here : i < length entries.entries = omega (arith, so_far.fits) in get_or-set_same entries.entries i number 0 here) ∙ number_is)
-      s (omega arith);
-}
-
-pub entries_all : (row : RowValue) (columns : List ℕ) (i : ℕ) (entries : RowValue) → HasEntriesAt row columns i entries → length columns ≤ i →
-    entries ≡ record { order = row.order; entries = map (λ column. get_or row.entries column 0) columns }
-entries_all row columns i entries so_far whole =
-    same_row entries (record { order = row.order; entries = map (λ column. get_or row.entries column 0) columns }) so_far.field
-    (ext_get_or 0 entries.entries (map (λ column. get_or row.entries column 0) columns)
-    (so_far.fits ∙ sym (length-map columns (λ column. get_or row.entries column 0)))
-    (λ s below. so_far.taken s (omega (arith, so_far.fits)) ∙ sym (get_or-map (λ column. get_or row.entries column 0) columns s 0 0 (omega (arith, so_far.fits)))))
 
 -- one more row
 pub modulo_more : (e : EchelonValue) (columns : List ℕ) (g : List (List ℕ)) (i : ℕ) (action next : MatrixValue) (row : RowValue) →

@@ -1,6 +1,6 @@
 //! The action of a module modulo an invariant space.
 
-ghost use Rattle.std.specs.Prelude.{◌≡◌, ◌<◌, ◌≤◌, ◌↔◌, length, map, slice_index, All, IsTrue, None, IfOk};
+ghost use Rattle.std.specs.Prelude.{◌≡◌, ◌<◌, ◌≤◌, ◌↔◌, length, All, IsTrue, None, IfOk};
 ghost use Rattle.axe_row.specs.Refusals.{Answers, AnswersOr};
 ghost use Rattle.axe_matrix.specs.Matrices.{IsMatrix};
 ghost use Rattle.axe_echelon.specs.Echelons.{IsEchelon, IsSpanOfRows};
@@ -70,8 +70,9 @@ fn has_images_in(
     requires fits { rows.now.cols ≡ generator.now.cols }
     ensures { Answers None (λ within. IsTrue within ↔ HasImagesIn generator.now rows.now.rows span.now.rows) result }
 {
-    for index in 0..rows.rows() {
-        let mut image = generator.vec_mul(alloc, rows.row(index))?;
+    let images = rows.mul(alloc, generator)?;
+    for index in 0..images.rows() {
+        let mut image = images.row(index).copy(alloc)?;
         span.reduce(&mut image);
         if !image.is_zero() {
             return Ok(false);
@@ -156,20 +157,5 @@ fn row_modulo(alloc: Global, row: &Row, span: &Echelon, columns: &[usize]) -> Re
 {
     let mut rest = row.copy(alloc)?;
     span.reduce(&mut rest);
-    entries_at(alloc, &rest, columns)
-}
-
-/// The entries of a row at some columns.
-fn entries_at(alloc: Global, row: &Row, columns: &[usize]) -> Result<Row, Refusal>
-    requires within { All (λ column. column < length row.now.entries) columns.now }
-    ensures { Answers None (λ entries. entries ≡ record {
-      order = row.now.order;
-      entries = map (slice_index row.now.entries) columns.now;
-    }) result }
-{
-    let mut entries = Row::zero(alloc, *row.field(), columns.len())?;
-    for (index, column) in columns.iter().enumerate() {
-        entries.set(index, row.get(*column));
-    }
-    Ok(entries)
+    rest.select(alloc, columns)
 }

@@ -91,10 +91,10 @@ fn generator_action(
         × HasActionRows generator.now rows.now.rows (length rows.now.rows) action)
         (RefusedAs NotInvariant (¬ (HasImagesIn generator.now rows.now.rows rows.now.rows))) result }
 {
+    let images = rows.mul(alloc, generator)?;
     let mut action = Matrix::empty(alloc, *span.field(), span.rank());
-    for index in 0..rows.rows() {
-        let image = generator.vec_mul(alloc, rows.row(index))?;
-        let Some(coefficients) = span.coordinates(alloc, &image)? else {
+    for index in 0..images.rows() {
+        let Some(coefficients) = span.coordinates(alloc, images.row(index))? else {
             return Err(Refusal::NotInvariant);
         };
         action.append(coefficients)?;

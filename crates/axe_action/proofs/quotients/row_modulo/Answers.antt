@@ -8,8 +8,8 @@ use Rattle.axe_action.proofs.quotients.row_modulo.Goals as goal
 
 pub returns-clause-modulo : goal.returns-clause-modulo
 returns-clause-modulo c =
-    answers_more c.entries_at.result _ (λ (entries : RowValue). IsRowModulo c.args.span.now c.args.columns.now c.args.row.now.entries entries.entries)
-    c.entries_at.ensures
+    answers_more c.select.result _ (λ (entries : RowValue). IsRowModulo c.args.span.now c.args.columns.now c.args.row.now.entries entries.entries)
+    c.select.ensures.selected
     (λ entries is. row_is_modulo c.args.span.now c.args.columns.now c.args.row.now c.reduce.new.row entries
     (rw (ap (λ (r : RowValue). r.entries) c.in_ok-rest.ensures.copied) at c.reduce.ensures.representative)
     c.reduce.ensures.same_field c.reduce.ensures.as_long c.reduce.ensures.row_well_formed is)
