@@ -7,7 +7,6 @@ ghost use Rattle.axe_file.specs.Marks.{marks_per_byte, byte_limit, byte_with_mar
 ghost use Rattle.axe_file.specs.Marks.{bytes_per_row};
 
 use axe_field::Field;
-use axe_row::Row;
 
 /// The bytes that each packed file begins with.
 pub(crate) const MAGIC: [u8; 4] = *b"AXP1";
@@ -80,13 +79,12 @@ impl Layout {
     }
 
     /// One byte of a row, counted from 0.
-    pub(crate) fn byte_of(&self, row: &Row, place: usize) -> u8
-        requires field { row.now.order ≡ self.now.field }
-        requires elements { All (IsElement self.now.field) row.now.entries }
-        requires columns { length row.now.entries ≡ self.now.columns }
+    pub(crate) fn byte_of(&self, row: &[u8], place: usize) -> u8
+        requires elements { All (IsElement self.now.field) row.now }
+        requires columns { length row.now ≡ self.now.columns }
         requires place { place < bytes_per_row self.now.field self.now.columns }
         ensures { result ≡ byte_with_marks self.now.field
-            (λ j. slice_index row.now.entries (place * marks_per_byte self.now.field + j)) }
+            (λ j. slice_index row.now (place * marks_per_byte self.now.field + j)) }
     {
         let order = self.field.order();
         let mut byte = 0;
@@ -98,14 +96,10 @@ impl Layout {
 }
 
 /// The mark of a column, which is 0 past the last column.
-fn mark_in(row: &Row, column: usize) -> u8
-    ensures { result ≡ slice_index row.now.entries column }
+fn mark_in(row: &[u8], column: usize) -> u8
+    ensures { result ≡ slice_index row.now column }
 {
-    if column < row.len() {
-        row.get(column)
-    } else {
-        0
-    }
+    if column < row.len() { row[column] } else { 0 }
 }
 
 /// How many elements of a field fit a byte: the greatest `m` with `q^m <= 256`, where `q` is the order.

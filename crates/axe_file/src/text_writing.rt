@@ -1,11 +1,11 @@
 //! The text form, written.
 
-ghost use Rattle.std.specs.Prelude.{◌≡◌, ℕ, ◌+◌, ◌*◌, ◌<◌, ◌≤◌, ◌++◌, length, IfOk, IfErr, OnOk};
+ghost use Rattle.std.specs.Prelude.{◌≡◌, ℕ, ◌+◌, ◌*◌, ◌<◌, ◌≤◌, ◌++◌, length, IfOk, IfErr, OnOk, All};
 ghost use Rattle.axe_file.specs.TextWriting.{text_header, text_line, text_row, text_of};
 ghost use Rattle.axe_file.specs.declared.fault.FileFault.TheVariants.{Memory};
 
 use crate::fault::FileFault;
-use axe_matrix::{Matrix, Row};
+use axe_matrix::Matrix;
 use std::alloc::{AllocError, Global};
 
 /// How many digits a line of a text has.
@@ -17,8 +17,10 @@ pub fn write_text(alloc: Global, matrix: &Matrix) -> Result<Vec<u8>, FileFault>
     ensures memory { IfErr result (λ fault. fault ≡ Memory) }
 {
     let mut text = header_text(alloc, matrix)?;
+    let mut entries = vec![in alloc; 0; matrix.cols()]?;
     for index in 0..matrix.rows() {
-        put_row(&mut text, matrix.row(index))?;
+        matrix.row(index).copy_to(&mut entries);
+        put_row(&mut text, &entries)?;
     }
     Ok(text)
 }
@@ -33,8 +35,9 @@ fn header_text(alloc: Global, matrix: &Matrix) -> Result<Vec<u8>, AllocError>
 }
 
 /// Appends a row in lines.
-fn put_row(text: &mut Vec<u8>, row: &Row) -> Result<(), AllocError>
-    ensures { OnOk result (text.new.items ≡ text.old.items ++ text_row row.now.entries) }
+fn put_row(text: &mut Vec<u8>, row: &[u8]) -> Result<(), AllocError>
+    requires { All (λ entry. entry < 10) row.now }
+    ensures { OnOk result (text.new.items ≡ text.old.items ++ text_row row.now) }
 {
     for index in 0..row.len().div_ceil(DIGITS_PER_LINE) {
         put_line(text, row, index)?;
@@ -43,15 +46,16 @@ fn put_row(text: &mut Vec<u8>, row: &Row) -> Result<(), AllocError>
 }
 
 /// Appends one line of a row, counted from 0.
-fn put_line(text: &mut Vec<u8>, row: &Row, index: usize) -> Result<(), AllocError>
-    requires { 80 * index < length row.now.entries }
-    ensures { OnOk result (text.new.items ≡ text.old.items ++ text_line row.now.entries index) }
+fn put_line(text: &mut Vec<u8>, row: &[u8], index: usize) -> Result<(), AllocError>
+    requires digits { All (λ entry. entry < 10) row.now }
+    requires inside { 80 * index < length row.now }
+    ensures { OnOk result (text.new.items ≡ text.old.items ++ text_line row.now index) }
 {
     let columns = row.len();
     let start = DIGITS_PER_LINE * index;
     let end = start + (columns - start).min(DIGITS_PER_LINE);
     for column in start..end {
-        text.push(b'0' + row.get(column))?;
+        text.push(b'0' + row[column])?;
     }
     text.push(b'\n')?;
     Ok(())

@@ -9,7 +9,6 @@ ghost use Rattle.axe_file.specs.declared.fault.FileFault.TheVariants.{Memory};
 use crate::fault::FileFault;
 use crate::layout::{HEADER_LENGTH, Layout, MAGIC};
 use axe_matrix::Matrix;
-use axe_row::Row;
 use std::alloc::{AllocError, Global};
 
 /// The one spelling of a matrix in the packed form. The only fault is [`FileFault::Memory`].
@@ -20,8 +19,10 @@ pub fn write_packed(alloc: Global, matrix: &Matrix) -> Result<Vec<u8>, FileFault
     let layout = Layout::new(*matrix.field(), matrix.cols());
     let mut bytes = Vec::with_capacity(alloc, HEADER_LENGTH + matrix.rows() * layout.width)?;
     put_header(&mut bytes, &layout, matrix.rows())?;
+    let mut entries = vec![in alloc; 0; matrix.cols()]?;
     for index in 0..matrix.rows() {
-        put_row(&mut bytes, &layout, matrix.row(index))?;
+        matrix.row(index).copy_to(&mut entries);
+        put_row(&mut bytes, &layout, &entries)?;
     }
     Ok(bytes)
 }
@@ -40,12 +41,11 @@ fn put_header(bytes: &mut Vec<u8>, layout: &Layout, rows: usize) -> Result<(), A
 }
 
 /// Appends the bytes of a row.
-fn put_row(bytes: &mut Vec<u8>, layout: &Layout, row: &Row) -> Result<(), AllocError>
-    requires field { row.now.order ≡ layout.now.field }
-    requires elements { All (IsElement layout.now.field) row.now.entries }
-    requires columns { length row.now.entries ≡ layout.now.columns }
+fn put_row(bytes: &mut Vec<u8>, layout: &Layout, row: &[u8]) -> Result<(), AllocError>
+    requires elements { All (IsElement layout.now.field) row.now }
+    requires columns { length row.now ≡ layout.now.columns }
     ensures { OnOk result (bytes.new.items ≡ bytes.old.items
-        ++ packed_row layout.now.field layout.now.columns row.now.entries) }
+        ++ packed_row layout.now.field layout.now.columns row.now) }
 {
     for place in 0..layout.width {
         bytes.push(layout.byte_of(row, place))?;

@@ -7,12 +7,12 @@ use Rattle.axe_file.proofs.text_writing.put_row.Goals as goal
 
 pub loop-index-preserved : goal.loop-index-preserved
 loop-index-preserved c =
-    piece_more (text_line c.args.row.now.entries) c.args.text.now.items c.loop-index.text.items c.put_line.new.text.items c.loop-index.index c.loop-index.invariant c.in_ok-put_line.ensures
+    piece_more (text_line c.args.row.now) c.args.text.now.items c.loop-index.text.items c.put_line.new.text.items c.loop-index.index c.loop-index.invariant c.in_ok-put_line.ensures
 
 pub returns : goal.returns
 unfolding text_row
 returns c =
-    let row = c.args.row.now.entries in
+    let row = c.args.row.now in
     let last : c.loop-index.index ≡ c.div_ceil-index-end.result = omega arith in
-    let all : c.loop-index.index ≡ div_ceil (length row) 80 = last ∙ c.div_ceil-index-end.ensures ∙ ap (λ (n : ℕ). div_ceil n 80) c.len.ensures.count in
+    let all : c.loop-index.index ≡ div_ceil (length row) 80 = last ∙ c.div_ceil-index-end.ensures in
     c.loop-index.invariant ∙ ap (λ (n : ℕ). c.args.text.now.items ++ flat_map (text_line row) (range_with_len 0 n)) all

@@ -7,4 +7,4 @@ pub returns-clause-text : goal.returns-clause-text
 unfolding text_of
 returns-clause-text c =
     let m = c.args.matrix.now in
-    c.loop-index.invariant ∙ ap (λ (rows : List (List ℕ)). text_header m ++ flat_map text_row rows) (take_all c.loop-index.index m.rows (omega (arith, c.rows-index-end.ensures.count)))
+    c.loop-index.invariant.0 ∙ ap (λ (rows : List (List ℕ)). text_header m ++ flat_map text_row rows) (take_all c.loop-index.index m.rows (omega (arith, c.rows-index-end.ensures.count)))

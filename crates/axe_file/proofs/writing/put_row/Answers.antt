@@ -11,7 +11,7 @@ loop-place-init c = sym (append-nil c.args.bytes.now.items)
 pub loop-place-preserved : goal.loop-place-preserved
 loop-place-preserved c =
     listed_more c.args.bytes.now.items c.loop-place.bytes.items c.push.new.self.items
-    (λ k. byte_with_marks c.args.layout.now.field (λ j. get_or c.args.row.now.entries (k * marks_per_byte c.args.layout.now.field + j) 0))
+    (λ k. byte_with_marks c.args.layout.now.field (λ j. get_or c.args.row.now (k * marks_per_byte c.args.layout.now.field + j) 0))
     c.loop-place.place c.byte_of.result c.loop-place.invariant c.byte_of.ensures c.in_ok-push.ensures.items
 
 pub returns : goal.returns

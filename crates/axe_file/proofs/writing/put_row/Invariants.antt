@@ -5,4 +5,4 @@ use Rattle.axe_file.proofs.writing.put_row.Given as goal
 
 abbrev pub invariant-loop-place : goal.invariant-loop-place
 invariant-loop-place l =
-    l.bytes.items ≡ l.initial.bytes.items ++ listed l.place (λ k. byte_with_marks l.layout.field (λ j. get_or l.row.entries (k * marks_per_byte l.layout.field + j) 0))
+    l.bytes.items ≡ l.initial.bytes.items ++ listed l.place (λ k. byte_with_marks l.layout.field (λ j. get_or l.row (k * marks_per_byte l.layout.field + j) 0))

@@ -23,6 +23,6 @@ pub returns-clause-spelling : goal.returns-clause-spelling
 unfolding packed
 returns-clause-spelling c =
     let m = c.args.matrix.now in
-    c.loop-index.invariant
+    c.loop-index.invariant.0
     ∙ ap (λ (rows : List (List ℕ)). packed_header m.order (length m.rows) m.cols ++ flat_map (packed_row m.order m.cols) rows)
     (take_all c.loop-index.index m.rows (omega (arith, c.rows-index-end.ensures.count)))

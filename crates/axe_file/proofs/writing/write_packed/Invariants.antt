@@ -5,4 +5,5 @@ use Rattle.axe_file.proofs.writing.write_packed.Given as goal
 
 abbrev pub invariant-loop-index : goal.invariant-loop-index
 invariant-loop-index l =
-    l.bytes.items ≡ packed_header l.matrix.order (length l.matrix.rows) l.matrix.cols ++ flat_map (packed_row l.matrix.order l.matrix.cols) (take l.index l.matrix.rows)
+    (l.bytes.items ≡ packed_header l.matrix.order (length l.matrix.rows) l.matrix.cols ++ flat_map (packed_row l.matrix.order l.matrix.cols) (take l.index l.matrix.rows))
+    × (length l.entries.items ≡ l.matrix.cols)

@@ -18,24 +18,24 @@ loop-index-init c = refl
 
 pub overflow_mul-byte : goal.overflow_mul-byte
 overflow_mul-byte c =
-    let d = λ (j : ℕ). get_or c.args.row.now.entries (c.args.place * c.args.self.now.marks + j) 0 in
+    let d = λ (j : ℕ). get_or c.args.row.now (c.args.place * c.args.self.now.marks + j) 0 in
     let fits = step_fits c.args.self.now.field c.order-order.result c.args.self.now.marks d c.loop-index.index c.order-order.ensures.value c.args.self.now.marks_is
-    c.loop-index-test.true (λ j. element_at c.args.self.now.field c.args.row.now.entries (c.args.place * c.args.self.now.marks + j) c.requires.elements) in
+    c.loop-index-test.true (λ j. element_at c.args.self.now.field c.args.row.now (c.args.place * c.args.self.now.marks + j) c.requires.elements) in
     rw c.loop-index.invariant (omega (arith, fits))
 
 pub overflow_add-byte : goal.overflow_add-byte
 overflow_add-byte c =
-    let d = λ (j : ℕ). get_or c.args.row.now.entries (c.args.place * c.args.self.now.marks + j) 0 in
+    let d = λ (j : ℕ). get_or c.args.row.now (c.args.place * c.args.self.now.marks + j) 0 in
     let fits = step_fits c.args.self.now.field c.order-order.result c.args.self.now.marks d c.loop-index.index c.order-order.ensures.value c.args.self.now.marks_is
-    c.loop-index-test.true (λ j. element_at c.args.self.now.field c.args.row.now.entries (c.args.place * c.args.self.now.marks + j) c.requires.elements) in
+    c.loop-index-test.true (λ j. element_at c.args.self.now.field c.args.row.now (c.args.place * c.args.self.now.marks + j) c.requires.elements) in
     rw (c.loop-index.invariant, c.mark_in.ensures) (omega (arith, fits))
 
 pub loop-index-preserved : goal.loop-index-preserved
 loop-index-preserved c =
-    rw (c.loop-index.invariant, c.mark_in.ensures) (sym (horner-more c.order-order.result (λ j. get_or c.args.row.now.entries (c.args.place * c.args.self.now.marks + j) 0) c.loop-index.index))
+    rw (c.loop-index.invariant, c.mark_in.ensures) (sym (horner-more c.order-order.result (λ j. get_or c.args.row.now (c.args.place * c.args.self.now.marks + j) 0) c.loop-index.index))
 
 pub returns : goal.returns
 returns c =
     c.loop-index.invariant
-    ∙ byte_by_digits c.args.self.now.field c.order-order.result c.args.self.now.marks c.args.row.now.entries c.args.place c.loop-index.index
+    ∙ byte_by_digits c.args.self.now.field c.order-order.result c.args.self.now.marks c.args.row.now c.args.place c.loop-index.index
     c.order-order.ensures.value c.args.self.now.marks_is (omega arith)

@@ -3,4 +3,4 @@ use Rattle.axe_file.proofs.Digits.{horner}
 use Rattle.axe_file.proofs.layout.Layout.byte_of.Given as goal
 
 abbrev pub invariant-loop-index : goal.invariant-loop-index
-invariant-loop-index l = l.byte ≡ horner l.order (λ j. get_or l.row.entries (l.place * l.self.marks + j) 0) l.index
+invariant-loop-index l = l.byte ≡ horner l.order (λ j. get_or l.row (l.place * l.self.marks + j) 0) l.index
