@@ -200,3 +200,29 @@ fn the_identity_zero_copies_and_blocks_are_made(rt: HostRuntime) -> Result<(), T
 fn matrices_have_sums_products_and_transposes(rt: HostRuntime) -> Result<(), TableFault> {
     each_call(&rt, rt.alloc(), Topic::Matrices, ARITHMETIC)
 }
+
+/// A row of 64 ones over three elements.
+const ONES: &str = "3: 1111111111111111111111111111111111111111111111111111111111111111";
+
+/// The matrix of 64 rows and columns over the field of three elements whose entries are all 1.
+fn ones(alloc: Global) -> Result<Matrix, TableFault> {
+    let mut ones = Matrix::empty(alloc, field_of("3")?, 64);
+    for _ in 0..64 {
+        let row = row_of_shape(alloc, ONES, ones.field(), ones.cols())?;
+        if ones.rows() >= MAX_ROWS {
+            return Err(TableFault::NotWritten);
+        }
+        ones.append(row)?;
+    }
+    Ok(ones)
+}
+
+/// Each entry of the product is 64, which is 1 modulo 3. So many entries other than 0 are multiplied by tables.
+#[test]
+fn ones_times_ones_are_ones(rt: HostRuntime) -> Result<(), TableFault> {
+    let alloc = rt.alloc();
+    let ones = ones(alloc)?;
+    let product = ones.mul(alloc, &ones)?;
+    assert!(&rt; product.same(&ones), "a product of ones");
+    Ok(())
+}

@@ -14,6 +14,7 @@ use std::process::Abort;
 /// - `get`: a row, an index, and the element there;
 /// - `copy`: a row, and its copy;
 /// - `first_nonzero`: a row, and the index of its first entry that is not zero;
+/// - `next_nonzero`: a row, an index, and that of the first entry from there on that is not zero;
 /// - `is_zero`: a row, and whether it is zero.
 const ENTRIES: &str = "\
 zero | 7 | 2 | 7: 00
@@ -26,13 +27,38 @@ copy | 9: 13 | 9: 13
 copy | 7: 66 | 7: 66
 first_nonzero | 7: 05 | 1
 first_nonzero | 7: 00 | none
+next_nonzero | 7: 0503 | 0 | 1
+next_nonzero | 7: 0503 | 1 | 1
+next_nonzero | 7: 0503 | 2 | 3
+next_nonzero | 9: 1360 | 3 | none
+next_nonzero | 9: 1360 | 4 | none
+next_nonzero | 8: 0402 | 2 | 3
 is_zero | 7: 00 | yes
 is_zero | 7: 05 | no
 # One digit more than a word has.
 set | 2: 00000000000000000000000000000000000000000000000000000000000000000 | 64 | 1 | 2: 00000000000000000000000000000000000000000000000000000000000000001
 first_nonzero | 2: 00000000000000000000000000000000000000000000000000000000000000001 | 64
+next_nonzero | 2: 10000000000000000000000000000000000000000000000000000000000000001 | 1 | 64
 is_zero | 2: 00000000000000000000000000000000000000000000000000000000000000001 | no
 is_zero | 2: 00000000000000000000000000000000000000000000000000000000000000000 | yes
+";
+
+/// - `part`: a row, an index, a length, and so many entries from that index on;
+/// - `first_and_last`: a row, and its first and its last entry, as `select` gives them;
+/// - `copy_to`: a row, and its entries, which are copied to a slice.
+const PARTS: &str = "\
+part | 9: 13580 | 1 | 3 | 9: 358
+part | 7: 0123456 | 6 | 1 | 7: 6
+part | 8: 41 | 0 | 2 | 8: 41
+# The last two digits of the first word, and the first two of the next.
+part | 2: 000000000000000000000000000000000000000000000000000000000000001001 | 62 | 4 | 2: 1001
+first_and_last | 9: 1358 | 9: 18
+first_and_last | 4: 3012 | 4: 32
+first_and_last | 2: 00000000000000000000000000000000000000000000000000000000000000001 | 2: 01
+copy_to | 9: 1358 | 9: 1358
+copy_to | 8: 76543210 | 8: 76543210
+copy_to | 2: 0110 | 2: 0110
+copy_to | 5: 4321 | 5: 4321
 ";
 
 /// - `add_scaled`: a row, a scalar, another row, and the sum of the first and of the multiple of the other;
@@ -91,6 +117,17 @@ fn finds_first_nonzero(alloc: Global, line: &str) -> Result<bool, TableFault> {
     }
 }
 
+fn finds_next_nonzero(rt: &impl Abort, alloc: Global, line: &str) -> Result<bool, TableFault> {
+    let (row, start, wanted) = three_fields(line)?;
+    let start = number_of(start)?;
+    let row = row_of(alloc, row)?;
+    assert!(rt; start <= row.len());
+    match row.next_nonzero(start) {
+        Some(index) => Ok(index == number_of(wanted)?),
+        None => Ok(wanted == "none"),
+    }
+}
+
 fn tells_zero(alloc: Global, line: &str) -> Result<bool, TableFault> {
     let (row, wanted) = two_fields(line)?;
     let wanted = truth_of(wanted)?;
@@ -105,6 +142,36 @@ fn copies(alloc: Global, line: &str) -> Result<bool, TableFault> {
     let zero = element_in(row.field(), "0")?;
     row.scale(zero);
     is_row(alloc, &copy, wanted)
+}
+
+fn takes_part(rt: &impl Abort, alloc: Global, line: &str) -> Result<bool, TableFault> {
+    let (row, start, length, wanted) = four_fields(line)?;
+    let start = number_of(start)?;
+    let length = number_of(length)?;
+    let row = row_of(alloc, row)?;
+    assert!(rt; start <= row.len());
+    assert!(rt; length <= row.len() - start);
+    is_row_answer(alloc, row.part(alloc, start, length), wanted)
+}
+
+fn selects_ends(rt: &impl Abort, alloc: Global, line: &str) -> Result<bool, TableFault> {
+    let (row, wanted) = two_fields(line)?;
+    let row = row_of(alloc, row)?;
+    assert!(rt; !row.is_empty());
+    is_row_answer(alloc, row.select(alloc, &[0, row.len() - 1]), wanted)
+}
+
+fn copies_entries(alloc: Global, line: &str) -> Result<bool, TableFault> {
+    let (row, wanted) = two_fields(line)?;
+    let row = row_of(alloc, row)?;
+    let mut entries = Vec::new(alloc);
+    entries.resize(row.len(), 0)?;
+    row.copy_to(&mut entries);
+    is_row_answer(
+        alloc,
+        Row::from_elements(alloc, *row.field(), &entries),
+        wanted,
+    )
 }
 
 fn adds_multiple(alloc: Global, line: &str) -> Result<bool, TableFault> {
@@ -145,7 +212,11 @@ pub(crate) fn answers(
         "set" => sets(rt, alloc, line),
         "get" => gets(rt, alloc, line),
         "first_nonzero" => finds_first_nonzero(alloc, line),
+        "next_nonzero" => finds_next_nonzero(rt, alloc, line),
         "is_zero" => tells_zero(alloc, line),
+        "part" => takes_part(rt, alloc, line),
+        "first_and_last" => selects_ends(rt, alloc, line),
+        "copy_to" => copies_entries(alloc, line),
         "copy" => copies(alloc, line),
         "add_scaled" => adds_multiple(alloc, line),
         "scale" => scales(alloc, line),
@@ -157,6 +228,11 @@ pub(crate) fn answers(
 #[test]
 fn rows_have_entries(rt: HostRuntime) -> Result<(), TableFault> {
     each_call(&rt, rt.alloc(), Topic::Rows, ENTRIES)
+}
+
+#[test]
+fn rows_have_parts(rt: HostRuntime) -> Result<(), TableFault> {
+    each_call(&rt, rt.alloc(), Topic::Rows, PARTS)
 }
 
 #[test]
