@@ -3,4 +3,5 @@ pub mod Modules
 pub mod Generators
 pub mod Spinning
 pub mod Spun
+pub mod Images
 pub mod SpinLaws
