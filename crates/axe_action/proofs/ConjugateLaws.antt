@@ -13,7 +13,8 @@ use Rattle.axe_row.specs.declared.refusals.Refusal.TheVariants.{FieldsDiffer, Sh
 use Rattle.axe_matrix.specs.Matrices.{MatrixValue, IsMatrix, product_refusal, matrix_product}
 use Rattle.axe_matrix.proofs.MatrixLaws.{same_order}
 use Rattle.axe_matrix.proofs.ProductLaws.{length-product, product_refusal-none}
-use Rattle.axe_echelon.specs.Echelons.{inverse_refusal, IsInverseMatrix, IsInvertible}
+use Rattle.axe_reduction.specs.Solutions.{IsInverseMatrix, IsInvertible}
+use Rattle.axe_echelon.specs.Echelons.{inverse_refusal}
 use Rattle.axe_echelon.proofs.Exits.{asked_late}
 use Rattle.axe_echelon.proofs.InverseLaws.{inverse_refusal-none}
 use Rattle.axe_spin.specs.Modules.{ModuleValue, generator_of, rows_of_each}

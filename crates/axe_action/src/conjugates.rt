@@ -5,7 +5,7 @@ ghost use Rattle.axe_row.specs.Refusals.{Answers, unless_refused, AnswersOr, Ref
 ghost use Rattle.axe_row.specs.declared.refusals.Refusal.TheVariants.{Singular};
 ghost use Rattle.axe_matrix.specs.Matrices.{IsMatrix, matrix_product};
 ghost use Rattle.axe_spin.specs.Modules.{IsModule};
-ghost use Rattle.axe_echelon.specs.Echelons.{IsInvertible};
+ghost use Rattle.axe_reduction.specs.Solutions.{IsInvertible};
 ghost use Rattle.axe_action.specs.Actions.{conjugate_refusal, IsConjugateModule};
 
 use axe_echelon::inverse;

@@ -1,33 +1,24 @@
 -- Independent rows taken one by one, and the inverse from the coordinates of the unit vectors.
-use Rattle.std.specs.Prelude.{◌≡◌, ℕ, suc, ◌+◌, ◌<◌, ◌≤◌, List, [], ◌∷◌, ◌++◌, length, get_or, cond, eqb, Bool, true, false, Some, None}
+use Rattle.std.specs.Prelude.{◌≡◌, ℕ, suc, ◌+◌, ◌<◌, ◌≤◌, List, [], ◌∷◌, ◌++◌, length, get_or, Bool, true, false, Some, None}
 use Rattle.std.proofs.lemmas.Bool.{eq-eqb, ne_eqb}
 use Rattle.std.proofs.lemmas.List.{length-append, get_or_append_left, get_or-append-add, ext_get_or}
-use Rattle.std.proofs.lemmas.List.Elements.{All-from_get_or}
-use Rattle.axe_algebra.specs.NumberField.{NumberField}
 use Rattle.axe_algebra.specs.Field.{Field}
 use Rattle.axe_algebra.specs.Vectors.{Vector, Matrix}
 use Rattle.axe_algebra.specs.Spans
 use Rattle.axe_algebra.specs.Bridge.{vector_of, matrix_of}
-use Rattle.axe_algebra.specs.Lists.{unit_row, IsVectorOver, IsMatrixOver, IsSquareOver}
-use Rattle.axe_algebra.specs.ListArithmetic.{combination, product, identity}
+use Rattle.axe_algebra.specs.Lists.{IsMatrixOver}
 use Rattle.axe_algebra.specs.SpansOfLists.{IsIndependent, IsSpanned}
 use Rattle.axe_algebra.proofs.ProductLaws.{times_same, times_longer}
 use Rattle.axe_algebra.proofs.Exchange.{cut, cut_below, cut_length, times_cut, with_row, with_row_at, with_row_before, independent_not_spanned}
-use Rattle.axe_algebra.proofs.SquareMatrices.{rows_of_invertible}
-use Rattle.axe_algebra.proofs.ListEntries.{table_row}
-use Rattle.axe_algebra.proofs.ListProducts.{product_length, identity_length}
-use Rattle.axe_algebra.proofs.ListLaws.{inverse_of_lists, left_inverse_of_lists}
 use Rattle.axe_algebra.proofs.ListSpans.{spanned_or_not}
-use Rattle.axe_field.specs.Order.{Order}
 use Rattle.axe_field.specs.NumberFields.{number_field, gf}
 use Rattle.axe_row.specs.Rows.{RowValue}
 use Rattle.axe_row.specs.declared.refusals.Refusal.TheVariants.{NotSquare}
 use Rattle.axe_matrix.specs.Matrices.{MatrixValue, IsMatrix}
-use Rattle.axe_matrix.proofs.ProductLaws.{get_or-product}
-use Rattle.axe_echelon.specs.Echelons.{EchelonValue, IsEchelon, AreCoordinates, inverse_refusal, IsInverseMatrix, IsInvertible}
-use Rattle.axe_echelon.specs.Inserted.{HasAllRows, HasUnitCoordinates}
+use Rattle.axe_echelon.specs.Echelons.{EchelonValue, IsEchelon, inverse_refusal}
+use Rattle.axe_echelon.specs.Inserted.{HasAllRows}
 use Rattle.axe_echelon.proofs.FormLaws.{below_or_at}
-use mathlib.Core.Path.{refl, sym, ◌∙◌, ap, ap₂, subst}
+use mathlib.Core.Path.{refl, sym, ◌∙◌, ap, subst}
 use native.Mathlib.Omega.{arith}
 
 module _ (F : Field) where
@@ -133,87 +124,3 @@ inverse_refusal-none m square = rw (eq-eqb (length m.rows) m.cols square) refl
 
 pub inverse_refusal-some : (m : MatrixValue) → ¬ (length m.rows ≡ m.cols) → inverse_refusal m ≡ Some NotSquare
 inverse_refusal-some m other = rw (ne_eqb (length m.rows) m.cols other) refl
-
--- an invertible matrix has independent rows
-pub independent_of_invertible : (m : MatrixValue) → IsMatrix m → length m.rows ≡ m.cols → IsInvertible m → IsIndependent (number_field m.order) m.rows
-independent_of_invertible m h square (inverse, is) =
-    subst (λ k. Spans.IsIndependent (gf m.order) k (matrix_of (number_field m.order) m.rows)) (sym square)
-    (rows_of_invertible (gf m.order) m.cols (matrix_of (number_field m.order) m.rows)
-    (record {
-      inverse = matrix_of (number_field m.order) inverse.rows;
-      inverts = inverse_of_lists (number_field m.order) m.cols m.rows inverse.rows (record { length_is = square; matrix = matrix_over m h }) is.square is.inverts;
-    }))
-
-pub inverse_none : (e : EchelonValue) (m : MatrixValue) → m ≡ record { order = e.order; cols = e.cols; rows = [] } → HasUnitCoordinates e 0 m
-inverse_none e m is = record {
-  field = ap (λ (x : MatrixValue). x.order) is;
-  columns = ap (λ (x : MatrixValue). x.cols) is;
-  count = ap (λ (x : MatrixValue). length x.rows) is;
-  rows = λ t below. absurd (omega arith);
-}
-
-pub inverse_more : (e : EchelonValue) (i : ℕ) (m next : MatrixValue) (row : RowValue) → HasUnitCoordinates e i m → AreCoordinates e (unit_row e.cols i) row →
-    next ≡ record { order = m.order; cols = m.cols; rows = m.rows ++ row.entries ∷ [] } → HasUnitCoordinates e (i + 1) next
-inverse_more e i m next row so_far coordinates is = record {
-  field = ap (λ (x : MatrixValue). x.order) is ∙ so_far.field;
-  columns = ap (λ (x : MatrixValue). x.cols) is ∙ so_far.columns;
-  count = ap (λ (x : MatrixValue). length x.rows) is
-      ∙ (let grown : length (m.rows ++ row.entries ∷ []) ≡ i + 1 = omega (arith, so_far.count, length-append m.rows (row.entries ∷ [])) in grown);
-  rows = λ t inside. below_or_at (λ t. AreCoordinates e (unit_row e.cols t) (record { order = e.order; entries = get_or next.rows t [] })) i
-      (λ t before. subst (λ (u : List ℕ). AreCoordinates e (unit_row e.cols t) (record { order = e.order; entries = u })) (sym (row_before t before)) (so_far.rows t before))
-      (subst (λ (u : List ℕ). AreCoordinates e (unit_row e.cols i) (record { order = e.order; entries = u })) (sym row_last)
-      (record { field = refl; over = coordinates.over; combine = coordinates.combine }))
-      t (omega arith);
-}
-  where
-    row_before : (t : ℕ) → t < i → get_or next.rows t [] ≡ get_or m.rows t []
-    row_before t before = ap (λ (x : MatrixValue). get_or x.rows t []) is ∙ get_or_append_left m.rows (row.entries ∷ []) [] t (omega (arith, so_far.count))
-
-    row_last : get_or next.rows i [] ≡ row.entries
-    row_last =
-        ap (λ (x : MatrixValue). get_or x.rows i []) is
-        ∙ ap (λ k. get_or (m.rows ++ row.entries ∷ []) k []) (let same : i ≡ length m.rows + 0 = omega (arith, so_far.count) in same)
-        ∙ get_or-append-add m.rows (row.entries ∷ []) 0 []
-
-pub inverse_whole : (m : MatrixValue) (e : EchelonValue) (i : ℕ) (b : MatrixValue) → IsMatrix m → length m.rows ≡ m.cols → HasAllRows m e →
-    HasUnitCoordinates e i b → i ≡ e.cols → IsInverseMatrix m b
-unfolding identity
-inverse_whole m e i b h square all so_far whole = record {
-  field = so_far.field ∙ all.field;
-  columns = so_far.columns ∙ all.columns;
-  square = square_b;
-  inverts = left_inverse_of_lists K m.cols m.rows b.rows (record { length_is = square; matrix = matrix_over m h }) square_b one;
-}
-  where
-    K : NumberField
-    K = number_field m.order
-
-    row : (t : ℕ) → t < i → AreCoordinates e (unit_row e.cols t) (record { order = e.order; entries = get_or b.rows t [] })
-    row = so_far.rows
-
-    row_over : (t : ℕ) → t < i → IsVectorOver K m.cols (get_or b.rows t [])
-    row_over t below =
-        subst (λ n. IsVectorOver K n (get_or b.rows t [])) (ap (λ (l : List (List ℕ)). length l) all.rows ∙ square)
-        (subst (λ o. IsVectorOver (number_field o) (length e.rows) (get_or b.rows t [])) all.field (row t below).over)
-
-    square_b : IsSquareOver K m.cols b.rows
-    square_b = record {
-      length_is = so_far.count ∙ whole ∙ all.columns;
-      matrix = All-from_get_or (IsVectorOver K m.cols) b.rows [] (λ t below. row_over t (omega (arith, so_far.count)));
-    }
-
-    combined : (t : ℕ) → t < i → combination K m.cols (get_or b.rows t []) m.rows ≡ unit_row m.cols t
-    combined t below =
-        ap (λ (l : List (List ℕ)). combination K m.cols (get_or b.rows t []) l) (sym all.rows)
-        ∙ ap₂ (λ (o : Order) (n : ℕ). combination (number_field o) n (get_or b.rows t []) e.rows) (sym all.field) (sym all.columns)
-        ∙ sym (row t below).combine ∙ ap (λ n. unit_row n t) all.columns
-
-    one : product K m.cols b.rows m.rows ≡ identity m.cols
-    one = ext_get_or [] (product K m.cols b.rows m.rows) (identity m.cols)
-        (product_length K m.cols b.rows m.rows ∙ square_b.length_is ∙ sym (identity_length K m.cols))
-        (λ t below. at t (omega (arith, below, product_length K m.cols b.rows m.rows)))
-      where
-        at : (t : ℕ) → t < length b.rows → get_or (product K m.cols b.rows m.rows) t [] ≡ get_or (identity m.cols) t []
-        at t below =
-            get_or-product K m.cols b.rows m.rows t below ∙ combined t (omega (arith, so_far.count))
-            ∙ sym (table_row m.cols m.cols (λ i j. cond (eqb i j) 1 0) t (omega (arith, square_b.length_is)))

@@ -11,7 +11,8 @@ use Rattle.axe_algebra.proofs.ListReduced.{space_basis_list_is_unique}
 use Rattle.axe_field.specs.Order.{Order}
 use Rattle.axe_field.specs.NumberFields.{number_field}
 use Rattle.axe_matrix.specs.Matrices.{MatrixValue, IsMatrix}
-use Rattle.axe_echelon.specs.Echelons.{IsNullSpaceMatrix, IsInverseMatrix}
+use Rattle.axe_reduction.specs.Solutions.{IsInverseMatrix}
+use Rattle.axe_echelon.specs.Echelons.{IsNullSpaceMatrix}
 use Rattle.axe_echelon.proofs.InverseLaws.{matrix_over}
 
 pub same_value : (a b : MatrixValue) → a.order ≡ b.order → a.cols ≡ b.cols → a.rows ≡ b.rows → a ≡ b

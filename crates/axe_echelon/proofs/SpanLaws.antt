@@ -8,11 +8,10 @@ use Rattle.axe_algebra.proofs.ListSpans.{appended_spans, appended_row_spanned, r
 use Rattle.axe_algebra.proofs.ListVectors.{same_span_by_rows}
 use Rattle.axe_field.specs.NumberFields.{number_field}
 use Rattle.axe_row.specs.Rows.{RowValue}
-use Rattle.axe_matrix.specs.Matrices.{MatrixValue, IsMatrix}
-use Rattle.axe_echelon.specs.Echelons.{EchelonValue, IsEchelon, with_row_where, IsSpanOfRows, IsInvertible}
-use Rattle.axe_echelon.specs.Inserted.{HasAllRows}
+use Rattle.axe_matrix.specs.Matrices.{MatrixValue}
+use Rattle.axe_echelon.specs.Echelons.{EchelonValue, IsEchelon, with_row_where, IsSpanOfRows}
 use Rattle.axe_echelon.proofs.FormLaws.{below_or_at}
-use Rattle.axe_echelon.proofs.InverseLaws.{HasFirstRows, first_rows_more, first_rows_all, first_rows_dependent, spanned_of_not_new, independent_of_invertible}
+use Rattle.axe_echelon.proofs.InverseLaws.{HasFirstRows, first_rows_more, first_rows_all, first_rows_dependent, spanned_of_not_new}
 use mathlib.Core.Path.{refl, sym, ◌∙◌, ap, subst}
 use native.Mathlib.Omega.{arith}
 
@@ -99,13 +98,3 @@ span_whole m i e first whole = record {
   as_many = λ same. (first_rows_all m i e (first.as_many (omega (arith, same, first.few, whole))) whole).rows;
   well_formed = first.well_formed;
 }
-
--- the rows of a matrix, where there are as many in the echelon form
-pub all_rows_of_span : (m : MatrixValue) (e : EchelonValue) → IsSpanOfRows m e → length e.rows ≡ length m.rows → HasAllRows m e
-all_rows_of_span m e span same = record { field = span.field; columns = span.columns; rows = span.as_many same; well_formed = span.well_formed }
-
--- with fewer rows in the echelon form a square matrix has no inverse
-pub no_inverse_of_fewer : (m : MatrixValue) (e : EchelonValue) → IsMatrix m → length m.rows ≡ m.cols → IsSpanOfRows m e → ¬ (length e.rows ≡ length m.rows) →
-    ¬ (IsInvertible m)
-no_inverse_of_fewer m e h square span fewer = λ invertible.
-    fewer (ap (λ (rows : List (List ℕ)). length rows) (span.all (independent_of_invertible m h square invertible)))

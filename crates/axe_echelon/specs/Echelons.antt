@@ -1,7 +1,7 @@
 -- Echelon forms as callers see them: independent rows in the order in which they came.
 use Rattle.std.specs.Prelude.{◌≡◌, ℕ, ◌≤◌, ◌==◌, List, [], ◌∷◌, ◌++◌, length, Bool, Option, Some, None, if◌then◌else◌}
-use Rattle.axe_algebra.specs.Lists.{IsMatrixOver, IsSquareOver, IsVectorOver}
-use Rattle.axe_algebra.specs.ListArithmetic.{IsInverse, combination}
+use Rattle.axe_algebra.specs.Lists.{IsMatrixOver, IsVectorOver}
+use Rattle.axe_algebra.specs.ListArithmetic.{combination}
 use Rattle.axe_algebra.specs.SpansOfLists.{IsIndependent, IsNullSpaceBasis, IsReducedBasis, HaveSameSpan}
 use Rattle.axe_field.specs.Order.{Order}
 use Rattle.axe_field.specs.NumberFields.{number_field}
@@ -63,14 +63,3 @@ pub record IsNullSpaceMatrix (m basis : MatrixValue) : Type 0 where
 -- a matrix that is not square has no inverse
 abbrev pub inverse_refusal : MatrixValue → Option Refusal
 inverse_refusal m = if (length m.rows == m.cols) then None else Some NotSquare
-
--- the matrix is the inverse of the square matrix m
-pub record IsInverseMatrix (m inverse : MatrixValue) : Type 0 where
-  pub field : inverse.order ≡ m.order
-  pub columns : inverse.cols ≡ m.cols
-  pub square : IsSquareOver (number_field m.order) m.cols inverse.rows
-  pub inverts : IsInverse (number_field m.order) m.cols m.rows inverse.rows
-
--- the square matrix m has an inverse
-abbrev pub IsInvertible : MatrixValue → Type 0
-IsInvertible m = (inverse : MatrixValue) × IsInverseMatrix m inverse

@@ -4,7 +4,8 @@ use Rattle.std.proofs.lemmas.Bool.{eqb-true, true≢false}
 use Rattle.std.proofs.lemmas.Option.{none-some}
 use Rattle.axe_row.specs.declared.refusals.Refusal.TheVariants.{NotSquare, Singular, NoRows}
 use Rattle.axe_matrix.specs.Matrices.{MatrixValue, IsMatrix}
-use Rattle.axe_echelon.specs.Echelons.{null_space_refusal, IsNullSpaceMatrix, inverse_refusal, IsInverseMatrix, IsInvertible}
+use Rattle.axe_reduction.specs.Solutions.{IsInverseMatrix, IsInvertible}
+use Rattle.axe_echelon.specs.Echelons.{null_space_refusal, IsNullSpaceMatrix, inverse_refusal}
 use Rattle.axe_folder.specs.Files.{Files}
 use Rattle.axe_arguments.specs.Commands.{HasCounts}
 use Rattle.axe_arguments.specs.declared.command.Command.{Command}

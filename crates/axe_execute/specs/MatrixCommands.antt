@@ -4,8 +4,9 @@ use Rattle.axe_row.specs.Refusals.{RefusedAs}
 use Rattle.axe_row.specs.declared.refusals.Refusal.TheVariants.{Singular}
 use Rattle.axe_matrix.specs.Matrices.{MatrixValue, IsMatrix, product_refusal, matrix_product, sum_refusal}
 use Rattle.axe_matrix.specs.Matrices.{sum_of_matrices, transpose_refusal, transposed_matrix}
-use Rattle.axe_echelon.specs.Echelons.{null_space_refusal, IsNullSpaceMatrix, inverse_refusal, IsInverseMatrix}
-use Rattle.axe_echelon.specs.Echelons.{IsInvertible}
+use Rattle.axe_reduction.specs.Solutions.{IsInverseMatrix}
+use Rattle.axe_echelon.specs.Echelons.{null_space_refusal, IsNullSpaceMatrix, inverse_refusal}
+use Rattle.axe_reduction.specs.Solutions.{IsInvertible}
 use Rattle.axe_folder.specs.Files.{Files}
 use Rattle.axe_plan.specs.Plans.{Plan}
 use Rattle.axe_plan.specs.Meanings.{Meaning, Is, Has, HasOr, UnlessRefused, ◌>>=◌}

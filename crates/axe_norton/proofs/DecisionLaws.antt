@@ -5,7 +5,8 @@ use Rattle.axe_row.specs.Rows.{RowValue}
 use Rattle.axe_row.specs.Refusals.{Answers}
 use Rattle.axe_row.specs.declared.refusals.Refusal.{Refusal}
 use Rattle.axe_matrix.specs.Matrices.{MatrixValue, IsMatrix}
-use Rattle.axe_echelon.specs.Echelons.{IsInvertible, IsNullSpaceMatrix, null_space_refusal}
+use Rattle.axe_reduction.specs.Solutions.{IsInvertible}
+use Rattle.axe_echelon.specs.Echelons.{IsNullSpaceMatrix, null_space_refusal}
 use Rattle.axe_spin.specs.Modules.{ModuleValue, IsModule}
 use Rattle.axe_word.specs.Words.{WordValue, IsWordIn, IsValueOf}
 use Rattle.axe_word.specs.Drawing.{drawn_word}

@@ -8,7 +8,8 @@ use Rattle.axe_algebra.proofs.NortonLists.{invertible_without_null_rows, no_null
 use Rattle.axe_field.specs.Order.{order_number}
 use Rattle.axe_field.specs.NumberFields.{number_field}
 use Rattle.axe_matrix.specs.Matrices.{MatrixValue}
-use Rattle.axe_echelon.specs.Echelons.{IsInvertible, IsNullSpaceMatrix}
+use Rattle.axe_reduction.specs.Solutions.{IsInvertible}
+use Rattle.axe_echelon.specs.Echelons.{IsNullSpaceMatrix}
 use Rattle.axe_spin.specs.Modules.{ModuleValue, IsModule}
 use Rattle.axe_word.specs.Words.{WordValue, IsValueOf}
 use Rattle.axe_word.specs.Drawing.{drawn_word}

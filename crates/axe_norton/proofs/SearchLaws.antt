@@ -23,7 +23,8 @@ use Rattle.axe_row.specs.declared.refusals.Refusal.{Refusal}
 use Rattle.axe_row.specs.declared.refusals.Refusal.TheVariants.{Memory}
 use Rattle.axe_matrix.specs.Matrices.{MatrixValue, IsMatrix, transposed_matrix, transpose_refusal}
 use Rattle.axe_matrix.proofs.TransposeLaws.{transpose_refusal-none}
-use Rattle.axe_echelon.specs.Echelons.{IsInvertible, IsNullSpaceMatrix, null_space_refusal}
+use Rattle.axe_reduction.specs.Solutions.{IsInvertible}
+use Rattle.axe_echelon.specs.Echelons.{IsNullSpaceMatrix, null_space_refusal}
 use Rattle.axe_echelon.proofs.Exits.{memory_if_accepted}
 use Rattle.axe_echelon.proofs.InverseLaws.{matrix_over}
 use Rattle.axe_echelon.proofs.EliminationLaws.{vector_of_zero_row}

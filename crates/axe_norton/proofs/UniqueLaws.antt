@@ -20,7 +20,8 @@ use Rattle.axe_field.specs.Order.{Order}
 use Rattle.axe_field.specs.NumberFields.{number_field, gf}
 use Rattle.axe_row.specs.Rows.{RowValue}
 use Rattle.axe_matrix.specs.Matrices.{MatrixValue, IsMatrix, transposed_matrix}
-use Rattle.axe_echelon.specs.Echelons.{IsInvertible, IsNullSpaceMatrix}
+use Rattle.axe_reduction.specs.Solutions.{IsInvertible}
+use Rattle.axe_echelon.specs.Echelons.{IsNullSpaceMatrix}
 use Rattle.axe_spin.specs.Modules.{ModuleValue}
 use Rattle.axe_spin.specs.Spinning.{IsGeneratedMatrix}
 use Rattle.axe_action.specs.Actions.{dual_module, IsAnnihilatorMatrix}

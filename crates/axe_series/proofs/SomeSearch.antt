@@ -14,7 +14,8 @@ use Rattle.axe_algebra.proofs.NortonLists.{transpose_square}
 use Rattle.axe_field.specs.Order.{order_number}
 use Rattle.axe_field.specs.NumberFields.{number_field}
 use Rattle.axe_matrix.specs.Matrices.{MatrixValue, IsMatrix, transposed_matrix}
-use Rattle.axe_echelon.specs.Echelons.{IsInvertible, IsNullSpaceMatrix}
+use Rattle.axe_reduction.specs.Solutions.{IsInvertible}
+use Rattle.axe_echelon.specs.Echelons.{IsNullSpaceMatrix}
 use Rattle.axe_echelon.proofs.SomeMatrix.{matrix_of_rows_over, some_null_space}
 use Rattle.axe_spin.specs.Modules.{ModuleValue, IsModule}
 use Rattle.axe_action.specs.Actions.{dual_module, IsAnnihilatorMatrix}

@@ -8,7 +8,7 @@ use Rattle.axe_algebra.specs.BlocksOfLists.{IsBlockLowerTriangular, IsDiagonalBl
 use Rattle.axe_algebra.specs.ModulesOfLists.{AreIsomorphic}
 use Rattle.axe_field.specs.NumberFields.{number_field}
 use Rattle.axe_matrix.specs.Matrices.{MatrixValue, IsMatrix}
-use Rattle.axe_echelon.specs.Echelons.{IsInvertible}
+use Rattle.axe_reduction.specs.Solutions.{IsInvertible}
 use Rattle.axe_spin.specs.Modules.{ModuleValue, IsModule}
 use Rattle.axe_action.specs.Actions.{IsConjugateModule}
 use Rattle.axe_norton.specs.Spaces.{IsIrreducibleModule}

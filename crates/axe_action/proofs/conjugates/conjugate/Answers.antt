@@ -3,7 +3,7 @@ use Rattle.std.proofs.lemmas.Result.{IfOk-from_err}
 use Rattle.axe_matrix.specs.Matrices.{MatrixValue, matrix_product}
 use Rattle.axe_row.specs.Refusals.{RefusedAs}
 use Rattle.axe_row.specs.declared.refusals.Refusal.TheVariants.{Singular, Memory}
-use Rattle.axe_echelon.specs.Echelons.{IsInverseMatrix, IsInvertible}
+use Rattle.axe_reduction.specs.Solutions.{IsInverseMatrix, IsInvertible}
 use Rattle.axe_echelon.proofs.Exits.{not_refused, refused_early, refused_late, no_memory_late}
 use Rattle.axe_spin.specs.Modules.{IsModule, generator_of}
 use Rattle.axe_action.specs.Actions.{conjugate_refusal}

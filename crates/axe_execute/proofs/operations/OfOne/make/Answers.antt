@@ -3,7 +3,8 @@ use Rattle.std.proofs.lemmas.Result.{err_from_is_err_and}
 use Rattle.axe_row.specs.Refusals.{RefusedAs}
 use Rattle.axe_row.specs.declared.refusals.Refusal.TheVariants.{Singular}
 use Rattle.axe_matrix.specs.Matrices.{IsMatrix, transpose_refusal, transposed_matrix}
-use Rattle.axe_echelon.specs.Echelons.{inverse_refusal, IsInverseMatrix, IsInvertible, null_space_refusal, IsNullSpaceMatrix}
+use Rattle.axe_reduction.specs.Solutions.{IsInverseMatrix, IsInvertible}
+use Rattle.axe_echelon.specs.Echelons.{inverse_refusal, null_space_refusal, IsNullSpaceMatrix}
 use Rattle.axe_execute.specs.MatrixCommands.{TransposeOf, InverseOf, NullSpaceOf}
 use Rattle.axe_plan.proofs.Refused.{refused_fault, refused_fault_or, accepted_value, accepted_value_or}
 use Rattle.axe_execute.proofs.operations.OfOne.make.Goals as goal

@@ -1,0 +1,179 @@
+-- Some rows of matrices beside one another, rows after rows, and entries at chosen columns.
+use Rattle.std.proofs.Common.{◌≡◌, ℕ, ◌+◌, ◌<◌, ◌≤◌, List, [], ◌∷◌, ◌++◌, length, get_or, map, refl, sym, ap, ap₂, ◌∙◌, arith, length-append}
+use Rattle.std.specs.Prelude.{slice_index}
+use Rattle.std.specs.List.{All}
+use Rattle.std.proofs.lemmas.List.{ext_get_or, get_or-map, length-map, append_assoc, append-nil}
+use Rattle.std.proofs.lemmas.List.FromFn.{map-range_with_len_more}
+use Rattle.axe_algebra.specs.Lists.{entry, listed, table}
+use Rattle.axe_algebra.proofs.ListEntries.{listed_length, listed_at, table_length, table_row}
+use Rattle.axe_field.specs.Order.{Order}
+use Rattle.axe_row.specs.Rows.{RowValue}
+use Rattle.axe_matrix.specs.Matrices.{MatrixValue, IsMatrix, row_of, matrix_block}
+use Rattle.axe_matrix.proofs.MatrixLaws.{same_matrix}
+use Rattle.axe_reduction.specs.Augmented.{AugmentedValue, AreBeside, rows_beside, augmented, some_rows, with_rows, entries_at}
+use Rattle.axe_reduction.proofs.BesideLaws.{HaveLength, length-row, length-rows_beside, row-rows_beside, append_beside, same_augmented, view-count, view-entry}
+
+-- ---- some of the rows
+
+-- a row of a block of all columns
+block_row : (m start count : ℕ) (a : List (List ℕ)) (i : ℕ) → HaveLength m a → start + count ≤ length a → i < count →
+    get_or (table count m (λ i j. entry a (start + i) (0 + j))) i [] ≡ get_or a (start + i) []
+block_row m start count a i long within below =
+    let row : List ℕ = get_or a (start + i) [] in
+    let same : length row ≡ m = length-row m a (start + i) long (omega arith) in
+    table_row count m (λ i j. entry a (start + i) (0 + j)) i below
+    ∙ ext_get_or 0 (listed m (λ j. get_or row (0 + j) 0)) row (listed_length m (λ j. get_or row (0 + j) 0) ∙ sym same) (λ j inside.
+    listed_at m (λ j. get_or row (0 + j) 0) j 0 (omega (arith, listed_length m (λ j. get_or row (0 + j) 0)))
+    ∙ ap (λ k. get_or row k 0) (let at : 0 + j ≡ j = omega arith in at))
+
+-- blocks of all columns beside one another
+block_beside : (m n start count : ℕ) (a b : List (List ℕ)) → HaveLength m a → HaveLength n b → length b ≡ length a → start + count ≤ length a →
+    rows_beside (table count m (λ i j. entry a (start + i) (0 + j))) (table count n (λ i j. entry b (start + i) (0 + j)))
+    ≡ listed count (λ i. get_or (rows_beside a b) (start + i) [])
+block_beside m n start count a b long_a long_b same within =
+    let left = table count m (λ i j. entry a (start + i) (0 + j)) in
+    let right = table count n (λ i j. entry b (start + i) (0 + j)) in
+    let f : ℕ → List ℕ = λ i. get_or (rows_beside a b) (start + i) [] in
+    let all : length left ≡ count = table_length count m (λ i j. entry a (start + i) (0 + j)) in
+    ext_get_or [] (rows_beside left right) (listed count f) (length-rows_beside left right ∙ all ∙ sym (listed_length count f)) (λ i below.
+    let inside : i < count = omega (arith, length-rows_beside left right, all) in
+    row-rows_beside left right i (omega (arith, all))
+    ∙ ap₂ (λ (x y : List ℕ). x ++ y) (block_row m start count a i long_a within inside) (block_row n start count b i long_b (omega arith) inside)
+    ∙ sym (listed_at count f i [] inside ∙ row-rows_beside a b (start + i) (omega arith)))
+
+-- blocks of as many rows are beside one another
+pub blocks-AreBeside : (a b left right : MatrixValue) (start count m n : ℕ) → AreBeside a b → left ≡ matrix_block a start count 0 m →
+    right ≡ matrix_block b start count 0 n → IsMatrix left → IsMatrix right → AreBeside left right
+blocks-AreBeside a b left right start count m n h left_is right_is left_fine right_fine = record {
+  field = ap (λ (x : MatrixValue). x.order) right_is ∙ h.field ∙ sym (ap (λ (x : MatrixValue). x.order) left_is);
+  as_many =
+      ap (λ (x : MatrixValue). length x.rows) right_is ∙ table_length count n (λ i j. entry b.rows (start + i) (0 + j))
+      ∙ sym (ap (λ (x : MatrixValue). length x.rows) left_is ∙ table_length count m (λ i j. entry a.rows (start + i) (0 + j)));
+  left = left_fine;
+  right = right_fine;
+}
+
+-- they are some of the rows
+pub blocks_are_rows : (a b left right : MatrixValue) (v : AugmentedValue) (start count m n : ℕ) → augmented a b ≡ v → AreBeside a b →
+    start + count ≤ length v.rows → m ≡ a.cols → n ≡ b.cols → left ≡ matrix_block a start count 0 m → right ≡ matrix_block b start count 0 n →
+    augmented left right ≡ some_rows v start count
+blocks_are_rows a b left right v start count m n view_is h within m_is n_is left_is right_is =
+    let rows = view-count a b v view_is in
+    ap₂ augmented (left_is ∙ ap (λ k. matrix_block a start count 0 k) m_is) (right_is ∙ ap (λ k. matrix_block b start count 0 k) n_is)
+    ∙ same_augmented (augmented (matrix_block a start count 0 a.cols) (matrix_block b start count 0 b.cols)) (some_rows (augmented a b) start count) refl refl refl
+    (block_beside a.cols b.cols start count a.rows b.rows h.left.row_lengths h.right.row_lengths h.as_many (omega (arith, rows)))
+    ∙ ap (λ (x : AugmentedValue). some_rows x start count) view_is
+
+-- ---- matrices that get one row after another
+
+-- the rows f 0 to f (n - 1)
+unfoldable pub first_rows : (ℕ → List ℕ) → ℕ → List (List ℕ)
+first_rows f n = listed n f
+
+first_rows-more : (f : ℕ → List ℕ) (n : ℕ) → first_rows f (n + 1) ≡ first_rows f n ++ f n ∷ []
+unfolding first_rows
+first_rows-more f n = map-range_with_len_more f 0 n n (omega arith)
+
+length-first_rows : (f : ℕ → List ℕ) (n : ℕ) → length (first_rows f n) ≡ n
+unfolding first_rows
+length-first_rows f n = listed_length n f
+
+no_first_rows : (f : ℕ → List ℕ) (rows : List (List ℕ)) → rows ≡ rows ++ first_rows f 0
+unfolding first_rows
+no_first_rows f rows = sym (append-nil rows)
+
+-- a matrix of so many columns that has these rows, and then the rows f 0 to f (n - 1)
+pub record IsExtended (order : Order) (cols : ℕ) (rows : List (List ℕ)) (f : ℕ → List ℕ) (n : ℕ) (m : MatrixValue) : Type 0 where
+  pub field : m.order ≡ order
+  pub columns : m.cols ≡ cols
+  pub rows_are : m.rows ≡ rows ++ first_rows f n
+  pub count : length m.rows ≡ length rows + n
+  pub well_formed : IsMatrix m
+
+-- with none of them
+pub IsExtended-none : (order : Order) (cols : ℕ) (rows : List (List ℕ)) (f : ℕ → List ℕ) (m : MatrixValue) → m.order ≡ order → m.cols ≡ cols → m.rows ≡ rows →
+    IsMatrix m → IsExtended order cols rows f 0 m
+IsExtended-none order cols rows f m field columns is h = record {
+  field = field;
+  columns = columns;
+  rows_are = is ∙ no_first_rows f rows;
+  count = ap (λ (rs : List (List ℕ)). length rs) is ∙ (let none : length rows ≡ length rows + 0 = omega arith in none);
+  well_formed = h;
+}
+
+-- with one more
+pub IsExtended-more : (order : Order) (cols : ℕ) (rows : List (List ℕ)) (f : ℕ → List ℕ) (n : ℕ) (m next : MatrixValue) (row : List ℕ) →
+    IsExtended order cols rows f n m → next ≡ record m { rows = m.rows ++ row ∷ [] } → IsMatrix next → row ≡ f n → IsExtended order cols rows f (n + 1) next
+IsExtended-more order cols rows f n m next row h e well_formed is =
+    let rows_are : next.rows ≡ rows ++ first_rows f (n + 1) =
+    ap (λ (x : MatrixValue). x.rows) e ∙ ap₂ (λ (rs : List (List ℕ)) (r : List ℕ). rs ++ r ∷ []) h.rows_are is
+    ∙ append_assoc rows (first_rows f n) (f n ∷ []) ∙ ap (λ (rs : List (List ℕ)). rows ++ rs) (sym (first_rows-more f n)) in
+    record {
+      field = ap (λ (x : MatrixValue). x.order) e ∙ h.field;
+      columns = ap (λ (x : MatrixValue). x.cols) e ∙ h.columns;
+      rows_are = rows_are;
+      count = ap (λ (rs : List (List ℕ)). length rs) rows_are ∙ length-append rows (first_rows f (n + 1)) ∙ ap (λ k. length rows + k) (length-first_rows f (n + 1));
+      well_formed = well_formed;
+    }
+
+-- with all of them
+pub IsExtended-all : (order : Order) (cols : ℕ) (rows : List (List ℕ)) (f : ℕ → List ℕ) (n : ℕ) (others : List (List ℕ)) (m : MatrixValue) →
+    IsExtended order cols rows f n m → n ≡ length others → ((i : ℕ) → i < length others → f i ≡ get_or others i []) →
+    m ≡ record { order = order; cols = cols; rows = rows ++ others }
+unfolding first_rows
+IsExtended-all order cols rows f n others m h all same =
+    let long : length (listed n f) ≡ length others = listed_length n f ∙ all in
+    same_matrix m (record { order = order; cols = cols; rows = rows ++ others }) h.field h.columns
+    (h.rows_are ∙ ap (λ (rs : List (List ℕ)). rows ++ rs) (ext_get_or [] (listed n f) others long (λ i below.
+    listed_at n f i [] (omega (arith, long)) ∙ same i (omega (arith, long)))))
+
+-- ---- rows after rows
+
+-- both matrices with more rows
+pub with_more_rows : (a b x y left right : MatrixValue) (v w : AugmentedValue) → augmented a b ≡ v → AreBeside a b → augmented x y ≡ w → AreBeside x y →
+    left ≡ record a { rows = a.rows ++ x.rows } → right ≡ record b { rows = b.rows ++ y.rows } → augmented left right ≡ with_rows v w
+with_more_rows a b x y left right v w view_is h other_is other left_is right_is =
+    ap₂ augmented left_is right_is
+    ∙ same_augmented (augmented (record a { rows = a.rows ++ x.rows }) (record b { rows = b.rows ++ y.rows })) (with_rows (augmented a b) (augmented x y)) refl refl refl
+    (append_beside a.rows b.rows x.rows y.rows h.as_many other.as_many)
+    ∙ ap₂ with_rows view_is other_is
+
+pub more_rows-AreBeside : (a b x y left right : MatrixValue) → AreBeside a b → AreBeside x y → left ≡ record a { rows = a.rows ++ x.rows } →
+    right ≡ record b { rows = b.rows ++ y.rows } → IsMatrix left → IsMatrix right → AreBeside left right
+more_rows-AreBeside a b x y left right h other left_is right_is left_fine right_fine = record {
+  field = ap (λ (m : MatrixValue). m.order) right_is ∙ h.field ∙ sym (ap (λ (m : MatrixValue). m.order) left_is);
+  as_many =
+      ap (λ (m : MatrixValue). length m.rows) right_is ∙ length-append b.rows y.rows ∙ ap₂ (λ (s t : ℕ). s + t) h.as_many other.as_many
+      ∙ sym (ap (λ (m : MatrixValue). length m.rows) left_is ∙ length-append a.rows x.rows);
+  left = left_fine;
+  right = right_fine;
+}
+
+-- ---- entries at chosen columns
+
+-- chosen entries of row i
+abbrev pub chosen : MatrixValue → List ℕ → ℕ → List ℕ
+chosen a columns i = map (λ j. entry a.rows i j) columns
+
+-- they are what is taken from a row that is row i
+pub chosen-row : (a : MatrixValue) (columns : List ℕ) (i : ℕ) (row taken : RowValue) → row ≡ row_of a i →
+    taken ≡ record { order = row.order; entries = map (slice_index row.entries) columns } → taken.entries ≡ chosen a columns i
+chosen-row a columns i row taken row_is is =
+    ap (λ (r : RowValue). r.entries) is ∙ ap (λ (r : RowValue). map (slice_index r.entries) columns) row_is
+
+-- the matrix of them is that of the entries left of the bar
+pub chosen_are_entries : (a b entries : MatrixValue) (v : AugmentedValue) (columns : List ℕ) (o : Order) (width n : ℕ) → augmented a b ≡ v → AreBeside a b →
+    All (λ column. column < v.left) columns → o ≡ v.order → width ≡ length columns → n ≡ length v.rows →
+    IsExtended o width [] (chosen a columns) n entries → entries ≡ entries_at v columns
+chosen_are_entries a b entries v columns o width n view_is h inside o_is width_is n_is made =
+    let f = λ (i t : ℕ). entry v.rows i (get_or columns t 0) in
+    let count = table_length (length v.rows) (length columns) f in
+    IsExtended-all o width [] (chosen a columns) n (table (length v.rows) (length columns) f) entries made (n_is ∙ sym count) (λ i below.
+    let within : i < length v.rows = omega (arith, count) in
+    let long : length (chosen a columns i) ≡ length columns = length-map columns (λ j. entry a.rows i j) in
+    ext_get_or 0 (chosen a columns i) (listed (length columns) (f i)) (long ∙ sym (listed_length (length columns) (f i))) (λ t in_row.
+    let before : t < length columns = omega (arith, long) in
+    get_or-map (λ j. entry a.rows i j) columns t 0 0 before
+    ∙ sym (listed_at (length columns) (f i) t 0 before ∙ view-entry a b v i (get_or columns t 0) view_is h within (inside t 0 before)))
+    ∙ sym (table_row (length v.rows) (length columns) f i within))
+    ∙ ap₂ (λ p k. record { order = p; cols = k; rows = table (length v.rows) (length columns) f }) o_is width_is

@@ -1,0 +1,13 @@
+pub mod BesideLaws
+pub mod BesideParts
+pub mod BesideSums
+pub mod ClearLaws
+pub mod ClearedLaws
+pub mod Exits
+pub mod JoinedLaws
+pub mod JoinedRows
+pub mod ReductionLaws
+pub mod RowReduction
+pub mod SolutionLaws
+pub mod SolutionLists
+pub mod SolutionRows

@@ -1,0 +1,236 @@
+-- The reduction of a single row: its multiple that is 1 at its first entry other than 0, or the row itself as the rest.
+use Rattle.std.specs.Prelude.{◌≡◌, ℕ, zero, suc, ◌+◌, ◌<◌, List, [], ◌∷◌, ◌++◌, length, get_or}
+use Rattle.std.proofs.lemmas.List.{append-nil}
+use Rattle.axe_algebra.specs.Bridge.{field_of, element, vector_of, matrix_of}
+use Rattle.axe_algebra.specs.Field.{Field}
+use Rattle.axe_algebra.specs.Lists.{entry, listed, table, IsMatrixOver}
+use Rattle.axe_algebra.specs.NumberField.{NumberField}
+use Rattle.axe_algebra.specs.SpansOfLists.{HaveSameSpan}
+use Rattle.axe_algebra.specs.Vectors.{Vector, scale}
+use Rattle.axe_algebra.proofs.ElementNumbers.{element_zero, element_one, element_mul}
+use Rattle.axe_algebra.proofs.FieldLaws.{one-mul}
+use Rattle.axe_algebra.proofs.ListEntries.{table_length, table_entry, table_over, row_over, matrix_entry-below}
+use Rattle.axe_algebra.proofs.ListVectors.{vector_of_scaled, same_span_refl, same_span_by_rows}
+use Rattle.axe_algebra.proofs.Spanning.{span_row, span_same, span_scale}
+use Rattle.axe_field.specs.Arithmetic.{field_mul}
+use Rattle.axe_field.specs.NumberFields.{number_field, gf}
+use Rattle.axe_field.specs.Order.{Order, IsElement}
+use Rattle.axe_reduction.specs.Augmented.{AugmentedValue, IsAugmented, AreAlike, LeadsLeftAt, IsZeroLeft}
+use Rattle.axe_reduction.specs.Augmented.{some_rows, scaled_rows}
+use Rattle.axe_reduction.specs.Forms.{AreReducedRows}
+use Rattle.axe_reduction.specs.Reductions.{AreReducedAt, AreZeroLeft, IsReductionOf}
+use Rattle.axe_reduction.specs.declared.reduction.Reduction.{Reduction}
+use Rattle.axe_reduction.proofs.ClearLaws.{mul-zero}
+use mathlib.Core.Path.{refl, sym, ◌∙◌, ap, ap₂, subst, fun_ext}
+use native.Mathlib.Omega.{arith}
+
+-- ---- multiples of rows
+
+module _ (K : NumberField) where
+  abbrev F : Field
+  F = field_of K
+
+  abbrev pub multiples : ℕ → List (List ℕ) → ℕ → List (List ℕ)
+  multiples n rows c = table (length rows) n (λ i j. K.mul c (entry rows i j))
+
+  pub multiples_over : (n : ℕ) (rows : List (List ℕ)) (c : ℕ) → IsMatrixOver K n rows → c < K.order →
+      IsMatrixOver K n (multiples n rows c)
+  multiples_over n rows c over small =
+      table_over K (length rows) n (λ i j. K.mul c (entry rows i j))
+      (λ i j below inside. K.mul-below c (entry rows i j) small (matrix_entry-below K n rows i j over))
+
+  multiple_row : (n : ℕ) (rows : List (List ℕ)) (c t : ℕ) → IsMatrixOver K n rows → c < K.order → t < length rows →
+      vector_of K (get_or (multiples n rows c) t []) ≡ scale F (element K c) (vector_of K (get_or rows t []))
+  multiple_row n rows c t over small below =
+      let f : ℕ → ℕ → ℕ = λ i j. K.mul c (entry rows i j) in
+      vector_of_scaled K n c (get_or rows t []) (get_or (multiples n rows c) t []) (row_over K n rows t over below)
+      (row_over K n (multiples n rows c) t (multiples_over n rows c over small)
+      (omega (arith, below, table_length (length rows) n f)))
+      small (λ j inside. table_entry (length rows) n f t j below inside)
+
+  -- a multiple of a multiple, where the product of the factors is 1
+  scaled_back : (c x : ℕ) (v : Vector F) → c < K.order → x < K.order → K.mul x c ≡ 1 →
+      v ≡ scale F (element K x) (scale F (element K c) v)
+  scaled_back c x v c-small x-small inverse = fun_ext λ j.
+      sym (sym (F.mul_assoc (element K x) (element K c) (v j))
+      ∙ ap (λ (e : F.Element). F.mul e (v j))
+      (sym (element_mul K x c x-small c-small) ∙ ap (element K) inverse ∙ element_one K)
+      ∙ one-mul F (v j))
+
+  -- nonzero multiples of the rows have the span of the rows
+  pub same_span_of_multiples : (n : ℕ) (rows : List (List ℕ)) (c x : ℕ) → IsMatrixOver K n rows → c < K.order →
+      x < K.order → K.mul x c ≡ 1 → HaveSameSpan K rows (multiples n rows c)
+  same_span_of_multiples n rows c x over c-small x-small inverse =
+      same_span_by_rows K rows (multiples n rows c)
+      (λ t below.
+      span_same F (length (multiples n rows c)) (matrix_of K (multiples n rows c)) (vector_of K (get_or rows t []))
+      (scale F (element K x) (vector_of K (get_or (multiples n rows c) t [])))
+      (scaled_back c x (vector_of K (get_or rows t [])) c-small x-small inverse
+      ∙ ap (scale F (element K x)) (sym (multiple_row n rows c t over c-small below)))
+      (span_scale F (length (multiples n rows c)) (matrix_of K (multiples n rows c)) (element K x)
+      (vector_of K (get_or (multiples n rows c) t []))
+      (span_row F (length (multiples n rows c)) (matrix_of K (multiples n rows c)) t
+      (omega (arith, below, table_length (length rows) n (λ i j. K.mul c (entry rows i j)))))))
+      (λ t within.
+      let below : t < length rows =
+      omega (arith, within, table_length (length rows) n (λ i j. K.mul c (entry rows i j))) in
+      span_same F (length rows) (matrix_of K rows) (vector_of K (get_or (multiples n rows c) t []))
+      (scale F (element K c) (vector_of K (get_or rows t []))) (multiple_row n rows c t over c-small below)
+      (span_scale F (length rows) (matrix_of K rows) (element K c) (vector_of K (get_or rows t []))
+      (span_row F (length rows) (matrix_of K rows) t below)))
+
+  -- the entries of the multiple that is 1 at the first entry other than 0
+  multiple_one : (n : ℕ) (rows : List (List ℕ)) (c i j : ℕ) → IsMatrixOver K n rows → c < K.order → i < length rows →
+      j < n → K.mul (entry rows i j) c ≡ 1 → matrix_of K (multiples n rows c) i j ≡ F.one
+  multiple_one n rows c i j over small below inside inverse =
+      ap (element K) (table_entry (length rows) n (λ i j. K.mul c (entry rows i j)) i j below inside
+      ∙ K.mul_comm c (entry rows i j) small (matrix_entry-below K n rows i j over) ∙ inverse)
+      ∙ element_one K
+
+  multiple_zero : (n : ℕ) (rows : List (List ℕ)) (c i j : ℕ) → c < K.order → i < length rows →
+      j < n → entry rows i j ≡ 0 → matrix_of K (multiples n rows c) i j ≡ F.zero
+  multiple_zero n rows c i j small below inside none =
+      ap (element K) (table_entry (length rows) n (λ i j. K.mul c (entry rows i j)) i j below inside
+      ∙ ap (K.mul c) none ∙ mul-zero K c small)
+      ∙ element_zero K
+
+  -- one row, reduced at its pivot
+  pub multiple_is_reduced : (n : ℕ) (rows : List (List ℕ)) (c pivot : ℕ) → IsMatrixOver K n rows → c < K.order →
+      length rows ≡ 1 → pivot < n → K.mul (entry rows 0 pivot) c ≡ 1 →
+      ((j : ℕ) → j < pivot → entry rows 0 j ≡ 0) →
+      AreReducedRows F 1 (matrix_of K (multiples n rows c)) (λ t. get_or (pivot ∷ []) t 0)
+  multiple_is_reduced n rows c pivot over small single inside inverse before = record {
+    one = one;
+    before = zeros;
+    zero = λ s t s-below t-below other. absurd (other (omega (arith, s-below, t-below)));
+  }
+    where
+      one : (t : ℕ) → t < 1 → matrix_of K (multiples n rows c) t (get_or (pivot ∷ []) t 0) ≡ F.one
+      one zero below = multiple_one n rows c 0 pivot over small (omega (arith, single)) inside inverse
+      one (suc t) below = absurd (let wrong : ⊥ = omega (arith, below) in wrong)
+
+      zeros : (t i : ℕ) → t < 1 → i < get_or (pivot ∷ []) t 0 → matrix_of K (multiples n rows c) t i ≡ F.zero
+      zeros zero i below first =
+          multiple_zero n rows c 0 i small (omega (arith, single)) (omega (arith, first, inside)) (before i first)
+      zeros (suc t) i below first = absurd (let wrong : ⊥ = omega (arith, below) in wrong)
+
+-- ---- reductions of one row
+
+scaled_is : (a : AugmentedValue) (c : ℕ) →
+    scaled_rows a c ≡ record a { rows = multiples (number_field a.order) a.cols a.rows c }
+unfolding number_field
+scaled_is a c = refl
+
+below_of_element : (o : Order) (a : ℕ) → IsElement o a → a < (number_field o).order
+unfolding number_field
+below_of_element o a below = below
+
+product_of : (o : Order) (a b : ℕ) → (number_field o).mul a b ≡ field_mul o a b
+unfolding number_field
+product_of o a b = refl
+
+no_list : {A : Type 0} (f : ℕ → A) → listed 0 f ≡ []
+no_list f = refl
+
+alike : (a b : AugmentedValue) (rows : List (List ℕ)) → b ≡ record a { rows = rows } → AreAlike a b
+alike a b rows e = record {
+  field = ap (λ (x : AugmentedValue). x.order) e;
+  left = ap (λ (x : AugmentedValue). x.left) e;
+  columns = ap (λ (x : AugmentedValue). x.cols) e;
+}
+
+zero_left : (a : AugmentedValue) → length a.rows ≡ 1 → IsZeroLeft a 0 → AreZeroLeft a
+zero_left a single zeros = record { zero = at }
+  where
+    at : (i j : ℕ) → i < length a.rows → j < a.left → matrix_of (number_field a.order) a.rows i j ≡ (gf a.order).zero
+    at zero j below inside = ap (element (number_field a.order)) (zeros j inside) ∙ element_zero (number_field a.order)
+    at (suc i) j below inside = absurd (let wrong : ⊥ = omega (arith, below, single) in wrong)
+
+none_zero_left : (a : AugmentedValue) → length a.rows ≡ 0 → AreZeroLeft a
+none_zero_left a none = record {
+  zero = λ i j below inside. absurd (let wrong : ⊥ = omega (arith, below, none) in wrong);
+}
+
+none_reduced : (pivots : List ℕ) (a : AugmentedValue) → pivots ≡ [] → length a.rows ≡ 0 → AreReducedAt pivots a
+none_reduced pivots a empty none =
+    let count : length pivots ≡ 0 = ap (λ (l : List ℕ). length l) empty in
+    record {
+      count = count ∙ sym none;
+      left = λ i d below. absurd (let wrong : ⊥ = omega (arith, below, count) in wrong);
+      reduced = record {
+        one = λ t below. absurd (let wrong : ⊥ = omega (arith, below, count) in wrong);
+        before = λ t i below first. absurd (let wrong : ⊥ = omega (arith, below, count) in wrong);
+        zero = λ s t s-below t-below other. absurd (let wrong : ⊥ = omega (arith, s-below, count) in wrong);
+      };
+    }
+
+-- a row that is 0 left of the bar is the rest
+pub rest_reduces : (row : AugmentedValue) (r : Reduction) → IsAugmented row → length row.rows ≡ 1 → IsZeroLeft row 0 →
+    r.reduced ≡ some_rows row 0 0 → IsAugmented r.reduced → r.pivots.items ≡ [] → r.rest ≡ row → IsReductionOf row r
+rest_reduces row r h single zeros none none_h pivots rest =
+    let empty : r.reduced.rows ≡ [] =
+    ap (λ (x : AugmentedValue). x.rows) none ∙ no_list (λ i. get_or row.rows (0 + i) []) in
+    let no_row : length r.reduced.rows ≡ 0 = ap (λ (l : List (List ℕ)). length l) empty in
+    let rest_rows : r.rest.rows ≡ row.rows = ap (λ (x : AugmentedValue). x.rows) rest in
+    record {
+      reduced_alike = alike row r.reduced _ none;
+      rest_alike = alike row r.rest row.rows rest;
+      reduced_well_formed = none_h;
+      rest_well_formed = subst IsAugmented (sym rest) h;
+      count = omega (arith, no_row, ap (λ (l : List (List ℕ)). length l) rest_rows);
+      are_reduced = none_reduced r.pivots.items r.reduced pivots no_row;
+      rest_zero = subst AreZeroLeft (sym rest) (zero_left row single zeros);
+      same = subst (HaveSameSpan (number_field row.order) row.rows)
+          (sym (ap₂ (λ (a b : List (List ℕ)). a ++ b) empty rest_rows))
+          (same_span_refl (number_field row.order) row.rows);
+    }
+
+multiple_reduced : (row : AugmentedValue) (scalar pivot : ℕ) → IsAugmented row → length row.rows ≡ 1 →
+    LeadsLeftAt row 0 pivot → scalar < (number_field row.order).order →
+    (number_field row.order).mul (entry row.rows 0 pivot) scalar ≡ 1 →
+    AreReducedAt (pivot ∷ []) (record row { rows = multiples (number_field row.order) row.cols row.rows scalar })
+multiple_reduced row scalar pivot h single leads small inverse = record {
+  count = sym (table_length (length row.rows) row.cols _ ∙ single);
+  left = left;
+  reduced = multiple_is_reduced (number_field row.order) row.cols row.rows scalar pivot h.over small single
+      (omega (arith, leads.within, h.some_right)) inverse leads.before;
+}
+  where
+    left : (i d : ℕ) → i < 1 → get_or (pivot ∷ []) i d < row.left
+    left zero d below = leads.within
+    left (suc i) d below = absurd (let wrong : ⊥ = omega (arith, below) in wrong)
+
+-- the multiple of a row that is 1 at the row's first entry other than 0, where this stands left of the bar
+pub multiple_reduces : (row : AugmentedValue) (r : Reduction) (scalar pivot x : ℕ) → IsAugmented row →
+    length row.rows ≡ 1 → LeadsLeftAt row 0 pivot → x ≡ entry row.rows 0 pivot → IsElement row.order x →
+    IsElement row.order scalar → field_mul row.order x scalar ≡ 1 → r.reduced ≡ scaled_rows row scalar → IsAugmented r.reduced →
+    r.pivots.items ≡ pivot ∷ [] → r.rest ≡ some_rows row 0 0 → IsAugmented r.rest → IsReductionOf row r
+multiple_reduces row r scalar pivot x h single leads x_is is_x is_scalar inverse reduced reduced_h pivots none none_h =
+    let K : NumberField = number_field row.order in
+    let is : r.reduced ≡ record row { rows = multiples K row.cols row.rows scalar } = reduced ∙ scaled_is row scalar in
+    let rows : r.reduced.rows ≡ multiples K row.cols row.rows scalar = ap (λ (x : AugmentedValue). x.rows) is in
+    let empty : r.rest.rows ≡ [] =
+    ap (λ (x : AugmentedValue). x.rows) none ∙ no_list (λ i. get_or row.rows (0 + i) []) in
+    let no_row : length r.rest.rows ≡ 0 = ap (λ (l : List (List ℕ)). length l) empty in
+    let small : scalar < K.order = below_of_element row.order scalar is_scalar in
+    let product : K.mul (entry row.rows 0 pivot) scalar ≡ 1 =
+    ap (λ y. K.mul y scalar) (sym x_is) ∙ product_of row.order x scalar ∙ inverse in
+    record {
+      reduced_alike = alike row r.reduced _ is;
+      rest_alike = alike row r.rest _ none;
+      reduced_well_formed = reduced_h;
+      rest_well_formed = none_h;
+      count = omega (
+        arith,
+        no_row,
+        ap (λ (l : List (List ℕ)). length l) rows,
+        table_length (length row.rows) row.cols (λ i j. K.mul scalar (entry row.rows i j)),
+      );
+      are_reduced = subst (λ ps. AreReducedAt ps r.reduced) (sym pivots)
+          (subst (AreReducedAt (pivot ∷ [])) (sym is) (multiple_reduced row scalar pivot h single leads small product));
+      rest_zero = none_zero_left r.rest no_row;
+      same = subst (HaveSameSpan K row.rows)
+          (sym (ap₂ (λ (a b : List (List ℕ)). a ++ b) rows empty ∙ append-nil (multiples K row.cols row.rows scalar)))
+          (same_span_of_multiples K row.cols row.rows scalar (entry row.rows 0 pivot) h.over small
+          (subst (λ y. y < K.order) x_is (below_of_element row.order x is_x)) product);
+    }

@@ -1,0 +1,4 @@
+pub mod Augmented
+pub mod Forms
+pub mod Reductions
+pub mod Solutions

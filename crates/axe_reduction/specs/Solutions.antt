@@ -1,0 +1,40 @@
+-- Null vectors and inverses of matrices.
+use Rattle.std.specs.Prelude.{◌≡◌, ℕ, ◌<◌, List, [], length, get_or}
+use Rattle.axe_algebra.specs.Bridge.{matrix_of}
+use Rattle.axe_algebra.specs.Lists.{IsSquareOver}
+use Rattle.axe_algebra.specs.ListArithmetic.{IsInverse}
+use Rattle.axe_algebra.specs.NortonTheorems.{SpansNullSpace}
+use Rattle.axe_field.specs.NumberFields.{number_field, gf}
+use Rattle.axe_matrix.specs.Matrices.{MatrixValue}
+
+-- the rows of `vectors` span the null space of m: all v with v m = 0 (Parker 1984)
+pub record SpansNullSpaceOf (m vectors : MatrixValue) : Type 0 where
+  pub field : vectors.order ≡ m.order
+  pub columns : vectors.cols ≡ length m.rows
+  pub spans : SpansNullSpace (gf m.order) (length m.rows) (matrix_of (number_field m.order) m.rows)
+      (length vectors.rows) (matrix_of (number_field m.order) vectors.rows)
+
+-- the matrix is the inverse of the square matrix m
+pub record IsInverseMatrix (m inverse : MatrixValue) : Type 0 where
+  pub field : inverse.order ≡ m.order
+  pub columns : inverse.cols ≡ m.cols
+  pub square : IsSquareOver (number_field m.order) m.cols inverse.rows
+  pub inverts : IsInverse (number_field m.order) m.cols m.rows inverse.rows
+
+-- the square matrix m has an inverse
+abbrev pub IsInvertible : MatrixValue → Type 0
+IsInvertible m = (inverse : MatrixValue) × IsInverseMatrix m inverse
+
+-- `row` is the one of the rows whose pivot is j, where row t has pivot t of the list
+pub record IsRowAtPivot (pivots : List ℕ) (rows : List (List ℕ)) (j : ℕ) (row : List ℕ) : Type 0 where
+  pub place : ℕ
+  pub within : place < length pivots
+  pub pivot : get_or pivots place 0 ≡ j
+  pub same : row ≡ get_or rows place []
+
+-- `sorted` has n rows, and row j of them is the row of m whose pivot is j
+pub record AreRowsByPivot (pivots : List ℕ) (m : MatrixValue) (n : ℕ) (sorted : MatrixValue) : Type 0 where
+  pub field : sorted.order ≡ m.order
+  pub columns : sorted.cols ≡ m.cols
+  pub count : length sorted.rows ≡ n
+  pub rows : (j : ℕ) → j < n → IsRowAtPivot pivots m.rows j (get_or sorted.rows j [])

@@ -1,0 +1,192 @@
+//! Augmented matrices.
+
+ghost use Rattle.std.specs.Prelude.{◌≡◌, ◌+◌, ◌<◌, ◌≤◌, ◌++◌, None, IfOk, MatchOption, length, All};
+ghost use Rattle.axe_algebra.specs.Lists.{entry};
+ghost use Rattle.axe_field.specs.Order.{IsElement};
+ghost use Rattle.axe_row.specs.Refusals.{Answers};
+ghost use Rattle.axe_matrix.specs.Limits.{most_rows, most_columns};
+ghost use Rattle.axe_matrix.specs.Matrices.{IsMatrix};
+ghost use Rattle.axe_reduction.specs.Augmented.{IsAugmented, AreAlike, LeadsLeftAt, IsZeroLeft, augmented, right_part};
+ghost use Rattle.axe_reduction.specs.Augmented.{some_rows, scaled_rows, entries_at, with_rows, with_product};
+
+use axe_field::Field;
+use axe_matrix::{Matrix, Refusal};
+use std::alloc::Global;
+use std::marker::Model;
+
+/// A matrix beside another over the same field, with a bar between them: whatever is done to the rows of the one is done to
+/// those of the other. Columns are counted from 0, those right of the bar after those left of it.
+#[derive(Drop)]
+pub(crate) struct Augmented {
+    left: Matrix,
+    right: Matrix,
+}
+
+impl Model for Augmented {
+    ghost use Rattle.axe_reduction.specs.Augmented.{AugmentedValue};
+
+    ghost Value = { AugmentedValue };
+
+    ghost use Rattle.axe_reduction.specs.Augmented.{augmented, AreBeside};
+
+    ghost view = { λ a. augmented a.left a.right };
+
+    ghost invariant = { λ a. AreBeside a.left a.right };
+}
+
+impl Augmented {
+    /// A matrix beside another, which is over the same field and has as many rows.
+    pub(crate) fn beside(left: Matrix, right: Matrix) -> Augmented
+        requires field { right.order ≡ left.order }
+        requires as_many { length right.rows ≡ length left.rows }
+        ensures beside { result ≡ augmented left right }
+        ensures well_formed { IsAugmented result }
+    {
+        // `rows` is called for what it ensures beside the numbers: that the two are matrices.
+        prove!(left.rows() == right.rows());
+        Augmented { left, right }
+    }
+
+    /// How many rows there are.
+    pub(crate) fn rows(&self) -> usize
+        ensures count { result ≡ length self.now.rows }
+        ensures well_formed { IsAugmented self.now }
+    {
+        self.left.rows()
+    }
+
+    /// The field of the entries.
+    pub(crate) fn field(&self) -> &Field
+        ensures order { result.now ≡ self.now.order }
+        ensures well_formed { IsAugmented self.now }
+    {
+        self.left.field()
+    }
+
+    /// The entry at a row and a column left of the bar.
+    pub(crate) fn get(&self, row: usize, column: usize) -> u8
+        requires row { row < length self.now.rows }
+        requires column { column < self.now.left }
+        ensures value { result ≡ entry self.now.rows row column }
+        ensures element { IsElement self.now.order result }
+    {
+        self.left.get(row, column)
+    }
+
+    /// The column of the first entry of a row other than 0, or `None` where the row is 0 left of the bar.
+    pub(crate) fn leading(&self, row: usize) -> Option<usize>
+        requires { row < length self.now.rows }
+        ensures { MatchOption result (IsZeroLeft self.now row) (LeadsLeftAt self.now row) }
+    {
+        self.left.row(row).first_nonzero()
+    }
+
+    /// The entries at chosen columns left of the bar, of all rows. A column may stand more than once.
+    pub(crate) fn entries_at(&self, alloc: Global, columns: &[usize]) -> Result<Matrix, Refusal>
+        requires some_column { 1 ≤ length columns.now }
+        requires columns_fit { length columns.now ≤ most_columns }
+        requires left { All (λ column. column < self.now.left) columns.now }
+        ensures entries { Answers None (λ entries. entries ≡ entries_at self.now columns.now) result }
+        ensures well_formed { IfOk result IsMatrix }
+    {
+        let mut entries = Matrix::empty(alloc, *self.field(), columns.len());
+        for index in 0..self.rows() {
+            let row = self.left.row(index).select(alloc, columns)?;
+            entries.append(row)?;
+        }
+        Ok(entries)
+    }
+
+    /// `count` of the rows, from row `start` on.
+    pub(crate) fn some_rows(
+        &self,
+        alloc: Global,
+        start: usize,
+        count: usize,
+    ) -> Result<Augmented, Refusal>
+        requires { start + count ≤ length self.now.rows }
+        ensures rows { Answers None (λ rows. rows ≡ some_rows self.now start count) result }
+        ensures well_formed { IfOk result IsAugmented }
+    {
+        let left = self.left.block(alloc, start, count, 0, self.left.cols())?;
+        let right = self.right.block(alloc, start, count, 0, self.right.cols())?;
+        Ok(Augmented { left, right })
+    }
+
+    /// A multiple of each row.
+    pub(crate) fn scaled(&self, alloc: Global, scalar: u8) -> Result<Augmented, Refusal>
+        requires { IsElement self.now.order scalar }
+        ensures multiple { Answers None (λ multiple. multiple ≡ scaled_rows self.now scalar) result }
+        ensures well_formed { IfOk result IsAugmented }
+    {
+        let field = *self.field();
+        let mut left = Matrix::zero(alloc, field, self.rows(), self.left.cols())?;
+        left.add_scaled(scalar, &self.left);
+        let mut right = Matrix::zero(alloc, field, self.rows(), self.right.cols())?;
+        right.add_scaled(scalar, &self.right);
+        Ok(Augmented { left, right })
+    }
+
+    /// These rows with a multiple of a product added: `factors` has as many rows as there are here, and as many columns as
+    /// there are rows in `other`, whose columns are those here.
+    pub(crate) fn plus_product(
+        self,
+        alloc: Global,
+        scalar: u8,
+        factors: &Matrix,
+        other: &Augmented,
+    ) -> Result<Augmented, Refusal>
+        requires alike { AreAlike self other.now }
+        requires factors_field { factors.now.order ≡ self.order }
+        requires rows_fit { length factors.now.rows ≡ length self.rows }
+        requires inner_fit { factors.now.cols ≡ length other.now.rows }
+        requires element { IsElement self.order scalar }
+        ensures sum { Answers None (λ sum. sum ≡ with_product self scalar factors.now other.now) result }
+        ensures well_formed { IfOk result IsAugmented }
+    {
+        let Augmented { left, right } = self;
+        let (mut left, mut right) = (left, right);
+        left.add_product(alloc, scalar, factors, &other.left)?;
+        right.add_product(alloc, scalar, factors, &other.right)?;
+        Ok(Augmented { left, right })
+    }
+
+    /// These rows and then those of another, whose columns are those here.
+    pub(crate) fn with_rows(self, alloc: Global, other: &Augmented) -> Result<Augmented, Refusal>
+        requires alike { AreAlike self other.now }
+        requires room { length self.rows + length other.now.rows ≤ most_rows }
+        ensures rows { Answers None (λ all. all ≡ with_rows self other.now) result }
+        ensures well_formed { IfOk result IsAugmented }
+    {
+        let Augmented { left, right } = self;
+        let (mut left, mut right) = (left, right);
+        append_rows(alloc, &mut left, &other.left)?;
+        append_rows(alloc, &mut right, &other.right)?;
+        Ok(Augmented { left, right })
+    }
+
+    /// The matrix right of the bar.
+    pub(crate) fn into_right(self) -> Matrix
+        ensures right { result ≡ right_part self result.cols }
+        ensures columns { self.left + result.cols ≡ self.cols }
+        ensures well_formed { IsMatrix result }
+    {
+        self.right
+    }
+}
+
+/// Appends copies of the rows of another matrix over the same field, with as many columns.
+fn append_rows(alloc: Global, matrix: &mut Matrix, other: &Matrix) -> Result<(), Refusal>
+    requires field { other.now.order ≡ matrix.old.order }
+    requires columns { other.now.cols ≡ matrix.old.cols }
+    requires room { length matrix.old.rows + length other.now.rows ≤ most_rows }
+    ensures rows { Answers None (λ _. matrix.new ≡ record matrix.old { rows = matrix.old.rows ++ other.now.rows }) result }
+    ensures well_formed { IsMatrix matrix.new }
+{
+    prove!(matrix.cols() == other.cols());
+    for index in 0..other.rows() {
+        let row = other.row(index).copy(alloc)?;
+        matrix.append(row)?;
+    }
+    Ok(())
+}

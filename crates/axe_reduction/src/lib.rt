@@ -1,0 +1,8 @@
+//! Null vectors and inverses of matrices, by the reduction of augmented matrices, half of the rows after the other.
+#![tactic(auto)]
+
+mod augmented;
+mod reduction;
+mod solutions;
+
+pub use solutions::{inverse_of, null_vectors};

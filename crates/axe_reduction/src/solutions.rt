@@ -1,0 +1,88 @@
+//! Null vectors and inverses.
+
+ghost use Rattle.std.specs.Prelude.{◌≡◌, ◌<◌, ◌≤◌, ℕ, None, IfOk, IfSome, MatchOption, length, slice_index_or};
+ghost use Rattle.std.specs.List.{Contains};
+ghost use Rattle.axe_row.specs.Refusals.{Answers};
+ghost use Rattle.axe_matrix.specs.Matrices.{IsMatrix, identity_matrix};
+ghost use Rattle.axe_reduction.specs.Augmented.{augmented};
+ghost use Rattle.axe_reduction.specs.Reductions.{IsReductionOf};
+ghost use Rattle.axe_reduction.specs.Solutions.{AreRowsByPivot, IsInverseMatrix, IsInvertible, SpansNullSpaceOf};
+
+use crate::augmented::Augmented;
+use crate::reduction::{Reduction, reduction_of};
+use axe_matrix::{Matrix, Refusal};
+use std::alloc::Global;
+
+/// Vectors that span the null space of a matrix with at least one row: all vectors whose product with it, as `v X`, is
+/// zero.
+pub fn null_vectors(alloc: Global, matrix: &Matrix) -> Result<Matrix, Refusal>
+    requires { 1 ≤ length matrix.now.rows }
+    ensures spans { Answers None (SpansNullSpaceOf matrix.now) result }
+    ensures well_formed { IfOk result IsMatrix }
+{
+    // `rows` is called for what it ensures beside the number: that this is a matrix.
+    prove!(matrix.rows() >= 1);
+    let reduction = reduction_beside_identity(alloc, matrix)?;
+    Ok(reduction.rest.into_right())
+}
+
+/// The inverse of a square matrix, or `None` where it has none.
+pub fn inverse_of(alloc: Global, matrix: &Matrix) -> Result<Option<Matrix>, Refusal>
+    requires { length matrix.now.rows ≡ matrix.now.cols }
+    ensures inverse { Answers None (λ found. MatchOption found (¬ (IsInvertible matrix.now))
+        (IsInverseMatrix matrix.now)) result }
+    ensures well_formed { IfOk result (λ found. IfSome found IsMatrix) }
+{
+    // So there is a row, as there is a column.
+    prove!(matrix.rows() == matrix.cols());
+    let reduction = reduction_beside_identity(alloc, matrix)?;
+    if reduction.pivots.len() != matrix.rows() {
+        return Ok(None);
+    }
+    let Reduction {
+        reduced,
+        pivots,
+        ..
+    } = reduction;
+    // As many pivots as columns are all of the columns.
+    let inverse = rows_by_pivot(alloc, &reduced.into_right(), &pivots)?;
+    Ok(Some(inverse))
+}
+
+/// The rows of a matrix in the order of their pivots, which are all of the columns.
+fn rows_by_pivot(alloc: Global, rows: &Matrix, pivots: &[usize]) -> Result<Matrix, Refusal>
+    requires count { length pivots.now ≡ length rows.now.rows }
+    requires all { (column : ℕ) → column < rows.now.cols → Contains pivots.now column }
+    ensures sorted { Answers None (AreRowsByPivot pivots.now rows.now rows.now.cols) result }
+    ensures well_formed { IfOk result IsMatrix }
+{
+    let mut sorted = Matrix::empty(alloc, *rows.field(), rows.cols());
+    for column in 0..rows.cols() {
+        let row = rows.row(place_of(pivots, column)).copy(alloc)?;
+        sorted.append(row)?;
+    }
+    Ok(sorted)
+}
+
+/// A place of a number in a list that has it.
+fn place_of(numbers: &[usize], number: usize) -> usize
+    requires { Contains numbers.now number }
+    ensures within { result < length numbers.now }
+    ensures found { slice_index_or numbers.now result 0 ≡ number }
+{
+    let Some(place) = numbers.iter().position(|candidate| *candidate == number) else {
+        unreachable!()
+    };
+    place
+}
+
+/// The reduction of a matrix beside the identity.
+fn reduction_beside_identity(alloc: Global, matrix: &Matrix) -> Result<Reduction, Refusal>
+    requires { 1 ≤ length matrix.now.rows }
+    ensures { Answers None
+        (IsReductionOf (augmented matrix.now (identity_matrix matrix.now.order (length matrix.now.rows)))) result }
+{
+    let identity = Matrix::identity(alloc, *matrix.field(), matrix.rows())?;
+    let copy = matrix.copy(alloc)?;
+    reduction_of(alloc, Augmented::beside(copy, identity))
+}
