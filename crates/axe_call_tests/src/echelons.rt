@@ -46,7 +46,10 @@ const NULL_SPACES_AND_INVERSES: &str = "\
 null_space | 2: 10/01 | 2: 0x2
 null_space | 2: 10/10 | 2: 11
 null_space | 2: 0x2 | the matrix has no rows
+null_space | 3: 12/21/00/11 | 3: 1100/0010
 inverse | 3: 12/01 | 3: 11/01
+inverse | 5: 11111/01111/00111/00011/00001 | 5: 14000/01400/00140/00014/00001
+inverse | 5: 00001/00011/00111/01111/11111 | 5: 00041/00410/04100/41000/10000
 inverse | 3: 10/10 | the matrix has no inverse
 inverse | 3: 000/000 | the matrix is not square
 ";

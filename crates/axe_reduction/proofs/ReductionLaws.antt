@@ -114,11 +114,11 @@ halves_stacked a half others count = record {
 
 -- ---- the number of -1
 
-minus_one-below : (o : Order) → field_neg o 1 < (number_field o).order
+pub minus_one-below : (o : Order) → field_neg o 1 < (number_field o).order
 minus_one-below o =
     subst (λ e. e < (number_field o).order) (number_field-neg o 1) ((number_field o).neg-below 1 (number_field o).one-below)
 
-minus_one-is : (o : Order) → element (number_field o) (field_neg o 1) ≡ (gf o).neg (gf o).one
+pub minus_one-is : (o : Order) → element (number_field o) (field_neg o 1) ≡ (gf o).neg (gf o).one
 minus_one-is o =
     ap (element (number_field o)) (sym (number_field-neg o 1)) ∙ element_neg (number_field o) 1 (number_field o).one-below
     ∙ ap (gf o).neg (element_one (number_field o))

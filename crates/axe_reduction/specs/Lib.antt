@@ -2,3 +2,4 @@ pub mod Augmented
 pub mod Forms
 pub mod Reductions
 pub mod Solutions
+pub mod Coordinates

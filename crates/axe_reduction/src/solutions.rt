@@ -77,7 +77,10 @@ fn place_of(numbers: &[usize], number: usize) -> usize
 }
 
 /// The reduction of a matrix beside the identity.
-fn reduction_beside_identity(alloc: Global, matrix: &Matrix) -> Result<Reduction, Refusal>
+pub(crate) fn reduction_beside_identity(
+    alloc: Global,
+    matrix: &Matrix,
+) -> Result<Reduction, Refusal>
     requires { 1 ≤ length matrix.now.rows }
     ensures { Answers None
         (IsReductionOf (augmented matrix.now (identity_matrix matrix.now.order (length matrix.now.rows)))) result }
