@@ -14,3 +14,4 @@ mod RewrittenRows
 mod BlockRows
 mod DirectRows
 pub mod ProductRows
+mod ScaledFactors

@@ -2,5 +2,6 @@ pub mod Limits
 pub mod Matrices
 pub mod RowLists
 pub mod Multiples
+pub mod Columns
 pub mod Products
 pub mod PieceTables

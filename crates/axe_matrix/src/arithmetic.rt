@@ -1,8 +1,11 @@
 //! Sums and transposes of matrices.
 
-ghost use Rattle.std.specs.Prelude.{◌≡◌, ◌<◌, None, IfOk};
+ghost use Rattle.std.specs.Prelude.{◌≡◌, ◌<◌, IfOk, length, slice_set};
+ghost use Rattle.axe_field.specs.Order.{IsElement};
+ghost use Rattle.axe_row.specs.Operations.{IsZeroVector};
 ghost use Rattle.axe_row.specs.Refusals.{Answers};
-ghost use Rattle.axe_matrix.specs.Matrices.{IsMatrix, column_of};
+ghost use Rattle.axe_matrix.specs.Columns.{matrix_with_column};
+ghost use Rattle.axe_matrix.specs.Matrices.{IsMatrix, row_of, column_of};
 ghost use Rattle.axe_matrix.specs.Matrices.{sum_refusal, sum_of_matrices, transpose_refusal, transposed_matrix};
 
 use super::{Matrix, Refusal, Row};
@@ -41,23 +44,42 @@ impl Matrix {
         if self.rows() == 0 {
             return Err(Refusal::NoRows);
         }
-        let mut transpose = Matrix::empty(alloc, *self.field(), self.rows());
-        for index in 0..self.cols() {
-            let row = self.column(alloc, index)?;
-            transpose.append(row)?;
+        let mut transpose = Matrix::zero(alloc, *self.field(), self.cols(), self.rows())?;
+        for index in 0..self.rows() {
+            transpose.put_column(index, self.row(index));
         }
         Ok(transpose)
     }
 
-    /// The entries of a column, from the first row on, as a row vector.
-    fn column(&self, alloc: Global, column: usize) -> Result<Row, Refusal>
-        requires { column < self.now.cols }
-        ensures { Answers None (λ row. row ≡ column_of self.now column) result }
+    /// Makes a row vector the column at an index, which holds zeros so far; all other entries stay. The vector is over
+    /// the matrix's field, and has as many entries as the matrix has rows. Its entries that are 0 are passed over. It
+    /// takes no memory.
+    fn put_column(&mut self, column: usize, entries: &Row)
+        requires column { column < self.old.cols }
+        requires field { entries.now.order ≡ self.old.order }
+        requires fits { length entries.now.entries ≡ length self.old.rows }
+        requires zeros { IsZeroVector (column_of self.old column).entries }
+        ensures column { self.new ≡ matrix_with_column self.old column entries.now.entries }
+        ensures well_formed { IsMatrix self.new }
     {
-        let mut row = Row::zero(alloc, *self.field(), self.rows())?;
-        for index in 0..self.rows() {
-            row.set(index, self.get(index, column));
+        // `rows` is called for what it ensures beside their number: that there are so few that no sum below wraps.
+        prove!(entries.len() == self.rows());
+        let mut at = 0;
+        while let Some(index) = entries.next_nonzero(at) {
+            self.put_entry(index, column, entries.get(index));
+            at = index + 1;
         }
-        Ok(row)
+    }
+
+    /// Makes an element the entry at a row and a column; all other entries stay.
+    fn put_entry(&mut self, row: usize, column: usize, element: u8)
+        requires row { row < length self.old.rows }
+        requires column { column < self.old.cols }
+        requires element { IsElement self.old.order element }
+        ensures replaced { let entries = slice_set (row_of self.old row).entries column element in
+            self.new ≡ record self.old { rows = slice_set self.old.rows row entries } }
+        ensures well_formed { IsMatrix self.new }
+    {
+        self.rows[row].set(column, element);
     }
 }

@@ -7,6 +7,7 @@ ghost use Rattle.axe_row.specs.Combinations.{most_combined, combination_at, row_
 ghost use Rattle.axe_row.specs.Refusals.{Answers};
 ghost use Rattle.axe_row.specs.Rows.{IsRow};
 ghost use Rattle.axe_matrix.specs.Matrices.{IsMatrix, row_of, product_refusal, matrix_product};
+ghost use Rattle.axe_matrix.specs.Multiples.{matrix_multiple};
 ghost use Rattle.axe_matrix.specs.PieceTables.{IsTableFor, AreTablesFor, CombineFrom};
 ghost use Rattle.axe_matrix.specs.Products.{matrix_with_product, matrix_with_terms, row_with_product};
 
@@ -62,11 +63,52 @@ impl Matrix {
             self.add_directly(scalar, a, b);
             return Ok(());
         }
+        if scalar == 1 {
+            return self.add_by_tables(alloc, a, b, size);
+        }
+        // The digits of a piece are read at once where no scalar is multiplied in.
+        let multiple = a.multiple(alloc, scalar)?;
+        self.add_by_tables(alloc, &multiple, b, size)
+    }
+
+    /// The matrix times an element: each entry e becomes c e, where c is the scalar.
+    fn multiple(&self, alloc: Global, scalar: u8) -> Result<Matrix, Refusal>
+        requires element { IsElement self.now.order scalar }
+        ensures multiple { Answers None (λ multiple. multiple ≡ matrix_multiple scalar self.now) result }
+        ensures well_formed { IfOk result IsMatrix }
+    {
+        let mut multiple = Matrix::zero(alloc, *self.field(), self.rows(), self.cols())?;
+        multiple.add_scaled(scalar, self);
+        Ok(multiple)
+    }
+
+    /// Adds the product of two matrices as [`Matrix::add_product`] does with the scalar 1, by tables that combine so
+    /// many rows of the second each. For want of memory nothing is changed.
+    fn add_by_tables(
+        &mut self,
+        alloc: Global,
+        a: &Matrix,
+        b: &Matrix,
+        size: usize,
+    ) -> Result<(), Refusal>
+        requires a_field { a.now.order ≡ self.old.order }
+        requires b_field { b.now.order ≡ self.old.order }
+        requires rows_fit { length a.now.rows ≡ length self.old.rows }
+        requires inner_fit { a.now.cols ≡ length b.now.rows }
+        requires columns_fit { b.now.cols ≡ self.old.cols }
+        requires some { 1 ≤ size }
+        requires size { size ≤ most_combined self.old.order }
+        ensures sum { Answers None (λ _. self.new ≡ matrix_with_product self.old 1 a.now b.now) result }
+        ensures unchanged { OnErr result (self.new ≡ self.old) }
+        ensures well_formed { IsMatrix self.new }
+    {
+        // `cols` is called for what it ensures beside their number: that the first matrix is one.
+        prove!(a.cols() == b.rows());
         let mut tables = FourTables::new(alloc, *self.field(), self.cols(), size)?;
         let mut at = 0;
         while at < b.rows() {
             tables.fill(b, at);
-            self.add_block(scalar, a, b, at, &tables);
+            self.add_block(1, a, b, at, &tables);
             at += 4 * size;
         }
         Ok(())

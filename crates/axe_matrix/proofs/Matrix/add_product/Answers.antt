@@ -1,64 +1,18 @@
-use Rattle.std.proofs.Common.{◌*◌, ◌≤◌, length, refl, sym, ap, ◌∙◌, subst, arith}
-use Rattle.axe_field.specs.Order.{Order, IsElement}
+use Rattle.std.proofs.Common.{◌≡◌, None, length, ap, ◌∙◌, subst}
+use Rattle.axe_row.specs.Refusals.{Answers}
 use Rattle.axe_matrix.specs.Matrices.{MatrixValue}
-use Rattle.axe_matrix.proofs.ProductRows.{matrix_with_no_terms, matrix_with_more_terms, matrix_with_all_terms, tables_for, length-matrix_with_terms}
+use Rattle.axe_matrix.specs.Products.{matrix_with_product}
+use Rattle.axe_matrix.proofs.ScaledFactors.{length-matrix_multiple, scaled_factor}
 use Rattle.axe_matrix.proofs.Matrix.add_product.Goals as goal
 
-pub loop-at-init : goal.loop-at-init
-loop-at-init c = record {
-  so_far = matrix_with_no_terms c.args.self.now c.args.scalar c.args.a.now c.args.b.now 0 c.field.ensures.well_formed c.requires.element;
-  count = refl;
-  size = c.in_ok-tables.ensures.size;
-  tables = tables_for _ _ _ _ _ c.field-2.ensures.order c.cols-2.ensures.count c.in_ok-tables.ensures.tables;
-  well_formed = c.field.ensures.well_formed;
-}
-
-pub fill-requires-clause-tables : goal.fill-requires-clause-tables
-fill-requires-clause-tables c = tables_for _ _ _ _ _ (sym c.requires.b_field) (sym c.requires.columns_fit) c.loop-at.invariant.tables
-
-pub add_block-requires-clause-a_field : goal.add_block-requires-clause-a_field
-add_block-requires-clause-a_field c = c.requires.a_field ∙ ap (λ (m : MatrixValue). m.order) (sym c.loop-at.invariant.so_far)
-
-pub add_block-requires-clause-b_field : goal.add_block-requires-clause-b_field
-add_block-requires-clause-b_field c = c.requires.b_field ∙ ap (λ (m : MatrixValue). m.order) (sym c.loop-at.invariant.so_far)
-
-pub add_block-requires-clause-rows_fit : goal.add_block-requires-clause-rows_fit
-add_block-requires-clause-rows_fit c = c.requires.rows_fit ∙ sym c.loop-at.invariant.count
-
-pub add_block-requires-clause-columns_fit : goal.add_block-requires-clause-columns_fit
-add_block-requires-clause-columns_fit c = c.requires.columns_fit ∙ ap (λ (m : MatrixValue). m.cols) (sym c.loop-at.invariant.so_far)
-
-pub add_block-requires-clause-element : goal.add_block-requires-clause-element
-add_block-requires-clause-element c =
-    subst (λ (o : Order). IsElement o c.args.scalar) (ap (λ (m : MatrixValue). m.order) (sym c.loop-at.invariant.so_far)) c.requires.element
-
-pub add_block-requires-clause-tables : goal.add_block-requires-clause-tables
-add_block-requires-clause-tables c =
-    tables_for _ _ _ _ _ (add_block-requires-clause-b_field c) (add_block-requires-clause-columns_fit c) c.fill.ensures.tables
-
-pub loop-at-smaller : goal.loop-at-smaller
-loop-at-smaller c = omega (arith, c.loop-at-test.true, c.rows-in-loop-at.ensures.count, c.rows_combined-size.ensures.some)
-
-pub loop-at-preserved : goal.loop-at-preserved
-loop-at-preserved c =
-    let invariant = c.loop-at.invariant in
-    let size = c.fill.ensures.size ∙ invariant.size in
-    record {
-      so_far =
-          matrix_with_more_terms c.args.self.now c.args.scalar c.args.a.now c.args.b.now c.loop-at.at (4 * c.rows_combined-size.result) c.loop-at.self c.add_block.new.self
-          c.field.ensures.well_formed c.cols.ensures.well_formed c.rows.ensures.well_formed c.requires.a_field c.requires.b_field c.requires.rows_fit c.requires.element
-          invariant.so_far (rw (← size) c.add_block.ensures.sum);
-      count = ap (λ (m : MatrixValue). length m.rows) c.add_block.ensures.sum ∙ length-matrix_with_terms c.loop-at.self c.args.scalar c.args.a.now c.args.b.now c.loop-at.at (4 * c.fill.new.self.size) ∙ invariant.count;
-      size = size;
-      tables = tables_for _ _ _ _ _ c.requires.b_field c.requires.columns_fit c.fill.ensures.tables;
-      well_formed = c.add_block.ensures.well_formed;
-    }
+pub add_by_tables-requires-2-clause-rows_fit : goal.add_by_tables-requires-2-clause-rows_fit
+add_by_tables-requires-2-clause-rows_fit c =
+    ap (λ (m : MatrixValue). length m.rows) c.in_ok-multiple.ensures.multiple ∙ length-matrix_multiple c.args.scalar c.args.a.now ∙ c.requires.rows_fit
 
 pub returns-clause-sum : goal.returns-clause-sum
 returns-clause-sum c =
-    let all : length c.args.b.now.rows ≤ c.loop-at.at = rw (← c.rows-in-loop-at.ensures.count) c.loop-at-test.false in
-    c.loop-at.invariant.so_far ∙ matrix_with_all_terms c.args.self.now c.args.scalar c.args.a.now c.args.b.now c.loop-at.at
-    c.cols.ensures.well_formed c.rows.ensures.well_formed c.requires.a_field c.requires.b_field c.requires.rows_fit all
-
-pub returns-clause-well_formed : goal.returns-clause-well_formed
-returns-clause-well_formed c = c.loop-at.invariant.well_formed
+    subst (λ (m : MatrixValue). Answers None (λ _. c.add_by_tables-2.new.self ≡ m) c.add_by_tables-2.result)
+    (ap (λ m. matrix_with_product c.args.self.now 1 m c.args.b.now) c.in_ok-multiple.ensures.multiple
+    ∙ scaled_factor c.args.self.now c.args.scalar c.args.a.now c.args.b.now c.cols.ensures.well_formed c.rows.ensures.well_formed
+    c.requires.a_field c.requires.b_field c.requires.rows_fit c.requires.inner_fit c.requires.element)
+    c.add_by_tables-2.ensures.sum

@@ -2,11 +2,11 @@ use Rattle.std.proofs.Common.{◌≡◌, ◌-◌, length}
 use Rattle.axe_matrix.specs.Matrices.{IsMatrix}
 use Rattle.axe_matrix.specs.PieceTables.{AreTablesFor}
 use Rattle.axe_matrix.specs.Products.{matrix_with_terms}
-use Rattle.axe_matrix.proofs.Matrix.add_product.Given as goal
+use Rattle.axe_matrix.proofs.Matrix.add_by_tables.Given as goal
 
 abbrev pub invariant-loop-at : goal.invariant-loop-at
 invariant-loop-at l = record {
-  so_far : l.self ≡ matrix_with_terms l.fn.self l.scalar l.a l.b 0 l.at;
+  so_far : l.self ≡ matrix_with_terms l.fn.self 1 l.a l.b 0 l.at;
   count : length l.self.rows ≡ length l.fn.self.rows;
   size : l.tables.size ≡ l.size;
   tables : AreTablesFor l.fn.self.order l.fn.self.cols l.tables;
