@@ -111,7 +111,7 @@ matrix_with_all_terms d c a b n ha hb a_field b_field rows_fit all =
     ∙ sym (listed_at (length d.rows) f i [] inside)))
 
 -- tables of the same entries
-same_table : (m n : ℕ) (f g : ℕ → ℕ → ℕ) → ((i j : ℕ) → i < m → j < n → f i j ≡ g i j) → table m n f ≡ table m n g
+pub same_table : (m n : ℕ) (f g : ℕ → ℕ → ℕ) → ((i j : ℕ) → i < m → j < n → f i j ≡ g i j) → table m n f ≡ table m n g
 same_table m n f g same =
     ext_get_or [] (table m n f) (table m n g) (table_length m n f ∙ sym (table_length m n g)) (λ i below.
     let row : i < m = omega (arith, table_length m n f) in

@@ -1,11 +1,10 @@
 -- A product is a multiple where its first factor is one.
-use Rattle.std.proofs.Common.{◌≡◌, ℕ, ◌<◌, List, [], length, refl, sym, ap, ◌∙◌, arith}
-use Rattle.std.proofs.lemmas.List.{ext_get_or}
-use Rattle.axe_algebra.specs.Lists.{entry, listed, table}
+use Rattle.std.proofs.Common.{◌≡◌, ℕ, ◌<◌, List, length, refl, sym, ap, ◌∙◌, arith}
+use Rattle.axe_algebra.specs.Lists.{entry, table}
 use Rattle.axe_algebra.specs.ListArithmetic.{number_sum, product_entry}
 use Rattle.axe_algebra.specs.NumberField.{NumberField}
 use Rattle.axe_algebra.proofs.ElementNumbers.{number_sum_same}
-use Rattle.axe_algebra.proofs.ListEntries.{listed_length, listed_at, table_length, table_row, table_entry}
+use Rattle.axe_algebra.proofs.ListEntries.{table_length, table_entry}
 use Rattle.axe_field.specs.Order.{Order, IsElement}
 use Rattle.axe_field.specs.NumberFields.{number_field}
 use Rattle.axe_matrix.specs.Matrices.{MatrixValue, IsMatrix, zero_matrix}
@@ -13,19 +12,8 @@ use Rattle.axe_matrix.specs.Multiples.{rows_with_multiple, matrix_with_multiple,
 use Rattle.axe_matrix.specs.Products.{rows_with_product, matrix_with_product}
 use Rattle.axe_matrix.proofs.BlockLaws.{HasElements}
 use Rattle.axe_matrix.proofs.BlockRows.{element-below, entries-below}
-use Rattle.axe_matrix.proofs.MatrixLaws.{same_matrix}
+use Rattle.axe_matrix.proofs.ProductRows.{same_table}
 use Rattle.axe_matrix.proofs.TermSums.{zero-add, one-mul, mul-number_sum, sum-below}
-
--- tables of the same entries
-same_table : (m n : ℕ) (f g : ℕ → ℕ → ℕ) → ((i j : ℕ) → i < m → j < n → f i j ≡ g i j) → table m n f ≡ table m n g
-same_table m n f g same =
-    ext_get_or [] (table m n f) (table m n g) (table_length m n f ∙ sym (table_length m n g)) (λ i below.
-    let row : i < m = omega (arith, table_length m n f) in
-    table_row m n f i row
-    ∙ ext_get_or 0 (listed n (f i)) (listed n (g i)) (listed_length n (f i) ∙ sym (listed_length n (g i))) (λ j within.
-    let column : j < n = omega (arith, listed_length n (f i)) in
-    listed_at n (f i) j 0 column ∙ same i j row column ∙ sym (listed_at n (g i) j 0 column))
-    ∙ sym (table_row m n g i row))
 
 pub length-matrix_multiple : (c : ℕ) (a : MatrixValue) → length (matrix_multiple c a).rows ≡ length a.rows
 unfolding rows_multiple
