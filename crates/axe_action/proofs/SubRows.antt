@@ -1,87 +1,93 @@
--- The action of a generator on independent rows, from the coordinates of their images, and that of a module.
-use Rattle.std.specs.Prelude.{◌≡◌, ℕ, ◌<◌, List, [], length, get_or, Option, Some, None, MatchOption, IfSome, Result}
-use Rattle.std.specs.Option.{ok_or}
+-- The action of a generator on independent rows, row by row, and that of a module.
+use Rattle.std.specs.Prelude.{◌≡◌, ℕ, ◌+◌, ◌<◌, ◌≤◌, List, [], ◌∷◌, ◌++◌, length, get_or, None, Result}
+use Rattle.std.proofs.lemmas.List.{length-append, get_or_append_left, get_or-append-add}
 use Rattle.axe_algebra.specs.NumberField.{NumberField}
-use Rattle.axe_algebra.specs.Lists.{IsVectorOver, IsMatrixOver, IsSquareOver}
-use Rattle.axe_algebra.specs.ListArithmetic.{combination}
-use Rattle.axe_algebra.specs.SpansOfLists.{IsSpanned}
+use Rattle.axe_algebra.specs.Lists.{IsMatrixOver, IsSquareOver}
+use Rattle.axe_algebra.specs.SpansOfLists.{IsIndependent, IsSpanned}
 use Rattle.axe_algebra.specs.ModulesOfLists.{IsSubAction}
 use Rattle.axe_algebra.proofs.ListSpans.{spanned_by_coefficients}
 use Rattle.axe_algebra.proofs.ListModules.{invariant_by_images, images_of_invariant, sub_action_by_rows}
-use Rattle.axe_field.specs.Order.{Order}
 use Rattle.axe_field.specs.NumberFields.{number_field}
-use Rattle.axe_row.specs.Refusals.{AnswersOr, RefusedAs}
+use Rattle.axe_row.specs.Rows.{RowValue}
+use Rattle.axe_row.specs.Refusals.{AnswersOr}
 use Rattle.axe_row.specs.declared.refusals.Refusal.{Refusal}
-use Rattle.axe_row.specs.declared.refusals.Refusal.TheVariants.{NotInvariant}
-use Rattle.axe_matrix.specs.Matrices.{MatrixValue, IsMatrix, row_of, matrix_product}
-use Rattle.axe_matrix.proofs.ProductLaws.{get_or-product}
-use Rattle.axe_reduction.specs.Coordinates.{AreSpanned, AreCoordinatesOver}
-use Rattle.axe_echelon.proofs.OneMatrix.{over_of}
+use Rattle.axe_matrix.specs.Matrices.{MatrixValue, IsMatrix}
+use Rattle.axe_echelon.specs.Echelons.{EchelonValue, IsEchelon, AreCoordinates, IsSpanOfRows}
+use Rattle.axe_echelon.proofs.FormLaws.{below_or_at}
 use Rattle.axe_spin.specs.Modules.{ModuleValue, IsModule, IsInvariantIn, generator_of, rows_of_each, module_of_matrices}
 use Rattle.axe_spin.specs.Generators.{IsGeneratorMatrix}
 use Rattle.axe_spin.proofs.ModuleLaws.{square_over}
 use Rattle.axe_action.specs.Actions.{action_late, IsActionOverRows}
 use Rattle.axe_action.specs.Coordinates.{row_times, HasImagesIn, IsActionRow, HasActionRows}
 use Rattle.axe_action.proofs.GeneratorLists.{AreNewGenerators, module_of_made}
-use Rattle.axe_action.proofs.Images.{images_count, image_row}
 use Rattle.std.specs.List.{All}
 use Rattle.std.proofs.lemmas.List.{length-map}
 use Rattle.std.proofs.lemmas.List.Elements.{All-map, All-weaker}
-use mathlib.Core.Logic.{inr}
 use mathlib.Core.Path.{refl, sym, ◌∙◌, ap, subst}
 use native.Mathlib.Omega.{arith}
 
--- an image outside the span
-pub images_outside : (rows g images : MatrixValue) → rows.order ≡ g.order → images ≡ matrix_product rows g → ¬ (AreSpanned rows images) →
-    ¬ (HasImagesIn g rows.rows rows.rows)
-images_outside rows g images field made outside = λ inside. outside (λ t below.
-    let within : t < length rows.rows = omega (arith, below, images_count rows g images made) in
-    subst (λ o. IsSpanned (number_field o) rows.rows (get_or images.rows t [])) (sym field)
-    (subst (IsSpanned (number_field g.order) rows.rows) (sym (image_row rows g images (row_of images t) t field made within refl)) (inside t within)))
+-- the echelon form of independent rows
+abbrev pub form_of : MatrixValue → List (List ℕ) → EchelonValue
+form_of g rows = record { order = g.order; cols = g.cols; rows = rows }
 
--- the coordinates of the images over the rows are the action
-pub rows_of_action : (rows g images action : MatrixValue) → rows.order ≡ g.order → rows.cols ≡ g.cols → images ≡ matrix_product rows g → IsMatrix action →
-    AreCoordinatesOver rows images action → HasActionRows g rows.rows (length rows.rows) action
-rows_of_action rows g images action field columns made h are = record {
-  field = are.field ∙ field;
-  columns = are.columns;
-  count = count;
+pub span_is_form : (rows : MatrixValue) (e : EchelonValue) (g : MatrixValue) → IsSpanOfRows rows e → IsIndependent (number_field rows.order) rows.rows →
+    rows.order ≡ g.order → rows.cols ≡ g.cols → e ≡ form_of g rows.rows
+span_is_form rows e g span independent field columns =
+    let orders : e.order ≡ g.order = span.field ∙ field in
+    let widths : e.cols ≡ g.cols = span.columns ∙ columns in
+    let lists : e.rows ≡ rows.rows = span.all independent in
+    λ i. record { order = orders i; cols = widths i; rows = lists i }
+
+-- the rows of such a form
+pub form_over : (g : MatrixValue) (rows : List (List ℕ)) (e : EchelonValue) → e ≡ form_of g rows → IsEchelon e → IsMatrixOver (number_field g.order) g.cols rows
+form_over g rows e is h = let formed : IsEchelon (form_of g rows) = subst IsEchelon is h in formed.over
+
+-- the coefficients of an image
+pub action_row_of : (g : MatrixValue) (rows : List (List ℕ)) (t : ℕ) (e : EchelonValue) (image coefficients : RowValue) → e ≡ form_of g rows →
+    image.entries ≡ row_times g rows t → AreCoordinates e image.entries coefficients → IsActionRow g rows t coefficients.entries
+action_row_of g rows t e image coefficients is image_is are =
+    let here : AreCoordinates (form_of g rows) image.entries coefficients = subst (λ x. AreCoordinates x image.entries coefficients) is are in
+    record { over = here.over; combine = sym image_is ∙ here.combine }
+
+-- an image outside the span
+pub image_outside : (g : MatrixValue) (rows : List (List ℕ)) (t : ℕ) (e : EchelonValue) (image : RowValue) → e ≡ form_of g rows →
+    image.entries ≡ row_times g rows t → t < length rows → ¬ (IsSpanned (number_field e.order) e.rows image.entries) → ¬ (HasImagesIn g rows rows)
+image_outside g rows t e image is image_is below outside = λ images.
+    outside (subst (λ (x : EchelonValue). IsSpanned (number_field x.order) x.rows image.entries) (sym is)
+    (subst (IsSpanned (number_field g.order) rows) (sym image_is) (images t below)))
+
+-- one more row
+pub action_rows_more : (g : MatrixValue) (rows : List (List ℕ)) (i : ℕ) (action next : MatrixValue) (row : RowValue) → HasActionRows g rows i action →
+    IsActionRow g rows i row.entries → next ≡ record { order = action.order; cols = action.cols; rows = action.rows ++ row.entries ∷ [] } → IsMatrix next →
+    HasActionRows g rows (i + 1) next
+action_rows_more g rows i action next row so_far is_row is h = record {
+  field = ap (λ (x : MatrixValue). x.order) is ∙ so_far.field;
+  columns = ap (λ (x : MatrixValue). x.cols) is ∙ so_far.columns;
+  count = ap (λ (x : MatrixValue). length x.rows) is
+      ∙ (let grown : length (action.rows ++ row.entries ∷ []) ≡ i + 1 = omega (arith, so_far.count, length-append action.rows (row.entries ∷ [])) in grown);
   well_formed = h;
-  each = λ t below. record {
-    over = over t below;
-    combine = sym (image_row rows g images (row_of images t) t field made below refl)
-        ∙ ap (λ x. get_or x t []) (sym are.combine)
-        ∙ get_or-product (number_field rows.order) rows.cols action.rows rows.rows t (within t below)
-        ∙ ap (λ (o : Order). combination (number_field o) rows.cols (get_or action.rows t []) rows.rows) field
-        ∙ ap (λ n. combination (number_field g.order) n (get_or action.rows t []) rows.rows) columns;
-  };
+  each = λ t inside. below_or_at (λ t. IsActionRow g rows t (get_or next.rows t [])) i
+      (λ t before. subst (IsActionRow g rows t) (sym (row_before t before)) (so_far.each t before))
+      (subst (IsActionRow g rows i) (sym row_last) is_row)
+      t (omega arith);
 }
   where
-    count : length action.rows ≡ length rows.rows
-    count = are.count ∙ images_count rows g images made
+    row_before : (t : ℕ) → t < i → get_or next.rows t [] ≡ get_or action.rows t []
+    row_before t before =
+        ap (λ (x : MatrixValue). get_or x.rows t []) is ∙ get_or_append_left action.rows (row.entries ∷ []) [] t (omega (arith, so_far.count))
 
-    within : (t : ℕ) → t < length rows.rows → t < length action.rows
-    within t below = omega (arith, count)
+    row_last : get_or next.rows i [] ≡ row.entries
+    row_last =
+        ap (λ (x : MatrixValue). get_or x.rows i []) is
+        ∙ ap (λ k. get_or (action.rows ++ row.entries ∷ []) k []) (let same : i ≡ length action.rows + 0 = omega (arith, so_far.count) in same)
+        ∙ get_or-append-add action.rows (row.entries ∷ []) 0 []
 
-    over : (t : ℕ) → t < length rows.rows → IsVectorOver (number_field g.order) (length rows.rows) (get_or action.rows t [])
-    over t below = over_of action g.order (length rows.rows) h (are.field ∙ field) are.columns t [] (within t below)
-
--- with such rows the images are in the span
-pub action_images : (g : MatrixValue) (rows : List (List ℕ)) (action : MatrixValue) → HasActionRows g rows (length rows) action →
-    IsMatrixOver (number_field g.order) g.cols rows → HasImagesIn g rows rows
-action_images g rows action all over t below =
-    let row : IsActionRow g rows t (get_or action.rows t []) = all.each t below in
+-- with all rows the images are in the span
+pub action_images : (g : MatrixValue) (rows : List (List ℕ)) (i : ℕ) (action : MatrixValue) → HasActionRows g rows i action →
+    IsMatrixOver (number_field g.order) g.cols rows → length rows ≤ i → HasImagesIn g rows rows
+action_images g rows i action all over whole t below =
+    let row : IsActionRow g rows t (get_or action.rows t []) = all.each t (omega arith) in
     spanned_by_coefficients (number_field g.order) g.cols rows (row_times g rows t) (get_or action.rows t []) over row.over row.combine
-
--- what the coordinates of the images over the rows make of them
-pub action_of_images : (rows g images : MatrixValue) (found : Option MatrixValue) → IsMatrix rows → rows.order ≡ g.order → rows.cols ≡ g.cols →
-    images ≡ matrix_product rows g → MatchOption found (¬ (AreSpanned rows images)) (AreCoordinatesOver rows images) → IfSome found IsMatrix →
-    AnswersOr None (λ action. HasImagesIn g rows.rows rows.rows × HasActionRows g rows.rows (length rows.rows) action)
-    (RefusedAs NotInvariant (¬ (HasImagesIn g rows.rows rows.rows))) (ok_or found NotInvariant)
-action_of_images rows g images None h field columns made outside formed = inr (refl, images_outside rows g images field made outside)
-action_of_images rows g images (Some action) h field columns made are formed =
-    let all = rows_of_action rows g images action field columns made formed are in
-    (action_images g rows.rows action all (over_of rows g.order g.cols h field columns), all)
 
 -- the matrix is the action of generator j
 abbrev pub IsActionOf : ModuleValue → List (List ℕ) → ℕ → List (List ℕ) → Type 0

@@ -10,9 +10,8 @@ ghost use Rattle.axe_spin.specs.Modules.{IsModule, IsInvariantIn};
 ghost use Rattle.axe_action.specs.Actions.{sub_action_refusal, action_late, IsActionOnSpan, IsActionOverRows};
 ghost use Rattle.axe_action.specs.Coordinates.{HasImagesIn, HasActionRows};
 
-use axe_echelon::span_of;
+use axe_echelon::{Echelon, span_of};
 use axe_matrix::{Matrix, Refusal};
-use axe_reduction::Coordinates;
 use axe_spin::{Module, has_only_zeros};
 use std::alloc::Global;
 
@@ -57,7 +56,6 @@ fn check_space(module: &Module, rows: &Matrix) -> Result<(), Refusal>
 
 /// The action of a module on the span of independent rows, of which there is one at least, over these rows.
 fn action_over(alloc: Global, module: &Module, rows: &Matrix) -> Result<Module, Refusal>
-    requires rows_well_formed { IsMatrix rows.now }
     requires independent { IsIndependent (number_field rows.now.order) rows.now.rows }
     requires some_row { 1 ≤ length rows.now.rows }
     requires field { rows.now.order ≡ «module».now.order }
@@ -66,26 +64,26 @@ fn action_over(alloc: Global, module: &Module, rows: &Matrix) -> Result<Module, 
         (action_late «module».now rows.now) result }
     ensures well_formed { IfOk result IsModule }
 {
-    let coordinates = Coordinates::over(alloc, rows)?;
+    let span = span_of(alloc, rows)?;
     let mut actions = Vec::new(alloc);
     for number in 0..module.gens() {
-        let action = generator_action(alloc, module.generator(number), &coordinates, rows)?;
+        let action = generator_action(alloc, module.generator(number), &span, rows)?;
         actions.push(action)?;
     }
     Module::new(actions)
 }
 
-/// The matrix by which a generator acts on rows, given the coordinates over them: row t has the coefficients of row t
-/// times the generator.
+/// The matrix by which a generator acts on independent rows, whose span is given too: row t has the coefficients of row
+/// t times the generator.
 fn generator_action(
     alloc: Global,
     generator: &Matrix,
-    coordinates: &Coordinates,
+    span: &Echelon,
     rows: &Matrix,
 ) -> Result<Matrix, Refusal>
     requires square { length generator.now.rows ≡ generator.now.cols }
-    requires coordinates { coordinates.now ≡ rows.now }
-    requires rows_well_formed { IsMatrix rows.now }
+    requires span { span.now ≡ record { order = generator.now.order; cols = generator.now.cols; rows = rows.now.rows } }
+    requires some_row { 1 ≤ length rows.now.rows }
     requires field { rows.now.order ≡ generator.now.order }
     requires fits { rows.now.cols ≡ generator.now.cols }
     ensures { AnswersOr None
@@ -94,5 +92,12 @@ fn generator_action(
         (RefusedAs NotInvariant (¬ (HasImagesIn generator.now rows.now.rows rows.now.rows))) result }
 {
     let images = rows.mul(alloc, generator)?;
-    coordinates.of(alloc, &images)?.ok_or(Refusal::NotInvariant)
+    let mut action = Matrix::empty(alloc, *span.field(), span.rank());
+    for index in 0..images.rows() {
+        let Some(coefficients) = span.coordinates(alloc, images.row(index))? else {
+            return Err(Refusal::NotInvariant);
+        };
+        action.append(coefficients)?;
+    }
+    Ok(action)
 }

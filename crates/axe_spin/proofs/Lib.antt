@@ -2,7 +2,6 @@ pub mod ModuleLaws
 pub mod ZeroRows
 pub mod SeedLaws
 pub mod SpunLaws
-pub mod ImageLaws
 pub mod GeneratedLaws
 pub mod StandardLaws
 pub mod StandardImages

@@ -3,5 +3,4 @@ pub mod Modules
 pub mod Generators
 pub mod Spinning
 pub mod Spun
-pub mod Images
 pub mod SpinLaws

@@ -5,7 +5,6 @@ ghost use Rattle.std.specs.Prelude.{◌≡◌, ◌+◌, ◌<◌, length, None};
 ghost use Rattle.axe_row.specs.Refusals.{Answers};
 ghost use Rattle.axe_matrix.specs.Matrices.{IsMatrix};
 ghost use Rattle.axe_spin.specs.Spun.{IsSpanOf, IsOffered, IsSpunMatrix, SpinsOn};
-ghost use Rattle.axe_spin.specs.Images.{BeginsWith, HasImages, HaveImages};
 
 use crate::module::Module;
 use axe_echelon::Subspace;
@@ -35,7 +34,7 @@ pub(crate) fn offer(
 }
 
 /// Spins independent rows in a module: takes the rows in turn, and for each the generators in order; an image that is
-/// not in the span so far is appended. The images are made in batches, of all rows that are there and have none yet.
+/// not in the span so far is appended.
 pub(crate) fn spin(
     alloc: Global,
     module: &Module,
@@ -50,64 +49,30 @@ pub(crate) fn spin(
     ensures span { Answers None (λ _. IsSpanOf span.new rows.new) result }
     ensures well_formed { Answers None (λ _. IsMatrix rows.new) result }
 {
-    // The images of the rows from `start` up to `end`, under each generator.
-    let mut images = Vec::new(alloc);
-    let (mut start, mut end) = (0, 0);
     // There are no more independent rows than columns.
     for source in 0..span.cols() {
-        if source == rows.rows() || span.dim() == module.dim() {
+        if source == rows.rows() {
             break;
         }
-        if source == end {
-            images = images_from(alloc, module, rows, source)?;
-            start = source;
-            end = rows.rows();
-        }
-        take_images(alloc, module, span, rows, &images, source, source - start)?;
+        take_images(alloc, module, span, rows, source)?;
     }
     Ok(())
 }
 
-/// The images of the rows from one on to the last, under each generator in turn.
-fn images_from(
-    alloc: Global,
-    module: &Module,
-    rows: &Matrix,
-    start: usize,
-) -> Result<Vec<Matrix>, Refusal>
-    requires field { rows.now.order ≡ «module».now.order }
-    requires fits { rows.now.cols ≡ «module».now.dim }
-    requires within { start < length rows.now.rows }
-    ensures images { Answers None
-        (λ images. HaveImages «module».now rows.now.rows start (length rows.now.rows) images.items) result }
-{
-    let block = rows.block(alloc, start, rows.rows() - start, 0, rows.cols())?;
-    let mut images = Vec::new(alloc);
-    for number in 0..module.gens() {
-        let product = block.mul(alloc, module.generator(number))?;
-        images.push(product)?;
-    }
-    Ok(images)
-}
-
-/// Offers the images of one row under the generators, in order: for each generator the row at one place of its images.
+/// Offers the images of one row under the generators, in order.
 fn take_images(
     alloc: Global,
     module: &Module,
     span: &mut Subspace,
     rows: &mut Matrix,
-    images: &[Matrix],
     source: usize,
-    place: usize,
 ) -> Result<(), Refusal>
     requires well_formed { IsMatrix rows.old }
     requires span { IsSpanOf span.old rows.old }
     requires field { rows.old.order ≡ «module».now.order }
     requires fits { rows.old.cols ≡ «module».now.dim }
     requires within { source < length rows.old.rows }
-    requires images { HasImages «module».now rows.old.rows source images.now place }
     ensures taken { Answers None (λ _. SpinsOn «module».now rows.old rows.new source 0 (source + 1) 0) result }
-    ensures begins { Answers None (λ _. BeginsWith rows.old.rows rows.new.rows) result }
     ensures span { Answers None (λ _. IsSpanOf span.new rows.new) result }
     ensures well_formed { Answers None (λ _. IsMatrix rows.new) result }
 {
@@ -116,7 +81,7 @@ fn take_images(
         if span.dim() == module.dim() {
             break;
         }
-        let image = images[number].row(place).copy(alloc)?;
+        let image = module.generator(number).vec_mul(alloc, rows.row(source))?;
         offer(alloc, span, rows, image)?;
     }
     Ok(())

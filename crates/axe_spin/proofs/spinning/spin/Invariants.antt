@@ -1,6 +1,5 @@
 use Rattle.std.proofs.Common.{◌≤◌, length}
 use Rattle.axe_matrix.specs.Matrices.{IsMatrix}
-use Rattle.axe_spin.specs.Images.{HaveImages}
 use Rattle.axe_spin.specs.Spun.{IsSpanOf, SpinsOn}
 use Rattle.axe_spin.proofs.spinning.spin.Given as goal
 
@@ -9,8 +8,5 @@ invariant-loop-source l = record {
   spins : SpinsOn l.module l.fn.rows l.rows 0 0 l.source 0;
   span : IsSpanOf l.span l.rows;
   well_formed : IsMatrix l.rows;
-  within : l.source ≤ l.end;
-  made : l.end ≤ length l.rows.rows;
-  from : l.start ≤ l.source;
-  images : HaveImages l.module l.rows.rows l.start l.end l.images.items;
+  within : l.source ≤ length l.rows.rows;
 }

@@ -1,12 +1,10 @@
 use Rattle.axe_matrix.specs.Matrices.{IsMatrix}
 use Rattle.axe_spin.specs.Spun.{IsSpanOf, SpinsOn}
-use Rattle.axe_spin.specs.Images.{BeginsWith}
 use Rattle.axe_spin.proofs.spinning.take_images.Given as goal
 
 abbrev pub invariant-loop-number : goal.invariant-loop-number
 invariant-loop-number l = record {
   spins : SpinsOn l.module l.fn.rows l.rows l.source 0 l.source l.number;
-  begins : BeginsWith l.fn.rows.rows l.rows.rows;
   span : IsSpanOf l.span l.rows;
   well_formed : IsMatrix l.rows;
 }
