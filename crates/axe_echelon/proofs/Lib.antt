@@ -9,8 +9,8 @@ pub mod ReducedLaws
 pub mod InverseLaws
 pub mod SpanLaws
 pub mod NullLaws
+pub mod NullRowLaws
 pub mod OneMatrix
 pub mod SomeMatrix
 pub mod SubspaceLaws
-pub mod SubspaceRows
 pub mod WholeSpace

@@ -4,8 +4,7 @@ use Rattle.axe_algebra.specs.Lists.{unit_row}
 use Rattle.axe_algebra.specs.SpansOfLists.{HaveSameSpan, IsSpanned}
 use Rattle.axe_field.specs.Order.{Order}
 use Rattle.axe_field.specs.NumberFields.{number_field}
-use Rattle.axe_matrix.specs.Matrices.{MatrixValue}
-use Rattle.axe_echelon.specs.Echelons.{EchelonValue, IsEchelon}
+use Rattle.axe_echelon.specs.Echelons.{EchelonValue}
 use Rattle.axe_echelon.specs.Steps.{IsNextStep}
 use Rattle.axe_echelon.specs.declared.Step.{Step}
 use Rattle.axe_echelon.specs.declared.subspace.PivotRow.{PivotRow}
@@ -17,13 +16,6 @@ pub record SpansOneMore (new : Bool) (old : EchelonValue) (row : List ℕ) (e : 
   pub columns : e.cols ≡ old.cols
   pub same : HaveSameSpan (number_field old.order) (if new then old.rows ++ row ∷ [] else old.rows) e.rows
   pub count : length e.rows ≡ (if new then suc (length old.rows) else length old.rows)
-
--- the rows of e span what those of the matrix do
-pub record SpansRows (m : MatrixValue) (e : EchelonValue) : Type 0 where
-  pub field : e.order ≡ m.order
-  pub columns : e.cols ≡ m.cols
-  pub same : HaveSameSpan (number_field m.order) m.rows e.rows
-  pub well_formed : IsEchelon e
 
 -- row t of an echelon form as a step of an elimination that is given the form's rows themselves: the step's row is the
 -- inserted one, so its coefficients over the inserted rows are those of the unit vector t
