@@ -28,7 +28,8 @@ pub(crate) struct TextHeader {
 pub(crate) fn is_white(byte: u8) -> bool
     ensures { result ≡ is_white byte }
 {
-    matches!(byte, b' ' | b'\t' | b'\n' | b'\r')
+    // Most bytes of a text are digits, which the first comparison tells apart.
+    byte <= b' ' && matches!(byte, b' ' | b'\t' | b'\n' | b'\r')
 }
 
 /// Whether a byte is a decimal digit.

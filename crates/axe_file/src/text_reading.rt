@@ -39,7 +39,7 @@ fn is_element_digit(order: u8, byte: u8) -> bool
     requires { order ≤ 9 }
     ensures { result ≡ is_element_digit order byte }
 {
-    b'0' <= byte && byte < b'0' + order
+    byte.wrapping_sub(b'0') < order
 }
 
 /// Checks the bytes from an offset on: digits of elements, so many, with white space between.
