@@ -5,6 +5,7 @@ pub mod DotLaws
 pub mod ZeroDigits
 pub mod NextDigits
 pub mod PieceDigits
+pub mod PieceBits
 pub mod NumberDigits
 pub mod PieceLaws
 pub mod TableLaws

@@ -43,7 +43,7 @@ with_values-sum b p f g (suc n) =
     regrouped x y u v = omega (arith, add-mul x (p * y) b, mul_assoc p y b, mul-add p (y * b) v)
 
 -- the first digits of a list
-number_of_first : (b : ℕ) (xs : List ℕ) (n : ℕ) → n ≤ length xs → number_with_digits b (take n xs) ≡ with_values b (λ j. get_or xs j 0) n
+pub number_of_first : (b : ℕ) (xs : List ℕ) (n : ℕ) → n ≤ length xs → number_with_digits b (take n xs) ≡ with_values b (λ j. get_or xs j 0) n
 unfolding number_with_digits
 number_of_first b xs zero most = refl
 number_of_first b xs (suc n) most =

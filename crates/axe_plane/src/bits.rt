@@ -1,7 +1,8 @@
 //! Planes of digits modulo 2.
 ghost use Rattle.std.specs.Int.{bit_at};
-ghost use Rattle.std.specs.Prelude.{ℕ, ◌≡◌, ◌≢◌, ◌+◌, ◌^◌, ◌%◌, ◌<◌, ◌≤◌, ◌↔◌, IsTrue, IfOk, length, map};
+ghost use Rattle.std.specs.Prelude.{ℕ, ◌≡◌, ◌≢◌, ◌+◌, ◌*◌, ◌^◌, ◌%◌, ◌<◌, ◌≤◌, ◌↔◌, IsTrue, IfOk, length, map};
 ghost use Rattle.std.specs.Prelude.{replicate, slice_index, slice_set, All, MatchOption};
+ghost use Rattle.axe_algebra.specs.Digits.{number_with_digits};
 ghost use Rattle.axe_algebra.specs.Lists.{listed};
 ghost use Rattle.axe_lane.specs.Bytes.{multiple, sum_of_products};
 ghost use Rattle.axe_lane.specs.Entries.{IsFirstNonzero};
@@ -10,7 +11,7 @@ ghost use Rattle.axe_plane.specs.Digits.{AreDigits, digits_at, digits_with_four,
 ghost use Rattle.axe_plane.specs.Digits.{AreSmallSums, numbers_with_multiple};
 ghost use Rattle.axe_plane.specs.Digits.{AreZerosFrom, IsNextNonzero};
 ghost use Rattle.axe_plane.specs.Digits.{AreZerosFrom, IsNextNonzero};
-ghost use Rattle.axe_plane.specs.Digits.{IsNextNonzero, number_from};
+ghost use Rattle.axe_plane.specs.Digits.{IsNextNonzero, number_from, numbers_from};
 
 use crate::parts::{gathered, lowest, spread, word_from};
 use axe_lane::{any_nonzero, first_set, parity_and, xor_into, xor4_into};
@@ -102,11 +103,38 @@ impl BitPlane {
         ensures value { result ≡ number_from base size at self.now }
         ensures small { result < 6561 }
     {
-        let mut number = 0;
-        for index in at..self.len.min(at + size) {
-            number = number * base + usize::from(self.get(index));
+        if at >= self.len {
+            return 0;
         }
-        number
+        let count = size.min(self.len - at);
+        number_of_bits(word_from(&self.words, at), base, count)
+    }
+
+    /// Four numbers in a base up to 9, the digits of each being up to four of the plane's, most significant first:
+    /// those of the pieces of `size` digits one after another from an index on, as far as the plane goes.
+    #[inline]
+    pub(crate) fn numbers_from(&self, base: usize, size: usize, at: usize) -> [usize; 4]
+        requires base { base ≤ 9 }
+        requires short { size ≤ 4 }
+        requires counted { at + 4 * size < 2 ^ 64 }
+        ensures value { result ≡ numbers_from base size at self.now }
+        ensures small { (i : ℕ) → slice_index result i < 6561 }
+    {
+        if at >= self.len || self.len - at < 4 * size {
+            return [
+                self.number_from(base, size, at),
+                self.number_from(base, size, at + size),
+                self.number_from(base, size, at + 2 * size),
+                self.number_from(base, size, at + 3 * size),
+            ];
+        }
+        let word = word_from(&self.words, at);
+        [
+            number_of_bits(word, base, size),
+            number_of_bits(word >> size, base, size),
+            number_of_bits(word >> (2 * size), base, size),
+            number_of_bits(word >> (3 * size), base, size),
+        ]
     }
 
     /// Makes a digit the one at an index; all others stay. From the length on there is none to be changed.
@@ -275,6 +303,28 @@ impl BitPlane {
         ensures { IsTrue result ↔ (self.now ≡ other.now) }
     {
         self.len == other.len && self.words == other.words
+    }
+}
+
+/// The number whose digits in a base up to 9, most significant first, are up to four of the bits of a word, from the
+/// lowest on.
+#[inline]
+fn number_of_bits(word: u64, base: usize, count: usize) -> usize
+    requires base { base ≤ 9 }
+    requires short { count ≤ 4 }
+    ensures value { result ≡ number_with_digits base (listed count (bit_at word)) }
+    ensures small { result < 6561 }
+{
+    let first = (word & 1) as usize;
+    let second = (word >> 1 & 1) as usize;
+    let third = (word >> 2 & 1) as usize;
+    let fourth = (word >> 3 & 1) as usize;
+    match count {
+        0 => 0,
+        1 => first,
+        2 => first * base + second,
+        3 => (first * base + second) * base + third,
+        _ => ((first * base + second) * base + third) * base + fourth,
     }
 }
 

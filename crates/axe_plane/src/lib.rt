@@ -137,12 +137,7 @@ impl Plane {
         let (second, third) = (at + size, at + 2 * size);
         let fourth = at + 3 * size;
         match self {
-            Plane::Bits(plane) => [
-                plane.number_from(base, size, at),
-                plane.number_from(base, size, second),
-                plane.number_from(base, size, third),
-                plane.number_from(base, size, fourth),
-            ],
+            Plane::Bits(plane) => plane.numbers_from(base, size, at),
             Plane::Bytes(plane) => [
                 plane.number_from(base, size, at),
                 plane.number_from(base, size, second),

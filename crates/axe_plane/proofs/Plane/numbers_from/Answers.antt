@@ -1,4 +1,4 @@
-use Rattle.std.proofs.Common.{◌≡◌, sym, ap, ◌∙◌}
+use Rattle.std.proofs.Common.{sym, ap, ◌∙◌}
 use Rattle.axe_plane.specs.Digits.{numbers_from}
 use Rattle.axe_plane.specs.Planes.{digits_of}
 use Rattle.axe_plane.specs.declared.Plane.{Plane}
@@ -7,18 +7,13 @@ use Rattle.axe_plane.proofs.Plane.numbers_from.Goals as goal
 
 pub returns-in-Bits-clause-value : goal.returns-in-Bits-clause-value
 returns-in-Bits-clause-value c =
-    same_four _ _ _ _ _ _ _ _ c.number_from.ensures.value c.number_from-in-Bits.ensures.value c.number_from-in-Bits-2.ensures.value c.number_from-in-Bits-3.ensures.value
-    ∙ sym (ap (λ (p : Plane). numbers_from c.args.base c.args.size c.args.at (digits_of p)) c.in-Bits.is)
-
-pub returns-in-Bits-clause-small : goal.returns-in-Bits-clause-small
-returns-in-Bits-clause-small c =
-    four_small _ _ _ _ _ c.number_from.ensures.small c.number_from-in-Bits.ensures.small c.number_from-in-Bits-2.ensures.small c.number_from-in-Bits-3.ensures.small
+    c.numbers_from.ensures.value ∙ sym (ap (λ (p : Plane). numbers_from c.args.base c.args.size c.args.at (digits_of p)) c.in-Bits.is)
 
 pub returns-in-Bytes-clause-value : goal.returns-in-Bytes-clause-value
 returns-in-Bytes-clause-value c =
-    same_four _ _ _ _ _ _ _ _ c.number_from-in-Bytes.ensures.value c.number_from-in-Bytes-2.ensures.value c.number_from-in-Bytes-3.ensures.value c.number_from-in-Bytes-4.ensures.value
+    same_four _ _ _ _ _ _ _ _ c.number_from.ensures.value c.number_from-in-Bytes.ensures.value c.number_from-in-Bytes-2.ensures.value c.number_from-in-Bytes-3.ensures.value
     ∙ sym (ap (λ (p : Plane). numbers_from c.args.base c.args.size c.args.at (digits_of p)) c.in-Bytes.is)
 
 pub returns-in-Bytes-clause-small : goal.returns-in-Bytes-clause-small
 returns-in-Bytes-clause-small c =
-    four_small _ _ _ _ _ c.number_from-in-Bytes.ensures.small c.number_from-in-Bytes-2.ensures.small c.number_from-in-Bytes-3.ensures.small c.number_from-in-Bytes-4.ensures.small
+    four_small _ _ _ _ _ c.number_from.ensures.small c.number_from-in-Bytes.ensures.small c.number_from-in-Bytes-2.ensures.small c.number_from-in-Bytes-3.ensures.small
