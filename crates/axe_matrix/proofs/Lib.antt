@@ -13,5 +13,6 @@ mod TableLaws
 mod RewrittenRows
 mod BlockRows
 mod DirectRows
+mod FourTerms
 pub mod ProductRows
 mod ScaledFactors

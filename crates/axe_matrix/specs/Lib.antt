@@ -4,4 +4,5 @@ pub mod RowLists
 pub mod Multiples
 pub mod Columns
 pub mod Products
+pub mod VectorTerms
 pub mod PieceTables

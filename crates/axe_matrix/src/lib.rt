@@ -13,6 +13,7 @@ mod arithmetic;
 mod multiples;
 mod parts;
 mod products;
+mod vectors;
 
 use axe_field::Field;
 pub use axe_row::{Refusal, Row};

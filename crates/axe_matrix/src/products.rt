@@ -5,7 +5,6 @@ ghost use Rattle.std.specs.Simd.Lanes.{chunk};
 ghost use Rattle.axe_field.specs.Order.{IsElement};
 ghost use Rattle.axe_row.specs.Combinations.{most_combined, combination_at, row_with_four, Combines, IsRowFor};
 ghost use Rattle.axe_row.specs.Refusals.{Answers};
-ghost use Rattle.axe_row.specs.Rows.{IsRow};
 ghost use Rattle.axe_matrix.specs.Matrices.{IsMatrix, row_of, product_refusal, matrix_product};
 ghost use Rattle.axe_matrix.specs.Multiples.{matrix_multiple};
 ghost use Rattle.axe_matrix.specs.PieceTables.{IsTableFor, AreTablesFor, CombineFrom};
@@ -146,31 +145,6 @@ impl Matrix {
         ensures well_formed { IsMatrix self.new }
     {
         b.add_vec_mul(scalar, vector, &mut self.rows[index]);
-    }
-
-    /// Adds a multiple of a row vector times this matrix to a row over its field: each entry d of the row becomes
-    /// d + c s, where c is the scalar, and s the entry of the product. The vector has as many entries as the matrix has
-    /// rows, and the row as many as it has columns. Entries of the vector that are 0 are passed over. It takes no
-    /// memory.
-    pub(crate) fn add_vec_mul(&self, scalar: u8, vector: &Row, row: &mut Row)
-        requires vector_field { vector.now.order ≡ self.now.order }
-        requires row_field { row.old.order ≡ self.now.order }
-        requires inner_fit { length vector.now.entries ≡ length self.now.rows }
-        requires columns_fit { length row.old.entries ≡ self.now.cols }
-        requires element { IsElement self.now.order scalar }
-        ensures sum { row.new ≡ row_with_product row.old scalar vector.now self.now }
-        ensures as_long { length row.new.entries ≡ length row.old.entries }
-        ensures well_formed { IsRow row.new }
-    {
-        // `len` is called for what it ensures beside the length: that the entries are elements of the field.
-        prove!(row.len() == self.cols());
-        prove!(vector.len() == self.rows());
-        let mut at = 0;
-        while let Some(index) = vector.next_nonzero(at) {
-            let factor = self.field().mul(scalar, vector.get(index));
-            row.add_scaled(factor, self.row(index));
-            at = index + 1;
-        }
     }
 
     /// Adds a multiple of some terms of the product of two matrices: those for which tables combine four pieces of the

@@ -2,5 +2,6 @@ pub mod Bits
 pub mod Digits
 pub mod Primes
 pub mod Planes
+pub mod Addends
 pub mod FlatTables
 pub mod Tables

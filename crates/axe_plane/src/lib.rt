@@ -52,6 +52,8 @@ pub enum Plane {
 }
 
 impl Plane {
+    ghost use Rattle.axe_plane.specs.Addends.{IsAddend};
+    ghost use Rattle.axe_plane.specs.Bits.{bits, HoldsBits};
     ghost use Rattle.axe_plane.specs.Planes.{prime_of_plane, digits_of, IsPlane};
 
     /// The plane of `len` zeros modulo 2, 3, 5 or 7. A plane of no digits takes no memory.
@@ -266,6 +268,48 @@ impl Plane {
                 let (c, d) = (c.bytes_of(entries[2]), d.bytes_of(entries[3]));
                 plane.add_four(a, b, c, d);
             }
+        }
+    }
+
+    /// Adds four other planes modulo the same prime and of the same length, in one pass.
+    #[inline]
+    pub fn add_four(&mut self, a: &Plane, b: &Plane, c: &Plane, d: &Plane)
+        requires a { IsAddend self.old a.now }
+        requires b { IsAddend self.old b.now }
+        requires c { IsAddend self.old c.now }
+        requires d { IsAddend self.old d.now }
+        ensures { IsPlane (prime_of_plane self.old) (digits_with_four (prime_of_plane self.old) (digits_of self.old)
+            (digits_of a.now) (digits_of b.now) (digits_of c.now) (digits_of d.now)) self.new }
+    {
+        match self {
+            Plane::Bits(plane) => plane.add_four(a.words(), b.words(), c.words(), d.words()),
+            Plane::Bytes(plane) => plane.add_four(a.bytes(), b.bytes(), c.bytes(), d.bytes()),
+        }
+    }
+
+    /// The words of a plane modulo 2.
+    #[inline]
+    fn words(&self) -> &[u64]
+        requires even { prime_of_plane self.now ≡ 2 }
+        ensures holds { HoldsBits (length (digits_of self.now)) result.now }
+        ensures digits { bits (length (digits_of self.now)) result.now ≡ digits_of self.now }
+    {
+        match self {
+            Plane::Bits(plane) => plane.words(),
+            Plane::Bytes(_) => &[],
+        }
+    }
+
+    /// The bytes of a plane modulo an odd prime.
+    #[inline]
+    fn bytes(&self) -> &[u8]
+        requires odd { prime_of_plane self.now ≢ 2 }
+        ensures value { result.now ≡ digits_of self.now }
+        ensures digits { AreDigits (prime_of_plane self.now) result.now }
+    {
+        match self {
+            Plane::Bits(_) => &[],
+            Plane::Bytes(plane) => plane.bytes(),
         }
     }
 

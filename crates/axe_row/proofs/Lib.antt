@@ -11,6 +11,7 @@ pub mod ElementPlanes
 pub mod TableRows
 pub mod TablePlanes
 pub mod TableSums
+pub mod AddedRows
 pub mod PieceNumbers
 pub mod PlaneNumbers
 pub mod CombinationLaws

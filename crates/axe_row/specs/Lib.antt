@@ -1,4 +1,5 @@
 pub mod Rows
+pub mod Addends
 pub mod Refusals
 pub mod Operations
 pub mod Planes

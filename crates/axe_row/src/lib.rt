@@ -18,6 +18,7 @@ mod pieces;
 mod planes;
 mod refusals;
 mod scaling;
+mod sums;
 
 use axe_field::Field;
 use axe_plane::Plane;

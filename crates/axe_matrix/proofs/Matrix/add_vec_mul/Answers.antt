@@ -7,16 +7,18 @@ use Rattle.axe_row.proofs.RowLaws.{same_row}
 use Rattle.axe_row.specs.Rows.{RowValue}
 use Rattle.axe_matrix.specs.Products.{row_with_terms, row_with_product}
 use Rattle.axe_matrix.proofs.BlockLaws.{length-row_with_terms}
-use Rattle.axe_matrix.proofs.DirectRows.{no_terms, one_more_term, zero_terms}
+use Rattle.axe_matrix.proofs.DirectRows.{one_more_term, zero_terms}
 use Rattle.axe_matrix.proofs.Matrix.add_vec_mul.Goals as goal
 
 pub loop-index-init : goal.loop-index-init
 loop-index-init c = record {
-  fits = omega arith;
-  field = c.requires.row_field;
-  so_far = no_terms c.args.self.now c.args.row.now.entries c.args.scalar c.args.vector.now.entries c.requires.element
-      (subst (λ (o : Order). All (IsElement o) c.args.row.now.entries) c.requires.row_field c.len.ensures.well_formed.elements) c.requires.columns_fit;
-  well_formed = c.len.ensures.well_formed;
+  fits = c.add_fours-at.ensures.within;
+  field = ap (λ (r : RowValue). r.order) c.add_fours-at.ensures.sum ∙ c.requires.row_field;
+  so_far =
+      ap (λ (r : RowValue). r.entries) c.add_fours-at.ensures.sum
+      ∙ ap (λ (o : Order). row_with_terms (number_field o) c.args.self.now.cols c.args.row.now.entries c.args.scalar c.args.vector.now.entries c.args.self.now.rows 0 c.add_fours-at.result)
+      c.requires.row_field;
+  well_formed = c.add_fours-at.ensures.well_formed;
 }
 
 pub add_scaled-requires-clause-fits : goal.add_scaled-requires-clause-fits

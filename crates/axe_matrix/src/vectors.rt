@@ -1,0 +1,79 @@
+//! Products of a row vector and a matrix, row by row.
+
+ghost use Rattle.std.specs.Prelude.{◌≡◌, ◌≤◌, IfSome, length};
+ghost use Rattle.axe_field.specs.Order.{IsElement};
+ghost use Rattle.axe_row.specs.Rows.{IsRow};
+ghost use Rattle.axe_matrix.specs.Products.{row_with_product};
+ghost use Rattle.axe_matrix.specs.VectorTerms.{AreNextFour, row_with_first_terms};
+
+use super::{Matrix, Row};
+
+impl Matrix {
+    /// Adds a multiple of a row vector times this matrix to a row over its field: each entry d of the row becomes
+    /// d + c s, where c is the scalar, and s the entry of the product. The vector has as many entries as the matrix has
+    /// rows, and the row as many as it has columns. Entries of the vector that are 0 are passed over. It takes no
+    /// memory.
+    pub(crate) fn add_vec_mul(&self, scalar: u8, vector: &Row, row: &mut Row)
+        requires vector_field { vector.now.order ≡ self.now.order }
+        requires row_field { row.old.order ≡ self.now.order }
+        requires inner_fit { length vector.now.entries ≡ length self.now.rows }
+        requires columns_fit { length row.old.entries ≡ self.now.cols }
+        requires element { IsElement self.now.order scalar }
+        ensures sum { row.new ≡ row_with_product row.old scalar vector.now self.now }
+        ensures as_long { length row.new.entries ≡ length row.old.entries }
+        ensures well_formed { IsRow row.new }
+    {
+        // `len` is called for what it ensures beside the length: that the entries are elements of the field.
+        prove!(row.len() == self.cols());
+        prove!(vector.len() == self.rows());
+        let mut at = self.add_fours(scalar, vector, row);
+        while let Some(index) = vector.next_nonzero(at) {
+            let factor = self.field().mul(scalar, vector.get(index));
+            row.add_scaled(factor, self.row(index));
+            at = index + 1;
+        }
+    }
+
+    /// Adds the first terms of a multiple of a row vector times this matrix to a row over its field, and answers how
+    /// many they are. Where the multiple is that by 1 over the field of two elements, they go as far as there are four
+    /// more entries of the vector that are not 0: four rows are added in one pass. Else there are none.
+    fn add_fours(&self, scalar: u8, vector: &Row, row: &mut Row) -> usize
+        requires vector_field { vector.now.order ≡ self.now.order }
+        requires row_field { row.old.order ≡ self.now.order }
+        requires inner_fit { length vector.now.entries ≡ length self.now.rows }
+        requires columns_fit { length row.old.entries ≡ self.now.cols }
+        requires element { IsElement self.now.order scalar }
+        ensures within { result ≤ length vector.now.entries }
+        ensures sum { row.new ≡ row_with_first_terms row.old scalar vector.now self.now result }
+        ensures as_long { length row.new.entries ≡ length row.old.entries }
+        ensures well_formed { IsRow row.new }
+    {
+        // `len` is called for what it ensures beside the length: that the entries are elements of the field.
+        prove!(row.len() == self.cols());
+        prove!(vector.len() == self.rows());
+        let mut at = 0;
+        if self.field().order() != 2 || scalar != 1 {
+            return at;
+        }
+        while let Some(four) = next_four(vector, at) {
+            let (first, second) = (self.row(four[0]), self.row(four[1]));
+            row.add_four_rows(first, second, self.row(four[2]), self.row(four[3]));
+            at = four[3] + 1;
+        }
+        at
+    }
+}
+
+/// The indices of the next four entries of a row other than 0 from an index on, or `None` where there are fewer.
+fn next_four(row: &Row, start: usize) -> Option<[usize; 4]>
+    requires { start ≤ length row.now.entries }
+    ensures { IfSome result (AreNextFour row.now.entries start) }
+{
+    // `len` is called for what it says of the length: that it is a number of the machine, so that no sum below wraps.
+    prove!(start <= row.len());
+    let first = row.next_nonzero(start)?;
+    let second = row.next_nonzero(first + 1)?;
+    let third = row.next_nonzero(second + 1)?;
+    let fourth = row.next_nonzero(third + 1)?;
+    Some([first, second, third, fourth])
+}
