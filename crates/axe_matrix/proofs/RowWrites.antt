@@ -46,6 +46,11 @@ row-at o n rows i row h below e =
     same_row row (row_of (matrix_from_rows o n rows) i) (order-at o n rows i row h below e)
     (ap (λ (r : RowValue). r.entries) e ∙ sym (get_or-map (λ (r : RowValue). r.entries) rows i row [] below))
 
+-- and as one of what the matrix is
+pub row-read : (m : MatrixValue) (o : Order) (n : ℕ) (rows : List RowValue) (i : ℕ) (row : RowValue) → matrix_from_rows o n rows ≡ m → MakeMatrix o n rows →
+    i < length rows → row ≡ get_or rows i row → row_of m i ≡ row
+row-read m o n rows i row is h below e = ap (λ x. row_of x i) (sym is) ∙ sym (row-at o n rows i row h below e)
+
 -- what is made of the row at an index is written there
 pub matrix_from_written_rows : (o : Order) (n : ℕ) (rows : List RowValue) (i : ℕ) (old new : RowValue) (after : RowValue → RowValue) → MakeMatrix o n rows →
     i < length rows → old ≡ get_or rows i old → new ≡ after old →

@@ -25,13 +25,6 @@ is_listed n f xs long same =
 pub replicate-listed : (n a : ℕ) → replicate n a ≡ listed n (λ j. a)
 replicate-listed n a = is_listed n (λ j. a) (replicate n a) (length-replicate n a) (λ j below. get_or-replicate n j a 0 below)
 
--- a vector plus 1 times another is their sum, entry by entry
-pub sum_with_one : (K : NumberField) (n : ℕ) (a b : List ℕ) → length a ≡ n → ((j : ℕ) → get_or b j 0 < K.order) → sum_with_multiple K a 1 b ≡ listed n (λ j. K.add (get_or a j 0) (get_or b j 0))
-sum_with_one K n a b long elements =
-    is_listed n (λ j. K.add (get_or a j 0) (get_or b j 0)) (sum_with_multiple K a 1 b) (length-sum_with_multiple K a 1 b ∙ long) (λ j below.
-    get_or-sum_with_multiple K a 1 b j (omega arith)
-    ∙ ap (K.add (get_or a j 0)) (K.mul_comm 1 (get_or b j 0) K.one-below (elements j) ∙ K.mul-one (get_or b j 0) (elements j)))
-
 -- the sum of the first n rows of a matrix, each times its entry of the vector
 unfoldable pub partial_combination : NumberField → ℕ → List ℕ → List (List ℕ) → ℕ → List ℕ
 partial_combination K columns v rows n = listed columns (combination_entry K v rows n)

@@ -25,12 +25,8 @@ impl Matrix {
         if self.rows() != other.rows() || self.cols() != other.cols() {
             return Err(Refusal::ShapesDiffer);
         }
-        let mut sum = Matrix::empty(alloc, *self.field(), self.cols());
-        for index in 0..self.rows() {
-            let mut row = self.row(index).copy(alloc)?;
-            row.add_scaled(1, other.row(index));
-            sum.append(row)?;
-        }
+        let mut sum = self.copy(alloc)?;
+        sum.add_scaled(1, other);
         Ok(sum)
     }
 

@@ -101,16 +101,35 @@ impl Matrix {
         ensures unchanged { OnErr result (self.new ≡ self.old) }
         ensures well_formed { IsMatrix self.new }
     {
-        // `cols` is called for what it ensures beside their number: that the first matrix is one.
-        prove!(a.cols() == b.rows());
         let mut tables = FourTables::new(alloc, *self.field(), self.cols(), size)?;
+        self.add_blocks(a, b, &mut tables);
+        // By a call, so that the end of the tables is proved apart from this function.
+        drop(tables);
+        Ok(())
+    }
+
+    /// Adds the product of two matrices as [`Matrix::add_product`] does with the scalar 1, block by block: the tables
+    /// are made those of the combinations of each block's rows of the second matrix. It takes no memory.
+    fn add_blocks(&mut self, a: &Matrix, b: &Matrix, tables: &mut FourTables)
+        requires a_field { a.now.order ≡ self.old.order }
+        requires b_field { b.now.order ≡ self.old.order }
+        requires rows_fit { length a.now.rows ≡ length self.old.rows }
+        requires inner_fit { a.now.cols ≡ length b.now.rows }
+        requires columns_fit { b.now.cols ≡ self.old.cols }
+        requires size { tables.old.size ≤ most_combined self.old.order }
+        requires tables { AreTablesFor self.old.order self.old.cols tables.old }
+        ensures sum { self.new ≡ matrix_with_product self.old 1 a.now b.now }
+        ensures well_formed { IsMatrix self.new }
+    {
+        // `rows` is called for what it ensures beside their number: that the two are matrices.
+        prove!(a.rows() == self.rows());
+        let size = tables.size;
         let mut at = 0;
         while at < b.rows() {
             tables.fill(b, at);
-            self.add_block(1, a, b, at, &tables);
+            self.add_block(1, a, b, at, tables);
             at += 4 * size;
         }
-        Ok(())
     }
 
     /// Adds a multiple of the product of two matrices as [`Matrix::add_product`] does, but without tables: for each
@@ -190,10 +209,14 @@ impl Matrix {
     }
 }
 
+/// How many rows of a matrix are looked at, at most, to guess how many of its entries are 0.
+const ROWS_SAMPLED: usize = 32;
+
 /// Whether a product by rows takes fewer additions of a row than one by tables that combine so many rows each, where
 /// this matrix is the first factor. A product by rows takes one for each of its entries other than 0. For each block of
 /// terms, the tables take about one for each of their combinations, and what two take for each row. Both ways are
-/// right: the answer is a guess, and "no" as soon as the first rows have much more than their share of the entries.
+/// right: the answer is a guess from some of the rows, evenly spread, and "no" as soon as those looked at so far have
+/// much more than their share of the entries.
 fn direct_is_cheaper(a: &Matrix, size: usize) -> bool
     requires some { 1 ≤ size }
     requires size { size ≤ most_combined a.now.order }
@@ -202,14 +225,17 @@ fn direct_is_cheaper(a: &Matrix, size: usize) -> bool
     let blocks = a.cols().div_ceil(4 * size);
     let fillings = combinations.saturating_mul(4) / a.rows().max(1);
     let share = blocks.saturating_mul(fillings.saturating_add(2));
-    let mut left = share.saturating_mul(a.rows() / 16);
-    for index in 0..a.rows() {
+    let step = a.rows() / ROWS_SAMPLED + 1;
+    // The rows looked at first may have somewhat more than their share.
+    let (mut left, mut index) = (share.saturating_mul(2), 0);
+    while index < a.rows() {
         left = left.saturating_add(share);
         let taken = nonzero_entries(a.row(index));
         if taken > left {
             return false;
         }
         left -= taken;
+        index += step;
     }
     true
 }
@@ -226,20 +252,34 @@ fn nonzero_entries(row: &Row) -> usize {
     count
 }
 
-/// How many rows each of four tables combines, where so many rows are added from it to sums of so many terms: as many
-/// as a table can, but so few that it has no more rows than are added from it, and that there is work for four tables.
+/// How many rows each of four tables combines, where so many rows are added from it to sums of so many terms: one more
+/// as long as that makes the additions for each term fewer, there is work for four tables, and a table can.
 fn rows_combined(field: &Field, rows: usize, terms: usize) -> usize
     ensures some { 1 ≤ result }
     ensures fits { result ≤ most_combined field.now }
 {
     let order = usize::from(field.order());
     let most = most_combined(field).min(terms.div_ceil(4));
-    let (mut size, mut left) = (1, rows / order);
-    while size < most && left >= order {
+    let (mut size, mut combinations) = (1, order);
+    while size < most {
+        let more = combinations.saturating_mul(order);
+        // The terms of a block are as many as four times the size.
+        let after = additions_of_block(more, rows).saturating_mul(size);
+        if additions_of_block(combinations, rows).saturating_mul(size + 1) <= after {
+            break;
+        }
         size += 1;
-        left /= order;
+        combinations = more;
     }
     size
+}
+
+/// About how many additions of a row a block of terms takes by four tables of so many combinations each: one for each
+/// combination, and for each of so many rows what two take, since its four combinations are added in one pass.
+fn additions_of_block(combinations: usize, rows: usize) -> usize {
+    combinations
+        .saturating_mul(4)
+        .saturating_add(rows.saturating_mul(2))
 }
 
 /// Four tables of combinations of up to `size` rows each.
@@ -260,13 +300,29 @@ impl FourTables {
         ensures size { IfOk result (λ tables. tables.size ≡ size) }
         ensures tables { Answers None (AreTablesFor field len) result }
     {
-        Ok(FourTables {
+        let front = two_tables(alloc, field, len, size)?;
+        let back = two_tables(alloc, field, len, size)?;
+        Ok(FourTables::of_pairs(size, front, back))
+    }
+
+    /// The four tables of two pairs.
+    fn of_pairs(size: usize, front: (Combos, Combos), back: (Combos, Combos)) -> FourTables
+        ensures tables { result ≡ record {
+          size = size;
+          first = front.0;
+          second = front.1;
+          third = back.0;
+          fourth = back.1;
+        } }
+    {
+        let ((first, second), (third, fourth)) = (front, back);
+        FourTables {
             size,
-            first: Combos::new(alloc, field, len, size)?,
-            second: Combos::new(alloc, field, len, size)?,
-            third: Combos::new(alloc, field, len, size)?,
-            fourth: Combos::new(alloc, field, len, size)?,
-        })
+            first,
+            second,
+            third,
+            fourth,
+        }
     }
 
     /// Makes the tables those of the combinations of four pieces of a matrix's rows, one after another from an index
@@ -286,6 +342,23 @@ impl FourTables {
         fill_piece(&mut self.third, b, at + 2 * size, size);
         fill_piece(&mut self.fourth, b, at + 3 * size, size);
     }
+}
+
+/// Two tables of zeros, for rows of so many entries.
+fn two_tables(
+    alloc: Global,
+    field: Field,
+    len: usize,
+    size: usize,
+) -> Result<(Combos, Combos), Refusal>
+    requires some { 1 ≤ size }
+    requires size { size ≤ most_combined field }
+    ensures first { Answers None (λ tables. IsTableFor field len size tables.0) result }
+    ensures second { Answers None (λ tables. IsTableFor field len size tables.1) result }
+{
+    let first = Combos::new(alloc, field, len, size)?;
+    let second = Combos::new(alloc, field, len, size)?;
+    Ok((first, second))
 }
 
 /// Makes a table that of the combinations of a piece of a matrix's rows: `size` of them from an index on, or those that

@@ -1,13 +1,35 @@
-use Rattle.std.proofs.Common.{◌<◌, length, slice_index, set, ap, ◌∙◌}
-use Rattle.axe_row.specs.Combinations.{combination_at, row_with_four}
+use Rattle.std.proofs.Common.{◌≡◌, ◌<◌, length, slice_index, set, ap, ◌∙◌, subst, arith}
+use Rattle.axe_row.specs.Combinations.{IsRowFor, combination_at, row_with_four}
 use Rattle.axe_row.specs.Rows.{RowValue}
 use Rattle.axe_matrix.specs.Matrices.{MatrixValue, row_of}
 use Rattle.axe_matrix.proofs.RowListLaws.{length-at}
-use Rattle.axe_matrix.proofs.RowWrites.{below_rows, order-at, MakeMatrix-write, matrix_from_written_rows}
+use Rattle.axe_matrix.proofs.RowWrites.{below_rows, order-at, row-read, MakeMatrix-write, matrix_from_written_rows}
 use Rattle.axe_matrix.proofs.Matrix.add_combinations.Goals as goal
 
 within : (c : goal.After-self-1) → c.args.index < length c.self.inside.rows.items
 within c = below_rows _ _ _ c.self.inside.rows.items c.args.index c.self.view_is c.requires.index
+
+pub index_mut-requires : goal.index_mut-requires
+index_mut-requires c =
+    let below = below_rows _ _ _ c.self.inside.rows.items c.args.index c.self.view_is c.requires.index in
+    omega (arith, below, c.self.inside.rows.ok.0)
+
+read : (c : goal.After-index_mut) → row_of c.args.self.now c.args.index ≡ c.index_mut.result.now
+read c =
+    let below = below_rows _ _ _ c.self.inside.rows.items c.args.index c.self.view_is c.requires.index in
+    row-read _ _ _ c.self.inside.rows.items c.args.index c.index_mut.result.now c.self.view_is c.self.invariant below c.index_mut.ensures.value
+
+pub add_four-requires-clause-a : goal.add_four-requires-clause-a
+add_four-requires-clause-a c = subst (λ row. IsRowFor row c.args.tables.now.first (slice_index c.args.numbers 0)) (read c) c.requires.first
+
+pub add_four-requires-clause-b : goal.add_four-requires-clause-b
+add_four-requires-clause-b c = subst (λ row. IsRowFor row c.args.tables.now.second (slice_index c.args.numbers 1)) (read c) c.requires.second
+
+pub add_four-requires-clause-c : goal.add_four-requires-clause-c
+add_four-requires-clause-c c = subst (λ row. IsRowFor row c.args.tables.now.third (slice_index c.args.numbers 2)) (read c) c.requires.third
+
+pub add_four-requires-clause-d : goal.add_four-requires-clause-d
+add_four-requires-clause-d c = subst (λ row. IsRowFor row c.args.tables.now.fourth (slice_index c.args.numbers 3)) (read c) c.requires.fourth
 
 -- the row, and what it becomes
 abbrev after : (c : goal.After-self-1) → RowValue → RowValue

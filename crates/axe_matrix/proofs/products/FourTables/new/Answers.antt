@@ -1,11 +1,18 @@
-use Rattle.axe_matrix.proofs.TableLaws.{new_table}
+use Rattle.std.proofs.Common.{sym, ap, subst}
+use Rattle.axe_matrix.specs.PieceTables.{AreTablesFor}
+use Rattle.axe_matrix.specs.declared.products.FourTables.{FourTables}
 use Rattle.axe_matrix.proofs.products.FourTables.new.Goals as goal
 
+pub returns-clause-size : goal.returns-clause-size
+returns-clause-size c = ap (λ (tables : FourTables). tables.size) c.of_pairs.ensures.tables
+
 pub returns-clause-tables : goal.returns-clause-tables
-returns-clause-tables c = record {
-  some = c.requires.some;
-  first = new_table _ _ _ _ c.in_ok-new.ensures.zeros c.in_ok-new.ensures.well_formed;
-  second = new_table _ _ _ _ c.in_ok-new-2.ensures.zeros c.in_ok-new-2.ensures.well_formed;
-  third = new_table _ _ _ _ c.in_ok-new-3.ensures.zeros c.in_ok-new-3.ensures.well_formed;
-  fourth = new_table _ _ _ _ c.in_ok-new-4.ensures.zeros c.in_ok-new-4.ensures.well_formed;
-}
+returns-clause-tables c =
+    subst (AreTablesFor c.args.field c.args.len) (sym c.of_pairs.ensures.tables)
+    (record {
+      some = c.requires.some;
+      first = c.in_ok-front.ensures.first;
+      second = c.in_ok-front.ensures.second;
+      third = c.in_ok-back.ensures.first;
+      fourth = c.in_ok-back.ensures.second;
+    })

@@ -2,7 +2,7 @@ use Rattle.std.proofs.Common.{◌≡◌, ◌-◌, length}
 use Rattle.axe_matrix.specs.Matrices.{IsMatrix}
 use Rattle.axe_matrix.specs.PieceTables.{AreTablesFor}
 use Rattle.axe_matrix.specs.Products.{matrix_with_terms}
-use Rattle.axe_matrix.proofs.Matrix.add_by_tables.Given as goal
+use Rattle.axe_matrix.proofs.Matrix.add_blocks.Given as goal
 
 abbrev pub invariant-loop-at : goal.invariant-loop-at
 invariant-loop-at l = record {

@@ -2,15 +2,15 @@ use Rattle.std.proofs.Common.{◌*◌, ◌≤◌, length, refl, sym, ap, ◌∙�
 use Rattle.axe_row.proofs.RowLaws.{one-IsElement}
 use Rattle.axe_matrix.specs.Matrices.{MatrixValue}
 use Rattle.axe_matrix.proofs.ProductRows.{matrix_with_no_terms, matrix_with_more_terms, matrix_with_all_terms, tables_for, length-matrix_with_terms}
-use Rattle.axe_matrix.proofs.Matrix.add_by_tables.Goals as goal
+use Rattle.axe_matrix.proofs.Matrix.add_blocks.Goals as goal
 
 pub loop-at-init : goal.loop-at-init
 loop-at-init c = record {
-  so_far = matrix_with_no_terms c.args.self.now 1 c.args.a.now c.args.b.now 0 c.field.ensures.well_formed (one-IsElement c.args.self.now.order);
+  so_far = matrix_with_no_terms c.args.self.now 1 c.args.a.now c.args.b.now 0 c.rows-2.ensures.well_formed (one-IsElement c.args.self.now.order);
   count = refl;
-  size = c.in_ok-tables.ensures.size;
-  tables = tables_for _ _ _ _ _ c.field.ensures.order c.cols-2.ensures.count c.in_ok-tables.ensures.tables;
-  well_formed = c.field.ensures.well_formed;
+  size = refl;
+  tables = c.requires.tables;
+  well_formed = c.rows-2.ensures.well_formed;
 }
 
 pub fill-requires-clause-tables : goal.fill-requires-clause-tables
@@ -36,7 +36,7 @@ add_block-requires-clause-tables c =
     tables_for _ _ _ _ _ (add_block-requires-clause-b_field c) (add_block-requires-clause-columns_fit c) c.fill.ensures.tables
 
 pub loop-at-smaller : goal.loop-at-smaller
-loop-at-smaller c = omega (arith, c.loop-at-test.true, c.rows-in-loop-at.ensures.count, c.requires.some)
+loop-at-smaller c = omega (arith, c.loop-at-test.true, c.rows-in-loop-at.ensures.count, c.requires.tables.some)
 
 pub loop-at-preserved : goal.loop-at-preserved
 loop-at-preserved c =
@@ -44,8 +44,8 @@ loop-at-preserved c =
     let size = c.fill.ensures.size ∙ invariant.size in
     record {
       so_far =
-          matrix_with_more_terms c.args.self.now 1 c.args.a.now c.args.b.now c.loop-at.at (4 * c.args.size) c.loop-at.self c.add_block.new.self
-          c.field.ensures.well_formed c.cols.ensures.well_formed c.rows.ensures.well_formed c.requires.a_field c.requires.b_field c.requires.rows_fit (one-IsElement c.args.self.now.order)
+          matrix_with_more_terms c.args.self.now 1 c.args.a.now c.args.b.now c.loop-at.at (4 * c.args.tables.now.size) c.loop-at.self c.add_block.new.self
+          c.rows-2.ensures.well_formed c.rows.ensures.well_formed c.rows-in-loop-at.ensures.well_formed c.requires.a_field c.requires.b_field c.requires.rows_fit (one-IsElement c.args.self.now.order)
           invariant.so_far (rw (← size) c.add_block.ensures.sum);
       count = ap (λ (m : MatrixValue). length m.rows) c.add_block.ensures.sum ∙ length-matrix_with_terms c.loop-at.self 1 c.args.a.now c.args.b.now c.loop-at.at (4 * c.fill.new.self.size) ∙ invariant.count;
       size = size;
@@ -57,7 +57,7 @@ pub returns-clause-sum : goal.returns-clause-sum
 returns-clause-sum c =
     let all : length c.args.b.now.rows ≤ c.loop-at.at = rw (← c.rows-in-loop-at.ensures.count) c.loop-at-test.false in
     c.loop-at.invariant.so_far ∙ matrix_with_all_terms c.args.self.now 1 c.args.a.now c.args.b.now c.loop-at.at
-    c.cols.ensures.well_formed c.rows.ensures.well_formed c.requires.a_field c.requires.b_field c.requires.rows_fit all
+    c.rows.ensures.well_formed c.rows-in-loop-at.ensures.well_formed c.requires.a_field c.requires.b_field c.requires.rows_fit all
 
 pub returns-clause-well_formed : goal.returns-clause-well_formed
 returns-clause-well_formed c = c.loop-at.invariant.well_formed
