@@ -1,5 +1,5 @@
 -- Rows cleared by no rows stay as they are; how many rows there are of some rows, and of cleared ones.
-use Rattle.std.specs.Prelude.{◌≡◌, ℕ, ◌<◌, List, [], length, get_or}
+use Rattle.std.specs.Prelude.{◌≡◌, ℕ, ◌+◌, ◌<◌, ◌≤◌, List, [], length, get_or}
 use Rattle.std.proofs.lemmas.List.{ext_get_or}
 use Rattle.axe_algebra.specs.Bridge.{field_of, element}
 use Rattle.axe_algebra.specs.ListArithmetic.{number_sum, product_entry}
@@ -45,16 +45,16 @@ nothing_added K columns d c a b over small none =
     ∙ ap (K.add (entry d i j)) (mul-zero K c small)
     ∙ K.add-zero (entry d i j) (entry-below K (get_or d i []) j (row_over K columns d i over inside).elements)))
 
-negative-below : (o : Order) → field_neg o 1 < (number_field o).order
+pub minus_one-below : (o : Order) → field_neg o 1 < (number_field o).order
 unfolding number_field
-negative-below o = (number_field o).neg-below 1 (one_is_element o)
+minus_one-below o = (number_field o).neg-below 1 (one_is_element o)
 
 pub cleared_of_none : (pivots : List ℕ) (a b : AugmentedValue) → IsAugmented b → length a.rows ≡ 0 →
     b ≡ cleared pivots a b
 cleared_of_none pivots a b h none =
     ap (λ rows. record b { rows = rows })
     (sym (nothing_added (number_field b.order) b.cols b.rows (field_neg b.order 1) (entries_at b pivots).rows a.rows
-    h.over (negative-below b.order) none))
+    h.over (minus_one-below b.order) none))
 
 pub length-cleared : (pivots : List ℕ) (a b : AugmentedValue) → length (cleared pivots a b).rows ≡ length b.rows
 unfolding rows_with_product
@@ -71,3 +71,13 @@ pub length-some_cleared : (pivots : List ℕ) (reduced a b rest : AugmentedValue
     b ≡ some_rows a start count → rest ≡ cleared pivots reduced b → length rest.rows ≡ count
 length-some_cleared pivots reduced a b rest start count some is =
     ap (λ (x : AugmentedValue). length x.rows) is ∙ length-cleared pivots reduced b ∙ length-some a b start count some
+
+-- the rows that two reductions give, of the first rows and of the others, cleared, have room: the reduced ones and the rest
+pub both_fit : (most half others reduced rest further_reduced further_rest : ℕ) (pivots : List ℕ) (by a first second cleared_rows : AugmentedValue) →
+    half + others ≤ most → first ≡ some_rows a 0 half → second ≡ some_rows a half others → cleared_rows ≡ cleared pivots by second →
+    reduced + rest ≡ length first.rows → further_reduced + further_rest ≡ length cleared_rows.rows →
+    (reduced + further_reduced ≤ most) × (rest + further_rest ≤ most)
+both_fit most half others reduced rest further_reduced further_rest pivots by a first second cleared_rows fit first_is second_is cleared_is count further_count =
+    let halves : length first.rows ≡ half = length-some a first 0 half first_is in
+    let remaining : length cleared_rows.rows ≡ others = length-some_cleared pivots by a second cleared_rows half others second_is cleared_is in
+    (omega (arith, fit, halves, remaining, count, further_count), omega (arith, fit, halves, remaining, count, further_count))

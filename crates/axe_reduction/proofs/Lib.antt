@@ -3,8 +3,6 @@ pub mod BesideParts
 pub mod BesideSums
 pub mod ClearLaws
 pub mod ClearedLaws
-pub mod CoordinateLaws
-pub mod CoordinateLists
 pub mod Exits
 pub mod JoinedLaws
 pub mod JoinedRows

@@ -15,6 +15,7 @@ use Rattle.axe_reduction.specs.Forms.{AreReducedRows}
 use Rattle.axe_reduction.specs.Reductions.{cleared, IsJoinOf, IsReductionOf}
 use Rattle.axe_reduction.specs.declared.reduction.Reduction.{Reduction}
 use Rattle.axe_reduction.proofs.JoinedLaws.{AreStacked}
+use Rattle.axe_reduction.proofs.ClearLaws.{minus_one-below}
 use Rattle.axe_reduction.proofs.ClearedLaws.{cleared_rows}
 use Rattle.axe_reduction.proofs.JoinedRows.{AreReduced, join_are_reduced}
 use mathlib.Core.Path.{sym, ◌∙◌, ap, subst}
@@ -113,10 +114,6 @@ halves_stacked a half others count = record {
     second_length = listed_length others g
 
 -- ---- the number of -1
-
-pub minus_one-below : (o : Order) → field_neg o 1 < (number_field o).order
-minus_one-below o =
-    subst (λ e. e < (number_field o).order) (number_field-neg o 1) ((number_field o).neg-below 1 (number_field o).one-below)
 
 pub minus_one-is : (o : Order) → element (number_field o) (field_neg o 1) ≡ (gf o).neg (gf o).one
 minus_one-is o =

@@ -20,6 +20,7 @@ use Rattle.axe_reduction.specs.Augmented.{some_rows, scaled_rows}
 use Rattle.axe_reduction.specs.Forms.{AreReducedRows}
 use Rattle.axe_reduction.specs.Reductions.{AreReducedAt, AreZeroLeft, IsReductionOf}
 use Rattle.axe_reduction.specs.declared.reduction.Reduction.{Reduction}
+use Rattle.axe_reduction.proofs.BesideLaws.{element-below}
 use Rattle.axe_reduction.proofs.ClearLaws.{mul-zero}
 use mathlib.Core.Path.{refl, sym, ◌∙◌, ap, ap₂, subst, fun_ext}
 use native.Mathlib.Omega.{arith}
@@ -121,10 +122,6 @@ scaled_is : (a : AugmentedValue) (c : ℕ) →
 unfolding number_field
 scaled_is a c = refl
 
-below_of_element : (o : Order) (a : ℕ) → IsElement o a → a < (number_field o).order
-unfolding number_field
-below_of_element o a below = below
-
 product_of : (o : Order) (a b : ℕ) → (number_field o).mul a b ≡ field_mul o a b
 unfolding number_field
 product_of o a b = refl
@@ -212,7 +209,7 @@ multiple_reduces row r scalar pivot x h single leads x_is is_x is_scalar inverse
     let empty : r.rest.rows ≡ [] =
     ap (λ (x : AugmentedValue). x.rows) none ∙ no_list (λ i. get_or row.rows (0 + i) []) in
     let no_row : length r.rest.rows ≡ 0 = ap (λ (l : List (List ℕ)). length l) empty in
-    let small : scalar < K.order = below_of_element row.order scalar is_scalar in
+    let small : scalar < K.order = element-below row.order scalar is_scalar in
     let product : K.mul (entry row.rows 0 pivot) scalar ≡ 1 =
     ap (λ y. K.mul y scalar) (sym x_is) ∙ product_of row.order x scalar ∙ inverse in
     record {
@@ -232,5 +229,5 @@ multiple_reduces row r scalar pivot x h single leads x_is is_x is_scalar inverse
       same = subst (HaveSameSpan K row.rows)
           (sym (ap₂ (λ (a b : List (List ℕ)). a ++ b) rows empty ∙ append-nil (multiples K row.cols row.rows scalar)))
           (same_span_of_multiples K row.cols row.rows scalar (entry row.rows 0 pivot) h.over small
-          (subst (λ y. y < K.order) x_is (below_of_element row.order x is_x)) product);
+          (subst (λ y. y < K.order) x_is (element-below row.order x is_x)) product);
     }

@@ -1,12 +1,11 @@
 -- The rows of a matrix beside the unit vectors, and reduced rows of one span with them.
 use Rattle.std.specs.Prelude.{◌≡◌, ◌≢◌, ℕ, zero, suc, ◌+◌, ◌<◌, ◌≤◌, ◌⊎◌}
 use Rattle.axe_algebra.specs.Field.{Field}
-use Rattle.axe_algebra.specs.Vectors.{Vector, Matrix, HasLength, HasRowsOfLength, unit_vector, times}
-use Rattle.axe_algebra.specs.Spans.{InSpan, IsIndependent, SpanWithin, IsInvertible, IsNullVector}
-use Rattle.axe_algebra.proofs.FieldLaws.{zero-add, zero-mul, mul-zero}
+use Rattle.axe_algebra.specs.Vectors.{Vector, Matrix, HasRowsOfLength, unit_vector, times}
+use Rattle.axe_algebra.specs.Spans.{InSpan, IsIndependent, SpanWithin, IsInvertible}
+use Rattle.axe_algebra.proofs.FieldLaws.{zero-mul, mul-zero}
 use Rattle.axe_algebra.proofs.Sums.{sum_same, sum_zeros, sum_one, sum_split}
 use Rattle.axe_algebra.proofs.ProductLaws.{times-at, times_same, times_length, unit_at, unit_off, unit_length}
-use Rattle.axe_algebra.proofs.Spanning.{span_within}
 use Rattle.axe_algebra.proofs.Exchange.{cut, cut_below, cut_length, exchange, square_rows_span}
 use Rattle.axe_algebra.proofs.SquareMatrices.{rows_of_invertible}
 use mathlib.Core.Logic.{inl, inr}
@@ -98,54 +97,6 @@ module _ (F : Field) where
       ∙ sum_one F k t (λ i. d i ⊗ s i (p t)) below
       (λ i inside other. ap (λ y. d i ⊗ y) (reduced.zero i t inside below other) ∙ mul-zero F (d i))
       ∙ ap (λ y. d t ⊗ y) (reduced.one t below) ∙ F.mul-one (d t)
-
-  -- the right part of a vector of the span that is 0 before column m is a null vector
-  pub null_of_right : (n m : ℕ) (x a : Matrix F) (v w : Vector F) → AreBesideUnits n m x a → InSpan F n a v →
-      HasLength F n w → ((j : ℕ) → j < n → w j ≡ v (m + j)) → ((j : ℕ) → j < m → v j ≡ 𝟘) → IsNullVector F n x w
-  null_of_right n m x a v w beside in_span length right zeros = record {
-    length = length;
-    vanishes = fun_ext λ j. at j (dec_lt j m);
-  }
-    where
-      at : (j : ℕ) → Dec (j < m) → times F n w x j ≡ 𝟘
-      at j (yes inside) = left_of_right n m x a v w beside in_span right j inside ∙ zeros j inside
-      at j (no past) = times_length F n m w x beside.lengths j (omega arith)
-
-  -- and the right parts of the last rows span all null vectors
-  pub right_parts_span : (n m k l : ℕ) (x a s u : Matrix F) (p : ℕ → ℕ) (v : Vector F) → AreBesideUnits n m x a → AreReducedBefore m k l s p →
-      SpanWithin F n a (k + l) s → HasRowsOfLength F n u → ((t j : ℕ) → t < l → j < n → u t j ≡ s (k + t) (m + j)) →
-      IsNullVector F n x v → InSpan F l u v
-  right_parts_span n m k l x a s u p v beside reduced within lengths right null = record {
-    coefficients = λ t. d (k + t);
-    combines = fun_ext λ j. at j (dec_lt j n);
-  }
-    where
-      in_span : InSpan F (k + l) s (times F n v a)
-      in_span = span_within F n a (k + l) s (times F n v a) within (record { coefficients = v; combines = refl })
-
-      d : Vector F
-      d = in_span.coefficients
-
-      both : (j : ℕ) → times F n v a j ≡ times F (k + l) d s j
-      both j = ap (λ (y : Vector F). y j) in_span.combines
-
-      zeros : (t : ℕ) → t < k → d t ≡ 𝟘
-      zeros t below =
-          sym (times_at_pivot m k l d s p reduced t below) ∙ sym (times_before m k l d s p reduced (p t) (reduced.pivots t below))
-          ∙ sym (both (p t)) ∙ left_of_combination n m x a v beside (p t) (reduced.pivots t below)
-          ∙ ap (λ (y : Vector F). y (p t)) null.vanishes
-
-      at : (j : ℕ) → Dec (j < n) → v j ≡ times F l (λ t. d (k + t)) u j
-      at j (yes below) =
-          sym (right_of_combination n m x a v beside j below) ∙ both (m + j) ∙ times_in_two k l d s (m + j)
-          ∙ ap₂ ◌⊕◌
-          (times-at F k d s (m + j)
-          ∙ sum_zeros F k (λ t. d t ⊗ s t (m + j)) (λ t inside. ap (λ y. y ⊗ s t (m + j)) (zeros t inside) ∙ zero-mul F (s t (m + j))))
-          (times-at F l (λ t. d (k + t)) (λ t. s (k + t)) (m + j)
-          ∙ sum_same F l (λ t. d (k + t) ⊗ s (k + t) (m + j)) (λ t. d (k + t) ⊗ u t j) (λ t inside. ap (λ y. d (k + t) ⊗ y) (sym (right t j inside below)))
-          ∙ sym (times-at F l (λ t. d (k + t)) u j))
-          ∙ zero-add F (times F l (λ t. d (k + t)) u j)
-      at j (no past) = null.length j (omega arith) ∙ sym (times_length F l n (λ t. d (k + t)) u lengths j (omega arith))
 
   -- the left parts of the first k rows
   pub left_parts : ℕ → Matrix F → Matrix F

@@ -1,18 +1,16 @@
--- The reduction of a matrix beside the identity, as rows over the field; null vectors and inverses from it.
+-- The reduction of a matrix beside the identity, as rows over the field; inverses from it.
 use Rattle.std.specs.Prelude.{◌≡◌, ℕ, ◌+◌, ◌<◌, ◌≤◌, List, [], ◌++◌, length, get_or}
 use Rattle.std.specs.List.{Contains}
 use Rattle.std.proofs.lemmas.List.{length-append, get_or_append_left, get_or-append-add}
 use Rattle.std.proofs.lemmas.List.Elements.{Contains-get_or, All-from_get_or}
 use Rattle.axe_algebra.specs.NumberField.{NumberField}
 use Rattle.axe_algebra.specs.Field.{Field}
-use Rattle.axe_algebra.specs.Vectors.{Vector, Matrix, HasRowsOfLength, unit_vector, unit_matrix, times}
-use Rattle.axe_algebra.specs.Spans.{InSpan, SpanWithin, IsNullVector}
+use Rattle.axe_algebra.specs.Vectors.{Vector, Matrix, unit_vector, unit_matrix, times}
+use Rattle.axe_algebra.specs.Spans.{InSpan, SpanWithin}
 use Rattle.axe_algebra.specs.Bridge.{field_of, element, vector_of, matrix_of}
 use Rattle.axe_algebra.specs.Lists.{entry, table, IsMatrixOver, IsSquareOver, IsVectorOver}
 use Rattle.axe_algebra.specs.ListArithmetic.{identity}
 use Rattle.axe_algebra.proofs.ProductLaws.{identity_row, identity_past, times_zero}
-use Rattle.axe_algebra.proofs.NullSpaces.{null_space_is_space}
-use Rattle.axe_algebra.proofs.Spaces.{space_has_span}
 use Rattle.axe_algebra.proofs.SquareMatrices.{left_two_sided}
 use Rattle.axe_algebra.proofs.ListEntries.{listed_at, listed_length, table_length, table_entry, row_over, rows_length, square_shape}
 use Rattle.axe_algebra.proofs.ListProducts.{matrix_of_identity, identity_length}
@@ -23,10 +21,10 @@ use Rattle.axe_matrix.specs.Matrices.{MatrixValue, IsMatrix, identity_matrix}
 use Rattle.axe_reduction.specs.Augmented.{AugmentedValue, rows_beside, augmented, right_part}
 use Rattle.axe_reduction.specs.Forms.{AreReducedRows}
 use Rattle.axe_reduction.specs.Reductions.{IsReductionOf}
-use Rattle.axe_reduction.specs.Solutions.{SpansNullSpaceOf, IsInverseMatrix, IsInvertible, IsRowAtPivot, AreRowsByPivot}
+use Rattle.axe_reduction.specs.Solutions.{IsInverseMatrix, IsInvertible, IsRowAtPivot, AreRowsByPivot}
 use Rattle.axe_reduction.specs.declared.reduction.Reduction.{Reduction}
 use Rattle.axe_reduction.proofs.BesideLaws.{matrix_over}
-use Rattle.axe_reduction.proofs.SolutionLaws.{AreBesideUnits, AreReducedBefore, null_of_right, right_parts_span, pivots_of_invertible, every_pivot, right_is_inverse}
+use Rattle.axe_reduction.proofs.SolutionLaws.{AreBesideUnits, AreReducedBefore, pivots_of_invertible, every_pivot, right_is_inverse}
 use mathlib.Core.Path.{refl, sym, ◌∙◌, ap, ap₂, subst, fun_ext}
 use native.Mathlib.Decide.{dec_lt}
 use native.Mathlib.Omega.{arith}
@@ -132,76 +130,6 @@ beside_identity m = augmented m (identity_matrix m.order (length m.rows))
 pub beside_count : (m : MatrixValue) → length (beside_identity m).rows ≡ length m.rows
 unfolding rows_beside
 beside_count m = listed_length (length m.rows) (λ i. get_or m.rows i [] ++ get_or (identity (length m.rows)) i [])
-
--- ---- null vectors
-
-pub null_space_of_rest : (m vectors : MatrixValue) (r : Reduction) → IsMatrix m → IsReductionOf (beside_identity m) r → IsMatrix vectors →
-    vectors ≡ right_part r.rest vectors.cols → r.rest.left + vectors.cols ≡ r.rest.cols → SpansNullSpaceOf m vectors
-null_space_of_rest m vectors r h of_rows well_formed is columns = record {
-  field = field;
-  columns = cols;
-  spans = record {
-    lengths = lengths;
-    forth = λ x in_span. space_has_span F (IsNullVector F n X) (null_space_is_space F n X) (length vectors.rows) (matrix_of K vectors.rows) null x in_span;
-    back = λ v zero.
-        subst (λ l. InSpan F l (matrix_of K vectors.rows) v) (sym count)
-        (right_parts_span F n m.cols (length r.reduced.rows) (length r.rest.rows) X A S (matrix_of K vectors.rows) (λ t. get_or r.pivots.items t 0) v
-        beside reduced (span_forth (beside_identity m) n r of_rows (beside_count m)) lengths right zero);
-  };
-}
-  where
-    K : NumberField
-    K = number_field m.order
-
-    F : Field
-    F = gf m.order
-
-    n : ℕ
-    n = length m.rows
-
-    X : Matrix (gf m.order)
-    X = matrix_of (number_field m.order) m.rows
-
-    A : Matrix (gf m.order)
-    A = matrix_of (number_field m.order) (beside_identity m).rows
-
-    S : Matrix (gf m.order)
-    S = matrix_of (number_field m.order) (r.reduced.rows ++ r.rest.rows)
-
-    field : vectors.order ≡ m.order
-    field = ap (λ (x : MatrixValue). x.order) is ∙ of_rows.rest_alike.field
-
-    cols : vectors.cols ≡ length m.rows
-    cols = right_columns (beside_identity m) r.rest m.cols (length m.rows) vectors.cols of_rows.rest_alike.left of_rows.rest_alike.columns refl refl columns
-
-    rows : vectors.rows ≡ table (length r.rest.rows) (length m.rows) (λ i j. entry r.rest.rows i (m.cols + j))
-    rows = right_rows r.rest vectors m.cols (length m.rows) is cols of_rows.rest_alike.left
-
-    count : length vectors.rows ≡ length r.rest.rows
-    count = ap (λ (x : List (List ℕ)). length x) rows ∙ table_length (length r.rest.rows) (length m.rows) (λ i j. entry r.rest.rows i (m.cols + j))
-
-    lengths : HasRowsOfLength (gf m.order) (length m.rows) (matrix_of (number_field m.order) vectors.rows)
-    lengths = rows_length (number_field m.order) (length m.rows) vectors.rows (matrix_over m.order (length m.rows) vectors well_formed field cols)
-
-    beside : AreBesideUnits (gf m.order) (length m.rows) m.cols (matrix_of (number_field m.order) m.rows) (matrix_of (number_field m.order) (beside_identity m).rows)
-    beside = beside_units (number_field m.order) m.cols m.rows (matrix_over m.order m.cols m h refl refl)
-
-    reduced : AreReducedBefore (gf m.order) m.cols (length r.reduced.rows) (length r.rest.rows)
-        (matrix_of (number_field m.order) (r.reduced.rows ++ r.rest.rows)) (λ t. get_or r.pivots.items t 0)
-    reduced = reduced_before (beside_identity m) r of_rows
-
-    right : (t j : ℕ) → t < length r.rest.rows → j < length m.rows →
-        matrix_of (number_field m.order) vectors.rows t j ≡ matrix_of (number_field m.order) (r.reduced.rows ++ r.rest.rows) (length r.reduced.rows + t) (m.cols + j)
-    right t j below inside =
-        right_entry K (length r.rest.rows) (length m.rows) m.cols r.rest.rows vectors.rows rows t j below inside
-        ∙ ap (λ (v : Vector (gf m.order)). v (m.cols + j)) (sym (appended_later K r.reduced.rows r.rest.rows t))
-
-    null : (t : ℕ) → t < length vectors.rows → IsNullVector F n X (matrix_of K vectors.rows t)
-    null t below =
-        null_of_right F n m.cols X A (S (length r.reduced.rows + t)) (matrix_of K vectors.rows t) beside
-        (span_back (beside_identity m) n r of_rows (beside_count m) (length r.reduced.rows + t) (omega (arith, below, count)))
-        (lengths t) (λ j inside. right t j (omega (arith, below, count)) inside)
-        (λ j inside. reduced.rest t j (omega (arith, below, count)) inside)
 
 -- ---- inverses
 

@@ -2,4 +2,3 @@ pub mod Augmented
 pub mod Forms
 pub mod Reductions
 pub mod Solutions
-pub mod Coordinates

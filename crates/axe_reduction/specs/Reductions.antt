@@ -1,11 +1,10 @@
 -- What the reduction of an augmented matrix gives.
-use Rattle.std.specs.Prelude.{◌≡◌, ℕ, ◌+◌, ◌<◌, ◌≤◌, List, ◌++◌, length, get_or, All}
+use Rattle.std.specs.Prelude.{◌≡◌, ℕ, ◌+◌, ◌<◌, List, ◌++◌, length, get_or, All}
 use Rattle.axe_algebra.specs.Bridge.{matrix_of}
 use Rattle.axe_algebra.specs.SpansOfLists.{HaveSameSpan}
 use Rattle.axe_field.specs.Arithmetic.{field_neg}
 use Rattle.axe_field.specs.NumberFields.{number_field, gf}
-use Rattle.axe_matrix.specs.Matrices.{MatrixValue, IsMatrix, identity_matrix}
-use Rattle.axe_reduction.specs.Augmented.{augmented, AugmentedValue, IsAugmented, AreAlike, entries_at, with_product, with_rows}
+use Rattle.axe_reduction.specs.Augmented.{AugmentedValue, IsAugmented, AreAlike, entries_at, with_product, with_rows}
 use Rattle.axe_reduction.specs.Forms.{AreReducedRows}
 use Rattle.axe_reduction.specs.declared.reduction.Reduction.{Reduction}
 
@@ -45,9 +44,3 @@ pub record IsReductionOf (a : AugmentedValue) (r : Reduction) : Type 0 where
   pub are_reduced : AreReducedAt r.pivots.items r.reduced
   pub rest_zero : AreZeroLeft r.rest
   pub same : HaveSameSpan (number_field a.order) a.rows (r.reduced.rows ++ r.rest.rows)
-
--- the reduction is that of the matrix m, which has a row, beside the identity
-pub record ReducesBesideIdentity (m : MatrixValue) (r : Reduction) : Type 0 where
-  pub well_formed : IsMatrix m
-  pub some_row : 1 ≤ length m.rows
-  pub reduces : IsReductionOf (augmented m (identity_matrix m.order (length m.rows))) r

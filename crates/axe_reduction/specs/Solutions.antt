@@ -1,18 +1,9 @@
--- Null vectors and inverses of matrices.
+-- Inverses of matrices.
 use Rattle.std.specs.Prelude.{◌≡◌, ℕ, ◌<◌, List, [], length, get_or}
-use Rattle.axe_algebra.specs.Bridge.{matrix_of}
 use Rattle.axe_algebra.specs.Lists.{IsSquareOver}
 use Rattle.axe_algebra.specs.ListArithmetic.{IsInverse}
-use Rattle.axe_algebra.specs.NortonTheorems.{SpansNullSpace}
-use Rattle.axe_field.specs.NumberFields.{number_field, gf}
+use Rattle.axe_field.specs.NumberFields.{number_field}
 use Rattle.axe_matrix.specs.Matrices.{MatrixValue}
-
--- the rows of `vectors` span the null space of m: all v with v m = 0 (Parker 1984)
-pub record SpansNullSpaceOf (m vectors : MatrixValue) : Type 0 where
-  pub field : vectors.order ≡ m.order
-  pub columns : vectors.cols ≡ length m.rows
-  pub spans : SpansNullSpace (gf m.order) (length m.rows) (matrix_of (number_field m.order) m.rows)
-      (length vectors.rows) (matrix_of (number_field m.order) vectors.rows)
 
 -- the matrix is the inverse of the square matrix m
 pub record IsInverseMatrix (m inverse : MatrixValue) : Type 0 where

@@ -1,6 +1,6 @@
 //! Augmented matrices.
 
-ghost use Rattle.std.specs.Prelude.{◌≡◌, ◌↔◌, ℕ, ◌+◌, ◌<◌, ◌≤◌, ◌++◌, IsTrue, None, IfOk, MatchOption, length, All};
+ghost use Rattle.std.specs.Prelude.{◌≡◌, ◌+◌, ◌<◌, ◌≤◌, ◌++◌, None, IfOk, MatchOption, length, All};
 ghost use Rattle.axe_algebra.specs.Lists.{entry};
 ghost use Rattle.axe_field.specs.Order.{IsElement};
 ghost use Rattle.axe_row.specs.Refusals.{Answers};
@@ -79,18 +79,6 @@ impl Augmented {
         ensures { MatchOption result (IsZeroLeft self.now row) (LeadsLeftAt self.now row) }
     {
         self.left.row(row).first_nonzero()
-    }
-
-    /// Whether each row is 0 left of the bar.
-    pub(crate) fn is_zero_left(&self) -> bool
-        ensures { IsTrue result ↔ ((i : ℕ) → i < length self.now.rows → IsZeroLeft self.now i) }
-    {
-        for index in 0..self.rows() {
-            if self.leading(index).is_some() {
-                return false;
-            }
-        }
-        true
     }
 
     /// The entries at chosen columns left of the bar, of all rows. A column may stand more than once.

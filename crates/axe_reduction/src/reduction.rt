@@ -3,7 +3,7 @@
 ghost use Rattle.std.specs.Prelude.{◌≡◌, ◌+◌, ◌≤◌, ◌++◌, None, IfOk, length};
 ghost use Rattle.axe_row.specs.Refusals.{Answers};
 ghost use Rattle.axe_matrix.specs.Limits.{most_rows};
-ghost use Rattle.axe_reduction.specs.Augmented.{AreAlike, IsAugmented};
+ghost use Rattle.axe_reduction.specs.Augmented.{AreAlike, IsAugmented, IsZeroLeft, LeadsLeftAt};
 ghost use Rattle.axe_reduction.specs.Reductions.{cleared, AreReducedAt, IsJoinOf, IsReductionOf};
 
 use crate::augmented::Augmented;
@@ -42,13 +42,13 @@ impl Reduction {
     }
 
     /// This reduction and that of further rows, which are 0 at the pivots of this one, as one reduction of them all.
-    fn join(self, alloc: Global, further: Reduction) -> Result<Reduction, Refusal>
-        requires reduced_alike { AreAlike self.reduced further.reduced }
-        requires rest_alike { AreAlike self.rest further.rest }
-        requires reduced { AreReducedAt further.pivots.items further.reduced }
-        requires room { length self.reduced.rows + length further.reduced.rows ≤ most_rows }
-        requires rest_room { length self.rest.rows + length further.rest.rows ≤ most_rows }
-        ensures { Answers None (IsJoinOf self further) result }
+    fn join(self, alloc: Global, further: &Reduction) -> Result<Reduction, Refusal>
+        requires reduced_alike { AreAlike self.reduced further.now.reduced }
+        requires rest_alike { AreAlike self.rest further.now.rest }
+        requires reduced { AreReducedAt further.now.pivots.items further.now.reduced }
+        requires room { length self.reduced.rows + length further.now.reduced.rows ≤ most_rows }
+        requires rest_room { length self.rest.rows + length further.now.rest.rows ≤ most_rows }
+        ensures { Answers None (IsJoinOf self further.now) result }
     {
         let Reduction {
             reduced,
@@ -83,7 +83,7 @@ pub(crate) fn reduction_of(alloc: Global, rows: Augmented) -> Result<Reduction, 
     let second = rows.some_rows(alloc, half, rows.rows() - half)?;
     let second = first.clear(alloc, second)?;
     let second = reduction_of(alloc, second)?;
-    first.join(alloc, second)
+    first.join(alloc, &second)
 }
 
 /// The reduction of a single row.
@@ -91,23 +91,45 @@ fn reduction_of_row(alloc: Global, row: Augmented) -> Result<Reduction, Refusal>
     requires { length row.rows ≡ 1 }
     ensures { Answers None (IsReductionOf row) result }
 {
+    match row.leading(0) {
+        Some(pivot) => reduction_at_pivot(alloc, &row, pivot),
+        None => reduction_to_rest(alloc, row),
+    }
+}
+
+/// The reduction of a single row whose first entry other than 0 stands left of the bar, at the pivot.
+fn reduction_at_pivot(alloc: Global, row: &Augmented, pivot: usize) -> Result<Reduction, Refusal>
+    requires single { length row.now.rows ≡ 1 }
+    requires leads { LeadsLeftAt row.now 0 pivot }
+    ensures { Answers None (IsReductionOf row.now) result }
+{
     // `rows` is called for what it ensures beside the number: that this is an augmented matrix.
     prove!(row.rows() == 1);
-    let none = row.some_rows(alloc, 0, 0)?;
-    let mut pivots = Vec::new(alloc);
-    let Some(pivot) = row.leading(0) else {
-        return Ok(Reduction {
-            reduced: none,
-            pivots,
-            rest: row,
-        });
-    };
-    pivots.push(pivot)?;
     let scalar = row.field().inv(row.get(0, pivot));
     let reduced = row.scaled(alloc, scalar)?;
+    let rest = row.some_rows(alloc, 0, 0)?;
+    let mut pivots = Vec::new(alloc);
+    pivots.push(pivot)?;
     Ok(Reduction {
         reduced,
         pivots,
-        rest: none,
+        rest,
+    })
+}
+
+/// The reduction of a single row that is 0 left of the bar.
+fn reduction_to_rest(alloc: Global, row: Augmented) -> Result<Reduction, Refusal>
+    requires single { length row.rows ≡ 1 }
+    requires zero { IsZeroLeft row 0 }
+    ensures { Answers None (IsReductionOf row) result }
+{
+    // `rows` is called for what it ensures beside the number: that this is an augmented matrix.
+    prove!(row.rows() == 1);
+    let reduced = row.some_rows(alloc, 0, 0)?;
+    let pivots = Vec::new(alloc);
+    Ok(Reduction {
+        reduced,
+        pivots,
+        rest: row,
     })
 }

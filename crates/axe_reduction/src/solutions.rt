@@ -1,4 +1,4 @@
-//! Null vectors and inverses.
+//! Inverses.
 
 ghost use Rattle.std.specs.Prelude.{◌≡◌, ◌<◌, ◌≤◌, ℕ, None, IfOk, IfSome, MatchOption, length, slice_index_or};
 ghost use Rattle.std.specs.List.{Contains};
@@ -6,25 +6,12 @@ ghost use Rattle.axe_row.specs.Refusals.{Answers};
 ghost use Rattle.axe_matrix.specs.Matrices.{IsMatrix, identity_matrix};
 ghost use Rattle.axe_reduction.specs.Augmented.{augmented};
 ghost use Rattle.axe_reduction.specs.Reductions.{IsReductionOf};
-ghost use Rattle.axe_reduction.specs.Solutions.{AreRowsByPivot, IsInverseMatrix, IsInvertible, SpansNullSpaceOf};
+ghost use Rattle.axe_reduction.specs.Solutions.{AreRowsByPivot, IsInverseMatrix, IsInvertible};
 
 use crate::augmented::Augmented;
 use crate::reduction::{Reduction, reduction_of};
 use axe_matrix::{Matrix, Refusal};
 use std::alloc::Global;
-
-/// Vectors that span the null space of a matrix with at least one row: all vectors whose product with it, as `v X`, is
-/// zero.
-pub fn null_vectors(alloc: Global, matrix: &Matrix) -> Result<Matrix, Refusal>
-    requires { 1 ≤ length matrix.now.rows }
-    ensures spans { Answers None (SpansNullSpaceOf matrix.now) result }
-    ensures well_formed { IfOk result IsMatrix }
-{
-    // `rows` is called for what it ensures beside the number: that this is a matrix.
-    prove!(matrix.rows() >= 1);
-    let reduction = reduction_beside_identity(alloc, matrix)?;
-    Ok(reduction.rest.into_right())
-}
 
 /// The inverse of a square matrix, or `None` where it has none.
 pub fn inverse_of(alloc: Global, matrix: &Matrix) -> Result<Option<Matrix>, Refusal>
@@ -77,10 +64,7 @@ fn place_of(numbers: &[usize], number: usize) -> usize
 }
 
 /// The reduction of a matrix beside the identity.
-pub(crate) fn reduction_beside_identity(
-    alloc: Global,
-    matrix: &Matrix,
-) -> Result<Reduction, Refusal>
+fn reduction_beside_identity(alloc: Global, matrix: &Matrix) -> Result<Reduction, Refusal>
     requires { 1 ≤ length matrix.now.rows }
     ensures { Answers None
         (IsReductionOf (augmented matrix.now (identity_matrix matrix.now.order (length matrix.now.rows)))) result }

@@ -1,7 +1,7 @@
 use Rattle.std.proofs.Common.{arith, ◌≡◌, ◌<◌, ap, ◌∙◌, subst, length, ◌-◌, ◌/◌}
 use Rattle.axe_reduction.specs.Augmented.{AugmentedValue}
 use Rattle.axe_reduction.specs.Reductions.{cleared, IsReductionOf}
-use Rattle.axe_reduction.proofs.ClearLaws.{length-some, length-some_cleared}
+use Rattle.axe_reduction.proofs.ClearLaws.{length-some, length-some_cleared, both_fit}
 use Rattle.axe_reduction.proofs.Exits.{answers_more}
 use Rattle.axe_reduction.proofs.ReductionLaws.{join_reduces}
 use Rattle.axe_reduction.proofs.reduction.+reduction_of.Goals as goal
@@ -52,39 +52,19 @@ reduction_of-requires-2 t c =
 
 pub join-requires-clause-room : goal.join-requires-clause-room
 join-requires-clause-room t c =
-    let first : length c.in_ok-first.first.rows ≡ c.rows-half.result / 2 =
-    length-some c.args.rows c.in_ok-first.first 0 _ c.in_ok-first.ensures.rows in
-    let second : length c.in_ok-second-2.second.rows ≡ c.rows-3.result - c.rows-half.result / 2 =
-    length-some_cleared c.in_ok-first-2.first.pivots.items c.in_ok-first-2.first.reduced c.args.rows
-    c.in_ok-second.second c.in_ok-second-2.second _ _ c.in_ok-second.ensures.rows c.in_ok-second-2.ensures.cleared in
-    omega (
-      arith,
-      first,
-      second,
-      c.in_ok-first-2.ensures.count,
-      c.in_ok-second-3.ensures.count,
-      c.rows-half.ensures.count,
-      c.rows-3.ensures.count,
-      c.rows-2.ensures.well_formed.rows_fit,
-    )
+    (both_fit _ (c.rows-half.result / 2) (c.rows-3.result - c.rows-half.result / 2) _ _ _ _ c.in_ok-first-2.first.pivots.items
+    c.in_ok-first-2.first.reduced _ _ _ _
+    (omega (arith, c.rows-half.ensures.count, c.rows-3.ensures.count, c.rows-2.ensures.well_formed.rows_fit))
+    c.in_ok-first.ensures.rows c.in_ok-second.ensures.rows c.in_ok-second-2.ensures.cleared c.in_ok-first-2.ensures.count
+    c.in_ok-second-3.ensures.count).0
 
 pub join-requires-clause-rest_room : goal.join-requires-clause-rest_room
 join-requires-clause-rest_room t c =
-    let first : length c.in_ok-first.first.rows ≡ c.rows-half.result / 2 =
-    length-some c.args.rows c.in_ok-first.first 0 _ c.in_ok-first.ensures.rows in
-    let second : length c.in_ok-second-2.second.rows ≡ c.rows-3.result - c.rows-half.result / 2 =
-    length-some_cleared c.in_ok-first-2.first.pivots.items c.in_ok-first-2.first.reduced c.args.rows
-    c.in_ok-second.second c.in_ok-second-2.second _ _ c.in_ok-second.ensures.rows c.in_ok-second-2.ensures.cleared in
-    omega (
-      arith,
-      first,
-      second,
-      c.in_ok-first-2.ensures.count,
-      c.in_ok-second-3.ensures.count,
-      c.rows-half.ensures.count,
-      c.rows-3.ensures.count,
-      c.rows-2.ensures.well_formed.rows_fit,
-    )
+    (both_fit _ (c.rows-half.result / 2) (c.rows-3.result - c.rows-half.result / 2) _ _ _ _ c.in_ok-first-2.first.pivots.items
+    c.in_ok-first-2.first.reduced _ _ _ _
+    (omega (arith, c.rows-half.ensures.count, c.rows-3.ensures.count, c.rows-2.ensures.well_formed.rows_fit))
+    c.in_ok-first.ensures.rows c.in_ok-second.ensures.rows c.in_ok-second-2.ensures.cleared c.in_ok-first-2.ensures.count
+    c.in_ok-second-3.ensures.count).1
 
 pub returns : goal.returns
 returns t c =
