@@ -51,6 +51,8 @@ add_square | 2: 11/01 | 1 | 2: 01/00
 add_square | 2: 11/01 | 0 | 2: 11/01
 transpose | 3: 12/01 | 3: 10/21
 vec_mul | 2: 01/11 | 2: 11 | 2: 10
+vec_mul | 2: 10/01/11/10/01/11 | 2: 111011 | 2: 10
+vec_mul | 3: 12/01 | 3: 12 | 3: 11
 ";
 
 fn describes(alloc: Global, line: &str) -> Result<bool, TableFault> {

@@ -62,6 +62,7 @@ copy_to | 5: 4321 | 5: 4321
 ";
 
 /// - `add_scaled`: a row, a scalar, another row, and the sum of the first and of the multiple of the other;
+/// - `add_two_twice`: a row, two others, and the sum of the first and of twice the two;
 /// - `scale`: a row, a scalar, and the multiple;
 /// - `dot`: two rows, and their product.
 const ARITHMETIC: &str = "\
@@ -69,6 +70,8 @@ add_scaled | 9: 13 | 3 | 9: 34 | 9: 51
 add_scaled | 7: 66 | 6 | 7: 66 | 7: 00
 add_scaled | 8: 41 | 5 | 8: 25 | 8: 56
 add_scaled | 2: 00000000000000000000000000000000000000000000000000000000000000001 | 1 | 2: 00000000000000000000000000000000000000000000000000000000000000001 | 2: 00000000000000000000000000000000000000000000000000000000000000000
+add_two_twice | 7: 0123 | 7: 1111 | 7: 2222 | 7: 6012
+add_two_twice | 9: 0134 | 9: 3333 | 9: 1111 | 9: 8620
 scale | 7: 03 | 4 | 7: 05
 dot | 8: 41 | 8: 25 | 6
 ";
@@ -183,6 +186,15 @@ fn adds_multiple(alloc: Global, line: &str) -> Result<bool, TableFault> {
     is_row(alloc, &row, wanted)
 }
 
+fn adds_two_twice(alloc: Global, line: &str) -> Result<bool, TableFault> {
+    let (row, first, second, wanted) = four_fields(line)?;
+    let mut row = row_of(alloc, row)?;
+    let first = row_of_shape(alloc, first, row.field(), row.len())?;
+    let second = row_of_shape(alloc, second, row.field(), row.len())?;
+    row.add_four_rows(&first, &second, &second, &first);
+    is_row(alloc, &row, wanted)
+}
+
 fn scales(alloc: Global, line: &str) -> Result<bool, TableFault> {
     let (row, scalar, wanted) = three_fields(line)?;
     let mut row = row_of(alloc, row)?;
@@ -219,6 +231,7 @@ pub(crate) fn answers(
         "copy_to" => copies_entries(alloc, line),
         "copy" => copies(alloc, line),
         "add_scaled" => adds_multiple(alloc, line),
+        "add_two_twice" => adds_two_twice(alloc, line),
         "scale" => scales(alloc, line),
         "dot" => multiplies(alloc, line),
         _ => Err(TableFault::NotWritten),
