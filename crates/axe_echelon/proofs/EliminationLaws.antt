@@ -1,6 +1,7 @@
 -- What an elimination shows: whether a row is in the span, its coordinates, and the step that a new row gives.
-use Rattle.std.specs.Prelude.{◌≡◌, ◌≢◌, ℕ, suc, ◌<◌, ◌≤◌, List, [], ◌∷◌, ◌++◌, length, get_or, set}
-use Rattle.std.proofs.Common.{get_or-set_other, get_or-set_same}
+use Rattle.std.specs.Prelude.{◌≡◌, ◌≢◌, ℕ, suc, ◌<◌, ◌≤◌, List, [], ◌∷◌, ◌++◌, length, get_or, set, Bool, true, false, not, IsTrue, ◌↔◌}
+use Rattle.std.specs.Prelude.{Option, Some, None, is_some, MatchOption}
+use Rattle.std.proofs.Common.{get_or-set_other, get_or-set_same, true≢false}
 use Rattle.std.proofs.lemmas.List.{length-set}
 use Rattle.std.proofs.lemmas.List.Elements.{All-from_get_or}
 use Rattle.axe_algebra.specs.NumberField.{NumberField}
@@ -26,7 +27,7 @@ use Rattle.axe_row.specs.Rows.{RowValue, IsRow}
 use Rattle.axe_row.specs.Operations.{multiple, multiple_row, IsZeroVector, IsFirstNonzero}
 use Rattle.axe_row.proofs.OperationLaws.{get_or-multiple, length-multiple}
 use Rattle.axe_echelon.specs.Echelons.{EchelonValue, IsEchelon, AreCoordinates}
-use Rattle.axe_echelon.specs.Steps.{IsEliminated, IsNextStep}
+use Rattle.axe_echelon.specs.Steps.{IsEliminated, Cancels, IsNextStep}
 use Rattle.axe_echelon.proofs.StepLaws.{over_of_row, below_of_element, negative_of, product_of}
 use mathlib.Core.Path.{refl, sym, ◌∙◌, ap, ap₂, subst, fun_ext}
 use native.Mathlib.Omega.{arith}
@@ -67,6 +68,19 @@ zero_entry K n entries j over e = same_number K (get_or entries j 0) 0 (entry-be
 
 pub zero_row_of_vector : (K : NumberField) (n : ℕ) (entries : List ℕ) → IsVectorOver K n entries → vector_of K entries ≡ zero_vector (field_of K) → IsZeroVector entries
 zero_row_of_vector K n entries over vanishes = All-from_get_or (λ number. number ≡ 0) entries 0 (λ j below. zero_entry K n entries j over (ap (λ (x : Vector (field_of K)). x j) vanishes))
+
+-- n independent rows of length n span everything
+pub full_echelon_spans : (e : EchelonValue) (v : List ℕ) → IsEchelon e → length e.rows ≡ e.cols → length v ≡ e.cols → IsSpanned (number_field e.order) e.rows v
+full_echelon_spans e v h full long =
+    enough_rows_span (number_field e.order) e.cols e.rows h.over h.independent full (vector_of (number_field e.order) v)
+    (vector_length (number_field e.order) e.cols v long)
+
+-- independent rows of length n are fewer than n, or n
+pub room_of_echelon : (e : EchelonValue) → IsEchelon e → length e.rows ≢ e.cols → length e.rows < e.cols
+room_of_echelon e h other = omega (arith, other, independent_rows_are_few (number_field e.order) e.cols e.rows h.over h.independent)
+
+pub room_of_rank : (e : EchelonValue) → IsEchelon e → length e.rows ≤ e.cols
+room_of_rank e h = independent_rows_are_few (number_field e.order) e.cols e.rows h.over h.independent
 
 module _ (e : EchelonValue) (h : IsEchelon e) (first row coefficients : RowValue) (eliminated : IsEliminated e first row coefficients) where
   abbrev K : NumberField
@@ -124,6 +138,11 @@ module _ (e : EchelonValue) (h : IsEchelon e) (first row coefficients : RowValue
           zero-add F (F.neg (vector_of K coefficients.entries t))
           ∙ sym (ap (element K) (ap (λ (l : List ℕ). get_or l t 0) entries_are ∙ listed_at (length e.rows) (λ j. K.neg (get_or coefficients.entries j 0)) t 0 below)
           ∙ element_neg K (get_or coefficients.entries t 0) (entry-below K coefficients.entries t eliminated.coefficients_over.elements))
+
+  -- where something is left of a row there is room for it
+  pub room_if_left : (pivot : ℕ) → IsFirstNonzero row.entries pivot → length first.entries ≡ e.cols → length e.rows < e.cols
+  room_if_left pivot leads long =
+      room_of_echelon e h (λ full. leads.nonzero (nothing_left_if_spanned (full_echelon_spans e first.entries h full long) pivot 0 leads.within))
 
   -- the step that a new row gives: what is left of it, scaled
   pub next_step_of : (v placed scaled_coefficients scaled_row : RowValue) (pivot scalar number k : ℕ) (q : Order) → first ≡ v →
@@ -214,15 +233,21 @@ module _ (e : EchelonValue) (h : IsEchelon e) (first row coefficients : RowValue
           ∙ product_of e.order (get_or row.entries pivot 0) scalar
           ∙ ap₂ (λ o a. field_mul o a scalar) (sym same_field) (sym number_is) ∙ inverse
 
--- n independent rows of length n span everything
-pub full_echelon_spans : (e : EchelonValue) (v : List ℕ) → IsEchelon e → length e.rows ≡ e.cols → length v ≡ e.cols → IsSpanned (number_field e.order) e.rows v
-full_echelon_spans e v h full long =
-    enough_rows_span (number_field e.order) e.cols e.rows h.over h.independent full (vector_of (number_field e.order) v)
-    (vector_length (number_field e.order) e.cols v long)
+-- the negatives of the coefficients that cancel a row are its coordinates
+pub coordinates_of_cancels : (e : EchelonValue) (h : IsEchelon e) (first coefficients start : RowValue) → Cancels e first coefficients →
+    start ≡ record { order = coefficients.order; entries = listed (length e.rows) (λ j. field_neg coefficients.order (get_or coefficients.entries j 0)) } →
+    AreCoordinates e first.entries start
+coordinates_of_cancels e h first coefficients start cancels is =
+    coordinates_of_nothing_left e h first cancels.row coefficients cancels.eliminated start cancels.over cancels.zeros is
 
--- independent rows of length n are fewer than n, or n
-pub room_of_echelon : (e : EchelonValue) → IsEchelon e → length e.rows ≢ e.cols → length e.rows < e.cols
-room_of_echelon e h other = omega (arith, other, independent_rows_are_few (number_field e.order) e.cols e.rows h.over h.independent)
-
-pub room_of_rank : (e : EchelonValue) → IsEchelon e → length e.rows ≤ e.cols
-room_of_rank e h = independent_rows_are_few (number_field e.order) e.cols e.rows h.over h.independent
+-- a row is new exactly where nothing cancels it
+pub new_if_none : (e : EchelonValue) (h : IsEchelon e) (row : RowValue) (found : Option RowValue) (new : Bool) →
+    MatchOption found (¬ (IsSpanned (number_field e.order) e.rows row.entries)) (Cancels e row) → is_some found ≡ not new →
+    IsTrue new ↔ ¬ (IsSpanned (number_field e.order) e.rows row.entries)
+new_if_none e h row None true outside is = (λ _. outside, λ _. refl)
+new_if_none e h row None false outside is = absurd (true≢false (sym is))
+new_if_none e h row (Some coefficients) true cancels is = absurd (true≢false is)
+new_if_none e h row (Some coefficients) false cancels is = (
+  λ no. absurd (true≢false (sym no)),
+  λ outside. absurd (outside (spanned_if_nothing_left e h row cancels.row coefficients cancels.eliminated cancels.zeros)),
+)

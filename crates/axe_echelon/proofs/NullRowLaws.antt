@@ -22,7 +22,7 @@ use Rattle.axe_row.specs.Operations.{sum_with_multiple, row_with_multiple}
 use Rattle.axe_row.proofs.OperationLaws.{get_or-sum_with_multiple}
 use Rattle.axe_matrix.specs.Matrices.{MatrixValue, IsMatrix, vector_product}
 use Rattle.axe_echelon.specs.Echelons.{EchelonValue, IsEchelon, AreCoordinates, IsReducedMatrix, IsNullSpaceMatrix}
-use Rattle.axe_echelon.specs.Inserted.{IsRelation}
+use Rattle.axe_echelon.specs.Inserted.{IsRelation, IsRelationWith}
 use Rattle.axe_echelon.specs.Subspaces.{SpansOneMore}
 use Rattle.axe_echelon.proofs.FormLaws.{below_or_at}
 use Rattle.axe_echelon.proofs.StepLaws.{over_of_row, below_of_element, negative_of}
@@ -189,6 +189,13 @@ null_so_far_new m i image next units more null row unit so_far inside row_is uni
 
     units_count : length more.rows ≡ suc (length units.rows)
     units_count = ap (λ (x : MatrixValue). length x.rows) more_is ∙ appended_length K units.rows unit.entries
+
+-- the relation of a row that is not new
+pub relation_of_row : (m : MatrixValue) (i : ℕ) (image : EchelonValue) (units : MatrixValue) (null : EchelonValue) (v unit : List ℕ)
+    (coordinates vector : RowValue) → IsNullSpaceSoFar m i image units null → AreCoordinates image v coordinates →
+    IsRelationWith units coordinates unit vector → IsRelation image units v unit vector
+relation_of_row m i image units null v unit coordinates vector so_far are relation =
+    relation.relates image v (so_far.image_field ∙ sym so_far.units_field) (sym so_far.as_many) are
 
 -- a null vector that was inserted, with the span that it is then in
 record IsNullMore (m : MatrixValue) (null next : EchelonValue) (v : List ℕ) : Type 0 where

@@ -8,6 +8,7 @@ use Rattle.axe_algebra.specs.Lists.{IsVectorOver}
 use Rattle.axe_algebra.specs.SpansOfLists.{IsSpanned, IsPivot}
 use Rattle.axe_field.specs.Order.{Order}
 use Rattle.axe_field.specs.NumberFields.{number_field, gf}
+use Rattle.axe_row.specs.Operations.{IsZeroVector}
 use Rattle.axe_row.specs.Rows.{RowValue}
 use Rattle.axe_matrix.specs.Limits.{most_columns}
 use Rattle.axe_echelon.specs.Echelons.{EchelonValue}
@@ -67,6 +68,13 @@ pub record IsEliminated (e : EchelonValue) (first row coefficients : RowValue) :
   pub at_pivots : IsZeroAtPivots (gf e.order) (length e.rows) (matrix_of (number_field e.order) e.rows)
       (vector_of (number_field e.order) row.entries)
   pub few : HasLength (gf e.order) (length e.rows) (vector_of (number_field e.order) coefficients.entries)
+
+-- the row plus the combination of the echelon's rows with these coefficients is zero
+pub record Cancels (e : EchelonValue) (first coefficients : RowValue) : Type 0 where
+  pub over : IsVectorOver (number_field e.order) e.cols first.entries
+  pub row : RowValue
+  pub eliminated : IsEliminated e first row coefficients
+  pub zeros : IsZeroVector row.entries
 
 -- the step that one more row gives
 pub record IsNextStep (e : EchelonValue) (v : List ℕ) (step : Step) : Type 0 where

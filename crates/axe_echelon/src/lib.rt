@@ -3,17 +3,18 @@
 #![tactic(auto)]
 
 ghost use Rattle.std.specs.Prelude.{◌≡◌, ◌<◌, ◌≤◌, ◌↔◌, ◌++◌, ◌∷◌, [], length, replicate, slice_index, IsTrue, None};
-ghost use Rattle.std.specs.Prelude.{IfOk, OnErr, MatchOption};
-ghost use Rattle.axe_algebra.specs.Lists.{listed};
+ghost use Rattle.std.specs.Prelude.{IfOk, OnErr, MatchOption, true};
+ghost use Rattle.axe_algebra.specs.Lists.{listed, IsVectorOver};
 ghost use Rattle.axe_algebra.specs.SpansOfLists.{IsPivot, IsRepresentative, IsSpanned};
 ghost use Rattle.axe_field.specs.Arithmetic.{field_neg};
 ghost use Rattle.axe_field.specs.NumberFields.{number_field};
+ghost use Rattle.axe_row.specs.Operations.{IsFirstNonzero};
 ghost use Rattle.axe_row.specs.Refusals.{Answers};
 ghost use Rattle.axe_row.specs.Rows.{IsRow};
 ghost use Rattle.axe_matrix.specs.Limits.{most_columns};
 ghost use Rattle.axe_matrix.specs.Matrices.{IsMatrix};
 ghost use Rattle.axe_echelon.specs.Echelons.{IsEchelon, with_row_where, AreCoordinates, IsReducedMatrix};
-ghost use Rattle.axe_echelon.specs.Steps.{IsEliminated, IsNextStep, IsPivotRow};
+ghost use Rattle.axe_echelon.specs.Steps.{IsEliminated, Cancels, IsNextStep, IsPivotRow};
 
 mod inverses;
 mod null_spaces;
@@ -119,43 +120,89 @@ impl Echelon {
         if self.rank() == self.cols() {
             return Ok(false);
         }
-        let Some(step) = self.next_step(row)? else {
-            return Ok(false);
-        };
-        let pivot = step.pivot;
-        // The table is made first: a longer one tells the same, so where the push finds no memory nothing has changed.
-        self.pivots.resize(self.cols, false)?;
-        self.steps.push(step)?;
-        self.pivots[pivot] = true;
-        Ok(true)
+        Ok(self.insert_or_cancel(row)?.is_none())
     }
 
-    /// The step that one more row gives, or `None` where the row is in the span.
-    fn next_step(&self, row: Row) -> Result<Option<Step>, Refusal>
-        requires field { row.order ≡ self.now.order }
-        requires fits { length row.entries ≡ self.now.cols }
-        requires room { length self.now.rows < self.now.cols }
-        ensures { Answers None (λ step. MatchOption step
-            (IsSpanned (number_field self.now.order) self.now.rows row.entries)
-            (IsNextStep self.now row.entries)) result }
+    /// Inserts a row over the field with an entry for each column where it is new, and answers `None`. Else the answer
+    /// is its coefficients over the inserted rows, in their order, and nothing is changed.
+    pub(crate) fn insert_or_coordinates(&mut self, row: Row) -> Result<Option<Row>, Refusal>
+        requires field { row.order ≡ self.old.order }
+        requires fits { length row.entries ≡ self.old.cols }
+        ensures coordinates { Answers None (λ coordinates. MatchOption coordinates
+            (¬ (IsSpanned (number_field self.old.order) self.old.rows row.entries))
+            (AreCoordinates self.old row.entries)) result }
+        ensures inserted { Answers None (λ coordinates. MatchOption coordinates
+            (self.new ≡ with_row_where true self.old row.entries) (λ _. self.new ≡ self.old)) result }
+        ensures unchanged { OnErr result (self.new ≡ self.old) }
+        ensures well_formed { IsEchelon self.new }
+    {
+        let Some(coefficients) = self.insert_or_cancel(row)? else {
+            return Ok(None);
+        };
+        // The row plus the combination with these coefficients is zero, so their negatives combine to the row.
+        Ok(Some(negated_start(self.alloc, &coefficients, self.rank())?))
+    }
+
+    /// Inserts a row where it is new, and answers `None`. Else the answer is the coefficients of a combination of the
+    /// inserted rows that gives zero when the row is added, and nothing is changed.
+    fn insert_or_cancel(&mut self, row: Row) -> Result<Option<Row>, Refusal>
+        requires field { row.order ≡ self.old.order }
+        requires fits { length row.entries ≡ self.old.cols }
+        ensures cancels { Answers None (λ coefficients. MatchOption coefficients
+            (¬ (IsSpanned (number_field self.old.order) self.old.rows row.entries))
+            (Cancels self.old row)) result }
+        ensures inserted { Answers None (λ coefficients. MatchOption coefficients
+            (self.new ≡ with_row_where true self.old row.entries) (λ _. self.new ≡ self.old)) result }
+        ensures unchanged { OnErr result (self.new ≡ self.old) }
+        ensures well_formed { IsEchelon self.new }
     {
         let mut rest = row.copy(self.alloc)?;
         let mut coefficients = Row::zero(self.alloc, *self.field(), self.cols())?;
         self.eliminate(&mut rest, &mut coefficients);
         let Some(pivot) = rest.first_nonzero() else {
-            return Ok(None);
+            return Ok(Some(coefficients));
         };
-        let scalar = self.field().inv(rest.get(pivot));
+        let step = self.next_step(row, rest, pivot, coefficients);
+        self.add_step(step)?;
+        Ok(None)
+    }
+
+    /// The step that a new row gives, from what is left of it and the coefficients of what was added.
+    fn next_step(&self, row: Row, rest: Row, pivot: usize, coefficients: Row) -> Step
+        requires over { IsVectorOver (number_field self.now.order) self.now.cols row.entries }
+        requires eliminated { IsEliminated self.now row rest coefficients }
+        requires pivot { IsFirstNonzero rest.entries pivot }
+        ensures next { IsNextStep self.now row.entries result }
+        ensures inserted { result.inserted ≡ row }
+    {
+        let mut row_of_form = rest;
+        let mut combined = coefficients;
+        let scalar = self.field().inv(row_of_form.get(pivot));
         // What is left is the row itself plus a combination of the rows before it: hence the 1 in the row's own place.
-        coefficients.set(self.rank(), 1);
-        coefficients.scale(scalar);
-        rest.scale(scalar);
-        Ok(Some(Step {
+        combined.set(self.rank(), 1);
+        combined.scale(scalar);
+        row_of_form.scale(scalar);
+        Step {
             inserted: row,
             pivot,
-            row: rest,
-            coefficients,
-        }))
+            row: row_of_form,
+            coefficients: combined,
+        }
+    }
+
+    /// Adds the step of a new row. Where there is no memory nothing changes.
+    fn add_step(&mut self, step: Step) -> Result<(), Refusal>
+        requires { IsNextStep self.old step.inserted.entries step }
+        ensures inserted { Answers None (λ _. self.new ≡ with_row_where true self.old step.inserted.entries) result }
+        ensures unchanged { OnErr result (self.new ≡ self.old) }
+        ensures well_formed { IsEchelon self.new }
+    {
+        let pivot = step.pivot;
+        // The table is made first: a longer one tells the same, so where the push finds no memory nothing has changed.
+        self.pivots.resize(self.cols, false)?;
+        self.steps.push(step)?;
+        self.pivots[pivot] = true;
+        Ok(())
     }
 
     /// Clears the pivots from a row by adding multiples of the form's rows, and collects the coefficients of what was

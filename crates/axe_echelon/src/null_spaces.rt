@@ -1,12 +1,10 @@
 //! Null spaces of matrices.
 
 ghost use Rattle.std.specs.Prelude.{◌≡◌, ◌<◌, ◌≤◌, length, None, IfOk};
-ghost use Rattle.axe_algebra.specs.SpansOfLists.{IsSpanned};
-ghost use Rattle.axe_field.specs.NumberFields.{number_field};
 ghost use Rattle.axe_row.specs.Refusals.{Answers};
 ghost use Rattle.axe_matrix.specs.Matrices.{IsMatrix};
 ghost use Rattle.axe_echelon.specs.Echelons.{null_space_refusal, IsNullSpaceMatrix};
-ghost use Rattle.axe_echelon.specs.Inserted.{IsRelation};
+ghost use Rattle.axe_echelon.specs.Inserted.{IsRelationWith};
 
 use super::{Echelon, Subspace};
 use axe_matrix::{Matrix, Refusal, Row};
@@ -37,39 +35,29 @@ fn null_space_of_rows(alloc: Global, matrix: &Matrix) -> Result<Matrix, Refusal>
     for index in 0..matrix.rows() {
         let unit = Row::unit(alloc, field, matrix.rows(), index)?;
         let row = matrix.row(index).copy(alloc)?;
-        if image.insert(row)? {
-            units.append(unit)?;
-        } else {
-            let vector = null_vector(alloc, &image, &units, matrix.row(index), unit)?;
-            null.insert(vector)?;
+        match image.insert_or_coordinates(row)? {
+            None => {
+                units.append(unit)?;
+            }
+            Some(coordinates) => {
+                let vector = null_vector(alloc, &units, coordinates, unit)?;
+                null.insert(vector)?;
+            }
         }
     }
     null.reduced(alloc)
 }
 
-/// A unit vector less the combination of other ones that has the same image, a row in the span of their images.
-fn null_vector(
-    alloc: Global,
-    image: &Echelon,
-    units: &Matrix,
-    row: &Row,
-    unit: Row,
-) -> Result<Row, Refusal>
-    requires row_field { row.now.order ≡ image.now.order }
-    requires row_fits { length row.now.entries ≡ image.now.cols }
-    requires spanned { IsSpanned (number_field image.now.order) image.now.rows row.now.entries }
-    requires as_many { length units.now.rows ≡ length image.now.rows }
-    requires units_field { units.now.order ≡ image.now.order }
+/// A unit vector less the combination of other ones with the coordinates of its image over their images.
+fn null_vector(alloc: Global, units: &Matrix, coordinates: Row, unit: Row) -> Result<Row, Refusal>
+    requires coordinates_field { coordinates.order ≡ units.now.order }
+    requires coordinates_fit { length coordinates.entries ≡ length units.now.rows }
     requires units_well_formed { IsMatrix units.now }
-    requires unit_field { unit.order ≡ image.now.order }
+    requires unit_field { unit.order ≡ units.now.order }
     requires unit_fits { length unit.entries ≡ units.now.cols }
-    ensures { Answers None (IsRelation image.now units.now row.now.entries unit.entries) result }
+    ensures { Answers None (IsRelationWith units.now coordinates unit.entries) result }
 {
-    let Some(coordinates) = image.coordinates(alloc, row)? else {
-        // The caller gives only rows that were not new, so they are in the span.
-        unreachable!()
-    };
-    // The images of the rows of `units` are the rows of `image`, in the same order: so this has the row as its image.
+    // The images of the rows of `units` were inserted in the same order: so this has the same image as the unit vector.
     let combination = units.vec_mul(alloc, &coordinates)?;
     let mut vector = unit;
     let minus_one = vector.field().neg(1);
