@@ -5,3 +5,6 @@ pub mod ByteLaws
 pub mod ZeroLaws
 pub mod SumLaws
 pub mod FiveRows
+pub mod TritSums
+pub mod TritDots
+pub mod MaskLaws

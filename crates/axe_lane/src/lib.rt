@@ -1,12 +1,17 @@
 //! Kernels on slices of words and of bytes, by vectors: sums, multiples and products of rows over the prime fields of
-//! order 2, 3, 5 and 7, and the first entry that is not zero. A row over the field of order 2 is a list of 64-bit words
-//! with an entry in each bit, lowest first; a row over another of the fields is a list of bytes below the prime.
+//! order 2, 3, 5 and 7, the first entry that is not zero, and the bits that bytes have at one place. A row over the
+//! field of order 2 is a list of 64-bit words with an entry in each bit, lowest first; one over the field of order 3
+//! may be two such lists; else a row is a list of bytes below the prime.
 //!
-//! Each kernel takes whole vectors while there are any, and then what is left one by one.
+//! Each kernel on whole slices takes vectors while there are any, and then what is left one by one.
 #![tactic(auto)]
 
 mod bytes;
+mod masks;
+mod trits;
 mod words;
 
 pub use bytes::{add_scaled_bytes, add4_bytes, dot_bytes, first_byte, scale_bytes};
+pub use masks::bits_of_bytes;
+pub use trits::{add_trits, dot_trits};
 pub use words::{any_nonzero, first_set, parity_and, xor_into, xor4_into};

@@ -1,0 +1,57 @@
+-- Pairs of lists of 64-bit words as rows over the field of order 3: an entry is 1 where its bit is set in the list of
+-- ones, 2 where it is set in the list of twos, and else 0. Bit i of a list is bit i mod 64 of its word i / 64.
+use Rattle.std.specs.Prelude.{◌≡◌, ◌⊎◌, ℕ, ◌+◌, ◌*◌, ◌%◌, ◌^◌, ◌<◌, ◌≤◌, List, length, slice_index, bit_or, bit_xor}
+use Rattle.axe_lane.specs.Words.{bit_of_words, common_bits}
+
+-- entry i of a row
+abbrev pub trit_of : List ℕ → List ℕ → ℕ → ℕ
+trit_of ones twos i = bit_of_words ones i + 2 * bit_of_words twos i
+
+-- two lists of one length, and no bit is set in both
+pub record AreTrits (ones twos : List ℕ) : Type 0 where
+  pub as_long : length twos ≡ length ones
+  pub apart : (i : ℕ) → bit_of_words ones i + bit_of_words twos i ≤ 1
+
+-- the words at an index of two rows have 64 bits
+pub record FitAt (k : ℕ) (ones twos more_ones more_twos : List ℕ) : Type 0 where
+  pub ones_fit : slice_index ones k < 2 ^ 64
+  pub twos_fit : slice_index twos k < 2 ^ 64
+  pub more_ones_fit : slice_index more_ones k < 2 ^ 64
+  pub more_twos_fit : slice_index more_twos k < 2 ^ 64
+
+-- a row of the same length whose entries are the sums modulo 3 of those of two rows; where words of 64 bits were added,
+-- so are the sum's
+pub record IsTritSum (ones twos more_ones more_twos sum_ones sum_twos : List ℕ) : Type 0 where
+  pub long : length sum_ones ≡ length ones
+  pub are_trits : AreTrits sum_ones sum_twos
+  pub entries : (i : ℕ) → trit_of sum_ones sum_twos i ≡ (trit_of ones twos i + trit_of more_ones more_twos i) % 3
+  pub ones_fit : (k : ℕ) → FitAt k ones twos more_ones more_twos → slice_index sum_ones k < 2 ^ 64
+  pub twos_fit : (k : ℕ) → FitAt k ones twos more_ones more_twos → slice_index sum_twos k < 2 ^ 64
+
+-- the sum of the products of the entries of two rows at the same index, with 1 for 2 times 2
+abbrev pub common_trits : List ℕ → List ℕ → List ℕ → List ℕ → ℕ
+common_trits ones twos other_ones other_twos =
+    common_bits ones other_ones + common_bits twos other_twos
+    + 2 * (common_bits ones other_twos + common_bits twos other_ones)
+
+-- the words of the sum of entries whose words are o and t for ones and twos, and a and b: a place with 1 and 2, or with
+-- one 0, is turned twice (Boothby, Bradshaw 2009)
+abbrev pub turned_bits : ℕ → ℕ → ℕ → ℕ → ℕ
+turned_bits o t a b = bit_xor (bit_or o b) (bit_or t a)
+
+abbrev pub ones_of_sum : ℕ → ℕ → ℕ → ℕ → ℕ
+ones_of_sum o t a b = bit_xor (turned_bits o t a b) (bit_or t b)
+
+abbrev pub twos_of_sum : ℕ → ℕ → ℕ → ℕ → ℕ
+twos_of_sum o t a b = bit_xor (turned_bits o t a b) (bit_or o a)
+
+-- the words from one index to another are those of the sum, and all others are as they were
+pub record HasSumBetween (from to : ℕ) (ones twos more_ones more_twos new_ones new_twos : List ℕ) : Type 0 where
+  pub ones_long : length new_ones ≡ length ones
+  pub twos_long : length new_twos ≡ length twos
+  pub ones_made : (k : ℕ) → from ≤ k → k < to → slice_index new_ones k
+      ≡ ones_of_sum (slice_index ones k) (slice_index twos k) (slice_index more_ones k) (slice_index more_twos k)
+  pub twos_made : (k : ℕ) → from ≤ k → k < to → slice_index new_twos k
+      ≡ twos_of_sum (slice_index ones k) (slice_index twos k) (slice_index more_ones k) (slice_index more_twos k)
+  pub ones_kept : (k : ℕ) → (k < from) ⊎ (to ≤ k) → slice_index new_ones k ≡ slice_index ones k
+  pub twos_kept : (k : ℕ) → (k < from) ⊎ (to ≤ k) → slice_index new_twos k ≡ slice_index twos k
