@@ -1,13 +1,2 @@
-pub mod BitLaws
-pub mod DigitLaws
 pub mod PlaneLaws
-pub mod DotLaws
-pub mod ZeroDigits
-pub mod NextDigits
-pub mod PieceDigits
-pub mod PieceBits
-pub mod NumberDigits
-pub mod PieceLaws
 pub mod TableLaws
-pub mod DigitWords
-pub mod NumberSums

@@ -1,52 +1,46 @@
 -- Planes as their primes and digits.
-use Rattle.std.proofs.Common.{◌≡◌, ℕ, ◌<◌, ◌⊎◌, length, set, replicate, refl, sym, ap, subst, ◌∙◌, arith, inl, inr, lit<}
-use Rattle.axe_plane.specs.Digits.{AreDigits}
-use Rattle.axe_plane.specs.Primes.{odd_number}
+use Rattle.std.proofs.Common.{◌≡◌, ℕ, ◌<◌, List, length, set, replicate, refl, sym, ap, subst, ◌∙◌, arith, lit<}
+use Rattle.axe_bits.specs.Digits.{AreDigits, digits_with_multiple}
+use Rattle.axe_plane.specs.Primes.{byte_prime}
 use Rattle.axe_plane.specs.Planes.{prime_of_plane, digits_of, IsPlane, IsPlaneOf}
-use Rattle.axe_plane.proofs.DigitLaws.{AreDigits-zeros, AreDigits-set}
+use Rattle.axe_bits.proofs.DigitLaws.{AreDigits-zeros, AreDigits-set, length-digits_with_multiple}
 use Rattle.std.proofs.lemmas.List.{length-replicate, length-set}
 use Rattle.axe_plane.specs.declared.Plane.{Plane}
-use Rattle.axe_plane.specs.declared.Plane.TheVariants.{Bits, Bytes}
-use Rattle.axe_plane.specs.declared.primes.OddPrime.{OddPrime}
-use Rattle.axe_plane.specs.declared.primes.OddPrime.TheVariants.{Three, Five, Seven}
+use Rattle.axe_plane.specs.declared.Plane.TheVariants.{Bits, Trits, Bytes}
+use Rattle.axe_plane.specs.declared.primes.BytePrime.{BytePrime}
+use Rattle.axe_plane.specs.declared.primes.BytePrime.TheVariants.{Five, Seven}
 
-pub odd_number-positive : (prime : OddPrime) → 0 < odd_number prime
-odd_number-positive Three = lit< tt
-odd_number-positive Five = lit< tt
-odd_number-positive Seven = lit< tt
+pub byte_prime-positive : (prime : BytePrime) → 0 < byte_prime prime
+byte_prime-positive Five = lit< tt
+byte_prime-positive Seven = lit< tt
 
 pub prime_of_plane-positive : (plane : Plane) → 0 < prime_of_plane plane
 prime_of_plane-positive (Bits digits) = lit< tt
-prime_of_plane-positive (Bytes plane) = odd_number-positive plane.prime
+prime_of_plane-positive (Trits digits) = lit< tt
+prime_of_plane-positive (Bytes plane) = byte_prime-positive plane.prime
 
-pub odd_number-small : (prime : OddPrime) → (odd_number prime ≡ 2) ⊎ ((odd_number prime ≡ 3) ⊎ ((odd_number prime ≡ 5) ⊎ (odd_number prime ≡ 7)))
-odd_number-small Three = inr (inl refl)
-odd_number-small Five = inr (inr (inl refl))
-odd_number-small Seven = inr (inr (inr refl))
+pub byte_prime-injective : (a b : BytePrime) → byte_prime a ≡ byte_prime b → a ≡ b
+byte_prime-injective Five Five e = refl
+byte_prime-injective Five Seven e = absurd (omega arith)
+byte_prime-injective Seven Five e = absurd (omega arith)
+byte_prime-injective Seven Seven e = refl
 
-pub odd_number-injective : (a b : OddPrime) → odd_number a ≡ odd_number b → a ≡ b
-odd_number-injective Three Three e = refl
-odd_number-injective Three Five e = absurd (omega arith)
-odd_number-injective Three Seven e = absurd (omega arith)
-odd_number-injective Five Three e = absurd (omega arith)
-odd_number-injective Five Five e = refl
-odd_number-injective Five Seven e = absurd (omega arith)
-odd_number-injective Seven Three e = absurd (omega arith)
-odd_number-injective Seven Five e = absurd (omega arith)
-odd_number-injective Seven Seven e = refl
-
-pub odd_number-odd : (prime : OddPrime) → 2 < odd_number prime
-odd_number-odd Three = lit< tt
-odd_number-odd Five = lit< tt
-odd_number-odd Seven = lit< tt
+pub byte_prime-above : (prime : BytePrime) → 3 < byte_prime prime
+byte_prime-above Five = lit< tt
+byte_prime-above Seven = lit< tt
 
 -- planes with one prime and the same digits are equal
 pub same_plane : (a b : Plane) → prime_of_plane a ≡ prime_of_plane b → digits_of a ≡ digits_of b → a ≡ b
 same_plane (Bits a) (Bits b) prime digits = ap Bits digits
-same_plane (Bits a) (Bytes b) prime digits = absurd (omega (arith, odd_number-odd b.prime))
-same_plane (Bytes a) (Bits b) prime digits = absurd (omega (arith, odd_number-odd a.prime))
+same_plane (Bits a) (Trits b) prime digits = absurd (omega arith)
+same_plane (Bits a) (Bytes b) prime digits = absurd (omega (arith, byte_prime-above b.prime))
+same_plane (Trits a) (Bits b) prime digits = absurd (omega arith)
+same_plane (Trits a) (Trits b) prime digits = ap Trits digits
+same_plane (Trits a) (Bytes b) prime digits = absurd (omega (arith, byte_prime-above b.prime))
+same_plane (Bytes a) (Bits b) prime digits = absurd (omega (arith, byte_prime-above a.prime))
+same_plane (Bytes a) (Trits b) prime digits = absurd (omega (arith, byte_prime-above a.prime))
 same_plane (Bytes a) (Bytes b) prime digits =
-    let primes = odd_number-injective a.prime b.prime prime in
+    let primes = byte_prime-injective a.prime b.prime prime in
     let both : a ≡ b = λ i. record { prime = primes i; digits = digits i } in
     ap Bytes both
 
@@ -64,3 +58,13 @@ plane_of_set p n i d before after below h e = record {
   long = ap length e.digits_are ∙ length-set (digits_of before) i d ∙ h.long;
   digits = subst (AreDigits p) (sym e.digits_are) (AreDigits-set p (digits_of before) i d below h.digits);
 }
+
+-- ---- planes modulo 3
+
+-- what is as long as a list of digits is so after others were added to it
+pub still_fits : (p n m : ℕ) (before more after : List ℕ) → n ≡ length before → after ≡ digits_with_multiple p before m more → n ≡ length after
+still_fits p n m before more after long e = long ∙ sym (length-digits_with_multiple p before m more) ∙ sym (ap length e)
+
+-- a list as long as a plane modulo 3 is as long as its digits
+pub fits_trits : (n : ℕ) (plane : Plane) (digits : List ℕ) → plane ≡ Trits digits → n ≡ length (digits_of plane) → n ≡ length digits
+fits_trits n plane digits is long = long ∙ ap (λ (p : Plane). length (digits_of p)) is

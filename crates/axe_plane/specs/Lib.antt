@@ -1,5 +1,3 @@
-pub mod Bits
-pub mod Digits
 pub mod Primes
 pub mod Planes
 pub mod Addends

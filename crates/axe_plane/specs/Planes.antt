@@ -1,18 +1,20 @@
 -- A plane as its prime and its digits.
 use Rattle.std.specs.Prelude.{◌≡◌, ℕ, List, length}
-use Rattle.axe_plane.specs.Digits.{AreDigits}
-use Rattle.axe_plane.specs.Primes.{odd_number}
+use Rattle.axe_bits.specs.Digits.{AreDigits}
+use Rattle.axe_plane.specs.Primes.{byte_prime}
 use Rattle.axe_plane.specs.declared.Plane.{Plane}
-use Rattle.axe_plane.specs.declared.Plane.TheVariants.{Bits, Bytes}
+use Rattle.axe_plane.specs.declared.Plane.TheVariants.{Bits, Trits, Bytes}
 
 -- the prime that the digits are taken modulo of
 abbrev pub prime_of_plane : Plane → ℕ
 prime_of_plane (Bits digits) = 2
-prime_of_plane (Bytes plane) = odd_number plane.prime
+prime_of_plane (Trits digits) = 3
+prime_of_plane (Bytes plane) = byte_prime plane.prime
 
 -- the digits, in order
 abbrev pub digits_of : Plane → List ℕ
 digits_of (Bits digits) = digits
+digits_of (Trits digits) = digits
 digits_of (Bytes plane) = plane.digits
 
 -- a plane of these digits modulo this prime

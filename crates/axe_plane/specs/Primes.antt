@@ -1,20 +1,19 @@
--- The odd primes below ten.
+-- The primes 5 and 7, whose digits are kept in bytes.
 use Rattle.std.specs.Prelude.{ℕ, List}
-use Rattle.axe_plane.specs.declared.primes.OddPrime.{OddPrime}
-use Rattle.axe_plane.specs.declared.primes.OddPrime.TheVariants.{Three, Five, Seven}
+use Rattle.axe_plane.specs.declared.primes.BytePrime.{BytePrime}
+use Rattle.axe_plane.specs.declared.primes.BytePrime.TheVariants.{Five, Seven}
 
 -- the prime as a number
-abbrev pub odd_number : OddPrime → ℕ
-odd_number Three = 3
-odd_number Five = 5
-odd_number Seven = 7
+abbrev pub byte_prime : BytePrime → ℕ
+byte_prime Five = 5
+byte_prime Seven = 7
 
--- a list of digits modulo an odd prime
-pub record OddDigits : Type 0 where
-  pub prime : OddPrime
+-- a list of digits modulo 5 or 7
+pub record ByteDigits : Type 0 where
+  pub prime : BytePrime
   pub digits : List ℕ
 
--- lists of digits modulo an odd prime
-pub record OddEntries : Type 0 where
-  pub prime : OddPrime
+-- lists of digits modulo 5 or 7
+pub record ByteEntries : Type 0 where
+  pub prime : BytePrime
   pub entries : List (List ℕ)

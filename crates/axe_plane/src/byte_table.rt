@@ -1,19 +1,19 @@
-//! Tables of planes of digits modulo an odd prime.
+//! Tables of planes of digits modulo 5 or 7.
 ghost use Rattle.std.specs.Prelude.{◌≡◌, ◌<◌, IfOk, [], length, replicate, slice_index_or, slice_set};
-ghost use Rattle.axe_plane.specs.Digits.{AreDigits, digits_with_multiple};
-ghost use Rattle.axe_plane.specs.Primes.{odd_number, OddEntries};
+ghost use Rattle.axe_bits.specs.Digits.{AreDigits, digits_with_multiple};
+ghost use Rattle.axe_plane.specs.Primes.{byte_prime, ByteEntries};
 
-use crate::pieces::start_of;
-use crate::{BytePlane, OddPrime};
+use crate::{BytePlane, BytePrime};
+use axe_bits::start_of;
 use axe_lane::add_scaled_bytes;
 use std::alloc::{AllocError, Global};
 use std::marker::Model;
 
-/// A list of planes of one length modulo an odd prime, its entries: entry x has the bytes from x n on, where n is the
+/// A list of planes of one length modulo 5 or 7, its entries: entry x has the bytes from x n on, where n is the
 /// length.
 #[derive(Drop)]
 pub struct ByteTable {
-    prime: OddPrime,
+    prime: BytePrime,
     len: usize,
     count: usize,
     bytes: Vec<u8>,
@@ -21,20 +21,20 @@ pub struct ByteTable {
 
 impl Model for ByteTable {
     ghost use Rattle.axe_plane.specs.FlatTables.{byte_entries, HoldsDigits};
-    ghost use Rattle.axe_plane.specs.Primes.{odd_number, OddEntries};
+    ghost use Rattle.axe_plane.specs.Primes.{byte_prime, ByteEntries};
 
-    ghost Value = { OddEntries };
+    ghost Value = { ByteEntries };
 
     ghost view = { λ a. record { prime = a.prime; entries = byte_entries a.len a.count a.bytes.items } };
 
-    ghost invariant = { λ a. HoldsDigits (odd_number a.prime) a.len a.count a.bytes.items };
+    ghost invariant = { λ a. HoldsDigits (byte_prime a.prime) a.len a.count a.bytes.items };
 }
 
 impl ByteTable {
     /// The table of `count` planes of `len` zeros.
     pub fn zero(
         alloc: Global,
-        prime: OddPrime,
+        prime: BytePrime,
         count: usize,
         len: usize,
     ) -> Result<ByteTable, AllocError>
@@ -55,7 +55,7 @@ impl ByteTable {
     pub fn entry(&self, index: usize) -> &[u8]
         requires { index < length self.now.entries }
         ensures value { result.now ≡ slice_index_or self.now.entries index [] }
-        ensures digits { AreDigits (odd_number self.now.prime) result.now }
+        ensures digits { AreDigits (byte_prime self.now.prime) result.now }
     {
         let start = start_of(index, self.len, self.count);
         &self.bytes[start..start + self.len]
@@ -77,11 +77,11 @@ impl ByteTable {
     pub fn add_to_entry(&mut self, to: usize, factor: u8, plane: &BytePlane)
         requires to { to < length self.old.entries }
         requires prime { plane.now.prime ≡ self.old.prime }
-        requires factor { factor < odd_number self.old.prime }
+        requires factor { factor < byte_prime self.old.prime }
         requires fits { length plane.now.digits ≡ length (slice_index_or self.old.entries to []) }
         ensures { self.new ≡ record self.old {
           entries = slice_set self.old.entries to
-              (digits_with_multiple (odd_number self.old.prime) (slice_index_or self.old.entries to []) factor plane.now.digits);
+              (digits_with_multiple (byte_prime self.old.prime) (slice_index_or self.old.entries to []) factor plane.now.digits);
         } }
     {
         let prime = self.prime.number();

@@ -1,10 +1,10 @@
-//! Planes of digits modulo an odd prime.
+//! Planes of digits modulo 5 or 7.
 ghost use Rattle.axe_algebra.specs.Lists.{listed};
 ghost use Rattle.axe_lane.specs.Bytes.{multiple, sum_of_products};
 ghost use Rattle.axe_lane.specs.Entries.{IsFirstNonzero};
-ghost use Rattle.axe_plane.specs.Digits.{AreDigits, digits_at, digits_with_four, digits_with_multiple};
-ghost use Rattle.axe_plane.specs.Digits.{AreSmallSums, numbers_with_multiple};
-ghost use Rattle.axe_plane.specs.Digits.{AreZerosFrom, IsNextNonzero};
+ghost use Rattle.axe_bits.specs.Digits.{AreDigits, digits_at, digits_with_four, digits_with_multiple};
+ghost use Rattle.axe_bits.specs.Digits.{AreSmallSums, numbers_with_multiple};
+ghost use Rattle.axe_bits.specs.Digits.{AreZerosFrom, IsNextNonzero};
 ghost use Rattle.std.specs.Prelude.{map, replicate, slice_index, slice_set, All, MatchOption};
 ghost use Rattle.std.specs.Prelude.{slice_index, slice_set, All, MatchOption};
 ghost use Rattle.std.specs.Prelude.{slice_set, All, MatchOption};
@@ -13,10 +13,10 @@ ghost use Rattle.std.specs.Prelude.{◌≡◌, ◌+◌, ◌/◌, ◌%◌, ◌^�
 ghost use Rattle.std.specs.Prelude.{◌≡◌, ◌+◌, ◌/◌, ◌%◌, ◌^◌, ◌<◌, ◌≤◌, ◌↔◌, IsTrue, IfOk, length};
 ghost use Rattle.axe_lane.specs.Bytes.{multiple, sum_of_products};
 ghost use Rattle.axe_lane.specs.Entries.{IsFirstNonzero};
-ghost use Rattle.axe_plane.specs.Digits.{IsNextNonzero, number_from};
-ghost use Rattle.axe_plane.specs.Primes.{odd_number, OddDigits};
+ghost use Rattle.axe_bits.specs.Digits.{IsNextNonzero, number_from};
+ghost use Rattle.axe_plane.specs.Primes.{byte_prime, ByteDigits};
 
-use crate::primes::OddPrime;
+use crate::primes::BytePrime;
 use axe_lane::{add_scaled_bytes, add4_bytes, dot_bytes, first_byte, scale_bytes};
 use std::alloc::{AllocError, Global};
 use std::marker::Model;
@@ -24,27 +24,27 @@ use std::marker::Model;
 /// How many bytes a piece of a dot product has at most.
 const PIECE: usize = 4096;
 
-/// A list of digits modulo an odd prime, a byte for each.
+/// A list of digits modulo 5 or 7, a byte for each.
 #[derive(Drop)]
 pub struct BytePlane {
-    prime: OddPrime,
+    prime: BytePrime,
     bytes: Vec<u8>,
 }
 
 impl Model for BytePlane {
-    ghost use Rattle.axe_plane.specs.Digits.{AreDigits};
-    ghost use Rattle.axe_plane.specs.Primes.{odd_number, OddDigits};
+    ghost use Rattle.axe_bits.specs.Digits.{AreDigits};
+    ghost use Rattle.axe_plane.specs.Primes.{byte_prime, ByteDigits};
 
-    ghost Value = { OddDigits };
+    ghost Value = { ByteDigits };
 
     ghost view = { λ a. record { prime = a.prime; digits = a.bytes.items } };
 
-    ghost invariant = { λ a. AreDigits (odd_number a.prime) a.bytes.items };
+    ghost invariant = { λ a. AreDigits (byte_prime a.prime) a.bytes.items };
 }
 
 impl BytePlane {
     /// The plane of `len` zeros.
-    pub fn zero(alloc: Global, prime: OddPrime, len: usize) -> Result<BytePlane, AllocError>
+    pub fn zero(alloc: Global, prime: BytePrime, len: usize) -> Result<BytePlane, AllocError>
         ensures { IfOk result (λ plane. plane ≡ record { prime = prime; digits = replicate len 0 }) }
     {
         let bytes = vec![in alloc; 0; len]?;
@@ -54,24 +54,22 @@ impl BytePlane {
     /// The plane of the digits that numbers have at a place, 0 or 1, in base the prime.
     pub fn of_numbers(
         alloc: Global,
-        prime: OddPrime,
+        prime: BytePrime,
         numbers: &[u8],
         place: u8,
     ) -> Result<BytePlane, AllocError>
         requires { place < 2 }
         ensures { IfOk result (λ plane. plane ≡ record {
           prime = prime;
-          digits = digits_at (odd_number prime) place numbers.now;
+          digits = digits_at (byte_prime prime) place numbers.now;
         }) }
     {
         let mut bytes = Vec::from_slice(alloc, numbers)?;
         match (prime, place) {
-            (OddPrime::Three, 0) => reduce::<1, 3>(&mut bytes),
-            (OddPrime::Three, _) => reduce::<3, 3>(&mut bytes),
-            (OddPrime::Five, 0) => reduce::<1, 5>(&mut bytes),
-            (OddPrime::Five, _) => reduce::<5, 5>(&mut bytes),
-            (OddPrime::Seven, 0) => reduce::<1, 7>(&mut bytes),
-            (OddPrime::Seven, _) => reduce::<7, 7>(&mut bytes),
+            (BytePrime::Five, 0) => reduce::<1, 5>(&mut bytes),
+            (BytePrime::Five, _) => reduce::<5, 5>(&mut bytes),
+            (BytePrime::Seven, 0) => reduce::<1, 7>(&mut bytes),
+            (BytePrime::Seven, _) => reduce::<7, 7>(&mut bytes),
         }
         Ok(BytePlane { prime, bytes })
     }
@@ -79,7 +77,7 @@ impl BytePlane {
     /// How many digits the plane has.
     pub fn len(&self) -> usize
         ensures count { result ≡ length self.now.digits }
-        ensures digits { AreDigits (odd_number self.now.prime) self.now.digits }
+        ensures digits { AreDigits (byte_prime self.now.prime) self.now.digits }
     {
         self.bytes.len()
     }
@@ -114,7 +112,7 @@ impl BytePlane {
 
     /// Makes a digit the one at an index; all others stay. From the length on there is none to be changed.
     pub fn set(&mut self, index: usize, digit: u8)
-        requires { digit < odd_number self.old.prime }
+        requires { digit < byte_prime self.old.prime }
         ensures { self.new ≡ record { prime = self.old.prime; digits = slice_set self.old.digits index digit } }
     {
         if index < self.bytes.len() {
@@ -188,11 +186,11 @@ impl BytePlane {
     /// Adds a multiple of another plane modulo the same prime and of the same length.
     pub fn add_scaled(&mut self, factor: u8, other: &BytePlane)
         requires prime { other.now.prime ≡ self.old.prime }
-        requires factor { factor < odd_number self.old.prime }
+        requires factor { factor < byte_prime self.old.prime }
         requires fits { length other.now.digits ≡ length self.old.digits }
         ensures { self.new ≡ record {
           prime = self.old.prime;
-          digits = digits_with_multiple (odd_number self.old.prime) self.old.digits factor other.now.digits;
+          digits = digits_with_multiple (byte_prime self.old.prime) self.old.digits factor other.now.digits;
         } }
     {
         let prime = self.prime.number();
@@ -203,7 +201,7 @@ impl BytePlane {
     #[inline]
     pub(crate) fn bytes(&self) -> &[u8]
         ensures value { result.now ≡ self.now.digits }
-        ensures digits { AreDigits (odd_number self.now.prime) self.now.digits }
+        ensures digits { AreDigits (byte_prime self.now.prime) self.now.digits }
     {
         &self.bytes
     }
@@ -211,12 +209,12 @@ impl BytePlane {
     /// Adds a multiple of a list of as many digits.
     #[inline]
     pub(crate) fn add_bytes(&mut self, factor: u8, bytes: &[u8])
-        requires factor { factor < odd_number self.old.prime }
+        requires factor { factor < byte_prime self.old.prime }
         requires fits { length bytes.now ≡ length self.old.digits }
-        requires digits { AreDigits (odd_number self.old.prime) bytes.now }
+        requires digits { AreDigits (byte_prime self.old.prime) bytes.now }
         ensures { self.new ≡ record {
           prime = self.old.prime;
-          digits = digits_with_multiple (odd_number self.old.prime) self.old.digits factor bytes.now;
+          digits = digits_with_multiple (byte_prime self.old.prime) self.old.digits factor bytes.now;
         } }
     {
         let prime = self.prime.number();
@@ -228,13 +226,13 @@ impl BytePlane {
     pub(crate) fn add_four(&mut self, a: &[u8], b: &[u8], c: &[u8], d: &[u8])
         requires fits { (length a.now ≡ length self.old.digits) × (length b.now ≡ length self.old.digits)
             × (length c.now ≡ length self.old.digits) × (length d.now ≡ length self.old.digits) }
-        requires a { AreDigits (odd_number self.old.prime) a.now }
-        requires b { AreDigits (odd_number self.old.prime) b.now }
-        requires c { AreDigits (odd_number self.old.prime) c.now }
-        requires d { AreDigits (odd_number self.old.prime) d.now }
+        requires a { AreDigits (byte_prime self.old.prime) a.now }
+        requires b { AreDigits (byte_prime self.old.prime) b.now }
+        requires c { AreDigits (byte_prime self.old.prime) c.now }
+        requires d { AreDigits (byte_prime self.old.prime) d.now }
         ensures { self.new ≡ record {
           prime = self.old.prime;
-          digits = digits_with_four (odd_number self.old.prime) self.old.digits a.now b.now c.now d.now;
+          digits = digits_with_four (byte_prime self.old.prime) self.old.digits a.now b.now c.now d.now;
         } }
     {
         let prime = self.prime.number();
@@ -243,10 +241,10 @@ impl BytePlane {
 
     /// Multiplies each digit by a factor modulo the prime.
     pub fn scale(&mut self, factor: u8)
-        requires { factor < odd_number self.old.prime }
+        requires { factor < byte_prime self.old.prime }
         ensures { self.new ≡ record {
           prime = self.old.prime;
-          digits = multiple (odd_number self.old.prime) factor self.old.digits;
+          digits = multiple (byte_prime self.old.prime) factor self.old.digits;
         } }
     {
         let prime = self.prime.number();
@@ -258,7 +256,7 @@ impl BytePlane {
     pub fn dot(&self, other: &BytePlane) -> u8
         requires prime { other.now.prime ≡ self.now.prime }
         requires fits { length other.now.digits ≡ length self.now.digits }
-        ensures { result ≡ sum_of_products self.now.digits other.now.digits % odd_number self.now.prime }
+        ensures { result ≡ sum_of_products self.now.digits other.now.digits % byte_prime self.now.prime }
     {
         let prime = self.prime.number();
         let whole = self.bytes.len() / PIECE;
@@ -308,7 +306,7 @@ impl BytePlane {
 }
 
 /// Makes each byte its quotient by D, modulo P.
-fn reduce<const D: u8, const P: u8>(bytes: &mut Vec<u8>)
+pub(crate) fn reduce<const D: u8, const P: u8>(bytes: &mut Vec<u8>)
     requires divisor { 0 < D }
     requires prime { 0 < P }
     ensures { bytes.new.items ≡ map (λ byte. (byte / D) % P) bytes.old.items }

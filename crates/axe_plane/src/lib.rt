@@ -1,5 +1,5 @@
-//! Planes: lists of digits modulo one of the primes 2, 3, 5 and 7. A plane modulo 2 has 64 digits in a word; another
-//! plane has a byte for each digit.
+//! Planes: lists of digits modulo one of the primes 2, 3, 5 and 7. A plane modulo 2 has 64 digits in a word, one modulo
+//! 3 has 64 in two words, and one modulo 5 or 7 has a byte for each digit.
 #![tactic(auto)]
 
 ghost use Rattle.std.specs.Int.{bit_at};
@@ -8,37 +8,33 @@ ghost use Rattle.std.specs.Prelude.{map, replicate, slice_index, slice_set, All,
 ghost use Rattle.axe_algebra.specs.Lists.{listed};
 ghost use Rattle.axe_lane.specs.Bytes.{multiple, sum_of_products};
 ghost use Rattle.axe_lane.specs.Entries.{IsFirstNonzero};
-ghost use Rattle.axe_plane.specs.Digits.{AreDigits, digits_at, digits_with_four, digits_with_multiple};
-ghost use Rattle.axe_plane.specs.Digits.{AreSmallSums, numbers_with_multiple};
-ghost use Rattle.axe_plane.specs.Digits.{AreZerosFrom, IsNextNonzero};
-ghost use Rattle.axe_plane.specs.Digits.{AreZerosFrom, IsNextNonzero};
+ghost use Rattle.axe_bits.specs.Digits.{AreDigits, digits_at, digits_with_four, digits_with_multiple};
+ghost use Rattle.axe_bits.specs.Digits.{AreSmallSums, numbers_with_multiple};
+ghost use Rattle.axe_bits.specs.Digits.{AreZerosFrom, IsNextNonzero};
+ghost use Rattle.axe_bits.specs.Digits.{AreZerosFrom, IsNextNonzero};
 ghost use Rattle.std.specs.Prelude.{ℕ, ◌≡◌, ◌≢◌, ◌⊎◌, ◌+◌, ◌%◌, ◌^◌, ◌<◌, ◌≤◌, ◌↔◌, IsTrue, IfOk, length};
 ghost use Rattle.std.specs.Prelude.{replicate, slice_index, slice_set, All, MatchOption};
 ghost use Rattle.axe_lane.specs.Bytes.{multiple, sum_of_products};
 ghost use Rattle.axe_lane.specs.Entries.{IsFirstNonzero};
-ghost use Rattle.axe_plane.specs.Digits.{IsNextNonzero, number_from};
-ghost use Rattle.axe_plane.specs.Digits.{AreZerosFrom, IsNextNonzero};
+ghost use Rattle.axe_bits.specs.Digits.{IsNextNonzero, number_from};
+ghost use Rattle.axe_bits.specs.Digits.{AreZerosFrom, IsNextNonzero};
 ghost use Rattle.std.specs.Prelude.{ℕ, ◌≡◌, ◌≢◌, ◌⊎◌, ◌+◌, ◌*◌, ◌%◌, ◌^◌, ◌<◌, ◌≤◌, ◌↔◌, IsTrue, IfOk, length};
 ghost use Rattle.std.specs.Prelude.{replicate, slice_index, slice_set, All, MatchOption};
 ghost use Rattle.axe_lane.specs.Bytes.{multiple, sum_of_products};
 ghost use Rattle.axe_lane.specs.Entries.{IsFirstNonzero};
-ghost use Rattle.axe_plane.specs.Digits.{IsNextNonzero, numbers_from};
+ghost use Rattle.axe_bits.specs.Digits.{IsNextNonzero, numbers_from};
 ghost use Rattle.axe_plane.specs.Tables.{plane_at, IsEntryFor};
 
-pub use bit_table::BitTable;
-pub use bits::BitPlane;
+use axe_bits::{BitPlane, TritPlane};
 pub use byte_table::ByteTable;
 pub use bytes::BytePlane;
-pub use primes::OddPrime;
+use bytes::reduce;
+pub use primes::BytePrime;
 use std::alloc::{AllocError, Global};
 pub use tables::PlaneTable;
 
-mod bit_table;
-mod bits;
 mod byte_table;
 mod bytes;
-mod parts;
-mod pieces;
 mod primes;
 mod tables;
 
@@ -47,13 +43,15 @@ mod tables;
 pub enum Plane {
     /// Modulo 2, each digit a bit.
     Bits(BitPlane),
-    /// Modulo an odd prime, each digit a byte.
+    /// Modulo 3, each digit a bit in one of two layers.
+    Trits(TritPlane),
+    /// Modulo 5 or 7, each digit a byte.
     Bytes(BytePlane),
 }
 
 impl Plane {
     ghost use Rattle.axe_plane.specs.Addends.{IsAddend};
-    ghost use Rattle.axe_plane.specs.Bits.{bits, HoldsBits};
+    ghost use Rattle.axe_bits.specs.Bits.{bits, HoldsBits};
     ghost use Rattle.axe_plane.specs.Planes.{prime_of_plane, digits_of, IsPlane};
 
     /// The plane of `len` zeros modulo 2, 3, 5 or 7. A plane of no digits takes no memory.
@@ -63,9 +61,9 @@ impl Plane {
     {
         Ok(match prime {
             2 => Plane::Bits(BitPlane::zero(alloc, len)?),
-            3 => Plane::Bytes(BytePlane::zero(alloc, OddPrime::Three, len)?),
-            5 => Plane::Bytes(BytePlane::zero(alloc, OddPrime::Five, len)?),
-            _ => Plane::Bytes(BytePlane::zero(alloc, OddPrime::Seven, len)?),
+            3 => Plane::Trits(TritPlane::zero(alloc, len)?),
+            5 => Plane::Bytes(BytePlane::zero(alloc, BytePrime::Five, len)?),
+            _ => Plane::Bytes(BytePlane::zero(alloc, BytePrime::Seven, len)?),
         })
     }
 
@@ -84,9 +82,9 @@ impl Plane {
     {
         Ok(match prime {
             2 => Plane::Bits(BitPlane::of_numbers(alloc, numbers, place)?),
-            3 => Plane::Bytes(BytePlane::of_numbers(alloc, OddPrime::Three, numbers, place)?),
-            5 => Plane::Bytes(BytePlane::of_numbers(alloc, OddPrime::Five, numbers, place)?),
-            _ => Plane::Bytes(BytePlane::of_numbers(alloc, OddPrime::Seven, numbers, place)?),
+            3 => Plane::Trits(trits_of_numbers(alloc, numbers, place)?),
+            5 => Plane::Bytes(BytePlane::of_numbers(alloc, BytePrime::Five, numbers, place)?),
+            _ => Plane::Bytes(BytePlane::of_numbers(alloc, BytePrime::Seven, numbers, place)?),
         })
     }
 
@@ -96,17 +94,32 @@ impl Plane {
     {
         match self {
             Plane::Bits(plane) => plane.len(),
+            Plane::Trits(plane) => plane.len(),
             Plane::Bytes(plane) => plane.len(),
         }
     }
 
     /// The digit at an index, counted from 0, and 0 from the length on.
-    #[inline]
+    #[inline(always)]
     pub fn get(&self, index: usize) -> u8
         ensures { result ≡ slice_index (digits_of self.now) index }
     {
         match self {
             Plane::Bits(plane) => plane.get(index),
+            _ => self.get_odd(index),
+        }
+    }
+
+    /// The digit at an index of a plane modulo an odd prime. It stands apart so that `get` is short where it is asked
+    /// most, modulo 2.
+    #[inline(never)]
+    fn get_odd(&self, index: usize) -> u8
+        requires { prime_of_plane self.now ≢ 2 }
+        ensures { result ≡ slice_index (digits_of self.now) index }
+    {
+        match self {
+            Plane::Bits(_) => 0,
+            Plane::Trits(plane) => plane.get(index),
             Plane::Bytes(plane) => plane.get(index),
         }
     }
@@ -122,7 +135,7 @@ impl Plane {
     {
         match self {
             Plane::Bits(plane) => plane.sixteen_from(index),
-            Plane::Bytes(_) => 0,
+            Plane::Trits(_) | Plane::Bytes(_) => 0,
         }
     }
 
@@ -140,6 +153,7 @@ impl Plane {
         let fourth = at + 3 * size;
         match self {
             Plane::Bits(plane) => plane.numbers_from(base, size, at),
+            Plane::Trits(plane) => plane.numbers_from(base, size, at),
             Plane::Bytes(plane) => [
                 plane.number_from(base, size, at),
                 plane.number_from(base, size, second),
@@ -157,6 +171,7 @@ impl Plane {
     {
         match self {
             Plane::Bits(plane) => plane.set(index, digit),
+            Plane::Trits(plane) => plane.set(index, digit),
             Plane::Bytes(plane) => plane.set(index, digit),
         }
     }
@@ -167,6 +182,7 @@ impl Plane {
     {
         Ok(match self {
             Plane::Bits(plane) => Plane::Bits(plane.copy(alloc)?),
+            Plane::Trits(plane) => Plane::Trits(plane.copy(alloc)?),
             Plane::Bytes(plane) => Plane::Bytes(plane.copy(alloc)?),
         })
     }
@@ -178,6 +194,7 @@ impl Plane {
     {
         Ok(match self {
             Plane::Bits(plane) => Plane::Bits(plane.select(alloc, indices)?),
+            Plane::Trits(plane) => Plane::Trits(plane.select(alloc, indices)?),
             Plane::Bytes(plane) => Plane::Bytes(plane.select(alloc, indices)?),
         })
     }
@@ -190,6 +207,7 @@ impl Plane {
     {
         Ok(match self {
             Plane::Bits(plane) => Plane::Bits(plane.part(alloc, start, len)?),
+            Plane::Trits(plane) => Plane::Trits(plane.part(alloc, start, len)?),
             Plane::Bytes(plane) => Plane::Bytes(plane.part(alloc, start, len)?),
         })
     }
@@ -201,6 +219,7 @@ impl Plane {
     {
         match self {
             Plane::Bits(plane) => plane.copy_to(numbers),
+            Plane::Trits(plane) => plane.copy_to(numbers),
             Plane::Bytes(plane) => plane.copy_to(numbers),
         }
     }
@@ -213,6 +232,7 @@ impl Plane {
     {
         match self {
             Plane::Bits(plane) => plane.add_to(factor, numbers),
+            Plane::Trits(plane) => plane.add_to(factor, numbers),
             Plane::Bytes(plane) => plane.add_to(factor, numbers),
         }
     }
@@ -232,14 +252,15 @@ impl Plane {
         if factor != 0 {
             match (self, other) {
                 (Plane::Bits(plane), Plane::Bits(other)) => plane.add(other),
+                (Plane::Trits(plane), Plane::Trits(other)) => plane.add_scaled(factor, other),
                 (Plane::Bytes(plane), Plane::Bytes(other)) => plane.add_scaled(factor, other),
                 _ => {}
             }
         }
     }
 
-    /// Adds an entry of each of four tables modulo the same prime, whose entries have this plane's length, in one pass.
-    /// The numbers of the entries stand in the tables' order.
+    /// Adds an entry of each of four tables modulo the same prime, whose entries have this plane's length: in one pass,
+    /// except modulo 3. The numbers of the entries stand in the tables' order.
     #[inline]
     pub fn add_four_entries(
         &mut self,
@@ -263,6 +284,12 @@ impl Plane {
                 let (c, d) = (c.words_of(entries[2]), d.words_of(entries[3]));
                 plane.add_four(a, b, c, d);
             }
+            Plane::Trits(plane) => {
+                a.add_to_trits(entries[0], plane);
+                b.add_to_trits(entries[1], plane);
+                c.add_to_trits(entries[2], plane);
+                d.add_to_trits(entries[3], plane);
+            }
             Plane::Bytes(plane) => {
                 let (a, b) = (a.bytes_of(entries[0]), b.bytes_of(entries[1]));
                 let (c, d) = (c.bytes_of(entries[2]), d.bytes_of(entries[3]));
@@ -271,7 +298,7 @@ impl Plane {
         }
     }
 
-    /// Adds four other planes modulo the same prime and of the same length, in one pass.
+    /// Adds four other planes modulo the same prime and of the same length: in one pass, except modulo 3.
     #[inline]
     pub fn add_four(&mut self, a: &Plane, b: &Plane, c: &Plane, d: &Plane)
         requires a { IsAddend self.old a.now }
@@ -283,6 +310,12 @@ impl Plane {
     {
         match self {
             Plane::Bits(plane) => plane.add_four(a.words(), b.words(), c.words(), d.words()),
+            Plane::Trits(plane) => {
+                a.add_to_trits(plane);
+                b.add_to_trits(plane);
+                c.add_to_trits(plane);
+                d.add_to_trits(plane);
+            }
             Plane::Bytes(plane) => plane.add_four(a.bytes(), b.bytes(), c.bytes(), d.bytes()),
         }
     }
@@ -296,19 +329,32 @@ impl Plane {
     {
         match self {
             Plane::Bits(plane) => plane.words(),
-            Plane::Bytes(_) => &[],
+            Plane::Trits(_) | Plane::Bytes(_) => &[],
         }
     }
 
-    /// The bytes of a plane modulo an odd prime.
+    /// Adds this plane, which is modulo 3, to another one of its length.
+    #[inline]
+    fn add_to_trits(&self, plane: &mut TritPlane)
+        requires three { prime_of_plane self.now ≡ 3 }
+        requires fits { length (digits_of self.now) ≡ length plane.old }
+        ensures { plane.new ≡ digits_with_multiple 3 plane.old 1 (digits_of self.now) }
+    {
+        match self {
+            Plane::Trits(other) => plane.add_scaled(1, other),
+            _ => {}
+        }
+    }
+
+    /// The bytes of a plane modulo 5 or 7.
     #[inline]
     fn bytes(&self) -> &[u8]
-        requires odd { prime_of_plane self.now ≢ 2 }
+        requires large { 3 < prime_of_plane self.now }
         ensures value { result.now ≡ digits_of self.now }
         ensures digits { AreDigits (prime_of_plane self.now) result.now }
     {
         match self {
-            Plane::Bits(_) => &[],
+            Plane::Bits(_) | Plane::Trits(_) => &[],
             Plane::Bytes(plane) => plane.bytes(),
         }
     }
@@ -320,6 +366,7 @@ impl Plane {
     {
         match self {
             Plane::Bits(plane) => plane.scale(factor),
+            Plane::Trits(plane) => plane.scale(factor),
             Plane::Bytes(plane) => plane.scale(factor),
         }
     }
@@ -333,6 +380,7 @@ impl Plane {
     {
         match (self, other) {
             (Plane::Bits(plane), Plane::Bits(other)) => plane.dot(other),
+            (Plane::Trits(plane), Plane::Trits(other)) => plane.dot(other),
             (Plane::Bytes(plane), Plane::Bytes(other)) => plane.dot(other),
             _ => 0,
         }
@@ -345,6 +393,7 @@ impl Plane {
     {
         match self {
             Plane::Bits(plane) => plane.first_nonzero(),
+            Plane::Trits(plane) => plane.first_nonzero(),
             Plane::Bytes(plane) => plane.first_nonzero(),
         }
     }
@@ -356,6 +405,7 @@ impl Plane {
     {
         match self {
             Plane::Bits(plane) => plane.next_nonzero(start),
+            Plane::Trits(plane) => plane.next_nonzero(start),
             Plane::Bytes(plane) => plane.next_nonzero(start),
         }
     }
@@ -366,6 +416,7 @@ impl Plane {
     {
         match self {
             Plane::Bits(plane) => plane.is_zero(),
+            Plane::Trits(plane) => plane.is_zero(),
             Plane::Bytes(plane) => plane.is_zero(),
         }
     }
@@ -376,8 +427,22 @@ impl Plane {
     {
         match (self, other) {
             (Plane::Bits(plane), Plane::Bits(other)) => plane.same(other),
+            (Plane::Trits(plane), Plane::Trits(other)) => plane.same(other),
             (Plane::Bytes(plane), Plane::Bytes(other)) => plane.same(other),
             _ => false,
         }
     }
+}
+
+/// The plane of the digits that numbers have at a place, 0 or 1, in base 3.
+fn trits_of_numbers(alloc: Global, numbers: &[u8], place: u8) -> Result<TritPlane, AllocError>
+    requires { place < 2 }
+    ensures { IfOk result (λ plane. plane ≡ digits_at 3 place numbers.now) }
+{
+    let mut digits = Vec::from_slice(alloc, numbers)?;
+    match place {
+        0 => reduce::<1, 3>(&mut digits),
+        _ => reduce::<3, 3>(&mut digits),
+    }
+    TritPlane::of_digits(alloc, &digits)
 }

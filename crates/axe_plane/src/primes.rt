@@ -1,28 +1,25 @@
-//! The odd primes that are orders of fields.
+//! The primes whose digits are kept in bytes.
 ghost use Rattle.std.specs.Prelude.{◌≡◌};
 
-/// An odd prime below ten.
+/// 5 or 7.
 #[derive(Debug, Clone, Copy, PartialEq, Eq)]
-pub enum OddPrime {
-    /// 3.
-    Three,
+pub enum BytePrime {
     /// 5.
     Five,
     /// 7.
     Seven,
 }
 
-impl OddPrime {
-    ghost use Rattle.axe_plane.specs.Primes.{odd_number};
+impl BytePrime {
+    ghost use Rattle.axe_plane.specs.Primes.{byte_prime};
 
     /// The prime as a number.
     pub fn number(self) -> u8
-        ensures { result ≡ odd_number self }
+        ensures { result ≡ byte_prime self }
     {
         match self {
-            OddPrime::Three => 3,
-            OddPrime::Five => 5,
-            OddPrime::Seven => 7,
+            BytePrime::Five => 5,
+            BytePrime::Seven => 7,
         }
     }
 }

@@ -1,10 +1,11 @@
 //! Tables of planes: flat lists of many planes of one prime and one length.
 ghost use Rattle.std.specs.Prelude.{◌≡◌, ◌≢◌, ◌⊎◌, ◌<◌, IfOk, length, replicate, slice_index_or, slice_set, []};
-ghost use Rattle.axe_plane.specs.Bits.{bits, HoldsBits};
-ghost use Rattle.axe_plane.specs.Digits.{AreDigits, digits_with_multiple};
+ghost use Rattle.axe_bits.specs.Bits.{bits, HoldsBits};
+ghost use Rattle.axe_bits.specs.Digits.{AreDigits, digits_with_multiple};
 ghost use Rattle.axe_plane.specs.Planes.{prime_of_plane, digits_of, IsPlane};
 
-use crate::{BitTable, ByteTable, OddPrime, Plane};
+use crate::{BytePrime, ByteTable, Plane};
+use axe_bits::{BitTable, TritPlane, TritTable};
 use std::alloc::{AllocError, Global};
 
 /// A list of planes modulo 2, 3, 5 or 7, its entries, kept in one piece of memory.
@@ -12,7 +13,9 @@ use std::alloc::{AllocError, Global};
 pub enum PlaneTable {
     /// Modulo 2, each digit a bit.
     Bits(BitTable),
-    /// Modulo an odd prime, each digit a byte.
+    /// Modulo 3, each digit a bit in one of two layers.
+    Trits(TritTable),
+    /// Modulo 5 or 7, each digit a byte.
     Bytes(ByteTable),
 }
 
@@ -31,9 +34,9 @@ impl PlaneTable {
     {
         Ok(match prime {
             2 => PlaneTable::Bits(BitTable::zero(alloc, count, len)?),
-            3 => PlaneTable::Bytes(ByteTable::zero(alloc, OddPrime::Three, count, len)?),
-            5 => PlaneTable::Bytes(ByteTable::zero(alloc, OddPrime::Five, count, len)?),
-            _ => PlaneTable::Bytes(ByteTable::zero(alloc, OddPrime::Seven, count, len)?),
+            3 => PlaneTable::Trits(TritTable::zero(alloc, count, len)?),
+            5 => PlaneTable::Bytes(ByteTable::zero(alloc, BytePrime::Five, count, len)?),
+            _ => PlaneTable::Bytes(ByteTable::zero(alloc, BytePrime::Seven, count, len)?),
         })
     }
 
@@ -46,6 +49,7 @@ impl PlaneTable {
     {
         match self {
             PlaneTable::Bits(table) => table.copy_entry(to, from),
+            PlaneTable::Trits(table) => table.copy_entry(to, from),
             PlaneTable::Bytes(table) => table.copy_entry(to, from),
         }
     }
@@ -65,6 +69,9 @@ impl PlaneTable {
         if factor != 0 {
             match (self, plane) {
                 (PlaneTable::Bits(table), Plane::Bits(plane)) => table.add_to_entry(to, plane),
+                (PlaneTable::Trits(table), Plane::Trits(plane)) => table.add_to_entry(
+                    to, factor, plane,
+                ),
                 (PlaneTable::Bytes(table), Plane::Bytes(plane)) => table.add_to_entry(
                     to, factor, plane,
                 ),
@@ -89,6 +96,9 @@ impl PlaneTable {
                 (PlaneTable::Bits(table), Plane::Bits(plane)) => plane.add_words(table.entry(
                     index,
                 )),
+                (PlaneTable::Trits(table), Plane::Trits(plane)) => table.add_entry(
+                    index, factor, plane,
+                ),
                 (PlaneTable::Bytes(table), Plane::Bytes(plane)) => plane.add_bytes(
                     factor,
                     table.entry(index),
@@ -108,20 +118,34 @@ impl PlaneTable {
     {
         match self {
             PlaneTable::Bits(table) => table.entry(index),
-            PlaneTable::Bytes(_) => &[],
+            PlaneTable::Trits(_) | PlaneTable::Bytes(_) => &[],
         }
     }
 
-    /// The bytes of an entry of a table modulo an odd prime.
+    /// Adds an entry of a table modulo 3 to a plane of its length.
+    #[inline]
+    pub(crate) fn add_to_trits(&self, index: usize, plane: &mut TritPlane)
+        requires index { index < length (entries_of_table self.now) }
+        requires three { prime_of_table self.now ≡ 3 }
+        requires fits { length (digits_of (plane_at self.now index)) ≡ length plane.old }
+        ensures { plane.new ≡ digits_with_multiple 3 plane.old 1 (digits_of (plane_at self.now index)) }
+    {
+        match self {
+            PlaneTable::Trits(table) => table.add_entry(index, 1, plane),
+            _ => {}
+        }
+    }
+
+    /// The bytes of an entry of a table modulo 5 or 7.
     #[inline]
     pub(crate) fn bytes_of(&self, index: usize) -> &[u8]
         requires index { index < length (entries_of_table self.now) }
-        requires odd { prime_of_table self.now ≢ 2 }
+        requires large { 3 < prime_of_table self.now }
         ensures value { result.now ≡ digits_of (plane_at self.now index) }
         ensures digits { AreDigits (prime_of_table self.now) result.now }
     {
         match self {
-            PlaneTable::Bits(_) => &[],
+            PlaneTable::Bits(_) | PlaneTable::Trits(_) => &[],
             PlaneTable::Bytes(table) => table.entry(index),
         }
     }

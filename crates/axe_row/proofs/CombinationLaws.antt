@@ -1,26 +1,25 @@
 -- The rows of a table as combinations: those with one row more, by the rows of the table that are there.
-use Rattle.std.proofs.Common.{◌≡◌, ◌≢◌, ℕ, zero, suc, ◌+◌, ◌-◌, ◌*◌, ◌/◌, ◌%◌, ◌^◌, ◌<◌, ◌≤◌, List, [], ◌∷◌, length, get_or, set, map, drop, replicate, refl, sym, ap, ap₂, subst, ◌∙◌, arith, add-one, get_or-set_other, get_or-set_same}
+use Rattle.std.proofs.Common.{◌≡◌, ◌≢◌, ℕ, zero, suc, ◌+◌, ◌-◌, ◌*◌, ◌/◌, ◌%◌, ◌^◌, ◌<◌, ◌≤◌, List, [], ◌∷◌, length, get_or, set, map, drop, replicate, refl, sym, ap, ap₂, subst, ◌∙◌, arith, get_or-set_other, get_or-set_same}
 use Rattle.std.specs.List.{All}
-use Rattle.std.proofs.lemmas.List.{ext_get_or, get_or-replicate, length-replicate, length-set, drop_more, drop_all, length-drop, get_or-map, length-map}
+use Rattle.std.proofs.lemmas.List.{ext_get_or, get_or-replicate, length-replicate, drop_more, drop_all, length-drop, get_or-map, length-map}
 use Rattle.std.proofs.lemmas.List.Elements.{All-nil, All-cons}
 use Rattle.std.proofs.lemmas.Nat.{mul-add-lt}
-use native.Mathlib.Nat.{mul_comm, pow-zero, pow-suc, mul-le-mul_left, mul-le-mul_right, pow-le-pow_right}
+use native.Mathlib.Nat.{mul_comm, pow-zero, pow-suc, mul-le-mul_right, pow-le-pow_right}
 use native.Mathlib.Decide.{dec_lt}
 use Rattle.axe_algebra.specs.Digits.{digits}
 use Rattle.axe_algebra.specs.ListArithmetic.{number_sum, combination, combination_entry}
 use Rattle.axe_algebra.specs.Lists.{entry, listed, AreElements, IsVectorOver, IsMatrixOver}
 use Rattle.axe_algebra.specs.NumberField.{NumberField}
-use Rattle.axe_algebra.proofs.Digits.{digits_cons, digits_length, digits-below, leading_digit, pow-positive}
-use Rattle.axe_algebra.proofs.ElementNumbers.{number_sum-below, number_sum_same, entry-below}
+use Rattle.axe_algebra.proofs.Digits.{digits_cons, digits-below, leading_digit}
+use Rattle.axe_algebra.proofs.ElementNumbers.{number_sum-below, entry-below}
 use Rattle.axe_algebra.proofs.ListEntries.{listed_length, listed_at, matrix_entry-below}
-use Rattle.axe_field.specs.Arithmetic.{field_mul}
 use Rattle.axe_field.specs.NumberFields.{number_field}
 use Rattle.axe_field.specs.Order.{Order, Two, Three, Four, Five, Seven, Eight, Nine, order_number, IsElement}
 use Rattle.axe_field.proofs.Laws.{field_zero-mul}
 use Rattle.axe_field.proofs.Orders.{order_number-at_least}
 use Rattle.axe_row.specs.Combinations.{CombosValue, IsTableOfRows, AreOfOneKind, Combines, most_combined}
 use Rattle.axe_row.specs.Operations.{sum_with_multiple}
-use Rattle.axe_row.specs.Rows.{RowValue, IsRow}
+use Rattle.axe_row.specs.Rows.{RowValue}
 use Rattle.axe_row.proofs.OperationLaws.{length-sum_with_multiple, get_or-sum_with_multiple}
 use Rattle.axe_row.proofs.PieceNumbers.{power-below}
 

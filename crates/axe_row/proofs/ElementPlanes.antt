@@ -2,16 +2,16 @@
 use Rattle.std.proofs.Common.{◌≡◌, ◌≢◌, ℕ, zero, suc, ◌/◌, ◌%◌, ◌^◌, ◌<◌, Bool, true, false, List, [], ◌∷◌, length, get_or, map, cond, ltb, Result, Ok, Err, IfOk, refl, sym, ap, ap₂, subst, ◌∙◌, arith, lit<}
 use Rattle.std.specs.List.{All}
 use Rattle.std.proofs.lemmas.Bool.{lt-ltb}
-use Rattle.std.proofs.lemmas.List.{ext_get_or, get_or_past, get_or-map, length-map}
+use Rattle.std.proofs.lemmas.List.{ext_get_or, get_or-map, length-map}
 use Rattle.std.proofs.lemmas.List.Elements.{All-map, All-nil}
 use Rattle.axe_field.specs.Arithmetic.{polynomial_of, coefficients}
 use Rattle.axe_field.specs.Order.{Order, Two, Three, Four, Five, Seven, Eight, Nine, prime_of, degree_of, IsElement}
 use Rattle.axe_field.specs.Planes.{coefficient, element_of}
 use Rattle.axe_field.proofs.CoefficientLaws.{coefficient-below, element_of-coefficients}
-use Rattle.axe_plane.specs.Digits.{AreDigits, digits_at}
+use Rattle.axe_bits.specs.Digits.{AreDigits, digits_at}
 use Rattle.axe_plane.specs.Planes.{digits_of, IsPlane, IsPlaneOf}
 use Rattle.axe_plane.specs.declared.Plane.{Plane}
-use Rattle.axe_row.specs.Planes.{entries_of_digits, ArePlanes, coefficients_at}
+use Rattle.axe_row.specs.Planes.{ArePlanes, coefficients_at}
 use Rattle.axe_row.specs.Rows.{RowValue}
 use Rattle.axe_row.proofs.RowPlanes.{entries_of, length-entries, entries-at, constant_is_there}
 

@@ -4,7 +4,7 @@ use Rattle.std.proofs.lemmas.Bool.{cases_lt}
 use Rattle.std.proofs.lemmas.List.{get_or_past}
 use native.Mathlib.Decide.{dec_lt}
 use Rattle.axe_field.specs.Order.{Order}
-use Rattle.axe_plane.specs.Digits as plane
+use Rattle.axe_bits.specs.Digits as plane
 use Rattle.axe_plane.specs.Planes.{digits_of}
 use Rattle.axe_plane.specs.declared.Plane.{Plane}
 use Rattle.axe_row.specs.Operations.{AreZerosFrom, IsNextNonzero}

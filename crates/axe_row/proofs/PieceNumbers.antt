@@ -14,8 +14,8 @@ use Rattle.axe_field.proofs.Laws.{field_one-mul}
 use Rattle.axe_field.proofs.Orders.{order_number-at_most, order_number-injective}
 use Rattle.axe_plane.specs.Planes.{digits_of}
 use Rattle.axe_plane.specs.declared.Plane.{Plane}
-use Rattle.axe_plane.proofs.BitLaws.{bit_at-shifted}
-use Rattle.axe_plane.proofs.PieceDigits.{number_with_digits-push}
+use Rattle.axe_bits.proofs.BitLaws.{bit_at-shifted}
+use Rattle.axe_bits.proofs.PieceDigits.{number_with_digits-push}
 use Rattle.axe_row.specs.Combinations.{piece_number}
 use Rattle.axe_row.specs.Operations.{multiple}
 use Rattle.axe_row.specs.Planes.{ArePlanes}

@@ -12,11 +12,11 @@ use Rattle.axe_field.specs.Planes.{coefficient, IsCoefficient, element_of}
 use Rattle.axe_field.proofs.CoefficientLaws.{coefficient-add, element_of-coefficients, coefficients_are, IsElementOf}
 use Rattle.axe_field.proofs.Laws.{field_zero-mul}
 use Rattle.axe_lane.specs.Bytes as lane
-use Rattle.axe_plane.specs.Digits.{AreDigits}
+use Rattle.axe_bits.specs.Digits.{AreDigits}
 use Rattle.axe_plane.specs.Planes.{prime_of_plane, digits_of, IsPlaneOf}
 use Rattle.axe_plane.specs.declared.Plane.{Plane}
-use Rattle.axe_plane.proofs.DigitLaws.{digit-below}
-use Rattle.axe_plane.proofs.DotLaws.{sum_below, dot_by_entries}
+use Rattle.axe_bits.proofs.DigitLaws.{digit-below}
+use Rattle.axe_bits.proofs.DotLaws.{sum_below, dot_by_entries}
 use Rattle.axe_row.specs.Operations.{dot_product}
 use Rattle.axe_row.specs.Planes.{ArePlanes}
 use Rattle.axe_row.specs.Rows.{RowValue, IsRow}

@@ -1,10 +1,10 @@
 -- Rows over the prime fields: their entries are the digits of the plane of constants, and sums and products are those of
 -- numbers modulo the prime.
-use Rattle.std.proofs.Common.{◌≡◌, ℕ, zero, suc, ◌+◌, ◌*◌, ◌%◌, ◌<◌, List, length, get_or, map, cond, ltb, refl, sym, ap, ap₂, subst, ◌∙◌, arith, lit<, add-one}
+use Rattle.std.proofs.Common.{◌≡◌, ℕ, zero, suc, ◌+◌, ◌*◌, ◌%◌, ◌<◌, List, length, get_or, set, map, cond, ltb, Option, Some, None, MatchOption, refl, sym, ap, ap₂, subst, ◌∙◌, arith, lit<, add-one}
 use Rattle.std.specs.List.{All}
 use Rattle.std.proofs.lemmas.List.Elements.{All-map}
 use Rattle.std.proofs.lemmas.Bool.{le-ltb}
-use Rattle.std.proofs.lemmas.List.{ext_get_or, get_or_past, length-map, get_or-map}
+use Rattle.std.proofs.lemmas.List.{ext_get_or, get_or_past, length-map, length-set, get_or-map}
 use Rattle.std.proofs.Math.Nat.{add-mod, mod-lt}
 use Rattle.axe_algebra.specs.Lists.{entry}
 use Rattle.axe_field.specs.Arithmetic.{field_add, field_mul}
@@ -14,12 +14,14 @@ use Rattle.axe_field.specs.Order.{Order, Two, Three, Four, Five, Seven, Eight, N
 use Rattle.axe_field.specs.Planes.{coefficient, element_of, matrix_of_multiplication}
 use Rattle.axe_field.proofs.CoefficientLaws.{coefficient-add, coefficient-mul, coefficient-below, element_of-coefficients, matrix_of_multiplication-first}
 use Rattle.axe_lane.specs.Bytes as lane
-use Rattle.axe_plane.specs.Digits.{AreDigits, digits_with_multiple}
+use Rattle.axe_lane.specs.Entries as entries
+use Rattle.axe_bits.specs.Digits as plane
+use Rattle.axe_bits.specs.Digits.{AreDigits, digits_with_multiple}
 use Rattle.axe_plane.specs.Planes.{prime_of_plane, digits_of, IsPlane, IsPlaneOf}
 use Rattle.axe_plane.specs.declared.Plane.{Plane}
-use Rattle.axe_plane.proofs.DigitLaws.{AreDigits-sum, digit-below, length-digits_with_multiple, get_or-digits_with_multiple}
-use Rattle.axe_plane.proofs.DotLaws.{sum_below, dot_by_entries}
-use Rattle.axe_row.specs.Operations.{sum_with_multiple, multiple, dot_product, row_with_multiple, multiple_row}
+use Rattle.axe_bits.proofs.DigitLaws.{AreDigits-set, AreDigits-sum, digit-below, length-digits_with_multiple, get_or-digits_with_multiple}
+use Rattle.axe_bits.proofs.DotLaws.{sum_below, dot_by_entries}
+use Rattle.axe_row.specs.Operations.{sum_with_multiple, multiple, dot_product, row_with_multiple, multiple_row, IsZeroVector, IsFirstNonzero, AreZerosFrom, IsNextNonzero}
 use Rattle.axe_row.specs.Planes.{ArePlanes}
 use Rattle.axe_row.specs.Rows.{RowValue, IsRow}
 use Rattle.axe_row.proofs.RowLaws.{same_row, one-IsElement}
@@ -294,6 +296,23 @@ pub scalar_is_digit : (o : Order) (k d n : ℕ) (c : Plane) (entries : List ℕ)
 scalar_is_digit o k d n c entries self ed one h self_is element =
     subst (λ p. k < p) (sym h.prime) (element_is_digit o k (sym ed ∙ one) (element_along o k entries self self_is element))
 
+-- another digit in the plane of constants
+pub prime_planes_set : (o : Order) (n i d : ℕ) (c l q after : Plane) → ArePlanes o n c l q → d < prime_of_plane c →
+    IsPlane (prime_of_plane c) (set (digits_of c) i d) after → ArePlanes o n after l q
+prime_planes_set o n i d c l q after h below is =
+    with_constant o n c l q after _ h is (length-set (digits_of c) i d)
+    (AreDigits-set (prime_of o) (digits_of c) i d (subst (λ p. d < p) h.constant.prime below) h.constant.digits)
+
+pub prime_row_set : (o : Order) (i d k : ℕ) (c l q after : Plane) (self : RowValue) → k ≡ degree_of o → k ≡ 1 →
+    ArePlanes o (length (digits_of c)) c l q → record { order = o; entries = entries_of o c l q } ≡ self → d < prime_of_plane c →
+    IsPlane (prime_of_plane c) (set (digits_of c) i d) after →
+    ◌≡◌ {A = RowValue} (record { order = o; entries = entries_of o after l q }) (record { order = self.order; entries = set self.entries i d })
+prime_row_set o i d k c l q after self ek one h self_is below is =
+    ap (λ (x : List ℕ). record { order = o; entries = x })
+    (one_plane o _ after l q (sym ek ∙ one) (prime_planes_set o _ i d c l q after h below is) ∙ is.digits_are
+    ∙ ap (λ (x : List ℕ). set x i d) (sym (one_plane o _ c l q (sym ek ∙ one) h)))
+    ∙ ap (λ (r : RowValue). record { order = r.order; entries = set r.entries i d }) self_is
+
 -- an entry is the digit of the one plane
 pub one_plane_at : (o : Order) (d j : ℕ) (c l q : Plane) (self : RowValue) → d ≡ degree_of o → d ≡ 1 →
     ArePlanes o (length (digits_of c)) c l q → record { order = o; entries = entries_of o c l q } ≡ self →
@@ -307,3 +326,36 @@ one_plane_element o d j x c l q self is ed one h self_is =
     subst (IsElement self.order) (sym is)
     (subst (λ r. IsElement r (get_or (digits_of c) j 0)) (ap (λ (r : RowValue). r.order) self_is)
     (digit_at o (digits_of c) j (sym ed ∙ one) h.constant.digits))
+
+-- ---- the first entries other than zero are those of the one plane
+
+-- the entries are its digits
+one_plane_entries : (o : Order) (d : ℕ) (c l q : Plane) (self : RowValue) → d ≡ degree_of o → d ≡ 1 →
+    ArePlanes o (length (digits_of c)) c l q → record { order = o; entries = entries_of o c l q } ≡ self → digits_of c ≡ self.entries
+one_plane_entries o d c l q self ed one h self_is =
+    sym (one_plane o _ c l q (sym ed ∙ one) h) ∙ ap (λ (r : RowValue). r.entries) self_is
+
+first_entry : (r : Option ℕ) (xs ys : List ℕ) → xs ≡ ys → MatchOption r (All (λ digit. digit ≡ 0) xs) (entries.IsFirstNonzero xs) →
+    MatchOption r (IsZeroVector ys) (IsFirstNonzero ys)
+first_entry None xs ys e zeros = subst IsZeroVector e zeros
+first_entry (Some i) xs ys e h =
+    subst (λ (l : List ℕ). IsFirstNonzero l i) e (record { within = h.within; nonzero = h.nonzero; zeros_before = h.zeros_before })
+
+pub first_of_one_plane : (r : Option ℕ) (o : Order) (d : ℕ) (c l q : Plane) (self : RowValue) → d ≡ degree_of o → d ≡ 1 →
+    ArePlanes o (length (digits_of c)) c l q → record { order = o; entries = entries_of o c l q } ≡ self →
+    MatchOption r (All (λ digit. digit ≡ 0) (digits_of c)) (entries.IsFirstNonzero (digits_of c)) →
+    MatchOption r (IsZeroVector self.entries) (IsFirstNonzero self.entries)
+first_of_one_plane r o d c l q self ed one h self_is found = first_entry r _ _ (one_plane_entries o d c l q self ed one h self_is) found
+
+next_entry : (r : Option ℕ) (n : ℕ) (xs ys : List ℕ) → xs ≡ ys → MatchOption r (plane.AreZerosFrom xs n) (plane.IsNextNonzero xs n) →
+    MatchOption r (AreZerosFrom ys n) (IsNextNonzero ys n)
+next_entry None n xs ys e zeros = subst (λ (l : List ℕ). AreZerosFrom l n) e zeros
+next_entry (Some i) n xs ys e h =
+    subst (λ (l : List ℕ). IsNextNonzero l n i) e
+    (record { within = h.within; not_before = h.not_before; nonzero = h.nonzero; zeros_between = h.zeros_between })
+
+pub next_of_one_plane : (r : Option ℕ) (n : ℕ) (o : Order) (d : ℕ) (c l q : Plane) (self : RowValue) → d ≡ degree_of o → d ≡ 1 →
+    ArePlanes o (length (digits_of c)) c l q → record { order = o; entries = entries_of o c l q } ≡ self →
+    MatchOption r (plane.AreZerosFrom (digits_of c) n) (plane.IsNextNonzero (digits_of c) n) →
+    MatchOption r (AreZerosFrom self.entries n) (IsNextNonzero self.entries n)
+next_of_one_plane r n o d c l q self ed one h self_is found = next_entry r n _ _ (one_plane_entries o d c l q self ed one h self_is) found

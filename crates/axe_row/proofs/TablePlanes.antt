@@ -11,13 +11,13 @@ use Rattle.axe_algebra.proofs.Digits.{pow-positive}
 use Rattle.axe_field.specs.NumberFields.{number_field}
 use Rattle.axe_field.specs.Order.{Order, Two, Three, Four, Five, Seven, Eight, Nine, order_number, prime_of, degree_of, IsElement}
 use Rattle.axe_field.specs.Planes.{matrix_of_multiplication}
-use Rattle.axe_plane.specs.Digits.{AreDigits, digits_with_multiple}
+use Rattle.axe_bits.specs.Digits.{AreDigits, digits_with_multiple}
 use Rattle.axe_plane.specs.Planes.{prime_of_plane, digits_of, IsPlaneOf}
 use Rattle.axe_plane.specs.Tables.{prime_of_table, entries_of_table, plane_at, IsTable}
 use Rattle.axe_plane.specs.declared.Plane.{Plane}
 use Rattle.axe_plane.specs.declared.tables.PlaneTable.{PlaneTable}
-use Rattle.axe_plane.specs.declared.tables.PlaneTable.TheVariants.{Bits, Bytes}
-use Rattle.axe_plane.proofs.DigitLaws.{AreDigits-zeros}
+use Rattle.axe_plane.specs.declared.tables.PlaneTable.TheVariants.{Bits, Trits, Bytes}
+use Rattle.axe_bits.proofs.DigitLaws.{AreDigits-zeros}
 use Rattle.axe_row.specs.Combinations.{CombosValue, IsTableOfRows, most_combined}
 use Rattle.axe_row.specs.Operations.{sum_with_multiple}
 use Rattle.axe_row.specs.Planes.{ArePlanes, digits_with_multiples, entries_of_digits}
@@ -31,10 +31,12 @@ use Rattle.axe_row.proofs.TableRows.{length-rows_of_tables, get_or-rows_of_table
 
 pub prime_of-plane_at : (table : PlaneTable) (x : ℕ) → prime_of_plane (plane_at table x) ≡ prime_of_table table
 prime_of-plane_at (Bits entries) x = refl
+prime_of-plane_at (Trits entries) x = refl
 prime_of-plane_at (Bytes table) x = refl
 
 pub digits_of-plane_at : (table : PlaneTable) (x : ℕ) → digits_of (plane_at table x) ≡ get_or (entries_of_table table) x []
 digits_of-plane_at (Bits entries) x = refl
+digits_of-plane_at (Trits entries) x = refl
 digits_of-plane_at (Bytes table) x = refl
 
 -- ---- an entry that was written

@@ -11,20 +11,19 @@ use Rattle.axe_field.specs.NumberFields.{number_field}
 use Rattle.axe_field.specs.Order.{Order, order_number, prime_of, degree_of, IsElement}
 use Rattle.axe_field.specs.Planes.{coefficient, element_of, matrix_of_multiplication}
 use Rattle.axe_field.proofs.CoefficientLaws.{coefficient-add, element_of-coefficients}
-use Rattle.axe_plane.specs.Digits.{AreDigits, digits_with_multiple, digits_with_four}
+use Rattle.axe_bits.specs.Digits.{AreDigits, digits_with_multiple, digits_with_four}
 use Rattle.axe_plane.specs.Planes.{prime_of_plane, digits_of, IsPlane, IsPlaneOf}
-use Rattle.axe_plane.specs.Primes.{odd_number}
-use Rattle.axe_plane.specs.Tables.{prime_of_table, entries_of_table, plane_at, IsEntryFor}
+use Rattle.axe_plane.specs.Primes.{byte_prime}
+use Rattle.axe_plane.specs.Tables.{entries_of_table, plane_at, IsEntryFor}
 use Rattle.axe_plane.specs.declared.Plane.{Plane}
-use Rattle.axe_plane.specs.declared.Plane.TheVariants.{Bits as BitsOf, Bytes as BytesOf}
+use Rattle.axe_plane.specs.declared.Plane.TheVariants.{Bits as BitsOf, Trits as TritsOf, Bytes as BytesOf}
 use Rattle.axe_plane.specs.declared.tables.PlaneTable.{PlaneTable}
-use Rattle.axe_plane.specs.declared.tables.PlaneTable.TheVariants.{Bits, Bytes}
-use Rattle.axe_plane.proofs.DigitLaws.{AreDigits-sum, length-digits_with_multiple, get_or-digits_with_multiple, length-digits_with_four}
+use Rattle.axe_bits.proofs.DigitLaws.{AreDigits-sum, length-digits_with_multiple, get_or-digits_with_multiple, length-digits_with_four}
 use Rattle.axe_plane.proofs.PlaneLaws.{same_plane}
 use Rattle.axe_row.specs.Combinations.{CombosValue, combination_at, row_with_four, IsRowFor}
 use Rattle.axe_row.specs.Operations.{sum_with_multiple, row_with_multiple}
 use Rattle.axe_row.specs.Planes.{entries_of_digits, ArePlanes}
-use Rattle.axe_row.specs.PlaneTables.{rows_of_tables, IsPlaneTable, ArePlaneTables}
+use Rattle.axe_row.specs.PlaneTables.{rows_of_tables, ArePlaneTables}
 use Rattle.axe_row.specs.Rows.{RowValue}
 use Rattle.axe_row.proofs.RowLaws.{one-IsElement}
 use Rattle.axe_row.proofs.OperationLaws.{length-sum_with_multiple, get_or-row_with_multiple}
@@ -145,15 +144,18 @@ quadratic_entry planes h = entry_for planes.quadratic h.is_row.planes.quadratic 
 -- a plane plus another
 abbrev pub plane_plus : Plane → Plane → Plane
 plane_plus (BitsOf digits) other = BitsOf (digits_with_multiple 2 digits 1 (digits_of other))
+plane_plus (TritsOf digits) other = TritsOf (digits_with_multiple 3 digits 1 (digits_of other))
 plane_plus (BytesOf plane) other =
-    BytesOf (record { prime = plane.prime; digits = digits_with_multiple (odd_number plane.prime) plane.digits 1 (digits_of other) })
+    BytesOf (record { prime = plane.prime; digits = digits_with_multiple (byte_prime plane.prime) plane.digits 1 (digits_of other) })
 
 prime-plane_plus : (a b : Plane) → prime_of_plane (plane_plus a b) ≡ prime_of_plane a
 prime-plane_plus (BitsOf digits) b = refl
+prime-plane_plus (TritsOf digits) b = refl
 prime-plane_plus (BytesOf plane) b = refl
 
 digits-plane_plus : (a b : Plane) → digits_of (plane_plus a b) ≡ digits_with_multiple (prime_of_plane a) (digits_of a) 1 (digits_of b)
 digits-plane_plus (BitsOf digits) b = refl
+digits-plane_plus (TritsOf digits) b = refl
 digits-plane_plus (BytesOf plane) b = refl
 
 plus_digits : (p n : ℕ) (a b : Plane) → IsPlaneOf p n a → digits_of (plane_plus a b) ≡ digits_with_multiple p (digits_of a) 1 (digits_of b)
@@ -252,6 +254,7 @@ IsPlusFour plane a b c d after =
 
 is_plus_four : (plane a b c d after : Plane) → IsPlusFour plane a b c d after → plane_plus (plane_plus (plane_plus (plane_plus plane a) b) c) d ≡ after
 is_plus_four (BitsOf digits) a b c d after h = same_plane _ after (sym h.prime) (sym h.digits_are)
+is_plus_four (TritsOf digits) a b c d after h = same_plane _ after (sym h.prime) (sym h.digits_are)
 is_plus_four (BytesOf plane) a b c d after h = same_plane _ after (sym h.prime) (sym h.digits_are)
 
 -- a plane of no digits stays as it is

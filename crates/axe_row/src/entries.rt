@@ -12,6 +12,9 @@ impl Row {
         requires { start ≤ length self.now.entries }
         ensures { MatchOption result (AreZerosFrom self.now.entries start) (IsNextNonzero self.now.entries start) }
     {
+        if self.field.degree() == 1 {
+            return self.constant.next_nonzero(start);
+        }
         let high = earlier(
             self.linear.next_nonzero(start),
             self.quadratic.next_nonzero(start),

@@ -126,15 +126,25 @@ impl Row {
     }
 
     /// The entry at an index, counted from 0.
+    #[inline(always)]
     pub fn get(&self, index: usize) -> u8
         requires { index < length self.now.entries }
         ensures entry { result ≡ slice_index self.now.entries index }
         ensures element { IsElement self.now.order result }
     {
-        let constant = self.constant.get(index);
         if self.field.degree() == 1 {
-            return constant;
+            return self.constant.get(index);
         }
+        self.get_by_planes(index)
+    }
+
+    /// The entry at an index, put together from its coefficients.
+    fn get_by_planes(&self, index: usize) -> u8
+        requires { index < length self.now.entries }
+        ensures entry { result ≡ slice_index self.now.entries index }
+        ensures element { IsElement self.now.order result }
+    {
+        let constant = self.constant.get(index);
         let linear = self.linear.get(index);
         let quadratic = self.quadratic.get(index);
         element(&self.field, constant, linear, quadratic)
@@ -142,6 +152,20 @@ impl Row {
 
     /// Makes an element the entry at an index; all other entries stay.
     pub fn set(&mut self, index: usize, element: u8)
+        requires index { index < length self.old.entries }
+        requires element { IsElement self.old.order element }
+        ensures replaced { self.new ≡ record { order = self.old.order; entries = slice_set self.old.entries index element } }
+        ensures well_formed { IsRow self.new }
+    {
+        if self.field.degree() == 1 {
+            self.constant.set(index, element);
+        } else {
+            self.set_by_planes(index, element);
+        }
+    }
+
+    /// Makes an element the entry at an index by its coefficients; all other entries stay.
+    fn set_by_planes(&mut self, index: usize, element: u8)
         requires index { index < length self.old.entries }
         requires element { IsElement self.old.order element }
         ensures replaced { self.new ≡ record { order = self.old.order; entries = slice_set self.old.entries index element } }
@@ -222,6 +246,9 @@ impl Row {
     pub fn first_nonzero(&self) -> Option<usize>
         ensures { MatchOption result (IsZeroVector self.now.entries) (IsFirstNonzero self.now.entries) }
     {
+        if self.field.degree() == 1 {
+            return self.constant.first_nonzero();
+        }
         let high = earlier(self.linear.first_nonzero(), self.quadratic.first_nonzero());
         earlier(self.constant.first_nonzero(), high)
     }

@@ -1,6 +1,6 @@
 use Rattle.std.proofs.Common.{◌≡◌, ◌+◌, ◌*◌, ℕ, List, get_or, ap, ◌∙◌}
 use Rattle.axe_field.specs.Order.{order_number}
-use Rattle.axe_plane.proofs.PieceDigits.{same_four}
+use Rattle.axe_bits.proofs.PieceDigits.{same_four}
 use Rattle.axe_row.proofs.PlaneNumbers.{number_of_plane, number_of_planes, number_is}
 use Rattle.axe_row.proofs.Row.numbers_by_planes.Goals as goal
 

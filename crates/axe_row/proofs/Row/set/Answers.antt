@@ -1,28 +1,23 @@
-use Rattle.std.proofs.Common.{lit<}
-use Rattle.axe_row.proofs.RowPlanes.{set_digit, element_along, set_planes, row_set, with_length, IsRow-of_planes}
+use Rattle.axe_row.proofs.RowPlanes.{IsRow-of_planes, with_length}
+use Rattle.axe_row.proofs.PrimeRows.{prime_planes_set, prime_row_set, scalar_is_digit}
 use Rattle.axe_row.proofs.Row.set.Goals as goal
 
 pub set-requires : goal.set-requires
 set-requires c =
-    set_digit _ _ 0 _ _ _ c.self.invariant.constant (element_along _ _ _ _ c.self.view_is c.requires.element) (lit< tt) c.plane_matrix-matrix.ensures.value
-
-pub set-requires-2 : goal.set-requires-2
-set-requires-2 c =
-    set_digit _ _ 1 _ _ _ c.self.invariant.linear (element_along _ _ _ _ c.self.view_is c.requires.element) (lit< tt) c.plane_matrix-matrix.ensures.value
-
-pub set-requires-3 : goal.set-requires-3
-set-requires-3 c =
-    set_digit _ _ 2 _ _ _ c.self.invariant.quadratic (element_along _ _ _ _ c.self.view_is c.requires.element) (lit< tt) c.plane_matrix-matrix.ensures.value
+    scalar_is_digit _ _ _ _ _ _ _ c.degree.ensures c.if-degree-eq1.true c.self.invariant.constant c.self.view_is c.requires.element
 
 pub invariant_of-self : goal.invariant_of-self
 invariant_of-self c =
-    with_length _ _ _ _ _ (set_planes _ _ _ _ _ _ _ _ _ _ _ c.self.invariant (element_along _ _ _ _ c.self.view_is c.requires.element)
-    c.plane_matrix-matrix.ensures.value c.set.ensures c.set-2.ensures c.set-3.ensures)
+    with_length _ _ _ _ _
+    (prime_planes_set _ _ _ _ _ _ _ _ c.self.invariant
+    (scalar_is_digit _ _ _ _ _ _ _ c.degree.ensures c.if-degree-eq1.true c.self.invariant.constant c.self.view_is c.requires.element)
+    c.set.ensures)
 
-pub returns-clause-replaced : goal.returns-clause-replaced
-returns-clause-replaced c =
-    row_set _ _ _ _ _ _ _ _ _ _ _ _ c.self.invariant c.self.view_is c.requires.element c.requires.index
-    c.plane_matrix-matrix.ensures.value c.set.ensures c.set-2.ensures c.set-3.ensures
+pub returns-then-degree-eq1-clause-replaced : goal.returns-then-degree-eq1-clause-replaced
+returns-then-degree-eq1-clause-replaced c =
+    prime_row_set _ _ _ _ _ _ _ _ _ c.degree.ensures c.if-degree-eq1.true c.self.invariant c.self.view_is
+    (scalar_is_digit _ _ _ _ _ _ _ c.degree.ensures c.if-degree-eq1.true c.self.invariant.constant c.self.view_is c.requires.element)
+    c.set.ensures
 
-pub returns-clause-well_formed : goal.returns-clause-well_formed
-returns-clause-well_formed c = IsRow-of_planes _ _ _ _ _ (invariant_of-self c)
+pub returns-then-degree-eq1-clause-well_formed : goal.returns-then-degree-eq1-clause-well_formed
+returns-then-degree-eq1-clause-well_formed c = IsRow-of_planes _ _ _ _ _ (invariant_of-self c)

@@ -1,5 +1,5 @@
 use Rattle.std.proofs.Common.{sym, ◌∙◌}
-use Rattle.axe_plane.proofs.DigitLaws.{length-digits_with_multiple, AreDigits-sum}
+use Rattle.axe_bits.proofs.DigitLaws.{length-digits_with_multiple, AreDigits-sum}
 use Rattle.axe_plane.proofs.TableLaws.{prime_of_table-positive}
 use Rattle.axe_row.specs.Planes.{digits_with_multiples}
 use Rattle.axe_row.proofs.TablePlanes.{copied_entry, written_fits, written_digits, written_more}

@@ -1,21 +1,21 @@
 use Rattle.std.proofs.Common.{◌≡◌, ◌+◌, ◌*◌, ◌%◌, ◌-◌, ◌<◌, ◌≤◌, ◌++◌, List, ℕ, [], length, get_or, set, take, drop, ap, subst, sym, ◌∙◌, arith}
 use Rattle.std.specs.Simd.Lanes.{chunk, put_chunk, zip2}
 use Rattle.std.proofs.lemmas.Simd.{length-chunk}
-use Rattle.axe_plane.specs.Digits.{AreDigits, digits_with_multiple}
+use Rattle.axe_bits.specs.Digits.{digits_with_multiple}
 use Rattle.axe_plane.specs.FlatTables.{byte_entries, HoldsDigits}
-use Rattle.axe_plane.specs.Primes.{odd_number, OddEntries}
-use Rattle.axe_plane.proofs.DigitLaws.{AreDigits-sum, zip2-sum, length-digits_with_multiple}
-use Rattle.axe_plane.proofs.PieceLaws.{piece_within, written_piece}
-use Rattle.axe_plane.proofs.PlaneLaws.{odd_number-positive}
+use Rattle.axe_plane.specs.Primes.{byte_prime, ByteEntries}
+use Rattle.axe_bits.proofs.DigitLaws.{AreDigits-sum, zip2-sum, length-digits_with_multiple}
+use Rattle.axe_bits.proofs.PieceLaws.{piece_within, written_piece}
+use Rattle.axe_plane.proofs.PlaneLaws.{byte_prime-positive}
 use Rattle.axe_plane.proofs.TableLaws.{byte_index, byte_entry-at, byte_entry-long, byte_entries-after, digits_held, entry_bytes}
 use Rattle.axe_plane.proofs.byte_table.ByteTable.add_to_entry.Goals as goal
 
 pub start_of-start-requires-clause-within : goal.start_of-start-requires-clause-within
-start_of-start-requires-clause-within c = byte_index _ _ _ _ _ (ap (λ (t : OddEntries). t.entries) c.self.view_is) c.requires.to
+start_of-start-requires-clause-within c = byte_index _ _ _ _ _ (ap (λ (t : ByteEntries). t.entries) c.self.view_is) c.requires.to
 
 pub add_scaled_bytes-requires-clause-fits : goal.add_scaled_bytes-requires-clause-fits
 add_scaled_bytes-requires-clause-fits c =
-    let mine = entry_bytes _ _ c.args.to _ _ _ _ (ap (λ (t : OddEntries). t.entries) c.self.view_is) c.requires.to c.start_of-start.ensures.start c.deref_mut.ensures.value in
+    let mine = entry_bytes _ _ c.args.to _ _ _ _ (ap (λ (t : ByteEntries). t.entries) c.self.view_is) c.requires.to c.start_of-start.ensures.start c.deref_mut.ensures.value in
     ap length c.bytes.ensures.value ∙ c.requires.fits ∙ sym (ap length mine)
 
 -- the table's bytes after
@@ -39,10 +39,10 @@ after n count to start k r p m bytes v other dst h below same all at room er lon
 pub invariant_of-self : goal.invariant_of-self
 invariant_of-self c =
     let n = c.self.inside.len in
-    let p = odd_number c.self.inside.prime in
+    let p = byte_prime c.self.inside.prime in
     let count = c.self.inside.count in
     let bytes = c.self.inside.bytes.items in
-    let entries = ap (λ (t : OddEntries). t.entries) c.self.view_is in
+    let entries = ap (λ (t : ByteEntries). t.entries) c.self.view_is in
     let to = byte_index _ _ c.args.to _ _ entries c.requires.to in
     let long = ap length c.bytes.ensures.value ∙ c.requires.fits ∙ byte_entry-long p _ _ c.args.to _ _ c.self.invariant entries c.requires.to in
     let other : List ℕ = c.bytes.result.now in
@@ -52,15 +52,15 @@ invariant_of-self c =
     c.start_of-start.ensures.start c.start_of-start.ensures.end c.number-prime.ensures long c.add_scaled_bytes.ensures.sum))
     (digits_held p n count c.args.to bytes _ to c.self.invariant
     (length-digits_with_multiple p (chunk (c.args.to * n) n bytes) c.args.factor other ∙ mine)
-    (AreDigits-sum p (chunk (c.args.to * n) n bytes) c.args.factor other (odd_number-positive c.self.inside.prime)))
+    (AreDigits-sum p (chunk (c.args.to * n) n bytes) c.args.factor other (byte_prime-positive c.self.inside.prime)))
 
 pub returns : goal.returns
 returns c =
     let n = c.self.inside.len in
-    let p = odd_number c.self.inside.prime in
+    let p = byte_prime c.self.inside.prime in
     let count = c.self.inside.count in
     let bytes = c.self.inside.bytes.items in
-    let entries = ap (λ (t : OddEntries). t.entries) c.self.view_is in
+    let entries = ap (λ (t : ByteEntries). t.entries) c.self.view_is in
     let to = byte_index _ _ c.args.to _ _ entries c.requires.to in
     let long = ap length c.bytes.ensures.value ∙ c.requires.fits ∙ byte_entry-long p _ _ c.args.to _ _ c.self.invariant entries c.requires.to in
     let other : List ℕ = c.bytes.result.now in
@@ -75,4 +75,4 @@ returns c =
     ∙ ap (λ (l : List ℕ). set all c.args.to (digits_with_multiple p l c.args.factor other)) (sym (byte_entry-at n count bytes c.args.to to))
     ∙ ap (λ (l : List ℕ). set all c.args.to (digits_with_multiple p (get_or all c.args.to []) c.args.factor l)) c.bytes.ensures.value in
     ap (λ (l : List (List ℕ)). record { prime = c.self.inside.prime; entries = l }) changed
-    ∙ ap (λ (t : OddEntries). record { prime = t.prime; entries = set t.entries c.args.to (digits_with_multiple (odd_number t.prime) (get_or t.entries c.args.to []) c.args.factor c.args.plane.now.digits) }) c.self.view_is
+    ∙ ap (λ (t : ByteEntries). record { prime = t.prime; entries = set t.entries c.args.to (digits_with_multiple (byte_prime t.prime) (get_or t.entries c.args.to []) c.args.factor c.args.plane.now.digits) }) c.self.view_is

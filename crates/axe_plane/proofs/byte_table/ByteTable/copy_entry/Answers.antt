@@ -1,18 +1,18 @@
-use Rattle.std.proofs.Common.{◌≡◌, ◌*◌, ◌<◌, ◌+◌, List, ℕ, [], length, get_or, set, ap, subst, sym, ◌∙◌, arith}
+use Rattle.std.proofs.Common.{◌≡◌, ◌*◌, ◌<◌, List, ℕ, [], get_or, set, ap, subst, sym, ◌∙◌, arith}
 use Rattle.std.specs.Simd.Lanes.{chunk, put_chunk}
 use Rattle.std.proofs.lemmas.Simd.{length-chunk}
 use Rattle.std.proofs.lemmas.List.Elements.{All-take, All-drop}
 use Rattle.axe_plane.specs.FlatTables.{byte_entries, HoldsDigits}
-use Rattle.axe_plane.specs.Primes.{odd_number, OddEntries}
-use Rattle.axe_plane.proofs.PieceLaws.{copied_piece, piece_within}
+use Rattle.axe_plane.specs.Primes.{byte_prime, ByteEntries}
+use Rattle.axe_bits.proofs.PieceLaws.{copied_piece, piece_within}
 use Rattle.axe_plane.proofs.TableLaws.{byte_index, byte_entry-at, byte_entries-after, digits_held}
 use Rattle.axe_plane.proofs.byte_table.ByteTable.copy_entry.Goals as goal
 
 pub start_of-source-requires-clause-within : goal.start_of-source-requires-clause-within
-start_of-source-requires-clause-within c = byte_index _ _ _ _ _ (ap (λ (t : OddEntries). t.entries) c.self.view_is) c.requires.from
+start_of-source-requires-clause-within c = byte_index _ _ _ _ _ (ap (λ (t : ByteEntries). t.entries) c.self.view_is) c.requires.from
 
 pub start_of-start-requires-clause-within : goal.start_of-start-requires-clause-within
-start_of-start-requires-clause-within c = byte_index _ _ _ _ _ (ap (λ (t : OddEntries). t.entries) c.self.view_is) c.requires.to
+start_of-start-requires-clause-within c = byte_index _ _ _ _ _ (ap (λ (t : ByteEntries). t.entries) c.self.view_is) c.requires.to
 
 -- the bytes after
 after : (n to from source start : ℕ) (bytes v : List ℕ) →
@@ -24,10 +24,10 @@ after n to from source start bytes v es et e =
 pub invariant_of-self : goal.invariant_of-self
 invariant_of-self c =
     let n = c.self.inside.len in
-    let p = odd_number c.self.inside.prime in
+    let p = byte_prime c.self.inside.prime in
     let bytes = c.self.inside.bytes.items in
-    let from = byte_index _ _ c.args.from _ _ (ap (λ (t : OddEntries). t.entries) c.self.view_is) c.requires.from in
-    let to = byte_index _ _ c.args.to _ _ (ap (λ (t : OddEntries). t.entries) c.self.view_is) c.requires.to in
+    let from = byte_index _ _ c.args.from _ _ (ap (λ (t : ByteEntries). t.entries) c.self.view_is) c.requires.from in
+    let to = byte_index _ _ c.args.to _ _ (ap (λ (t : ByteEntries). t.entries) c.self.view_is) c.requires.to in
     let long = c.self.invariant.long in
     let moved = c.copy_within.ensures.items ∙ copied_piece bytes c.start_of-source.result n c.start_of-start.result (omega (arith, long, c.start_of-source.ensures.end)) (omega (arith, long, c.start_of-start.ensures.end)) in
     subst (HoldsDigits p n c.self.inside.count)
@@ -39,11 +39,11 @@ invariant_of-self c =
 pub returns : goal.returns
 returns c =
     let n = c.self.inside.len in
-    let p = odd_number c.self.inside.prime in
+    let p = byte_prime c.self.inside.prime in
     let bytes = c.self.inside.bytes.items in
     let count = c.self.inside.count in
-    let from = byte_index _ _ c.args.from _ _ (ap (λ (t : OddEntries). t.entries) c.self.view_is) c.requires.from in
-    let to = byte_index _ _ c.args.to _ _ (ap (λ (t : OddEntries). t.entries) c.self.view_is) c.requires.to in
+    let from = byte_index _ _ c.args.from _ _ (ap (λ (t : ByteEntries). t.entries) c.self.view_is) c.requires.from in
+    let to = byte_index _ _ c.args.to _ _ (ap (λ (t : ByteEntries). t.entries) c.self.view_is) c.requires.to in
     let long = c.self.invariant.long in
     let moved = c.copy_within.ensures.items ∙ copied_piece bytes c.start_of-source.result n c.start_of-start.result (omega (arith, long, c.start_of-source.ensures.end)) (omega (arith, long, c.start_of-start.ensures.end)) in
     let entries : byte_entries n count c.copy_within.new.self.items ≡ set (byte_entries n count bytes) c.args.to (get_or (byte_entries n count bytes) c.args.from []) =
@@ -52,4 +52,4 @@ returns c =
     (length-chunk (c.args.from * n) n bytes (omega (arith, long, piece_within n count c.args.from from)))
     ∙ ap (set (byte_entries n count bytes) c.args.to) (sym (byte_entry-at n count bytes c.args.from from)) in
     ap (λ (l : List (List ℕ)). record { prime = c.self.inside.prime; entries = l }) entries
-    ∙ ap (λ (t : OddEntries). record { prime = t.prime; entries = set t.entries c.args.to (get_or t.entries c.args.from []) }) c.self.view_is
+    ∙ ap (λ (t : ByteEntries). record { prime = t.prime; entries = set t.entries c.args.to (get_or t.entries c.args.from []) }) c.self.view_is

@@ -1,9 +1,9 @@
 use Rattle.std.proofs.Common.{◌≡◌, ◌++◌, ◌+◌, ◌*◌, ◌%◌, List, ℕ, length, take, drop, ap, sym, ◌∙◌}
 use Rattle.std.specs.Simd.Lanes.{zip2}
-use Rattle.axe_plane.specs.Digits.{digits_with_multiple}
-use Rattle.axe_plane.specs.Primes.{odd_number, OddDigits}
-use Rattle.axe_plane.proofs.BitLaws.{written}
-use Rattle.axe_plane.proofs.DigitLaws.{zip2-sum, length-digits_with_multiple}
+use Rattle.axe_bits.specs.Digits.{digits_with_multiple}
+use Rattle.axe_plane.specs.Primes.{byte_prime, ByteDigits}
+use Rattle.axe_bits.proofs.BitLaws.{written}
+use Rattle.axe_bits.proofs.DigitLaws.{zip2-sum, length-digits_with_multiple}
 use Rattle.axe_plane.proofs.bytes.BytePlane.add_bytes.Goals as goal
 
 -- the bytes after
@@ -17,7 +17,7 @@ after k r p m a b x dst all ex er same e =
 pub returns : goal.returns
 returns c =
     let same : length c.args.bytes.now ≡ length c.self.inside.bytes.items =
-    c.requires.fits ∙ sym (ap (λ (s : OddDigits). length s.digits) c.self.view_is) in
+    c.requires.fits ∙ sym (ap (λ (s : ByteDigits). length s.digits) c.self.view_is) in
     let digits = after _ _ _ _ _ _ _ _ c.self.inside.bytes.ok.0 c.deref_mut.ensures.value c.number-prime.ensures same c.add_scaled_bytes.ensures.sum in
     ap (λ (x : List ℕ). record { prime = c.self.inside.prime; digits = x }) digits
-    ∙ ap (λ (s : OddDigits). record { prime = s.prime; digits = digits_with_multiple (odd_number s.prime) s.digits c.args.factor c.args.bytes.now }) c.self.view_is
+    ∙ ap (λ (s : ByteDigits). record { prime = s.prime; digits = digits_with_multiple (byte_prime s.prime) s.digits c.args.factor c.args.bytes.now }) c.self.view_is

@@ -1,9 +1,9 @@
 use Rattle.std.proofs.Common.{◌≡◌, ◌++◌, List, ℕ, length, take, drop, ap, sym, ◌∙◌}
 use Rattle.axe_lane.specs.Bytes.{sum_modulo}
-use Rattle.axe_plane.specs.Digits.{digits_with_four}
-use Rattle.axe_plane.specs.Primes.{odd_number, OddDigits}
-use Rattle.axe_plane.proofs.BitLaws.{written}
-use Rattle.axe_plane.proofs.DigitLaws.{sum_of_five, length-digits_with_four}
+use Rattle.axe_bits.specs.Digits.{digits_with_four}
+use Rattle.axe_plane.specs.Primes.{byte_prime, ByteDigits}
+use Rattle.axe_bits.proofs.BitLaws.{written}
+use Rattle.axe_bits.proofs.DigitLaws.{sum_of_five, length-digits_with_four}
 use Rattle.axe_plane.proofs.bytes.BytePlane.add_four.Goals as goal
 
 -- the bytes after
@@ -18,8 +18,8 @@ after k r p x a b c d v dst all ev er ha hb hc hd e =
 
 pub returns : goal.returns
 returns c =
-    let own = sym (ap (λ (s : OddDigits). length s.digits) c.self.view_is) in
+    let own = sym (ap (λ (s : ByteDigits). length s.digits) c.self.view_is) in
     let digits = after _ _ _ _ _ _ _ _ _ _ c.self.inside.bytes.ok.0 c.deref_mut.ensures.value c.number-prime.ensures
     (c.requires.fits.0 ∙ own) (c.requires.fits.1 ∙ own) (c.requires.fits.2 ∙ own) (c.requires.fits.3 ∙ own) c.add4_bytes.ensures.sum in
     ap (λ (x : List ℕ). record { prime = c.self.inside.prime; digits = x }) digits
-    ∙ ap (λ (s : OddDigits). record { prime = s.prime; digits = digits_with_four (odd_number s.prime) s.digits c.args.a.now c.args.b.now c.args.c.now c.args.d.now }) c.self.view_is
+    ∙ ap (λ (s : ByteDigits). record { prime = s.prime; digits = digits_with_four (byte_prime s.prime) s.digits c.args.a.now c.args.b.now c.args.c.now c.args.d.now }) c.self.view_is

@@ -1,10 +1,10 @@
 use Rattle.std.proofs.Common.{◌≡◌, ◌++◌, ◌+◌, ◌*◌, ◌%◌, List, ℕ, length, take, drop, ap, sym, ◌∙◌}
 use Rattle.std.specs.Simd.Lanes.{zip2}
 use Rattle.std.proofs.lemmas.Simd.{length-zip2}
-use Rattle.axe_plane.specs.Digits.{digits_with_multiple}
-use Rattle.axe_plane.specs.Primes.{odd_number, OddDigits}
-use Rattle.axe_plane.proofs.BitLaws.{written}
-use Rattle.axe_plane.proofs.DigitLaws.{zip2-sum}
+use Rattle.axe_bits.specs.Digits.{digits_with_multiple}
+use Rattle.axe_plane.specs.Primes.{byte_prime, ByteDigits}
+use Rattle.axe_bits.proofs.BitLaws.{written}
+use Rattle.axe_bits.proofs.DigitLaws.{zip2-sum}
 use Rattle.axe_plane.proofs.bytes.BytePlane.add_scaled.Goals as goal
 
 -- the bytes after
@@ -19,8 +19,8 @@ after k r p m a b x y dst all ex ey er same e =
 pub returns : goal.returns
 returns c =
     let same : length c.other.inside.bytes.items ≡ length c.self.inside.bytes.items =
-    ap (λ (s : OddDigits). length s.digits) c.other.view_is ∙ c.requires.fits ∙ sym (ap (λ (s : OddDigits). length s.digits) c.self.view_is) in
+    ap (λ (s : ByteDigits). length s.digits) c.other.view_is ∙ c.requires.fits ∙ sym (ap (λ (s : ByteDigits). length s.digits) c.self.view_is) in
     let digits = after _ _ _ _ _ _ _ _ _ c.self.inside.bytes.ok.0 c.deref_mut.ensures.value c.deref.ensures.value c.number-prime.ensures same c.add_scaled_bytes.ensures.sum in
     ap (λ (x : List ℕ). record { prime = c.self.inside.prime; digits = x }) digits
-    ∙ ap (λ (s : OddDigits). record { prime = s.prime; digits = digits_with_multiple (odd_number s.prime) s.digits c.args.factor c.other.inside.bytes.items }) c.self.view_is
-    ∙ ap (λ (t : OddDigits). record { prime = c.args.self.now.prime; digits = digits_with_multiple (odd_number c.args.self.now.prime) c.args.self.now.digits c.args.factor t.digits }) c.other.view_is
+    ∙ ap (λ (s : ByteDigits). record { prime = s.prime; digits = digits_with_multiple (byte_prime s.prime) s.digits c.args.factor c.other.inside.bytes.items }) c.self.view_is
+    ∙ ap (λ (t : ByteDigits). record { prime = c.args.self.now.prime; digits = digits_with_multiple (byte_prime c.args.self.now.prime) c.args.self.now.digits c.args.factor t.digits }) c.other.view_is

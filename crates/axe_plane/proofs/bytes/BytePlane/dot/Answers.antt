@@ -1,8 +1,8 @@
 use Rattle.std.proofs.Common.{◌≡◌, ◌+◌, ◌*◌, ◌/◌, ◌%◌, length, ap, ap₂, sym, take, ◌∙◌, arith}
 use Rattle.std.specs.Simd.Lanes.{sum_l, zip2}
 use Rattle.axe_lane.specs.Bytes.{sum_of_products}
-use Rattle.axe_plane.specs.Primes.{odd_number, OddDigits}
-use Rattle.axe_plane.proofs.DotLaws.{dot_more, dot_all}
+use Rattle.axe_plane.specs.Primes.{byte_prime, ByteDigits}
+use Rattle.axe_bits.proofs.DotLaws.{dot_more, dot_all}
 use Rattle.axe_plane.proofs.bytes.BytePlane.dot.Goals as goal
 
 pub loop-piece-preserved : goal.loop-piece-preserved
@@ -15,12 +15,12 @@ returns c =
     let a = c.self.inside.bytes.items in
     let b = c.other.inside.bytes.items in
     let same : length b ≡ length a =
-    ap (λ (s : OddDigits). length s.digits) c.other.view_is ∙ c.requires.fits ∙ sym (ap (λ (s : OddDigits). length s.digits) c.self.view_is) in
+    ap (λ (s : ByteDigits). length s.digits) c.other.view_is ∙ c.requires.fits ∙ sym (ap (λ (s : ByteDigits). length s.digits) c.self.view_is) in
     let left = ap length c.deref-2.ensures.value in
     let right = ap length c.deref-3.ensures.value in
     let last : c.loop-piece.piece * 4096 ≡ c.len-whole.result / 4096 * 4096 = omega arith in
-    let so_far = c.loop-piece.invariant ∙ ap (λ n. sum_l (take n (zip2 (λ x y. x * y) a b)) % odd_number c.self.inside.prime) last in
+    let so_far = c.loop-piece.invariant ∙ ap (λ n. sum_l (take n (zip2 (λ x y. x * y) a b)) % byte_prime c.self.inside.prime) last in
     dot_more _ _ _ (length a) _ _ _ _ a b _ _ (omega (arith, left)) (omega (arith, left, right, same))
     c.deref-2.ensures.value c.deref-3.ensures.value c.number-prime.ensures so_far c.dot_bytes-2.ensures
-    ∙ ap (λ s. s % odd_number c.self.inside.prime) (dot_all (length a) a b same (omega arith))
-    ∙ ap₂ (λ (s : OddDigits) (t : OddDigits). sum_of_products s.digits t.digits % odd_number s.prime) c.self.view_is c.other.view_is
+    ∙ ap (λ s. s % byte_prime c.self.inside.prime) (dot_all (length a) a b same (omega arith))
+    ∙ ap₂ (λ (s : ByteDigits) (t : ByteDigits). sum_of_products s.digits t.digits % byte_prime s.prime) c.self.view_is c.other.view_is

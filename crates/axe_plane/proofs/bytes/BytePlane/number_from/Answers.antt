@@ -1,24 +1,23 @@
 use Rattle.std.proofs.Common.{◌≡◌, ℕ, ◌+◌, ◌*◌, ◌<◌, ◌≤◌, List, length, get_or, ap, ◌∙◌, arith, lit<}
 use native.Mathlib.Nat.{mul-le-mul_left}
-use Rattle.axe_plane.specs.Digits.{AreDigits}
-use Rattle.axe_plane.specs.Primes.{odd_number, OddDigits}
-use Rattle.axe_plane.specs.declared.primes.OddPrime.{OddPrime}
-use Rattle.axe_plane.specs.declared.primes.OddPrime.TheVariants.{Three, Five, Seven}
-use Rattle.axe_plane.proofs.DigitLaws.{digit-below}
-use Rattle.axe_plane.proofs.PlaneLaws.{odd_number-positive}
-use Rattle.axe_plane.proofs.PieceDigits.{IsNumberOf-none, IsNumberOf-more, IsNumberOf-small, IsNumberOf-few, IsNumberOf-all}
+use Rattle.axe_bits.specs.Digits.{AreDigits}
+use Rattle.axe_plane.specs.Primes.{byte_prime, ByteDigits}
+use Rattle.axe_plane.specs.declared.primes.BytePrime.{BytePrime}
+use Rattle.axe_plane.specs.declared.primes.BytePrime.TheVariants.{Five, Seven}
+use Rattle.axe_bits.proofs.DigitLaws.{digit-below}
+use Rattle.axe_plane.proofs.PlaneLaws.{byte_prime-positive}
+use Rattle.axe_bits.proofs.PieceDigits.{IsNumberOf-none, IsNumberOf-more, IsNumberOf-small, IsNumberOf-few, IsNumberOf-all}
 use Rattle.axe_plane.proofs.bytes.BytePlane.number_from.Goals as goal
 
-small_prime : (p : OddPrime) → odd_number p < 9
-small_prime Three = lit< tt
+small_prime : (p : BytePrime) → byte_prime p < 9
 small_prime Five = lit< tt
 small_prime Seven = lit< tt
 
-digit : (p : OddPrime) (bytes : List ℕ) (self : OddDigits) (k : ℕ) → AreDigits (odd_number p) bytes → record { prime = p; digits = bytes } ≡ self →
+digit : (p : BytePrime) (bytes : List ℕ) (self : ByteDigits) (k : ℕ) → AreDigits (byte_prime p) bytes → record { prime = p; digits = bytes } ≡ self →
     get_or self.digits k 0 < 9
 digit p bytes self k all is =
-    let below : get_or bytes k 0 < odd_number p = digit-below (odd_number p) bytes k (odd_number-positive p) all in
-    omega (arith, below, small_prime p, ap (λ (x : OddDigits). get_or x.digits k 0) is)
+    let below : get_or bytes k 0 < byte_prime p = digit-below (byte_prime p) bytes k (byte_prime-positive p) all in
+    omega (arith, below, small_prime p, ap (λ (x : ByteDigits). get_or x.digits k 0) is)
 
 pub loop-index-init : goal.loop-index-init
 loop-index-init c = IsNumberOf-none _ _ _
@@ -45,9 +44,9 @@ loop-index-preserved c =
 pub returns-clause-value : goal.returns-clause-value
 returns-clause-value c =
     IsNumberOf-all _ _ c.args.size _ _ _ c.loop-index.invariant
-    (λ inside. omega (arith, c.loop-index.auto.index, c.loop-index.auto.index-end, c.loop-index-test.false, c.min-index-end.ensures, c.len.ensures, ap (λ (s : OddDigits). length s.digits) c.self.view_is))
+    (λ inside. omega (arith, c.loop-index.auto.index, c.loop-index.auto.index-end, c.loop-index-test.false, c.min-index-end.ensures, c.len.ensures, ap (λ (s : ByteDigits). length s.digits) c.self.view_is))
 
 pub returns-clause-small : goal.returns-clause-small
 returns-clause-small c =
     IsNumberOf-few _ _ _ _ _ c.loop-index.invariant
-    (λ inside. omega (arith, c.loop-index.auto.index-end, c.loop-index-test.false, c.min-index-end.ensures, c.requires.short, c.len.ensures, ap (λ (s : OddDigits). length s.digits) c.self.view_is))
+    (λ inside. omega (arith, c.loop-index.auto.index-end, c.loop-index-test.false, c.min-index-end.ensures, c.requires.short, c.len.ensures, ap (λ (s : ByteDigits). length s.digits) c.self.view_is))

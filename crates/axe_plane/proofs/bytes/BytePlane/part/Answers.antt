@@ -1,6 +1,6 @@
 use Rattle.std.proofs.Common.{◌≡◌, ◌+◌, get_or, ap, ◌∙◌}
 use Rattle.axe_algebra.specs.Lists.{listed}
-use Rattle.axe_plane.proofs.PieceLaws.{taken_part}
+use Rattle.axe_bits.proofs.PieceLaws.{taken_part}
 use Rattle.axe_plane.proofs.bytes.BytePlane.part.Goals as goal
 
 pub returns : goal.returns

@@ -1,7 +1,8 @@
-use Rattle.std.proofs.Common.{◌≡◌, List, ℕ, set, refl, ap, sym, ◌∙◌, arith}
+use Rattle.std.proofs.Common.{◌≡◌, List, [], ℕ, set, refl, ap, sym, ◌∙◌, arith}
 use Rattle.axe_plane.specs.Tables.{entries_of_table}
-use Rattle.axe_plane.proofs.DigitLaws.{digits_with_multiple-none}
-use Rattle.axe_plane.proofs.TableLaws.{set-itself, prime_of_table-positive}
+use Rattle.axe_bits.proofs.DigitLaws.{digits_with_multiple-none}
+use Rattle.std.proofs.lemmas.List.{set-get_or}
+use Rattle.axe_plane.proofs.TableLaws.{prime_of_table-positive}
 use Rattle.axe_plane.proofs.tables.PlaneTable.add_to_entry.Goals as goal
 
 pub returns-else-factor-ne0 : goal.returns-else-factor-ne0
@@ -9,7 +10,7 @@ returns-else-factor-ne0 c = record {
   prime = refl;
   entries_are =
       let none : c.args.factor ≡ 0 = omega arith in
-      sym (set-itself (entries_of_table c.args.self.now) c.args.to c.requires.to)
+      sym (set-get_or (entries_of_table c.args.self.now) c.args.to [])
       ∙ ap (λ (l : List ℕ). set (entries_of_table c.args.self.now) c.args.to l)
       (digits_with_multiple-none _ _ _ _ (prime_of_table-positive c.args.self.now) none c.requires.digits);
 }

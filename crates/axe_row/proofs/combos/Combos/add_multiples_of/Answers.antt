@@ -1,7 +1,7 @@
-use Rattle.std.proofs.Common.{◌≡◌, ◌*◌, ◌<◌, ◌≤◌, length, subst, arith}
+use Rattle.std.proofs.Common.{◌≤◌, length, subst, arith}
 use Rattle.std.specs.List.{All}
 use native.Mathlib.Nat.{mul-le-mul_left}
-use Rattle.axe_field.specs.Order.{Order, order_number, IsElement}
+use Rattle.axe_field.specs.Order.{Order, IsElement}
 use Rattle.axe_field.proofs.Orders.{order_number-at_least}
 use Rattle.axe_row.proofs.CombinationLaws.{AreMultiplesBelow-none, AreMultiplesBelow-more}
 use Rattle.axe_row.proofs.combos.Combos.add_multiples_of.Goals as goal

@@ -1,0 +1,295 @@
+-- Words that are written one after another, from the digits modulo 2 that they are to hold.
+use Rattle.std.proofs.Common.{◌≡◌, ◌≢◌, ℕ, ◌+◌, ◌-◌, ◌⊎◌, ◌*◌, ◌/◌, ◌%◌, ◌^◌, ◌<◌, ◌≤◌, List, length, ◌++◌, take, drop, get_or, map, set, min, max, sym, ap, ap₂, subst, ◌∙◌, arith, inl, inr, get_or-set_same, get_or-set_other}
+use Rattle.std.specs.Int.{bit_at, w64}
+use Rattle.std.specs.Int.Bits.{bit_and, bit_or, or_zero_r}
+use Rattle.std.proofs.lemmas.Bool.{cases_eq}
+use Rattle.std.specs.List.{All}
+use Rattle.std.proofs.lemmas.List.{ext_get_or, get_or_past, get_or-map, length-map, length-set}
+use Rattle.std.proofs.lemmas.Nat.{pow_pos}
+use Rattle.std.proofs.lemmas.Nat.Bits.{bit_at-lt, bit_at-zero, bit_at_above, bit_at_and, bit_at_or, bit_at_cat_high, bit_at_cat_low, bit_at_ones, bit_at_ones_above, bit_at_set_same, bit_at_set_other}
+use Rattle.std.proofs.lemmas.Simd.{length-put_chunk, put_chunk_is, get_or-put_chunk_below, get_or-put_chunk_at}
+use Rattle.std.specs.Simd.Lanes.{put_chunk}
+use native.Mathlib.Decide.{dec_lt}
+use Rattle.axe_algebra.specs.Lists.{listed}
+use Rattle.axe_algebra.proofs.ListEntries.{listed_length, listed_at}
+use Rattle.axe_bits.specs.Bits.{bit_of, bits, HoldsBits}
+use Rattle.axe_bits.proofs.BitLaws.{plane_long, length-bits, get_or-bits, bit_at-shifted, bit_of-further, bit_of-word, bit_of-below, bit_of-past, zeros, get_or-zeros}
+
+-- words whose bits below an index are these digits
+pub record HaveDigits (digits : List ℕ) (until : ℕ) (words : List ℕ) : Type 0 where
+  pub fits : (k : ℕ) → get_or words k 0 < 2 ^ 64
+  pub long : length words ≡ (length digits + 63) / 64
+  pub bits : (e : ℕ) → e < until → bit_of words e ≡ get_or digits e 0
+
+pub have_no_digits : (digits : List ℕ) (k until : ℕ) → length (zeros k) ≡ (length digits + 63) / 64 → until ≡ 0 → HaveDigits digits until (zeros k)
+have_no_digits digits k until long none = record {
+  fits = λ i. let nothing = get_or-zeros k i in omega (arith, nothing);
+  long = long;
+  bits = λ e below. absurd (omega arith);
+}
+
+-- one word more
+pub have_next_word : (digits : List ℕ) (at word until : ℕ) (words : List ℕ) → HaveDigits digits (at * 64) words → at < length words → word < 2 ^ 64 →
+    ((i : ℕ) → i < 64 → bit_at word i ≡ get_or digits (at * 64 + i) 0) → until ≡ (at + 1) * 64 → HaveDigits digits until (set words at word)
+have_next_word digits at word until words h within small is next = record {
+  fits = λ k. elim (cases_eq k at) [
+    | inl same ↦
+        subst (λ x. x < 2 ^ 64) (sym (ap (λ j. get_or (set words at word) j 0) same ∙ get_or-set_same words at word 0 within)) small
+    | inr other ↦ subst (λ x. x < 2 ^ 64) (sym (get_or-set_other words at k word 0 other)) (h.fits k)
+  ];
+  long = length-set words at word ∙ h.long;
+  bits = λ e below. bit_of-word (set words at word) e ∙ elim (cases_eq (e / 64) at) [
+    | inl same ↦
+        let whole : at * 64 + e % 64 ≡ e = omega arith in
+        let low : e % 64 < 64 = omega arith in
+        ap (λ w. bit_at w (e % 64)) (ap (λ j. get_or (set words at word) j 0) same ∙ get_or-set_same words at word 0 within)
+        ∙ is (e % 64) low ∙ ap (λ j. get_or digits j 0) whole
+    | inr other ↦
+        let earlier : e < at * 64 = omega arith in
+        ap (λ w. bit_at w (e % 64)) (get_or-set_other words at (e / 64) word 0 other) ∙ sym (bit_of-word words e) ∙ h.bits e earlier
+  ];
+}
+
+all_digits : (digits : List ℕ) (until e : ℕ) (words : List ℕ) → HaveDigits digits until words → length words * 64 ≤ until →
+    bit_of words e ≡ get_or digits e 0
+all_digits digits until e words h all = elim (dec_lt e until) [
+  | yes inside ↦ h.bits e inside
+  | no outside ↦ bit_of-past words e (omega arith) ∙ sym (get_or_past digits e 0 (omega (arith, h.long)))
+]
+
+pub HoldsBits-digits : (n : ℕ) (digits : List ℕ) (until : ℕ) (words : List ℕ) → length digits ≡ n → HaveDigits digits until words → length words * 64 ≤ until →
+    n < 2 ^ 64 → HoldsBits n words
+HoldsBits-digits n digits until words same h all small = record {
+  counted = small;
+  fits = h.fits;
+  long = h.long ∙ ap (λ n. (n + 63) / 64) same;
+  unused = λ e past. all_digits digits until e words h all ∙ get_or_past digits e 0 (omega (arith, same));
+}
+
+pub bits-digits : (n : ℕ) (digits : List ℕ) (until : ℕ) (words : List ℕ) → length digits ≡ n → HaveDigits digits until words → length words * 64 ≤ until →
+    bits n words ≡ digits
+bits-digits n digits until words same h all =
+    ext_get_or 0 (bits n words) digits (length-bits n words ∙ sym same) (λ e inside.
+    let here : e < n = omega (arith, length-bits n words) in
+    get_or-bits n words e here ∙ all_digits digits until e words h all)
+
+-- ---- a digit more in a word
+
+none_more : (word digit k : ℕ) → digit ≡ 0 → bit_or word (digit * 2 ^ k % 2 ^ 64) ≡ word
+none_more word digit k none =
+    let nothing : digit * 2 ^ k % 2 ^ 64 ≡ 0 = rw none (omega arith) in
+    ap (bit_or word) nothing ∙ or_zero_r word
+
+one_more : (word digit k : ℕ) → digit ≡ 1 → bit_or word (digit * 2 ^ k % 2 ^ 64) ≡ bit_or word (1 * 2 ^ k % 2 ^ 64)
+one_more word digit k one = ap (λ d. bit_or word (d * 2 ^ k % 2 ^ 64)) one
+
+pub digit_more_same : (word digit k : ℕ) → k < 64 → digit < 2 → bit_at word k ≡ 0 → bit_at (bit_or word (digit * 2 ^ k % 2 ^ 64)) k ≡ digit
+digit_more_same word digit k small below free = elim (cases_eq digit 0) [
+  | inl none ↦ ap (λ w. bit_at w k) (none_more word digit k none) ∙ free ∙ sym none
+  | inr some ↦
+      let one : digit ≡ 1 = omega (arith, some) in
+      ap (λ w. bit_at w k) (one_more word digit k one) ∙ bit_at_set_same w64 word k small ∙ sym one
+]
+
+pub digit_more_other : (word digit k i : ℕ) → k < 64 → digit < 2 → i ≢ k → bit_at (bit_or word (digit * 2 ^ k % 2 ^ 64)) i ≡ bit_at word i
+digit_more_other word digit k i small below other = elim (cases_eq digit 0) [
+  | inl none ↦ ap (λ w. bit_at w i) (none_more word digit k none)
+  | inr some ↦
+      let one : digit ≡ 1 = omega (arith, some) in
+      ap (λ w. bit_at w i) (one_more word digit k one) ∙ bit_at_set_other w64 word k small i other
+]
+
+-- ---- digits at indices
+
+-- the word of the digits at the indices of a list from one on and before another
+pub record AreGathered (words indices : List ℕ) (from at word : ℕ) : Type 0 where
+  pub done : (i : ℕ) → i < 64 → from + i < at → bit_at word i ≡ bit_of words (get_or indices (from + i) 0)
+  pub left : (i : ℕ) → i < 64 → at ≤ from + i → bit_at word i ≡ 0
+
+pub gathered_more : (words indices : List ℕ) (from at word digit next : ℕ) → from ≤ at → at < from + 64 → AreGathered words indices from at word →
+    digit ≡ bit_of words (get_or indices at 0) → next ≡ at + 1 → AreGathered words indices from next (bit_or word (digit * 2 ^ (at - from) % 2 ^ 64))
+gathered_more words indices from at word digit next begun within h is more = record {
+  done = λ i low before. elim (cases_eq i (at - from)) [
+    | inl same ↦
+        let here : at ≡ from + i = omega (arith, same) in
+        ap (bit_at after) same ∙ digit_more_same word digit (at - from) small below (h.left (at - from) small (omega arith)) ∙ is
+        ∙ ap (λ j. bit_of words (get_or indices j 0)) here
+    | inr other ↦
+        digit_more_other word digit (at - from) i small below other ∙ h.done i low (omega (arith, other, more))
+  ];
+  left = λ i low past.
+      let other : i ≢ at - from = omega (arith, more) in
+      digit_more_other word digit (at - from) i small below other ∙ h.left i low (omega (arith, more));
+}
+  where
+    after : ℕ
+    after = bit_or word (digit * 2 ^ (at - from) % 2 ^ 64)
+
+    small : at - from < 64
+    small = omega arith
+
+    below : digit < 2
+    below = subst (λ d. d < 2) (sym is) (bit_of-below words (get_or indices at 0))
+
+-- the word when all indices are done
+pub gathered_word : (words indices : List ℕ) (from at word i : ℕ) → AreGathered words indices from at word → i < 64 →
+    (at ≡ length indices) ⊎ (at ≡ from + 64) → at ≤ length indices →
+    bit_at word i ≡ get_or (map (bit_of words) indices) (from + i) 0
+gathered_word words indices from at word i h low ended within = elim (dec_lt (from + i) at) [
+  | yes inside ↦ h.done i low inside ∙ sym (get_or-map (bit_of words) indices (from + i) 0 0 (omega arith))
+  | no outside ↦
+      let past : length indices ≤ from + i = elim ended [
+        | inl all ↦ omega (arith, all)
+        | inr full ↦ absurd (omega (arith, full))
+      ] in
+      h.left i low (omega arith) ∙ sym (get_or_past (map (bit_of words) indices) (from + i) 0 (omega (arith, length-map indices (bit_of words))))
+]
+
+-- the digits of a plane at indices
+pub digits_gathered : (n : ℕ) (words self indices : List ℕ) → bits n words ≡ self → All (λ index. index < length self) indices →
+    map (bit_of words) indices ≡ map (λ index. get_or self index 0) indices
+digits_gathered n words self indices is all =
+    ext_get_or 0 (map (bit_of words) indices) (map f indices) (length-map indices (bit_of words) ∙ sym (length-map indices f)) (λ e inside.
+    let here : e < length indices = omega (arith, length-map indices (bit_of words)) in
+    let small : get_or indices e 0 < n = omega (arith, all e 0 here, ap length is, length-bits n words) in
+    get_or-map (bit_of words) indices e 0 0 here ∙ sym (get_or-bits n words (get_or indices e 0) small)
+    ∙ ap (λ (x : List ℕ). get_or x (get_or indices e 0) 0) is ∙ sym (get_or-map f indices e 0 0 here))
+  where
+    f : ℕ → ℕ
+    f index = get_or self index 0
+
+-- ---- digits from an index on
+
+shifted_up : (w k i : ℕ) → i < 64 → bit_at (w * 2 ^ k % 2 ^ 64) i ≡ bit_at (w * 2 ^ k) i
+shifted_up w k i low =
+    let n : ℕ = w * 2 ^ k in
+    let whole : n / 2 ^ 64 * 2 ^ 64 + n % 2 ^ 64 ≡ n = omega arith in
+    sym (bit_at_cat_low (n / 2 ^ 64) 64 (n % 2 ^ 64) i low) ∙ ap (λ x. bit_at x i) whole
+
+shifted_up_low : (w k i : ℕ) → i < 64 → i < k → bit_at (w * 2 ^ k % 2 ^ 64) i ≡ 0
+shifted_up_low w k i low below =
+    let none : w * 2 ^ k ≡ w * 2 ^ k + 0 = omega arith in
+    shifted_up w k i low ∙ ap (λ x. bit_at x i) none ∙ bit_at_cat_low w k 0 i below ∙ bit_at-zero i
+
+shifted_up_high : (w k i : ℕ) → i < 64 → k ≤ i → bit_at (w * 2 ^ k % 2 ^ 64) i ≡ bit_at w (i - k)
+shifted_up_high w k i low above =
+    let none : w * 2 ^ k ≡ w * 2 ^ k + 0 = omega arith in
+    shifted_up w k i low ∙ ap (λ x. bit_at x i) none ∙ bit_at_cat_high w k 0 i (pow_pos k) above
+
+-- the word from an index on within the first word that it meets
+pub first_of_two : (words : List ℕ) (from i : ℕ) → get_or words (from / 64) 0 < 2 ^ 64 → i < 64 → (from % 64 ≡ 0) ⊎ (length words ≤ from / 64 + 1) →
+    bit_at (get_or words (from / 64) 0 / 2 ^ (from % 64)) i ≡ bit_of words (from + i)
+first_of_two words from i fits low alone = elim (dec_lt (from % 64 + i) 64) [
+  | yes inside ↦ bit_of-further words from i inside
+  | no outside ↦
+      let last : length words ≤ from / 64 + 1 = elim alone [
+        | inl even ↦ absurd (omega (arith, even))
+        | inr last ↦ last
+      ] in
+      bit_at-shifted (get_or words (from / 64) 0) (from % 64) i ∙ bit_at_above (get_or words (from / 64) 0) 64 (from % 64 + i) fits (omega arith)
+      ∙ sym (bit_of-past words (from + i) (omega (arith, last)))
+]
+
+-- the word from an index on of two words
+pub both_of_two : (words : List ℕ) (from i : ℕ) → get_or words (from / 64) 0 < 2 ^ 64 → i < 64 → 0 < from % 64 →
+    bit_at (bit_or (get_or words (from / 64) 0 / 2 ^ (from % 64)) (get_or words (from / 64 + 1) 0 * 2 ^ (64 - from % 64) % 2 ^ 64)) i
+    ≡ bit_of words (from + i)
+both_of_two words from i fits low odd = bit_at_or first second i ∙ elim (dec_lt (from % 64 + i) 64) [
+  | yes inside ↦
+      let none = shifted_up_low (get_or words (from / 64 + 1) 0) (64 - from % 64) i low (omega arith) in
+      ap (max (bit_at first i)) none ∙ max-zero (bit_at first i) ∙ bit_of-further words from i inside
+  | no outside ↦
+      let none : bit_at first i ≡ 0 =
+      bit_at-shifted (get_or words (from / 64) 0) (from % 64) i ∙ bit_at_above (get_or words (from / 64) 0) 64 (from % 64 + i) fits (omega arith) in
+      let word : (from + i) / 64 ≡ from / 64 + 1 = omega arith in
+      let place : (from + i) % 64 ≡ i - (64 - from % 64) = omega arith in
+      ap (λ x. max x (bit_at second i)) none ∙ zero-max (bit_at second i)
+      ∙ shifted_up_high (get_or words (from / 64 + 1) 0) (64 - from % 64) i low (omega arith)
+      ∙ sym (bit_of-word words (from + i) ∙ ap₂ (λ w p. bit_at (get_or words w 0) p) word place)
+]
+  where
+    first : ℕ
+    first = get_or words (from / 64) 0 / 2 ^ (from % 64)
+
+    second : ℕ
+    second = get_or words (from / 64 + 1) 0 * 2 ^ (64 - from % 64) % 2 ^ 64
+
+    max-zero : (x : ℕ) → max x 0 ≡ x
+    max-zero x = omega arith
+
+    zero-max : (x : ℕ) → max 0 x ≡ x
+    zero-max x = omega arith
+
+-- the lowest digits of a word
+pub lowest_kept : (word count i : ℕ) → i < count → bit_at (bit_and word (2 ^ count - 1)) i ≡ bit_at word i
+lowest_kept word count i below =
+    let bit = bit_at-lt word i in
+    bit_at_and word (2 ^ count - 1) i ∙ ap (min (bit_at word i)) (bit_at_ones count i below) ∙ least (bit_at word i) bit
+  where
+    least : (x : ℕ) → x < 2 → min x 1 ≡ x
+    least x small = omega arith
+
+pub lowest_cleared : (word count i : ℕ) → count ≤ i → bit_at (bit_and word (2 ^ count - 1)) i ≡ 0
+lowest_cleared word count i past =
+    bit_at_and word (2 ^ count - 1) i ∙ ap (min (bit_at word i)) (bit_at_ones_above count i past) ∙ least (bit_at word i)
+  where
+    least : (x : ℕ) → min x 0 ≡ 0
+    least x = omega arith
+
+-- the word of some of the digits from an index on
+pub part_word : (n : ℕ) (words self : List ℕ) (start len before i word whole : ℕ) → bits n words ≡ self → start + len ≤ length self → i < 64 →
+    (i < 64 → bit_at whole i ≡ bit_of words (start + before + i)) →
+    (i < 64 → i < len - before → bit_at word i ≡ bit_at whole i) → (i < 64 → len - before ≤ i → bit_at word i ≡ 0) →
+    bit_at word i ≡ get_or (listed len (λ j. get_or self (start + j) 0)) (before + i) 0
+part_word n words self start len before i word whole is within low from kept cleared = elim (dec_lt i (len - before)) [
+  | yes inside ↦
+      let small : before + i < len = omega arith in
+      let there : start + before + i ≡ start + (before + i) = omega arith in
+      let here : start + (before + i) < n = omega (arith, ap length is, length-bits n words) in
+      kept low inside ∙ from low ∙ ap (bit_of words) there ∙ sym (get_or-bits n words (start + (before + i)) here)
+      ∙ ap (λ (x : List ℕ). get_or x (start + (before + i)) 0) is
+      ∙ sym (listed_at len (λ j. get_or self (start + j) 0) (before + i) 0 small)
+  | no outside ↦
+      cleared low (omega arith) ∙ sym (get_or_past (listed len (λ j. get_or self (start + j) 0)) (before + i) 0
+      (omega (arith, listed_length len (λ j. get_or self (start + j) 0))))
+]
+
+-- ---- digits that are written
+
+-- the numbers before an index are the digits
+pub record IsWrittenBelow (self : List ℕ) (until : ℕ) (numbers : List ℕ) : Type 0 where
+  pub long : length numbers ≡ length self
+  pub so_far : (j : ℕ) → j < until → j < length self → get_or numbers j 0 ≡ get_or self j 0
+
+-- the digits of a word more
+pub word_written : (n : ℕ) (words self : List ℕ) (at k until word : ℕ) (numbers new : List ℕ) → bits n words ≡ self → at * 64 < n →
+    k ≡ min 64 (n - at * 64) → IsWrittenBelow self (at * 64) numbers → length new ≡ k → word ≡ get_or words at 0 →
+    ((i : ℕ) → i < k → get_or new i 0 ≡ bit_at word i) → until ≡ (at + 1) * 64 →
+    IsWrittenBelow self until (take (at * 64) numbers ++ (new ++ drop k (drop (at * 64) numbers)))
+word_written n words self at k until word numbers new is within wide h long word_is digits next = record {
+  long = ap length put ∙ length-put_chunk (at * 64) numbers new ∙ h.long;
+  so_far = λ j before inside. ap (λ (x : List ℕ). get_or x j 0) put ∙ elim (dec_lt j (at * 64)) [
+    | yes earlier ↦ get_or-put_chunk_below (at * 64) numbers new j 0 earlier ∙ h.so_far j earlier inside
+    | no later ↦
+        let here : at * 64 + (j - at * 64) ≡ j = omega arith in
+        let low : j - at * 64 < k = omega (arith, wide, all, next) in
+        let place : j % 64 ≡ j - at * 64 = omega (arith, next) in
+        let index : j / 64 ≡ at = omega (arith, next) in
+        ap (λ e. get_or (put_chunk (at * 64) numbers new) e 0) (sym here)
+        ∙ get_or-put_chunk_at (at * 64) numbers new (j - at * 64) 0 (omega (arith, long, low)) (omega (arith, long, low, room))
+        ∙ digits (j - at * 64) low ∙ ap (λ w. bit_at w (j - at * 64)) word_is
+        ∙ sym (sym (ap (λ (x : List ℕ). get_or x j 0) is) ∙ get_or-bits n words j (omega (arith, all)) ∙ bit_of-word words j
+        ∙ ap₂ (λ w p. bit_at (get_or words w 0) p) index place)
+  ];
+}
+  where
+    all : length self ≡ n
+    all = plane_long n words self is
+
+    room : at * 64 + length new ≤ length numbers
+    room = omega (arith, long, wide, all, h.long)
+
+    put : take (at * 64) numbers ++ (new ++ drop k (drop (at * 64) numbers)) ≡ put_chunk (at * 64) numbers new
+    put =
+        ap (λ m. take (at * 64) numbers ++ (new ++ drop m (drop (at * 64) numbers))) (sym long)
+        ∙ sym (put_chunk_is (at * 64) numbers new room)

@@ -1,0 +1,187 @@
+-- Two layers of words as digits modulo 3: what a sum of such rows is, and their dot products.
+use Rattle.std.proofs.Common.{◌≡◌, ℕ, ◌+◌, ◌*◌, ◌%◌, ◌<◌, ◌≤◌, List, length, ◌++◌, take, drop, get_or, refl, sym, ap, ap₂, subst, ◌∙◌, arith, inl, inr}
+use Rattle.std.proofs.lemmas.Bool.{cases_lt}
+use Rattle.std.proofs.lemmas.List.{ext_get_or, get_or_past}
+use Rattle.axe_algebra.proofs.ListEntries.{listed_length, listed_at}
+use Rattle.axe_lane.specs.Words.{bit_of_words}
+use Rattle.axe_lane.specs.Trits.{AreTrits, FitAt, IsTritSum}
+use Rattle.axe_bits.specs.Bits.{bit_of, bits, HoldsBits}
+use Rattle.axe_bits.specs.Digits.{digits_with_multiple}
+use Rattle.axe_bits.specs.Trits.{trits, HoldLayers, HoldTrits}
+use Rattle.axe_bits.proofs.BitLaws.{length-bits, get_or-bits, plane_long, written, AreDigits-bits}
+use Rattle.axe_bits.proofs.DigitLaws.{length-digits_with_multiple, get_or-digits_with_multiple}
+
+-- the bit of a word, in the words of both crates
+same_bit : (words : List ℕ) (e : ℕ) → bit_of_words words e ≡ bit_of words e
+unfolding bit_of
+same_bit words e = refl
+
+-- how many digits two layers of n bits have, and which
+pub length-layers : (n : ℕ) (o t : List ℕ) → length (trits (bits n o) (bits n t)) ≡ n
+unfolding trits
+length-layers n o t = listed_length (length (bits n o)) _ ∙ length-bits n o
+
+pub get_or-layers : (n : ℕ) (o t : List ℕ) (e : ℕ) → e < n → get_or (trits (bits n o) (bits n t)) e 0 ≡ bit_of o e + 2 * bit_of t e
+unfolding trits
+get_or-layers n o t e below =
+    listed_at (length (bits n o)) _ e 0 (omega (arith, length-bits n o))
+    ∙ ap₂ (λ x y. x + 2 * y) (get_or-bits n o e below) (get_or-bits n t e below)
+
+-- no place has a bit in both layers, among the used bits or past them
+pub apart_bits : (n : ℕ) (o t : List ℕ) → HoldLayers n o t → (e : ℕ) → bit_of o e + bit_of t e ≤ 1
+apart_bits n o t h e = elim (cases_lt e n) [
+  | inl below ↦ omega (arith, h.together.apart e, get_or-bits n o e below, get_or-bits n t e below)
+  | inr past ↦ omega (arith, h.ones_held.unused e past, h.twos_held.unused e past)
+]
+
+-- the layers are a row of the kernels
+pub layers_are_trits : (n : ℕ) (o t : List ℕ) → HoldLayers n o t → AreTrits o t
+layers_are_trits n o t h = record {
+  as_long = h.twos_held.long ∙ sym h.ones_held.long;
+  apart = λ e. omega (arith, same_bit o e, same_bit t e, apart_bits n o t h e);
+}
+
+-- two layers of words are layers where no place has a bit in both
+pub layers : (n : ℕ) (o t : List ℕ) → HoldsBits n o → HoldsBits n t → ((e : ℕ) → bit_of o e + bit_of t e ≤ 1) → HoldLayers n o t
+layers n o t ho ht apart = record {
+  ones_held = ho;
+  twos_held = ht;
+  together = record {
+    as_long = length-bits n t ∙ sym (length-bits n o);
+    ones_digits = AreDigits-bits n o;
+    twos_digits = AreDigits-bits n t;
+    apart = λ e. elim (cases_lt e n) [
+      | inl below ↦ omega (arith, apart e, get_or-bits n o e below, get_or-bits n t e below)
+      | inr past ↦
+          let left = get_or_past (bits n o) e 0 (omega (arith, length-bits n o)) in
+          let right = get_or_past (bits n t) e 0 (omega (arith, length-bits n t)) in
+          omega (arith, left, right)
+    ];
+  };
+}
+
+module _ (n : ℕ) (o t a b p q : List ℕ) (row : HoldLayers n o t) (more : HoldLayers n a b) (sum : IsTritSum o t a b p q) where
+  all_fit : (k : ℕ) → FitAt k o t a b
+  all_fit k = record {
+    ones_fit = row.ones_held.fits k;
+    twos_fit = row.twos_held.fits k;
+    more_ones_fit = more.ones_held.fits k;
+    more_twos_fit = more.twos_held.fits k;
+  }
+
+  digit : (e : ℕ) → bit_of p e + 2 * bit_of q e ≡ (bit_of o e + 2 * bit_of t e + (bit_of a e + 2 * bit_of b e)) % 3
+  digit e = omega (arith, sum.entries e, same_bit p e, same_bit q e, same_bit o e, same_bit t e, same_bit a e, same_bit b e)
+
+  unused_digit : (e : ℕ) → n ≤ e → bit_of p e + 2 * bit_of q e ≡ 0
+  unused_digit e past =
+      omega (arith, digit e, row.ones_held.unused e past, row.twos_held.unused e past, more.ones_held.unused e past, more.twos_held.unused e past)
+
+  pub layers_of_sum : HoldLayers n p q
+  layers_of_sum =
+      layers n p q
+      (record {
+        counted = row.ones_held.counted;
+        fits = λ k. sum.ones_fit k (all_fit k);
+        long = sum.long ∙ row.ones_held.long;
+        unused = λ e past. omega (arith, unused_digit e past);
+      })
+      (record {
+        counted = row.ones_held.counted;
+        fits = λ k. sum.twos_fit k (all_fit k);
+        long = sum.are_trits.as_long ∙ sum.long ∙ row.ones_held.long;
+        unused = λ e past. omega (arith, unused_digit e past);
+      })
+      (λ e. omega (arith, sum.are_trits.apart e, same_bit p e, same_bit q e))
+
+  pub digits_of_sum : trits (bits n p) (bits n q) ≡ digits_with_multiple 3 (trits (bits n o) (bits n t)) 1 (trits (bits n a) (bits n b))
+  digits_of_sum =
+      ext_get_or 0 _ _ (length-layers n p q ∙ sym (length-digits_with_multiple 3 _ 1 _ ∙ length-layers n o t)) (λ e inside.
+      let below : e < n = omega (arith, length-layers n p q) in
+      let here : e < length (trits (bits n o) (bits n t)) = omega (arith, length-layers n o t) in
+      let one : 1 * get_or (trits (bits n a) (bits n b)) e 0 ≡ bit_of a e + 2 * bit_of b e = omega (arith, get_or-layers n a b e below) in
+      get_or-layers n p q e below ∙ digit e
+      ∙ sym (get_or-digits_with_multiple 3 _ 1 _ e here ∙ ap₂ (λ x y. (x + y) % 3) (get_or-layers n o t e below) one))
+
+-- ---- two planes, to which two layers are added
+
+-- the layers of two planes that go together
+pub layers_of_planes : (n m : ℕ) (o t x y : List ℕ) → HoldsBits n o → HoldsBits m t → bits n o ≡ x → bits m t ≡ y → HoldTrits x y →
+    HoldLayers n o t
+layers_of_planes n m o t x y ho ht ox ty held = record {
+  ones_held = ho;
+  twos_held = subst (λ k. HoldsBits k t) same ht;
+  together =
+      subst (λ (l : List ℕ). HoldTrits l (bits n t)) (sym ox) (subst (HoldTrits x) (sym (ap (λ k. bits k t) (sym same) ∙ ty)) held);
+}
+  where
+    same : m ≡ n
+    same = sym (plane_long m t y ty) ∙ held.as_long ∙ plane_long n o x ox
+
+-- the words p and q of both planes after the sum, where the planes had x and y
+pub record AreAdded (n m : ℕ) (p q x y a b : List ℕ) : Type 0 where
+  pub ones_held : HoldsBits n p
+  pub twos_held : HoldsBits m q
+  pub together : HoldTrits (bits n p) (bits m q)
+  pub digits : trits (bits n p) (bits m q) ≡ digits_with_multiple 3 (trits x y) 1 (trits (bits (length x) a) (bits (length x) b))
+
+pub added : (n m k l : ℕ) (o t x y a b v w p q : List ℕ) → HoldsBits n o → HoldsBits m t → bits n o ≡ x → bits m t ≡ y → HoldTrits x y →
+    HoldLayers (length x) a b → v ≡ o → w ≡ t → IsTritSum v w a b p q →
+    k ≡ length o → l ≡ length t → AreAdded n m (take k (p ++ drop (length p) o)) (take l (q ++ drop (length q) t)) x y a b
+added n m k l o t x y a b v w p q ho ht ox ty held more vo wt sum all_ones all_twos =
+    subst (λ (z : List ℕ). AreAdded n m z (take l (q ++ drop (length q) t)) x y a b) (sym ones)
+    (subst (λ (z : List ℕ). AreAdded n m p z x y a b) (sym twos) (record {
+      ones_held = whole.ones_held;
+      twos_held = subst (λ j. HoldsBits j q) (sym same) whole.twos_held;
+      together = subst (λ j. HoldTrits (bits n p) (bits j q)) (sym same) whole.together;
+      digits =
+          ap (λ j. trits (bits n p) (bits j q)) same ∙ digits_of_sum n o t a b p q row other total
+          ∙ ap₂ (λ (i j : List ℕ). digits_with_multiple 3 (trits i j) 1 (trits (bits n a) (bits n b))) ox (ap (λ j. bits j t) (sym same) ∙ ty)
+          ∙ ap (λ j. digits_with_multiple 3 (trits x y) 1 (trits (bits j a) (bits j b))) (sym long);
+    }))
+  where
+    long : length x ≡ n
+    long = plane_long n o x ox
+
+    same : m ≡ n
+    same = sym (plane_long m t y ty) ∙ held.as_long ∙ long
+
+    row : HoldLayers n o t
+    row = layers_of_planes n m o t x y ho ht ox ty held
+
+    other : HoldLayers n a b
+    other = subst (λ j. HoldLayers j a b) long more
+
+    total : IsTritSum o t a b p q
+    total = subst (λ (z : List ℕ). IsTritSum o z a b p q) wt (subst (λ (z : List ℕ). IsTritSum z w a b p q) vo sum)
+
+    whole : HoldLayers n p q
+    whole = layers_of_sum n o t a b p q row other total
+
+    ones : take k (p ++ drop (length p) o) ≡ p
+    ones = written k p o all_ones total.long
+
+    twos : take l (q ++ drop (length q) t) ≡ q
+    twos = written l q t all_twos (total.are_trits.as_long ∙ total.long ∙ sym (row.twos_held.long ∙ sym row.ones_held.long))
+
+-- the kernel may be called
+pub addable : (n m : ℕ) (o t x y v w : List ℕ) → HoldsBits n o → HoldsBits m t → bits n o ≡ x → bits m t ≡ y → HoldTrits x y →
+    v ≡ o → w ≡ t → AreTrits v w
+addable n m o t x y v w ho ht ox ty held vo wt =
+    subst (AreTrits v) (sym wt) (subst (λ (z : List ℕ). AreTrits z t) (sym vo) (layers_are_trits n o t (layers_of_planes n m o t x y ho ht ox ty held)))
+
+-- ---- twice the digits
+
+-- the layers exchanged
+pub exchanged : (n : ℕ) (o t : List ℕ) → HoldLayers n o t → HoldLayers n t o
+exchanged n o t h = layers n t o h.twos_held h.ones_held (λ e. omega (arith, apart_bits n o t h e))
+
+-- twice the digits of two layers, added to digits
+pub twice_layers : (n : ℕ) (x o t : List ℕ) → length x ≡ n →
+    digits_with_multiple 3 x 1 (trits (bits n t) (bits n o)) ≡ digits_with_multiple 3 x 2 (trits (bits n o) (bits n t))
+twice_layers n x o t long =
+    ext_get_or 0 _ _ (length-digits_with_multiple 3 x 1 _ ∙ sym (length-digits_with_multiple 3 x 2 _)) (λ e inside.
+    let here : e < length x = omega (arith, length-digits_with_multiple 3 x 1 (trits (bits n t) (bits n o))) in
+    let below : e < n = omega arith in
+    let left = get_or-digits_with_multiple 3 x 1 (trits (bits n t) (bits n o)) e here in
+    let right = get_or-digits_with_multiple 3 x 2 (trits (bits n o) (bits n t)) e here in
+    omega (arith, left, right, get_or-layers n t o e below, get_or-layers n o t e below))

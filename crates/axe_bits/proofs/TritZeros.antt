@@ -1,0 +1,188 @@
+-- Digits modulo 3 in two layers of bits: zeros, the first digit other than 0, multiples, and that digits fix layers.
+use Rattle.std.proofs.Common.{◌≡◌, ◌≢◌, ℕ, ◌+◌, ◌*◌, ◌%◌, ◌<◌, ◌≤◌, Option, Some, None, min, List, length, get_or, refl, sym, ap, ap₂, subst, ◌∙◌, arith, MatchOption, lit<}
+use Rattle.std.specs.List.{All}
+use Rattle.std.proofs.lemmas.List.{ext_get_or, get_or_past, get_or-map, length-map}
+use Rattle.std.proofs.lemmas.List.Elements.{All-get_or, All-from_get_or}
+use native.Mathlib.Decide.{dec_lt}
+use Rattle.axe_algebra.proofs.ListEntries.{listed_at}
+use Rattle.axe_lane.specs.Bytes.{multiple}
+use Rattle.axe_lane.proofs.ByteLaws.{multiple_by_zero, multiple_by_one}
+use Rattle.axe_bits.specs.Digits.{AreZerosBetween, AreZerosFrom, IsNextNonzero}
+use Rattle.std.specs.Option.{unwrap_or}
+use Rattle.axe_bits.specs.Earlier.{earlier_of}
+use Rattle.axe_bits.specs.Trits.{trits, HoldTrits}
+use Rattle.axe_bits.proofs.BitLaws.{zeros, get_or-zeros}
+use Rattle.axe_bits.proofs.DigitLaws.{AreDigits-zeros}
+use Rattle.axe_bits.proofs.TritLaws.{length-trits}
+
+abbrev IsZero : ℕ → Type 0
+IsZero digit = digit ≡ 0
+
+-- the place of the first number other than 0 from an index on, or none where there is none
+abbrev IsNext : List ℕ → ℕ → Option ℕ → Type 0
+IsNext x start place = MatchOption place (AreZerosFrom x start) (IsNextNonzero x start)
+
+-- the same from an index on and before another
+abbrev IsNextBefore : List ℕ → ℕ → ℕ → Option ℕ → Type 0
+IsNextBefore x start end place = MatchOption place (AreZerosBetween x start end) (IsNextNonzero x start)
+
+-- ---- the digits that are zero
+
+-- each digit of a list of zeros, at any index
+zero_at : (x : List ℕ) → All IsZero x → (e : ℕ) → get_or x e 0 ≡ 0
+zero_at x all e = elim (dec_lt e (length x)) [
+  | yes inside ↦ All-get_or IsZero x e 0 inside all
+  | no outside ↦ get_or_past x e 0 (omega arith)
+]
+
+zeros_from : (x : List ℕ) → ((e : ℕ) → get_or x e 0 ≡ 0) → All IsZero x
+zeros_from x each = All-from_get_or IsZero x 0 (λ e inside. each e)
+
+-- each digit by those of the layers, at any index
+trit_at : (a b : List ℕ) → HoldTrits a b → (e : ℕ) → get_or (trits a b) e 0 ≡ get_or a e 0 + 2 * get_or b e 0
+unfolding trits
+trit_at a b h e = elim (dec_lt e (length a)) [
+  | yes inside ↦ listed_at (length a) _ e 0 inside
+  | no outside ↦
+      let left = get_or_past a e 0 (omega arith) in
+      let right = get_or_past b e 0 (omega (arith, h.as_long)) in
+      let whole = get_or_past (trits a b) e 0 (omega (arith, length-trits a b)) in
+      omega (arith, left, right, whole)
+]
+
+module _ (a b x : List ℕ) (h : HoldTrits a b) (is : trits a b ≡ x) where
+  pub trit_of : (e : ℕ) → get_or x e 0 ≡ get_or a e 0 + 2 * get_or b e 0
+  trit_of e = ap (λ (y : List ℕ). get_or y e 0) (sym is) ∙ trit_at a b h e
+
+  pub trits_long : length x ≡ length a
+  trits_long = ap length (sym is) ∙ length-trits a b
+
+  -- all digits are zero exactly where all bits of both layers are
+  pub zero_trits : All IsZero a → All IsZero b → All IsZero x
+  zero_trits all both = zeros_from x (λ e. omega (arith, trit_of e, zero_at a all e, zero_at b both e))
+
+  pub zero_ones : All IsZero x → All IsZero a
+  zero_ones all = zeros_from a (λ e. omega (arith, trit_of e, zero_at x all e))
+
+  pub zero_twos : All IsZero x → All IsZero b
+  zero_twos all = zeros_from b (λ e. omega (arith, trit_of e, zero_at x all e))
+
+  -- ---- the first digit from an index on that is not zero
+
+  -- where no layer has a bit before, and one of them has one
+  next_trit : (start index : ℕ) → index < length a → start ≤ index → get_or a index 0 + get_or b index 0 ≢ 0 →
+      AreZerosBetween a start index → AreZerosBetween b start index → IsNextNonzero x start index
+  next_trit start index inside after some first second = record {
+    within = omega (arith, trits_long);
+    not_before = after;
+    nonzero = λ none. some (omega (arith, none, trit_of index));
+    zeros_between = λ j from before. omega (arith, trit_of j, first j from before, second j from before);
+  }
+
+  in_ones : (start i : ℕ) → IsNextNonzero a start i → AreZerosBetween b start i → IsNextNonzero x start i
+  in_ones start i ones zeros =
+      next_trit start i ones.within ones.not_before
+      (λ none. ones.nonzero (omega (arith, none))) ones.zeros_between zeros
+
+  in_twos : (start j : ℕ) → AreZerosBetween a start j → IsNextNonzero b start j → IsNextNonzero x start j
+  in_twos start j zeros twos =
+      next_trit start j (omega (arith, twos.within, h.as_long)) twos.not_before
+      (λ none. twos.nonzero (omega (arith, none))) zeros twos.zeros_between
+
+  -- the second layer is asked for a digit before the one of the first layer
+  pub next_of_trits : (start end : ℕ) (r s : Option ℕ) → IsNext a start r → end ≡ unwrap_or r (length b) →
+      IsNextBefore b start end s → IsNext x start (earlier_of r s)
+  unfolding earlier_of
+  next_of_trits start end None None ones is_end twos = λ j from. elim (dec_lt j end) [
+    | yes inside ↦ omega (arith, trit_of j, ones j from, twos j from inside)
+    | no outside ↦ omega (arith, trit_of j, ones j from, get_or_past b j 0 (omega (arith, is_end)))
+  ]
+  next_of_trits start end None (Some j) ones is_end twos = in_twos start j (λ k from _. ones k from) twos
+  next_of_trits start end (Some i) None ones is_end twos = in_ones start i ones (λ k from before. twos k from (omega (arith, is_end)))
+  next_of_trits start end (Some i) (Some j) ones is_end twos = elim (dec_lt i j) [
+    | yes earlier ↦
+        let lesser : i ≡ min i j = omega arith in
+        subst (IsNextNonzero x start) lesser
+        (in_ones start i ones (λ k from before. twos.zeros_between k from (omega arith)))
+    | no later ↦
+        let lesser : j ≡ min i j = omega arith in
+        subst (IsNextNonzero x start) lesser
+        (in_twos start j (λ k from before. ones.zeros_between k from (omega arith)) twos)
+  ]
+
+-- ---- the digits fix the layers
+
+module _ (a b c d : List ℕ) (h : HoldTrits a b) (k : HoldTrits c d) (same : trits a b ≡ trits c d) where
+  as_long : length a ≡ length c
+  as_long = sym (length-trits a b) ∙ ap length same ∙ length-trits c d
+
+  same_digit : (e : ℕ) → get_or a e 0 + 2 * get_or b e 0 ≡ get_or c e 0 + 2 * get_or d e 0
+  same_digit e = sym (trit_at a b h e) ∙ ap (λ (x : List ℕ). get_or x e 0) same ∙ trit_at c d k e
+
+  pub same_ones : a ≡ c
+  same_ones = ext_get_or 0 a c as_long (λ e _. omega (arith, same_digit e, h.apart e, k.apart e))
+
+  pub same_twos : b ≡ d
+  same_twos =
+      ext_get_or 0 b d (h.as_long ∙ as_long ∙ sym k.as_long) (λ e _. omega (arith, same_digit e, h.apart e, k.apart e))
+
+-- ---- multiples
+
+-- layers of zeros
+pub HoldTrits-zeros : (n : ℕ) → HoldTrits (zeros n) (zeros n)
+HoldTrits-zeros n = record {
+  as_long = refl;
+  ones_digits = AreDigits-zeros 2 n (lit< tt);
+  twos_digits = AreDigits-zeros 2 n (lit< tt);
+  apart = λ e. omega (arith, get_or-zeros n e);
+}
+
+pub trits-zeros : (n : ℕ) → trits (zeros n) (zeros n) ≡ zeros n
+trits-zeros n =
+    ext_get_or 0 (trits (zeros n) (zeros n)) (zeros n) (length-trits (zeros n) (zeros n)) (λ e _.
+    omega (arith, trit_at (zeros n) (zeros n) (HoldTrits-zeros n) e, get_or-zeros n e))
+
+-- the layers the other way round
+pub HoldTrits-exchanged : (a b : List ℕ) → HoldTrits a b → HoldTrits b a
+HoldTrits-exchanged a b h = record {
+  as_long = sym h.as_long;
+  ones_digits = h.twos_digits;
+  twos_digits = h.ones_digits;
+  apart = λ e. omega (arith, h.apart e);
+}
+
+module _ (a b x : List ℕ) (h : HoldTrits a b) (is : trits a b ≡ x) where
+  no_ones : multiple 2 0 a ≡ zeros (length a)
+  no_ones = sym (multiple_by_zero 2 0 refl (lit< tt) a)
+
+  no_twos : multiple 2 0 b ≡ zeros (length a)
+  no_twos = sym (multiple_by_zero 2 0 refl (lit< tt) b) ∙ ap zeros h.as_long
+
+  pub HoldTrits-none : HoldTrits (multiple 2 0 a) (multiple 2 0 b)
+  HoldTrits-none = rw (no_ones, no_twos) (HoldTrits-zeros (length a))
+
+  -- the multiple by 0 has no bits
+  pub trits_by_zero : (m : ℕ) → m ≡ 0 → trits (multiple 2 0 a) (multiple 2 0 b) ≡ multiple 3 m x
+  trits_by_zero m zero =
+      ap₂ trits no_ones no_twos ∙ trits-zeros (length a) ∙ ap zeros (sym (trits_long a b x h is))
+      ∙ multiple_by_zero 3 m zero (lit< tt) x
+
+  -- the multiple by 1 is the same
+  pub trits_by_one : (m : ℕ) → m ≡ 1 → x ≡ multiple 3 m x
+  trits_by_one m one =
+      multiple_by_one 3 m one x
+      (All-from_get_or (λ digit. digit < 3) x 0 (λ e _. omega (arith, trit_of a b x h is e, h.apart e)))
+
+  -- the multiple by 2 has the layers the other way round
+  pub trits_by_two : (m : ℕ) → m ≡ 2 → trits b a ≡ multiple 3 m x
+  trits_by_two m two =
+      ext_get_or 0 (trits b a) (multiple 3 m x) long (λ e inside.
+      let here : e < length x = omega (arith, long, length-map x (λ y. (m * y) % 3)) in
+      trit_at b a (HoldTrits-exchanged a b h) e ∙ twice e ∙ ap (λ k. (k * get_or x e 0) % 3) (sym two)
+      ∙ sym (get_or-map (λ y. (m * y) % 3) x e 0 0 here))
+    where
+      long : length (trits b a) ≡ length (multiple 3 m x)
+      long = length-trits b a ∙ h.as_long ∙ sym (trits_long a b x h is) ∙ sym (length-map x (λ y. (m * y) % 3))
+
+      twice : (e : ℕ) → get_or b e 0 + 2 * get_or a e 0 ≡ (2 * get_or x e 0) % 3
+      twice e = omega (arith, trit_of a b x h is e, h.apart e)

@@ -1,0 +1,5 @@
+pub mod Bits
+pub mod Digits
+pub mod FlatTables
+pub mod Trits
+pub mod Earlier

@@ -1,0 +1,388 @@
+//! Planes of digits modulo 2.
+ghost use Rattle.std.specs.Int.{bit_at};
+ghost use Rattle.std.specs.Prelude.{ℕ, ◌≡◌, ◌≢◌, ◌+◌, ◌*◌, ◌^◌, ◌%◌, ◌<◌, ◌≤◌, ◌↔◌, IsTrue, IfOk, length, map};
+ghost use Rattle.std.specs.Prelude.{replicate, slice_index, slice_set, All, MatchOption};
+ghost use Rattle.axe_algebra.specs.Digits.{number_with_digits};
+ghost use Rattle.axe_algebra.specs.Lists.{listed};
+ghost use Rattle.axe_lane.specs.Bytes.{multiple, sum_of_products};
+ghost use Rattle.axe_lane.specs.Entries.{IsFirstNonzero};
+ghost use Rattle.axe_bits.specs.Bits.{bits, HoldsBits};
+ghost use Rattle.axe_bits.specs.Digits.{AreDigits, digits_at, digits_with_four, digits_with_multiple};
+ghost use Rattle.axe_bits.specs.Digits.{AreSmallSums, numbers_with_multiple};
+ghost use Rattle.axe_bits.specs.Digits.{AreZerosBetween, AreZerosFrom, IsNextNonzero, number_from, numbers_from};
+ghost use Rattle.axe_bits.specs.Trits.{trits, HoldLayers, HoldTrits};
+
+use crate::parts::{add_spread, gathered, lowest, spread, word_from};
+use axe_lane::{add_trits, any_nonzero, bits_of_bytes, first_set, parity_and, xor_into, xor4_into};
+use std::alloc::{AllocError, Global};
+use std::marker::Model;
+
+/// How many digits a word has.
+const WORD: usize = 64;
+
+/// A list of digits modulo 2, one in each bit: digit e is bit e mod 64 of word e / 64. The bits from its length on are
+/// 0.
+#[derive(Drop)]
+pub struct BitPlane {
+    len: usize,
+    words: Vec<u64>,
+}
+
+impl Model for BitPlane {
+    ghost use Rattle.std.specs.Prelude.{ℕ, List};
+    ghost use Rattle.axe_bits.specs.Bits.{bits, HoldsBits};
+
+    ghost Value = { List ℕ };
+
+    ghost view = { λ a. bits a.len a.words.items };
+
+    ghost invariant = { λ a. HoldsBits a.len a.words.items };
+}
+
+impl BitPlane {
+    /// The plane of `len` zeros.
+    pub fn zero(alloc: Global, len: usize) -> Result<BitPlane, AllocError>
+        ensures { IfOk result (λ plane. plane ≡ replicate len 0) }
+    {
+        let words = vec![in alloc; 0; len.div_ceil(WORD)]?;
+        Ok(BitPlane { len, words })
+    }
+
+    /// The plane of the bits that numbers have at a place, counted from the lowest.
+    pub fn of_numbers(alloc: Global, numbers: &[u8], place: u8) -> Result<BitPlane, AllocError>
+        requires { place < 8 }
+        ensures { IfOk result (λ plane. plane ≡ digits_at 2 place numbers.now) }
+    {
+        let len = numbers.len();
+        let mut words = vec![in alloc; 0; len.div_ceil(WORD)]?;
+        for at in 0..words.len() {
+            words[at] = word_of(numbers, at * WORD, place);
+        }
+        Ok(BitPlane { len, words })
+    }
+
+    /// How many digits the plane has.
+    pub fn len(&self) -> usize
+        ensures count { result ≡ length self.now }
+        ensures digits { AreDigits 2 self.now }
+    {
+        self.len
+    }
+
+    /// The digit at an index, counted from 0, and 0 from the length on.
+    pub fn get(&self, index: usize) -> u8
+        ensures { result ≡ slice_index self.now index }
+    {
+        if index < self.len {
+            ((self.words[index / WORD] >> (index % WORD)) & 1) as u8
+        } else {
+            0
+        }
+    }
+
+    /// Sixteen digits that stand in one word, as the lowest bits of a number: the digit at an index is the lowest bit,
+    /// and those after it stand above it.
+    #[inline]
+    pub fn sixteen_from(&self, index: usize) -> u64
+        requires inside { index + 16 ≤ length self.now }
+        requires one_word { index % 64 ≤ 48 }
+        ensures { (i : ℕ) → i < 16 → bit_at result i ≡ slice_index self.now (index + i) }
+    {
+        let (word, place) = (index / WORD, index % WORD);
+        self.words[word] >> place
+    }
+
+    /// The number whose digits in a base up to 9, most significant first, are up to four of the plane's digits from an
+    /// index on: `size` of them or those that there are.
+    #[inline]
+    pub fn number_from(&self, base: usize, size: usize, at: usize) -> usize
+        requires base { base ≤ 9 }
+        requires short { size ≤ 4 }
+        requires counted { at + size < 2 ^ 64 }
+        ensures value { result ≡ number_from base size at self.now }
+        ensures small { result < 6561 }
+    {
+        if at >= self.len {
+            return 0;
+        }
+        let count = size.min(self.len - at);
+        number_of_bits(word_from(&self.words, at), base, count)
+    }
+
+    /// Four numbers in a base up to 9, the digits of each being up to four of the plane's, most significant first:
+    /// those of the pieces of `size` digits one after another from an index on, as far as the plane goes.
+    #[inline]
+    pub fn numbers_from(&self, base: usize, size: usize, at: usize) -> [usize; 4]
+        requires base { base ≤ 9 }
+        requires short { size ≤ 4 }
+        requires counted { at + 4 * size < 2 ^ 64 }
+        ensures value { result ≡ numbers_from base size at self.now }
+        ensures small { (i : ℕ) → slice_index result i < 6561 }
+    {
+        if at >= self.len || self.len - at < 4 * size {
+            return [
+                self.number_from(base, size, at),
+                self.number_from(base, size, at + size),
+                self.number_from(base, size, at + 2 * size),
+                self.number_from(base, size, at + 3 * size),
+            ];
+        }
+        let word = word_from(&self.words, at);
+        [
+            number_of_bits(word, base, size),
+            number_of_bits(word >> size, base, size),
+            number_of_bits(word >> (2 * size), base, size),
+            number_of_bits(word >> (3 * size), base, size),
+        ]
+    }
+
+    /// Makes a digit the one at an index; all others stay. From the length on there is none to be changed.
+    pub fn set(&mut self, index: usize, digit: u8)
+        requires { digit < 2 }
+        ensures { self.new ≡ slice_set self.old index digit }
+    {
+        if index < self.len {
+            let word = index / WORD;
+            self.words[word] = with_bit(self.words[word], index % WORD, digit);
+        }
+    }
+
+    /// The same plane a second time.
+    pub fn copy(&self, alloc: Global) -> Result<BitPlane, AllocError>
+        ensures { IfOk result (λ plane. plane ≡ self.now) }
+    {
+        let words = Vec::from_slice(alloc, &self.words)?;
+        Ok(BitPlane {
+            len: self.len,
+            words,
+        })
+    }
+
+    /// The plane of the digits at these indices, in their order.
+    pub fn select(&self, alloc: Global, indices: &[usize]) -> Result<BitPlane, AllocError>
+        requires { All (λ index. index < length self.now) indices.now }
+        ensures { IfOk result (λ plane. plane ≡ map (slice_index self.now) indices.now) }
+    {
+        let len = indices.len();
+        let mut words = vec![in alloc; 0; len.div_ceil(WORD)]?;
+        for at in 0..words.len() {
+            words[at] = gathered(&self.words, indices, at * WORD);
+        }
+        Ok(BitPlane { len, words })
+    }
+
+    /// The plane of the `len` digits from an index on.
+    pub fn part(&self, alloc: Global, start: usize, len: usize) -> Result<BitPlane, AllocError>
+        requires { start + len ≤ length self.now }
+        ensures { IfOk result (λ plane. plane ≡ listed len (λ j. slice_index self.now (start + j))) }
+    {
+        let mut words = vec![in alloc; 0; len.div_ceil(WORD)]?;
+        for at in 0..words.len() {
+            let before = at * WORD;
+            words[at] = lowest(word_from(&self.words, start + before), len - before);
+        }
+        Ok(BitPlane { len, words })
+    }
+
+    /// Writes the digits into a list of the plane's length.
+    pub fn copy_to(&self, numbers: &mut [u8])
+        requires { length numbers.old ≡ length self.now }
+        ensures { numbers.new ≡ self.now }
+    {
+        for at in 0..self.words.len() {
+            let from = at * WORD;
+            let count = WORD.min(self.len - from);
+            spread(self.words[at], &mut numbers[from..from + count]);
+        }
+    }
+
+    /// Adds a multiple of each digit to the number at its index.
+    pub fn add_to(&self, factor: u8, numbers: &mut [u8])
+        requires fits { length self.now ≤ length numbers.old }
+        requires small { AreSmallSums numbers.old factor self.now }
+        ensures { numbers.new ≡ numbers_with_multiple numbers.old factor self.now }
+    {
+        for at in 0..self.words.len() {
+            let from = at * WORD;
+            let count = WORD.min(self.len - from);
+            add_spread(self.words[at], factor, &mut numbers[from..from + count]);
+        }
+    }
+
+    /// Adds another plane of the same length: each digit becomes its sum with the other's modulo 2.
+    pub fn add(&mut self, other: &BitPlane)
+        requires { length other.now ≡ length self.old }
+        ensures { self.new ≡ digits_with_multiple 2 self.old 1 other.now }
+    {
+        xor_into(&mut self.words, &other.words);
+    }
+
+    /// The words of the plane.
+    #[inline]
+    pub fn words(&self) -> &[u64]
+        ensures holds { HoldsBits (length self.now) result.now }
+        ensures digits { bits (length self.now) result.now ≡ self.now }
+    {
+        &self.words
+    }
+
+    /// Adds the digits that the words of a plane of the same length hold.
+    #[inline]
+    pub fn add_words(&mut self, words: &[u64])
+        requires { HoldsBits (length self.old) words.now }
+        ensures { self.new ≡ digits_with_multiple 2 self.old 1 (bits (length self.old) words.now) }
+    {
+        xor_into(&mut self.words, words);
+    }
+
+    /// Adds the digits that the words of each of four planes of the same length hold.
+    #[inline]
+    pub fn add_four(&mut self, a: &[u64], b: &[u64], c: &[u64], d: &[u64])
+        requires a { HoldsBits (length self.old) a.now }
+        requires b { HoldsBits (length self.old) b.now }
+        requires c { HoldsBits (length self.old) c.now }
+        requires d { HoldsBits (length self.old) d.now }
+        ensures { self.new ≡ digits_with_four 2 self.old (bits (length self.old) a.now) (bits (length self.old) b.now)
+            (bits (length self.old) c.now) (bits (length self.old) d.now) }
+    {
+        xor4_into(&mut self.words, a, b, c, d);
+    }
+
+    /// Multiplies each digit by a factor modulo 2: the factor 0 makes zeros, and 1 changes nothing.
+    pub fn scale(&mut self, factor: u8)
+        requires { factor < 2 }
+        ensures { self.new ≡ multiple 2 factor self.old }
+    {
+        if factor == 0 {
+            self.words.fill(0);
+        }
+    }
+
+    /// The sum modulo 2 of the products of digits at one index, for another plane of the same length.
+    pub fn dot(&self, other: &BitPlane) -> u8
+        requires { length other.now ≡ length self.now }
+        ensures { result ≡ sum_of_products self.now other.now % 2 }
+    {
+        parity_and(&self.words, &other.words)
+    }
+
+    /// The index of the first digit other than 0, or `None` where every digit is 0.
+    pub fn first_nonzero(&self) -> Option<usize>
+        ensures { MatchOption result (All (λ digit. digit ≡ 0) self.now) (IsFirstNonzero self.now) }
+    {
+        first_set(&self.words)
+    }
+
+    /// The index of the first digit other than 0 from an index on, or `None` where every digit from there on is 0.
+    pub fn next_nonzero(&self, start: usize) -> Option<usize>
+        ensures { MatchOption result (AreZerosFrom self.now start) (IsNextNonzero self.now start) }
+    {
+        self.next_before(start, self.len)
+    }
+
+    /// The index of the first digit other than 0 from an index on, or `None` where every digit from there on and before
+    /// an end is 0. The words past that of the end are not looked at, so a digit past the end may be found or not.
+    pub(crate) fn next_before(&self, start: usize, end: usize) -> Option<usize>
+        requires { end ≤ length self.now }
+        ensures { MatchOption result (AreZerosBetween self.now start end) (IsNextNonzero self.now start) }
+    {
+        if start >= end {
+            return None;
+        }
+        let (word, place) = (start / WORD, start % WORD);
+        let rest = self.words[word] >> place;
+        if rest != 0 {
+            return Some(start + rest.trailing_zeros() as usize);
+        }
+        let after = word + 1;
+        match first_set(&self.words[after..end.div_ceil(WORD)]) {
+            Some(index) => Some(after * WORD + index),
+            None => None,
+        }
+    }
+
+    /// Whether every digit is 0.
+    pub fn is_zero(&self) -> bool
+        ensures { IsTrue result ↔ All (λ digit. digit ≡ 0) self.now }
+    {
+        !any_nonzero(&self.words)
+    }
+
+    /// Whether two planes are equal.
+    pub fn same(&self, other: &BitPlane) -> bool
+        ensures { IsTrue result ↔ (self.now ≡ other.now) }
+    {
+        self.len == other.len && self.words == other.words
+    }
+}
+
+/// Adds the digits modulo 3 that two layers hold to those of two others: each digit becomes the sum modulo 3.
+#[inline]
+pub(crate) fn add_layers(
+    ones: &mut BitPlane,
+    twos: &mut BitPlane,
+    more_ones: &[u64],
+    more_twos: &[u64],
+)
+    requires row { HoldTrits ones.old twos.old }
+    requires more { HoldLayers (length ones.old) more_ones.now more_twos.now }
+    ensures holds { HoldTrits ones.new twos.new }
+    ensures digits { trits ones.new twos.new ≡ digits_with_multiple 3 (trits ones.old twos.old) 1
+        (trits (bits (length ones.old) more_ones.now) (bits (length ones.old) more_twos.now)) }
+{
+    add_trits(&mut ones.words, &mut twos.words, more_ones, more_twos);
+}
+
+/// The number whose digits in a base up to 9, most significant first, are up to four of the bits of a word, from the
+/// lowest on.
+#[inline]
+fn number_of_bits(word: u64, base: usize, count: usize) -> usize
+    requires base { base ≤ 9 }
+    requires short { count ≤ 4 }
+    ensures value { result ≡ number_with_digits base (listed count (bit_at word)) }
+    ensures small { result < 6561 }
+{
+    let first = (word & 1) as usize;
+    let second = (word >> 1 & 1) as usize;
+    let third = (word >> 2 & 1) as usize;
+    let fourth = (word >> 3 & 1) as usize;
+    match count {
+        0 => 0,
+        1 => first,
+        2 => first * base + second,
+        3 => (first * base + second) * base + third,
+        _ => ((first * base + second) * base + third) * base + fourth,
+    }
+}
+
+/// A word with another bit at a place, counted from the lowest.
+fn with_bit(word: u64, place: usize, bit: u8) -> u64
+    requires place { place < 64 }
+    requires bit { bit < 2 }
+    ensures fits { result < 2 ^ 64 }
+    ensures changed { bit_at result place ≡ bit }
+    ensures kept { (i : ℕ) → i < 64 → i ≢ place → bit_at result i ≡ bit_at word i }
+{
+    if bit == 0 {
+        word & !(1 << place)
+    } else {
+        word | 1 << place
+    }
+}
+
+/// The word of the bits at a place of the numbers from an index on, as many as a word holds; where there is no number,
+/// the bit is 0.
+fn word_of(numbers: &[u8], from: usize, place: u8) -> u64
+    requires from { from ≤ length numbers.now }
+    requires place { place < 8 }
+    ensures { (i : ℕ) → i < 64 → bit_at result i ≡ bit_at (slice_index numbers.now (from + i)) place }
+{
+    if numbers.len() - from >= WORD {
+        return bits_of_bytes(numbers, from, place);
+    }
+    let mut word = 0;
+    for at in from..numbers.len() {
+        word = with_bit(word, at - from, numbers[at] >> place & 1);
+    }
+    word
+}

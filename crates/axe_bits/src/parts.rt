@@ -1,0 +1,74 @@
+//! Digits modulo 2 of a list of words, as words of their own.
+ghost use Rattle.std.specs.Int.{bit_at};
+ghost use Rattle.std.specs.Prelude.{ℕ, ◌≡◌, ◌+◌, ◌*◌, ◌/◌, ◌^◌, ◌<◌, ◌≤◌, length, map, slice_index, All};
+ghost use Rattle.axe_bits.specs.Bits.{bit_of};
+
+/// How many digits a word has.
+const WORD: usize = 64;
+
+/// The word of the digits at the indices that a list has from one of its places on, as many as a word holds; where
+/// there is no index, the digit is 0.
+pub(crate) fn gathered(words: &[u64], indices: &[usize], from: usize) -> u64
+    requires from { from ≤ length indices.now }
+    requires within { All (λ index. index / 64 < length words.now) indices.now }
+    ensures { (i : ℕ) → i < 64 → bit_at result i ≡ slice_index (map (bit_of words.now) indices.now) (from + i) }
+{
+    let mut word = 0;
+    for at in from..indices.len().min(from + WORD) {
+        let index = indices[at];
+        let digit = words[index / WORD] >> (index % WORD) & 1;
+        word |= digit << (at - from);
+    }
+    word
+}
+
+/// The word of the digits from an index on; a digit that lies beyond the words is 0.
+#[inline]
+pub(crate) fn word_from(words: &[u64], from: usize) -> u64
+    requires { from / 64 < length words.now }
+    ensures { (i : ℕ) → i < 64 → bit_at result i ≡ bit_of words.now (from + i) }
+{
+    let (word, place) = (from / WORD, from % WORD);
+    let low = words[word] >> place;
+    if place > 0 && word + 1 < words.len() {
+        low | words[word + 1] << (WORD - place)
+    } else {
+        low
+    }
+}
+
+/// A word of which so many of the lowest digits stay, and the others become 0.
+pub(crate) fn lowest(word: u64, count: usize) -> u64
+    ensures kept { (i : ℕ) → i < 64 → i < count → bit_at result i ≡ bit_at word i }
+    ensures cleared { (i : ℕ) → i < 64 → count ≤ i → bit_at result i ≡ 0 }
+{
+    if count < WORD {
+        word & ((1 << count) - 1)
+    } else {
+        word
+    }
+}
+
+/// Writes the lowest digits of a word into a list, as many as the list has numbers.
+pub(crate) fn spread(word: u64, numbers: &mut [u8])
+    requires { length numbers.old ≤ 64 }
+    ensures long { length numbers.new ≡ length numbers.old }
+    ensures digits { (i : ℕ) → i < length numbers.old → slice_index numbers.new i ≡ bit_at word i }
+{
+    for at in 0..numbers.len() {
+        numbers[at] = (word >> at & 1) as u8;
+    }
+}
+
+/// Adds a multiple of the lowest digits of a word to the numbers of a list, each digit to the number at its place.
+pub(crate) fn add_spread(word: u64, factor: u8, numbers: &mut [u8])
+    requires short { length numbers.old ≤ 64 }
+    requires small { (i : ℕ) → i < length numbers.old → slice_index numbers.old i + factor * bit_at word i < 256 }
+    ensures long { length numbers.new ≡ length numbers.old }
+    ensures sums { (i : ℕ) → i < length numbers.old →
+        slice_index numbers.new i ≡ slice_index numbers.old i + factor * bit_at word i }
+{
+    for at in 0..numbers.len() {
+        numbers[at] += factor * (word >> at & 1) as u8;
+    }
+}

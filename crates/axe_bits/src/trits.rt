@@ -1,0 +1,258 @@
+//! Planes of digits modulo 3, in two layers of bits.
+ghost use Rattle.std.specs.Prelude.{ℕ, ◌≡◌, ◌+◌, ◌*◌, ◌%◌, ◌^◌, ◌<◌, ◌≤◌, ◌↔◌, IsTrue, IfOk, length, map};
+ghost use Rattle.std.specs.Prelude.{replicate, slice_index, slice_set, All, MatchOption};
+ghost use Rattle.axe_algebra.specs.Lists.{listed};
+ghost use Rattle.axe_lane.specs.Bytes.{multiple, sum_of_products};
+ghost use Rattle.axe_lane.specs.Entries.{IsFirstNonzero};
+ghost use Rattle.axe_bits.specs.Bits.{bits};
+ghost use Rattle.axe_bits.specs.Trits.{trits, HoldLayers};
+ghost use Rattle.axe_bits.specs.Digits.{AreDigits, digits_with_multiple};
+ghost use Rattle.axe_bits.specs.Earlier.{earlier_of};
+ghost use Rattle.axe_bits.specs.Digits.{AreSmallSums, numbers_with_multiple};
+ghost use Rattle.axe_bits.specs.Digits.{AreZerosFrom, IsNextNonzero, numbers_from};
+
+use crate::BitPlane;
+use crate::bits::add_layers;
+use axe_lane::dot_trits;
+use std::alloc::{AllocError, Global};
+use std::marker::Model;
+use std::mem::swap;
+
+/// A list of digits modulo 3: digit e is 1 where the plane of ones has a bit at e, 2 where the plane of twos has one,
+/// and else 0. No place has a bit in both.
+#[derive(Drop)]
+pub struct TritPlane {
+    ones: BitPlane,
+    twos: BitPlane,
+}
+
+impl Model for TritPlane {
+    ghost use Rattle.std.specs.Prelude.{ℕ, List};
+    ghost use Rattle.axe_bits.specs.Trits.{trits, HoldTrits};
+
+    ghost Value = { List ℕ };
+
+    ghost view = { λ a. trits a.ones a.twos };
+
+    ghost invariant = { λ a. HoldTrits a.ones a.twos };
+}
+
+impl TritPlane {
+    /// The plane of `len` zeros.
+    pub fn zero(alloc: Global, len: usize) -> Result<TritPlane, AllocError>
+        ensures { IfOk result (λ plane. plane ≡ replicate len 0) }
+    {
+        let ones = BitPlane::zero(alloc, len)?;
+        let twos = BitPlane::zero(alloc, len)?;
+        Ok(TritPlane { ones, twos })
+    }
+
+    /// The plane of these digits.
+    pub fn of_digits(alloc: Global, digits: &[u8]) -> Result<TritPlane, AllocError>
+        requires { AreDigits 3 digits.now }
+        ensures { IfOk result (λ plane. plane ≡ digits.now) }
+    {
+        let ones = BitPlane::of_numbers(alloc, digits, 0)?;
+        let twos = BitPlane::of_numbers(alloc, digits, 1)?;
+        Ok(TritPlane { ones, twos })
+    }
+
+    /// How many digits the plane has.
+    pub fn len(&self) -> usize
+        ensures count { result ≡ length self.now }
+        ensures digits { AreDigits 3 self.now }
+    {
+        self.ones.len()
+    }
+
+    /// The digit at an index, counted from 0, and 0 from the length on.
+    pub fn get(&self, index: usize) -> u8
+        ensures { result ≡ slice_index self.now index }
+    {
+        self.ones.get(index) + 2 * self.twos.get(index)
+    }
+
+    /// Four numbers in a base up to 9, the digits of each being up to four of the plane's, most significant first:
+    /// those of the pieces of `size` digits one after another from an index on, as far as the plane goes.
+    #[inline]
+    pub fn numbers_from(&self, base: usize, size: usize, at: usize) -> [usize; 4]
+        requires base { base ≤ 9 }
+        requires short { size ≤ 4 }
+        requires counted { at + 4 * size < 2 ^ 64 }
+        ensures value { result ≡ numbers_from base size at self.now }
+        ensures small { (i : ℕ) → slice_index result i < 6561 }
+    {
+        let ones = self.ones.numbers_from(base, size, at);
+        let twos = self.twos.numbers_from(base, size, at);
+        [
+            ones[0] + 2 * twos[0],
+            ones[1] + 2 * twos[1],
+            ones[2] + 2 * twos[2],
+            ones[3] + 2 * twos[3],
+        ]
+    }
+
+    /// Makes a digit the one at an index; all others stay. From the length on there is none to be changed.
+    pub fn set(&mut self, index: usize, digit: u8)
+        requires { digit < 3 }
+        ensures { self.new ≡ slice_set self.old index digit }
+    {
+        self.ones.set(index, digit % 2);
+        self.twos.set(index, digit / 2);
+    }
+
+    /// The same plane a second time.
+    pub fn copy(&self, alloc: Global) -> Result<TritPlane, AllocError>
+        ensures { IfOk result (λ plane. plane ≡ self.now) }
+    {
+        let ones = self.ones.copy(alloc)?;
+        let twos = self.twos.copy(alloc)?;
+        Ok(TritPlane { ones, twos })
+    }
+
+    /// The plane of the digits at these indices, in their order.
+    pub fn select(&self, alloc: Global, indices: &[usize]) -> Result<TritPlane, AllocError>
+        requires { All (λ index. index < length self.now) indices.now }
+        ensures { IfOk result (λ plane. plane ≡ map (slice_index self.now) indices.now) }
+    {
+        let ones = self.ones.select(alloc, indices)?;
+        let twos = self.twos.select(alloc, indices)?;
+        Ok(TritPlane { ones, twos })
+    }
+
+    /// The plane of the `len` digits from an index on.
+    pub fn part(&self, alloc: Global, start: usize, len: usize) -> Result<TritPlane, AllocError>
+        requires { start + len ≤ length self.now }
+        ensures { IfOk result (λ plane. plane ≡ listed len (λ j. slice_index self.now (start + j))) }
+    {
+        let ones = self.ones.part(alloc, start, len)?;
+        let twos = self.twos.part(alloc, start, len)?;
+        Ok(TritPlane { ones, twos })
+    }
+
+    /// Writes the digits into a list of the plane's length.
+    pub fn copy_to(&self, numbers: &mut [u8])
+        requires { length numbers.old ≡ length self.now }
+        ensures { numbers.new ≡ self.now }
+    {
+        self.ones.copy_to(numbers);
+        self.twos.add_to(2, numbers);
+    }
+
+    /// Adds a multiple of each digit to the number at its index.
+    pub fn add_to(&self, factor: u8, numbers: &mut [u8])
+        requires fits { length self.now ≤ length numbers.old }
+        requires small { AreSmallSums numbers.old factor self.now }
+        ensures { numbers.new ≡ numbers_with_multiple numbers.old factor self.now }
+    {
+        self.ones.add_to(factor, numbers);
+        self.twos.add_to(factor, numbers);
+        self.twos.add_to(factor, numbers);
+    }
+
+    /// Adds a multiple of another plane of the same length: each digit d becomes d + m s modulo 3, where s is the
+    /// other plane's digit.
+    #[inline]
+    pub fn add_scaled(&mut self, factor: u8, other: &TritPlane)
+        requires factor { factor < 3 }
+        requires fits { length other.now ≡ length self.old }
+        ensures { self.new ≡ digits_with_multiple 3 self.old factor other.now }
+    {
+        let (ones, twos) = other.layers();
+        self.add_layers(factor, ones, twos);
+    }
+
+    /// Adds a multiple of the digits that two layers of as many bits hold. Twice a digit is the digit with its layers
+    /// exchanged.
+    #[inline]
+    pub(crate) fn add_layers(&mut self, factor: u8, ones: &[u64], twos: &[u64])
+        requires factor { factor < 3 }
+        requires layers { HoldLayers (length self.old) ones.now twos.now }
+        ensures { self.new ≡ digits_with_multiple 3 self.old factor
+            (trits (bits (length self.old) ones.now) (bits (length self.old) twos.now)) }
+    {
+        match factor {
+            0 => {}
+            1 => add_layers(&mut self.ones, &mut self.twos, ones, twos),
+            _ => add_layers(&mut self.ones, &mut self.twos, twos, ones),
+        }
+    }
+
+    /// The words of the two layers, that of the ones first.
+    #[inline]
+    pub(crate) fn layers(&self) -> (&[u64], &[u64])
+        ensures holds { HoldLayers (length self.now) result.0.now result.1.now }
+        ensures digits { trits (bits (length self.now) result.0.now) (bits (length self.now) result.1.now) ≡ self.now }
+    {
+        (self.ones.words(), self.twos.words())
+    }
+
+    /// Multiplies each digit by a factor modulo 3.
+    pub fn scale(&mut self, factor: u8)
+        requires { factor < 3 }
+        ensures { self.new ≡ multiple 3 factor self.old }
+    {
+        match factor {
+            0 => {
+                self.ones.scale(0);
+                self.twos.scale(0);
+            }
+            1 => {}
+            _ => swap(&mut self.ones, &mut self.twos),
+        }
+    }
+
+    /// The sum modulo 3 of the products of digits at one index, for another plane of the same length.
+    pub fn dot(&self, other: &TritPlane) -> u8
+        requires { length other.now ≡ length self.now }
+        ensures { result ≡ sum_of_products self.now other.now % 3 }
+    {
+        let (ones, twos) = self.layers();
+        let (other_ones, other_twos) = other.layers();
+        dot_trits(ones, twos, other_ones, other_twos)
+    }
+
+    /// The index of the first digit other than 0, or `None` where every digit is 0.
+    pub fn first_nonzero(&self) -> Option<usize>
+        ensures { MatchOption result (All (λ digit. digit ≡ 0) self.now) (IsFirstNonzero self.now) }
+    {
+        self.next_nonzero(0)
+    }
+
+    /// The index of the first digit other than 0 from an index on, or `None` where every digit from there on is 0.
+    pub fn next_nonzero(&self, start: usize) -> Option<usize>
+        ensures { MatchOption result (AreZerosFrom self.now start) (IsNextNonzero self.now start) }
+    {
+        let one = self.ones.next_nonzero(start);
+        let end = one.unwrap_or(self.twos.len());
+        earlier(one, self.twos.next_before(start, end))
+    }
+
+    /// Whether every digit is 0.
+    pub fn is_zero(&self) -> bool
+        ensures { IsTrue result ↔ All (λ digit. digit ≡ 0) self.now }
+    {
+        self.ones.is_zero() && self.twos.is_zero()
+    }
+
+    /// Whether two planes are equal.
+    pub fn same(&self, other: &TritPlane) -> bool
+        ensures { IsTrue result ↔ (self.now ≡ other.now) }
+    {
+        self.ones.same(&other.ones) && self.twos.same(&other.twos)
+    }
+}
+
+/// The earlier of two places, each of which may be missing.
+#[tactic(auto, unfolding(crate::specs::Earlier::earlier_of))]
+fn earlier(a: Option<usize>, b: Option<usize>) -> Option<usize>
+    ensures { result ≡ earlier_of a b }
+{
+    match a {
+        None => b,
+        Some(i) => Some(match b {
+            None => i,
+            Some(j) => i.min(j),
+        }),
+    }
+}

@@ -1,9 +1,0 @@
-use Rattle.std.proofs.Common.{◌∙◌, ap}
-use Rattle.axe_plane.specs.Bits.{bits}
-use Rattle.axe_plane.proofs.bits.BitPlane.copy.Goals as goal
-
-pub invariant_of-result : goal.invariant_of-result
-invariant_of-result c = rw (c.in_ok-words.ensures.items, c.deref.ensures.value) c.self.invariant
-
-pub returns : goal.returns
-returns c = ap (bits c.self.inside.len) (c.in_ok-words.ensures.items ∙ c.deref.ensures.value) ∙ c.self.view_is

@@ -1,5 +1,0 @@
-use Rattle.axe_plane.proofs.DigitWords.{AreGathered}
-use Rattle.axe_plane.proofs.parts.gathered.Given as goal
-
-abbrev pub invariant-loop-at : goal.invariant-loop-at
-invariant-loop-at l = AreGathered l.words l.indices l.from l.at l.word
