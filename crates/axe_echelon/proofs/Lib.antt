@@ -1,6 +1,7 @@
 pub mod Exits
 pub mod FormLaws
 pub mod StepLaws
+pub mod NegatedRows
 pub mod ClearingLaws
 pub mod PivotLaws
 pub mod MoreStepsLaws

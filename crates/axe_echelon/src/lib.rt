@@ -313,10 +313,8 @@ fn negated_start(alloc: Global, row: &Row, len: usize) -> Result<Row, Refusal>
       entries = listed len (λ j. field_neg row.now.order (slice_index row.now.entries j));
     }) result }
 {
-    let field = *row.field();
-    let mut start = Row::zero(alloc, field, len)?;
-    for index in 0..len {
-        start.set(index, field.neg(row.get(index)));
-    }
+    let mut start = row.part(alloc, 0, len)?;
+    let minus_one = row.field().neg(1);
+    start.scale(minus_one);
     Ok(start)
 }

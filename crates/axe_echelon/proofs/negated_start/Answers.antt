@@ -1,16 +1,9 @@
-use Rattle.std.proofs.Common.{sym, ◌∙◌, arith}
-use Rattle.axe_echelon.proofs.Exits.{no_memory}
-use Rattle.std.proofs.lemmas.List.{ext_get_or}
-use Rattle.axe_algebra.proofs.ListEntries.{listed_length, listed_at}
-use Rattle.axe_row.proofs.RowLaws.{same_row}
+use Rattle.std.proofs.Common.{◌∙◌}
+use Rattle.axe_echelon.proofs.NegatedRows.{negated_row}
 use Rattle.axe_echelon.proofs.negated_start.Goals as goal
 
 pub returns : goal.returns
 returns c =
-    same_row _ _ c.loop-index.invariant.field
-    (ext_get_or 0 _ _ (c.loop-index.invariant.fits ∙ sym (listed_length c.args.len _)) (λ j below.
-    c.loop-index.invariant.so_far j (omega (arith, c.loop-index.invariant.fits, c.loop-index-test.false))
-    ∙ sym (listed_at c.args.len _ j 0 (omega (arith, c.loop-index.invariant.fits)))))
-
-pub returns-in_err-start : goal.returns-in_err-start
-returns-in_err-start c = no_memory _ c.from_residual.result _ c.from_residual.ensures.1 c.in_err-start.ensures.zeros
+    c.scale.ensures.multiple
+    ∙ negated_row c.args.row.now c.in_ok-start.start c.field.result.now c.args.len c.neg-minus_one.result c.in_ok-start.ensures.part c.in_ok-start.ensures.well_formed
+    c.field.ensures.order c.neg-minus_one.ensures.value
