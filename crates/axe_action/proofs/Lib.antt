@@ -1,5 +1,7 @@
 pub mod GeneratorLists
 pub mod Images
+pub mod ColumnLists
+pub mod ColumnLaws
 pub mod SubRows
 pub mod SubBases
 pub mod QuotientSpans

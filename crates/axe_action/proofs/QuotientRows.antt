@@ -24,17 +24,10 @@ use Rattle.axe_spin.specs.Generators.{IsGeneratorMatrix}
 use Rattle.axe_spin.proofs.ModuleLaws.{square_over}
 use Rattle.axe_action.specs.Actions.{IsActionModulo}
 use Rattle.axe_action.specs.FreeColumns.{IsFreeColumn, AreFreeColumns, IsRowModulo, HasRowsModulo}
+use Rattle.axe_action.proofs.ColumnLists.{AreColumnsBelow}
 use Rattle.axe_action.proofs.GeneratorLists.{AreNewGenerators, module_of_made}
 use mathlib.Core.Path.{refl, sym, ◌∙◌, ap, subst}
 use native.Mathlib.Omega.{arith}
-use native.Mathlib.Decide.{ℕ_discrete}
-
--- the columns below i that are no pivots
-pub record AreFreeBelow (e : EchelonValue) (i : ℕ) (columns : List ℕ) : Type 0 where
-  pub ascending : (s t : ℕ) → s < t → t < length columns → get_or columns s 0 < get_or columns t 0
-  pub below : (t : ℕ) → t < length columns → get_or columns t 0 < i
-  pub each : (t : ℕ) → t < length columns → IsFreeColumn e (get_or columns t 0)
-  pub all : (j : ℕ) → j < i → IsFreeColumn e j → (t : ℕ) × (t < length columns) × (get_or columns t 0 ≡ j)
 
 -- a column is free exactly where a test finds no pivot
 pub free_exactly : (e : EchelonValue) (j : ℕ) (pivot : Bool) → j < e.cols → (IsTrue pivot ↔ IsPivot (number_field e.order) e.rows j) →
@@ -48,62 +41,7 @@ free_exactly e j false below exactly = (λ is. record { below = below; no_pivot 
     different : false ≡ true → ⊥
     different same = cc
 
--- a pivot
-pub free_pivot : (e : EchelonValue) (i : ℕ) (columns : List ℕ) → AreFreeBelow e i columns → ¬ (IsFreeColumn e i) → AreFreeBelow e (i + 1) columns
-free_pivot e i columns so_far pivot = record {
-  ascending = so_far.ascending;
-  below = λ t below. let before : get_or columns t 0 < i = so_far.below t below in omega arith;
-  each = so_far.each;
-  all = λ j below free. at j below free (ℕ_discrete j i);
-}
-  where
-    at : (j : ℕ) → j < i + 1 → IsFreeColumn e j → Dec (j ≡ i) → (t : ℕ) × (t < length columns) × (get_or columns t 0 ≡ j)
-    at j below free (yes same) = absurd (pivot (subst (IsFreeColumn e) same free))
-    at j below free (no other) = so_far.all j (omega arith) free
-
--- one more column
-pub free_more : (e : EchelonValue) (i : ℕ) (columns next : List ℕ) → AreFreeBelow e i columns → next ≡ columns ++ i ∷ [] → IsFreeColumn e i →
-    AreFreeBelow e (i + 1) next
-free_more e i columns next so_far is free = subst (AreFreeBelow e (i + 1)) (sym is) (record {
-  ascending = λ s t order below. rising s t order (omega (arith, below, grown)) (ℕ_discrete t (length columns));
-  below = λ t below. small t (omega (arith, below, grown)) (ℕ_discrete t (length columns));
-  each = λ t below. below_or_at (λ t. IsFreeColumn e (get_or (columns ++ i ∷ []) t 0)) (length columns)
-      (λ t before. subst (IsFreeColumn e) (sym (first t before)) (so_far.each t before))
-      (subst (IsFreeColumn e) (sym last) free)
-      t (omega (arith, below, grown));
-  all = λ j below is_free. at j below is_free (ℕ_discrete j i);
-})
-  where
-    grown : length (columns ++ i ∷ []) ≡ length columns + 1
-    grown = length-append columns (i ∷ [])
-
-    first : (t : ℕ) → t < length columns → get_or (columns ++ i ∷ []) t 0 ≡ get_or columns t 0
-    first t before = get_or_append_left columns (i ∷ []) 0 t before
-
-    last : get_or (columns ++ i ∷ []) (length columns) 0 ≡ i
-    last = ap (λ k. get_or (columns ++ i ∷ []) k 0) (let same : length columns ≡ length columns + 0 = omega arith in same) ∙ get_or-append-add columns (i ∷ []) 0 0
-
-    small : (t : ℕ) → t < length columns + 1 → Dec (t ≡ length columns) → get_or (columns ++ i ∷ []) t 0 < i + 1
-    small t below (yes same) = omega (arith, ap (λ k. get_or (columns ++ i ∷ []) k 0) same, last)
-    small t below (no other) = let before : get_or columns t 0 < i = so_far.below t (omega arith) in omega (arith, first t (omega arith))
-
-    rising : (s t : ℕ) → s < t → t < length columns + 1 → Dec (t ≡ length columns) → get_or (columns ++ i ∷ []) s 0 < get_or (columns ++ i ∷ []) t 0
-    rising s t order below (yes same) =
-        let before : get_or columns s 0 < i = so_far.below s (omega arith) in
-        omega (arith, first s (omega arith), ap (λ k. get_or (columns ++ i ∷ []) k 0) same, last)
-    rising s t order below (no other) =
-        let before : get_or columns s 0 < get_or columns t 0 = so_far.ascending s t order (omega arith) in
-        omega (arith, first s (omega arith), first t (omega arith))
-
-    longer : (j : ℕ) → (t : ℕ) × (t < length columns) × (get_or columns t 0 ≡ j) →
-        (t : ℕ) × (t < length (columns ++ i ∷ [])) × (get_or (columns ++ i ∷ []) t 0 ≡ j)
-    longer j (t, below, found) = (t, omega (arith, grown), first t below ∙ found)
-
-    at : (j : ℕ) → j < i + 1 → IsFreeColumn e j → Dec (j ≡ i) → (t : ℕ) × (t < length (columns ++ i ∷ [])) × (get_or (columns ++ i ∷ []) t 0 ≡ j)
-    at j below is_free (yes same) = (length columns, omega (arith, grown), last ∙ sym same)
-    at j below is_free (no other) = longer j (so_far.all j (omega arith) is_free)
-
-pub free_all : (e : EchelonValue) (i : ℕ) (columns : List ℕ) → AreFreeBelow e i columns → e.cols ≤ i → AreFreeColumns e columns
+pub free_all : (e : EchelonValue) (i : ℕ) (columns : List ℕ) → AreColumnsBelow (IsFreeColumn e) i columns → e.cols ≤ i → AreFreeColumns e columns
 free_all e i columns so_far whole = record {
   ascending = so_far.ascending;
   each = so_far.each;

@@ -14,6 +14,7 @@ use Rattle.axe_row.specs.declared.refusals.Refusal.{Refusal}
 use Rattle.axe_matrix.specs.Matrices.{MatrixValue, IsMatrix}
 use Rattle.axe_echelon.specs.Echelons.{EchelonValue, IsEchelon, AreCoordinates, IsSpanOfRows}
 use Rattle.axe_echelon.proofs.FormLaws.{below_or_at}
+use Rattle.axe_echelon.proofs.InverseLaws.{matrix_over}
 use Rattle.axe_spin.specs.Modules.{ModuleValue, IsModule, IsInvariantIn, generator_of, rows_of_each, module_of_matrices}
 use Rattle.axe_spin.specs.Generators.{IsGeneratorMatrix}
 use Rattle.axe_spin.proofs.ModuleLaws.{square_over}
@@ -102,6 +103,18 @@ pub outside_invariant : (m : ModuleValue) (rows : MatrixValue) (j : ℕ) → IsM
     j < length m.generators → IsInvariantIn m rows → HasImagesIn (generator_of m j) rows.rows rows.rows
 outside_invariant m rows j h over below invariant t inside =
     images_of_invariant (number_field m.order) m.dim m.generators rows.rows h.over.square over invariant t j inside below
+
+-- rows over the field of a generator, and of its length
+pub rows_over_field : (g rows : MatrixValue) → IsMatrix rows → rows.order ≡ g.order → rows.cols ≡ g.cols →
+    IsMatrixOver (number_field g.order) g.cols rows.rows
+rows_over_field g rows h field columns =
+    subst (λ n. IsMatrixOver (number_field g.order) n rows.rows) columns
+    (subst (λ o. IsMatrixOver (number_field o) rows.cols rows.rows) field (matrix_over rows h))
+
+-- rows of the module
+pub module_rows_over : (m : ModuleValue) (rows : MatrixValue) → IsMatrix rows → rows.order ≡ m.order → rows.cols ≡ m.dim →
+    IsMatrixOver (number_field m.order) m.dim rows.rows
+module_rows_over m rows h field columns = rows_over_field (generator_of m 0) rows h field columns
 
 -- the module of the actions of all generators
 pub action_made : (m : ModuleValue) (rows : MatrixValue) (matrices : List MatrixValue) (result : Result ModuleValue Refusal) → IsModule m →

@@ -1,10 +1,13 @@
 -- The rows of the actions on a span: the coefficients, over independent rows, of these rows times the generators.
-use Rattle.std.specs.Prelude.{◌≡◌, ℕ, ◌<◌, List, [], length, get_or}
-use Rattle.axe_algebra.specs.Lists.{IsVectorOver}
+use Rattle.std.specs.Prelude.{◌≡◌, ℕ, ◌<◌, List, [], length, get_or, map, All}
+use Rattle.axe_algebra.specs.NumberField.{NumberField}
+use Rattle.axe_algebra.specs.Lists.{IsVectorOver, listed}
+use Rattle.axe_algebra.specs.Reduced.{IsAscendingListOf}
 use Rattle.axe_algebra.specs.ListArithmetic.{combination}
-use Rattle.axe_algebra.specs.SpansOfLists.{IsSpanned}
+use Rattle.axe_algebra.specs.SpansOfLists.{IsSpanned, IsPivot}
 use Rattle.axe_field.specs.NumberFields.{number_field}
 use Rattle.axe_matrix.specs.Matrices.{MatrixValue, IsMatrix}
+use Rattle.axe_echelon.specs.Echelons.{EchelonValue}
 
 -- row t times the matrix g: its image
 abbrev pub row_times : MatrixValue → List (List ℕ) → ℕ → List ℕ
@@ -26,3 +29,27 @@ pub record HasActionRows (g : MatrixValue) (rows : List (List ℕ)) (i : ℕ) (a
   pub count : length action.rows ≡ i
   pub well_formed : IsMatrix action
   pub each : (t : ℕ) → t < i → IsActionRow g rows t (get_or action.rows t [])
+
+-- the entries of a vector at these columns, in their order
+abbrev pub entries_at : List ℕ → List ℕ → List ℕ
+entries_at columns v = map (λ column. get_or v column 0) columns
+
+-- the matrix of the entries of a matrix's rows at these columns
+abbrev pub matrix_at : List ℕ → MatrixValue → MatrixValue
+matrix_at columns m = record {
+  order = m.order;
+  cols = length columns;
+  rows = listed (length m.rows) (λ i. entries_at columns (get_or m.rows i []));
+}
+
+-- these are the pivots of the rows' span, ascending
+abbrev pub ArePivotColumns : EchelonValue → List ℕ → Type 0
+ArePivotColumns e columns =
+    IsAscendingListOf (IsPivot (number_field e.order) e.rows) (length columns) (λ t. get_or columns t 0)
+
+-- a vector of the span of the rows of n entries is their combination with its entries at these columns (the reduced
+-- row echelon form of any linear algebra text)
+pub record AreCoordinateColumns (K : NumberField) (n : ℕ) (rows : List (List ℕ)) (columns : List ℕ) : Type 0 where
+  pub count : length columns ≡ length rows
+  pub within : All (λ column. column < n) columns
+  pub combine : (v : List ℕ) → IsVectorOver K n v → IsSpanned K rows v → v ≡ combination K n (entries_at columns v) rows

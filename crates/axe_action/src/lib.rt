@@ -2,6 +2,7 @@
 #![tactic(auto)]
 
 mod bases;
+mod columns;
 mod conjugates;
 mod duals;
 mod quotients;

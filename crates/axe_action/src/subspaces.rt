@@ -8,8 +8,9 @@ ghost use Rattle.axe_row.specs.declared.refusals.Refusal.TheVariants.{NotInvaria
 ghost use Rattle.axe_matrix.specs.Matrices.{IsMatrix};
 ghost use Rattle.axe_spin.specs.Modules.{IsModule, IsInvariantIn};
 ghost use Rattle.axe_action.specs.Actions.{sub_action_refusal, action_late, IsActionOnSpan, IsActionOverRows};
-ghost use Rattle.axe_action.specs.Coordinates.{HasImagesIn, HasActionRows};
+ghost use Rattle.axe_action.specs.Coordinates.{HasImagesIn, HasActionRows, AreCoordinateColumns};
 
+use super::columns::{columns_of, combine_to, pivot_columns};
 use axe_echelon::{Echelon, span_of};
 use axe_matrix::{Matrix, Refusal};
 use axe_spin::{Module, has_only_zeros};
@@ -25,8 +26,12 @@ pub fn sub_action(alloc: Global, module: &Module, rows: &Matrix) -> Result<Modul
     ensures well_formed { IfOk result IsModule }
 {
     check_space(module, rows)?;
-    let basis = span_of(alloc, rows)?.reduced(alloc)?;
-    action_over(alloc, module, &basis)
+    let span = span_of(alloc, rows)?;
+    let basis = span.reduced(alloc)?;
+    let pivots = pivot_columns(alloc, &span)?;
+    // By a call, so that its memory is free while the products are made.
+    drop(span);
+    action_on_basis(alloc, module, &basis, &pivots)
 }
 
 /// The action of a module on the span of independent rows, over these rows as they stand: a row times a generator is
@@ -52,6 +57,61 @@ fn check_space(module: &Module, rows: &Matrix) -> Result<(), Refusal>
         return Err(Refusal::ZeroSpace);
     }
     Ok(())
+}
+
+/// The action of a module on the span of rows, of which there is one at least, over these rows. The coordinates of the
+/// vectors of their span are the entries at some columns.
+fn action_on_basis(
+    alloc: Global,
+    module: &Module,
+    basis: &Matrix,
+    columns: &[usize],
+) -> Result<Module, Refusal>
+    requires some_row { 1 ≤ length basis.now.rows }
+    requires field { basis.now.order ≡ «module».now.order }
+    requires fits { basis.now.cols ≡ «module».now.dim }
+    requires well_formed { IsMatrix basis.now }
+    requires coordinates { AreCoordinateColumns (number_field basis.now.order) basis.now.cols
+        basis.now.rows columns.now }
+    ensures action { AnswersOr None (IsActionOverRows «module».now basis.now)
+        (action_late «module».now basis.now) result }
+    ensures well_formed { IfOk result IsModule }
+{
+    let mut actions = Vec::new(alloc);
+    for number in 0..module.gens() {
+        let action = generator_on_basis(alloc, module.generator(number), basis, columns)?;
+        actions.push(action)?;
+    }
+    Module::new(actions)
+}
+
+/// The matrix by which a generator acts on rows, where the coordinates of the vectors of their span are the entries at
+/// some columns: the entries of the images there. The rows combine to the images with these exactly where the span is
+/// invariant.
+fn generator_on_basis(
+    alloc: Global,
+    generator: &Matrix,
+    basis: &Matrix,
+    columns: &[usize],
+) -> Result<Matrix, Refusal>
+    requires square { length generator.now.rows ≡ generator.now.cols }
+    requires some_row { 1 ≤ length basis.now.rows }
+    requires field { basis.now.order ≡ generator.now.order }
+    requires fits { basis.now.cols ≡ generator.now.cols }
+    requires well_formed { IsMatrix basis.now }
+    requires coordinates { AreCoordinateColumns (number_field basis.now.order) basis.now.cols
+        basis.now.rows columns.now }
+    ensures { AnswersOr None
+        (λ action. HasImagesIn generator.now basis.now.rows basis.now.rows
+        × HasActionRows generator.now basis.now.rows (length basis.now.rows) action)
+        (RefusedAs NotInvariant (¬ (HasImagesIn generator.now basis.now.rows basis.now.rows))) result }
+{
+    let images = basis.mul(alloc, generator)?;
+    let action = columns_of(alloc, &images, columns)?;
+    if !combine_to(alloc, &action, basis, &images)? {
+        return Err(Refusal::NotInvariant);
+    }
+    Ok(action)
 }
 
 /// The action of a module on the span of independent rows, of which there is one at least, over these rows.

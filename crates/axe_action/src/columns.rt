@@ -1,0 +1,62 @@
+//! The pivots of a span, and coordinates by the entries there.
+
+ghost use Rattle.std.specs.Prelude.{◌≡◌, ◌<◌, ◌≤◌, ◌↔◌, length, All, IsTrue, None, IfOk};
+ghost use Rattle.axe_row.specs.Refusals.{Answers};
+ghost use Rattle.axe_matrix.specs.Limits.{most_columns};
+ghost use Rattle.axe_matrix.specs.Matrices.{IsMatrix, matrix_product};
+ghost use Rattle.axe_echelon.specs.Echelons.{IsEchelon};
+ghost use Rattle.axe_action.specs.Coordinates.{ArePivotColumns, matrix_at};
+
+use axe_echelon::Echelon;
+use axe_matrix::{Matrix, Refusal};
+use std::alloc::Global;
+
+/// The pivots of a span, ascending.
+pub(crate) fn pivot_columns(alloc: Global, span: &Echelon) -> Result<Vec<usize>, Refusal>
+    ensures pivots { Answers None (λ columns. ArePivotColumns span.now columns.items) result }
+    ensures well_formed { IsEchelon span.now }
+{
+    let mut columns = Vec::new(alloc);
+    for column in 0..span.cols() {
+        if span.is_pivot(column) {
+            columns.push(column)?;
+        }
+    }
+    Ok(columns)
+}
+
+/// The matrix of the entries of a matrix's rows at some columns.
+pub(crate) fn columns_of(
+    alloc: Global,
+    matrix: &Matrix,
+    columns: &[usize],
+) -> Result<Matrix, Refusal>
+    requires some_column { 1 ≤ length columns.now }
+    requires columns_fit { length columns.now ≤ most_columns }
+    requires within { All (λ column. column < matrix.now.cols) columns.now }
+    ensures entries { Answers None (λ entries. entries ≡ matrix_at columns.now matrix.now) result }
+    ensures well_formed { IfOk result IsMatrix }
+{
+    let mut entries = Matrix::empty(alloc, *matrix.field(), columns.len());
+    for index in 0..matrix.rows() {
+        let row = matrix.row(index).select(alloc, columns)?;
+        entries.append(row)?;
+    }
+    Ok(entries)
+}
+
+/// Whether the combinations of rows with the rows of a matrix as their coefficients are the rows of another matrix.
+pub(crate) fn combine_to(
+    alloc: Global,
+    coefficients: &Matrix,
+    rows: &Matrix,
+    images: &Matrix,
+) -> Result<bool, Refusal>
+    requires field { coefficients.now.order ≡ rows.now.order }
+    requires fits { coefficients.now.cols ≡ length rows.now.rows }
+    ensures { Answers None
+        (λ same. IsTrue same ↔ (matrix_product coefficients.now rows.now ≡ images.now)) result }
+{
+    let combinations = coefficients.mul(alloc, rows)?;
+    Ok(combinations.same(images))
+}
