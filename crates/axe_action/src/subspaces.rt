@@ -29,7 +29,7 @@ pub fn sub_action(alloc: Global, module: &Module, rows: &Matrix) -> Result<Modul
     let span = span_of(alloc, rows)?;
     let basis = span.reduced(alloc)?;
     let pivots = pivot_columns(alloc, &span)?;
-    // By a call, so that its memory is free while the products are made.
+    // Its memory is free again before the products are made.
     drop(span);
     action_on_basis(alloc, module, &basis, &pivots)
 }

@@ -1,4 +1,4 @@
--- Two layers of bits as digits modulo 3: how many they are, which, and that the digits fix the layers.
+-- Two layers of bits as digits modulo 3: how many they are, and which.
 use Rattle.std.proofs.Common.{◌≡◌, ℕ, ◌+◌, ◌*◌, ◌<◌, List, length, get_or, arith}
 use Rattle.std.proofs.lemmas.List.{get_or_past}
 use native.Mathlib.Decide.{dec_lt}

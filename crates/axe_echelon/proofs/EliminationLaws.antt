@@ -26,7 +26,7 @@ use Rattle.axe_field.specs.NumberFields.{number_field, gf}
 use Rattle.axe_row.specs.Rows.{RowValue, IsRow}
 use Rattle.axe_row.specs.Operations.{multiple, multiple_row, IsZeroVector, IsFirstNonzero}
 use Rattle.axe_row.proofs.OperationLaws.{get_or-multiple, length-multiple}
-use Rattle.axe_echelon.specs.Echelons.{EchelonValue, IsEchelon, AreCoordinates}
+use Rattle.axe_echelon.specs.Echelons.{EchelonValue, IsEchelon, with_row_where, AreCoordinates}
 use Rattle.axe_echelon.specs.Steps.{IsEliminated, Cancels, IsNextStep}
 use Rattle.axe_echelon.proofs.StepLaws.{over_of_row, below_of_element, negative_of, product_of}
 use mathlib.Core.Path.{refl, sym, ◌∙◌, ap, ap₂, subst, fun_ext}
@@ -251,3 +251,11 @@ new_if_none e h row (Some coefficients) false cancels is = (
   λ no. absurd (true≢false (sym no)),
   λ outside. absurd (outside (spanned_if_nothing_left e h row cancels.row coefficients cancels.eliminated cancels.zeros)),
 )
+
+-- what an insertion leaves, by whether the row is new
+pub inserted_if_none : (before after : EchelonValue) (row : List ℕ) (found : Option RowValue) (new : Bool) →
+    MatchOption found (after ≡ with_row_where true before row) (λ _. after ≡ before) → is_some found ≡ not new → after ≡ with_row_where new before row
+inserted_if_none before after row None true inserted is = inserted
+inserted_if_none before after row None false inserted is = absurd (true≢false (sym is))
+inserted_if_none before after row (Some coefficients) true same is = absurd (true≢false is)
+inserted_if_none before after row (Some coefficients) false same is = same

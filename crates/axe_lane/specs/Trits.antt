@@ -35,7 +35,7 @@ common_trits ones twos other_ones other_twos =
     + 2 * (common_bits ones other_twos + common_bits twos other_ones)
 
 -- the words of the sum of entries whose words are o and t for ones and twos, and a and b: a place with 1 and 2, or with
--- one 0, is turned twice (Boothby, Bradshaw 2009)
+-- one 0, is turned twice (Harrison, Page, Smart 2002)
 abbrev pub turned_bits : ℕ → ℕ → ℕ → ℕ → ℕ
 turned_bits o t a b = bit_xor (bit_or o b) (bit_or t a)
 

@@ -275,7 +275,7 @@ fn rows_combined(field: &Field, rows: usize, terms: usize) -> usize
 }
 
 /// About how many additions of a row a block of terms takes by four tables of so many combinations each: one for each
-/// combination, and for each of so many rows what two take, since its four combinations are added in one pass.
+/// combination, and for each of so many rows what two take, a guess for every field.
 fn additions_of_block(combinations: usize, rows: usize) -> usize {
     combinations
         .saturating_mul(4)

@@ -1,5 +1,5 @@
 use Rattle.std.proofs.Common.{◌≡◌, length, sym, ◌∙◌, true≢false}
-use Rattle.axe_echelon.proofs.EliminationLaws.{full_echelon_spans, new_if_none}
+use Rattle.axe_echelon.proofs.EliminationLaws.{full_echelon_spans, new_if_none, inserted_if_none}
 use Rattle.axe_echelon.proofs.Echelon.insert.Goals as goal
 
 pub returns-then-rank-cols-clause-exactly : goal.returns-then-rank-cols-clause-exactly
@@ -12,3 +12,8 @@ pub returns-clause-exactly : goal.returns-clause-exactly
 returns-clause-exactly c =
     new_if_none c.args.self.now c.rank.ensures.well_formed c.args.row c.in_ok-insert_or_cancel.field-0 c.is_none.result
     c.in_ok-insert_or_cancel.ensures.cancels c.is_none.ensures
+
+pub returns-clause-inserted : goal.returns-clause-inserted
+returns-clause-inserted c =
+    inserted_if_none c.args.self.now c.insert_or_cancel.new.self c.args.row.entries c.in_ok-insert_or_cancel.field-0 c.is_none.result
+    c.in_ok-insert_or_cancel.ensures.inserted c.is_none.ensures
