@@ -3,7 +3,9 @@
 # make test      everything that CI runs: proofs from nothing, the wrong bodies, the tests and the runs of the program
 # make build     proves and builds crates/axe/out/axe; CPU=x86-64-v3 builds it for processors with AVX2
 # make cases     the runs of the built program alone: cases, disks, transcripts of the documents, what is installed
-# make bench     times the built program, beside GAP where that is installed
+# make bench     times the built program, beside GAP, M4RI and FLINT where those are installed: inverses and null spaces
+#                (bench/inverses), products (bench/products), texts (bench/texts), submodules and quotients
+#                (bench/modules), composition series (bench/chop); and shows its peak memory (bench/memory)
 # make install   puts the program into PREFIX/bin (PREFIX=/usr/local), man page and completions where such files go
 PREFIX ?= /usr/local
 # the processors that `make build` builds for, as `rt run --cpu` names them; none: every 64-bit one
@@ -48,9 +50,12 @@ cases: build
 	tests/installed
 
 bench: build
-	-AXE=$(abspath $(AXE)) bench/run
+	-AXE=$(abspath $(AXE)) bench/inverses
 	-AXE=$(abspath $(AXE)) bench/products
+	-AXE=$(abspath $(AXE)) bench/texts
+	-AXE=$(abspath $(AXE)) bench/modules
 	-AXE=$(abspath $(AXE)) bench/chop
+	-AXE=$(abspath $(AXE)) bench/memory
 
 install: build
 	install -D -m 755 $(AXE) $(DESTDIR)$(PREFIX)/bin/axe
