@@ -13,7 +13,7 @@ use Rattle.axe_row.specs.declared.refusals.Refusal.TheVariants.{FieldsDiffer, Sh
 use Rattle.axe_matrix.specs.Matrices.{MatrixValue, IsMatrix, product_refusal, matrix_product}
 use Rattle.axe_matrix.proofs.MatrixLaws.{same_order}
 use Rattle.axe_matrix.proofs.ProductLaws.{length-product, product_refusal-none}
-use Rattle.axe_reduction.specs.Solutions.{IsInverseMatrix, IsInvertible}
+use Rattle.axe_reduction.specs.Solutions.{IsInverseMatrix, IsInvertibleMatrix}
 use Rattle.axe_echelon.specs.Echelons.{inverse_refusal}
 use Rattle.axe_echelon.proofs.Exits.{asked_late}
 use Rattle.axe_echelon.proofs.InverseLaws.{inverse_refusal-none}
@@ -93,7 +93,7 @@ module _ (m : ModuleValue) (p q : MatrixValue) (fits : IsBasisFor m p) (inverse 
 pub conjugate_is : (m : ModuleValue) (p : MatrixValue) (count : ℕ) (matrices : List MatrixValue) (result : Result ModuleValue Refusal) → count ≡ length m.generators →
     IsBasisFor m p → AreNewGenerators m.order m.dim (λ i rows. IsConjugate (number_field m.order) m.dim p.rows (get_or m.generators i []) rows) count matrices →
     result ≡ Ok (record { order = m.order; dim = m.dim; generators = rows_of_each matrices }) →
-    AnswersOr (conjugate_refusal m p) (IsConjugateModule m p) (RefusedAs Singular (¬ (IsInvertible p))) result
+    AnswersOr (conjugate_refusal m p) (IsConjugateModule m p) (RefusedAs Singular (¬ (IsInvertibleMatrix p))) result
 conjugate_is m p count matrices result all fits are is = rw (conjugate_accepted m p fits, is) made
   where
     made : IsConjugateModule m p (record { order = m.order; dim = m.dim; generators = rows_of_each matrices })
@@ -106,10 +106,10 @@ conjugate_is m p count matrices result all fits are is = rw (conjugate_accepted 
 
 -- the inverse, or why there is none, of a matrix that is accepted
 pub asked_inverse : (m : ModuleValue) (p : MatrixValue) (result : Result MatrixValue Refusal) → IsBasisFor m p →
-    AnswersOr (inverse_refusal p) (IsInverseMatrix p) (RefusedAs Singular (¬ (IsInvertible p))) result →
-    AnswersOr None (IsInverseMatrix p) (RefusedAs Singular (¬ (IsInvertible p))) result
+    AnswersOr (inverse_refusal p) (IsInverseMatrix p) (RefusedAs Singular (¬ (IsInvertibleMatrix p))) result →
+    AnswersOr None (IsInverseMatrix p) (RefusedAs Singular (¬ (IsInvertibleMatrix p))) result
 asked_inverse m p result fits =
-    asked_late (inverse_refusal p) (IsInverseMatrix p) (RefusedAs Singular (¬ (IsInvertible p))) result (inverse_refusal-none p (fits.rows ∙ sym fits.columns))
+    asked_late (inverse_refusal p) (IsInverseMatrix p) (RefusedAs Singular (¬ (IsInvertibleMatrix p))) result (inverse_refusal-none p (fits.rows ∙ sym fits.columns))
 
 -- a product of three, from those of two
 pub product_of_three : (first second third product : MatrixValue) (result : Result MatrixValue Refusal) → product_refusal first second ≡ None →

@@ -5,7 +5,7 @@ ghost use Rattle.axe_row.specs.Refusals.{Answers, unless_refused, AnswersOr, Ref
 ghost use Rattle.axe_row.specs.declared.refusals.Refusal.TheVariants.{Singular};
 ghost use Rattle.axe_matrix.specs.Matrices.{IsMatrix, matrix_product};
 ghost use Rattle.axe_spin.specs.Modules.{IsModule};
-ghost use Rattle.axe_reduction.specs.Solutions.{IsInvertible};
+ghost use Rattle.axe_reduction.specs.Solutions.{IsInvertibleMatrix};
 ghost use Rattle.axe_action.specs.Actions.{conjugate_refusal, IsConjugateModule};
 
 use axe_echelon::inverse;
@@ -18,7 +18,7 @@ use std::alloc::Global;
 /// ShapesDiffer, and else one that has no inverse as Singular.
 pub fn conjugate(alloc: Global, module: &Module, basis: &Matrix) -> Result<Module, Refusal>
     ensures conjugate { AnswersOr (conjugate_refusal «module».now basis.now) (IsConjugateModule «module».now basis.now)
-        (RefusedAs Singular (¬ (IsInvertible basis.now))) result }
+        (RefusedAs Singular (¬ (IsInvertibleMatrix basis.now))) result }
     ensures well_formed { IfOk result IsModule }
 {
     check_basis(module, basis)?;

@@ -24,13 +24,15 @@ same_element K a b e = Σ_prop_path (λ n. le_prop) e
 pub element_is_discrete : (K : NumberField) (a b : ElementOf K) → Dec (a ≡ b)
 element_is_discrete K a b = map_dec (same_element K a b) (ap (λ (x : ElementOf K). x.0)) (ℕ_discrete a.0 b.0)
 
--- the elements 0 and 1
+-- the element 0
 abbrev pub zero_of : (K : NumberField) → ElementOf K
 zero_of K = (0, le_trans (suc-le-suc zero-le) K.one-below)
 
+-- the element 1
 abbrev pub one_of : (K : NumberField) → ElementOf K
 one_of K = (1, K.one-below)
 
+-- the elements 0 and 1 differ
 pub one_is_not_zero : (K : NumberField) → one_of K ≢ zero_of K
 one_is_not_zero K e = suc-ne-zero 0 (ap (λ (x : ElementOf K). x.0) e)
 
@@ -62,6 +64,7 @@ unfoldable pub element_by : (K : NumberField) (number : ℕ) → Dec (number < K
 element_by K number (yes below) = (number, below)
 element_by K number (no above) = zero_of K
 
+-- the element with a number, and 0 where the number is too great
 unfoldable pub element : (K : NumberField) → ℕ → ElementOf K
 unfolding element_by
 element K number = element_by K number (dec_lt number K.order)

@@ -45,7 +45,7 @@ pub record IsInverse (K : NumberField) (n : ℕ) (a b : List (List ℕ)) : Type 
 abbrev pub transposed_generators : ℕ → List (List (List ℕ)) → List (List (List ℕ))
 transposed_generators n generators = map (transpose n) generators
 
--- c is the conjugate p g p^-1 of g, all square of n rows
+-- c is the conjugate p g p^-1 of g, where each matrix is read with n rows and columns
 pub record IsConjugate (K : NumberField) (n : ℕ) (p g c : List (List ℕ)) : Type 0 where
   pub inverse : List (List ℕ)
   pub square : IsSquareOver K n inverse

@@ -51,11 +51,12 @@ abbrev pub SpannedIsCombination : NumberField → Type 0
 SpannedIsCombination K = (n : ℕ) (rows : List (List ℕ)) (v : List ℕ) → IsMatrixOver K n rows → IsVectorOver K n v →
     IsSpanned K rows v ↔ IsCombination K n rows v
 
--- a list of rows has one reduced basis
+-- a list of rows has a reduced basis
 abbrev pub ReducedBasisOfListExists : NumberField → Type 0
 ReducedBasisOfListExists K = (n : ℕ) (rows : List (List ℕ)) → IsMatrixOver K n rows →
     (basis : List (List ℕ)) × IsMatrixOver K n basis × IsReducedBasis K rows basis
 
+-- and no more than one (any linear algebra text)
 abbrev pub ReducedBasisOfListIsUnique : NumberField → Type 0
 ReducedBasisOfListIsUnique K =
     (n : ℕ) (rows a b : List (List ℕ)) → IsMatrixOver K n rows → IsMatrixOver K n a → IsMatrixOver K n b →

@@ -33,10 +33,11 @@ pub record IsMonicList (q m : ℕ) (c : List ℕ) : Type 0 where
   pub below : All (λ digit. digit < q) c
   pub leads : leads_with_one c ≡ true
 
--- each entry of the list of coordinates is such a list, and each such list is in it
+-- each entry of the list of coordinates is such a list
 abbrev pub CoordinatesAreMonic : Type 0
 CoordinatesAreMonic = (q m : ℕ) → 2 ≤ q → All (IsMonicList q m) (point_coordinates q m)
 
+-- each such list is in the list of coordinates
 abbrev pub MonicListsAreCoordinates : Type 0
 MonicListsAreCoordinates = (q m : ℕ) (c : List ℕ) → 2 ≤ q → IsMonicList q m c →
     (i : ℕ) × (i < length (point_coordinates q m)) × (get_or (point_coordinates q m) i [] ≡ c)
@@ -76,12 +77,13 @@ abbrev pub PointsAreNonzeroSpanned : NumberField → Type 0
 PointsAreNonzeroSpanned K = (n : ℕ) (basis : List (List ℕ)) → IsMatrixOver K n basis → IsIndependent K basis →
     All (IsNonzeroSpanned K n basis) (points K n basis)
 
--- every nonzero vector of the span of rows is a nonzero multiple of a point, and for independent rows of only one
+-- every nonzero vector of the span of rows is a nonzero multiple of a point
 abbrev pub SpannedAreMultiplesOfPoints : NumberField → Type 0
 SpannedAreMultiplesOfPoints K = (n : ℕ) (basis : List (List ℕ)) (x : Vector (field_of K)) → IsMatrixOver K n basis →
     InSpan (field_of K) (length basis) (matrix_of K basis) x → x ≢ zero_vector (field_of K) →
     IsMultipleOfPoint K n basis x
 
+-- a nonzero vector is a multiple of only one point of independent rows
 abbrev pub MultiplesAreOfOnePoint : NumberField → Type 0
 MultiplesAreOfOnePoint K =
     (n : ℕ) (basis : List (List ℕ)) (x : Vector (field_of K)) → IsMatrixOver K n basis → IsIndependent K basis →

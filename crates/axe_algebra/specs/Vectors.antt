@@ -36,13 +36,15 @@ unit_vector F i = λ j. cond (eqb i j) F.one F.zero
 unfoldable pub unit_matrix : (F : Field) → ℕ → Matrix F
 unit_matrix F n = λ i j. cond (ltb i n) (unit_vector F i j) F.zero
 
--- sum, difference and multiple of vectors, entry by entry
+-- the sum of two vectors, entry by entry
 abbrev pub add_vectors : (F : Field) → Vector F → Vector F → Vector F
 add_vectors F v w = λ j. F.add (v j) (w j)
 
+-- the difference of two vectors, entry by entry
 abbrev pub subtract : (F : Field) → Vector F → Vector F → Vector F
 subtract F v w = λ j. F.add (v j) (F.neg (w j))
 
+-- a multiple of a vector, entry by entry
 abbrev pub scale : (F : Field) → F.Element → Vector F → Vector F
 scale F c v = λ j. F.mul c (v j)
 

@@ -7,23 +7,23 @@ use Rattle.axe_arguments.specs.declared.command.Command.{Command}
 use Rattle.axe_arguments.specs.declared.command.Command.TheVariants.{Zcv, Zpr, Zmu, Zad, Ztr, Ziv, Znu, Zsp, Zqt, Chop}
 
 -- the words of a command that stand for files, in their order
-abbrev pub names_of : Command → List (List ℕ)
-names_of (Zcv input out) = input ∷ out ∷ []
-names_of (Zpr input None) = input ∷ []
-names_of (Zpr input (Some out)) = input ∷ out ∷ []
-names_of (Zmu left right out) = left ∷ right ∷ out ∷ []
-names_of (Zad left right out) = left ∷ right ∷ out ∷ []
-names_of (Ztr input out) = input ∷ out ∷ []
-names_of (Ziv input out) = input ∷ out ∷ []
-names_of (Znu input out) = input ∷ out ∷ []
-names_of (Zsp generators standard None name seed out) = name ∷ seed ∷ out ∷ []
-names_of (Zsp generators standard (Some action) name seed out) = action ∷ name ∷ seed ∷ out ∷ []
-names_of (Zqt generators subspace name out) = subspace ∷ name ∷ out ∷ []
-names_of (Chop generators seed words name) = name ∷ []
+abbrev pub file_names : Command → List (List ℕ)
+file_names (Zcv input out) = input ∷ out ∷ []
+file_names (Zpr input None) = input ∷ []
+file_names (Zpr input (Some out)) = input ∷ out ∷ []
+file_names (Zmu left right out) = left ∷ right ∷ out ∷ []
+file_names (Zad left right out) = left ∷ right ∷ out ∷ []
+file_names (Ztr input out) = input ∷ out ∷ []
+file_names (Ziv input out) = input ∷ out ∷ []
+file_names (Znu input out) = input ∷ out ∷ []
+file_names (Zsp generators standard None name seed out) = name ∷ seed ∷ out ∷ []
+file_names (Zsp generators standard (Some action) name seed out) = action ∷ name ∷ seed ∷ out ∷ []
+file_names (Zqt generators subspace name out) = subspace ∷ name ∷ out ∷ []
+file_names (Chop generators seed words name) = name ∷ []
 
 -- each word of the command that stands for a file keeps the rule of names
 abbrev pub HasNames : Command → Type 0
-HasNames command = list_all is_name (names_of command) ≡ true
+HasNames command = list_all is_name (file_names command) ≡ true
 
 -- a command's numbers of generators and of words are in their ranges, as its type keeps them
 abbrev pub HasCounts : Command → Type 0

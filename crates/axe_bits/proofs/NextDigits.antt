@@ -7,10 +7,9 @@ use Rattle.std.proofs.lemmas.List.Elements.{All-get_or}
 use Rattle.std.proofs.lemmas.Nat.Bits.{bit_at-zero, bit_at_above, bit_at-trailing_zeros}
 use Rattle.std.proofs.Math.Nat.{div-le_self}
 use native.Mathlib.Decide.{dec_lt}
-use Rattle.axe_lane.specs.Entries.{IsFirstNonzero}
+use Rattle.axe_lane.specs.Entries.{IsFirstNonzero, AreZerosBetween, AreZerosFrom, IsNextNonzero}
 use Rattle.axe_lane.specs.Words.{HasNoSetBit, IsFirstSetBit}
 use Rattle.axe_bits.specs.Bits.{bit_of, bits, HoldsBits}
-use Rattle.axe_bits.specs.Digits.{AreZerosBetween, AreZerosFrom, IsNextNonzero}
 use Rattle.axe_bits.proofs.BitLaws.{length-bits, get_or-bits, bit_of-word, bit_of-further, bit_at-shifted}
 
 -- the digits of words, also past the end

@@ -5,9 +5,9 @@ use Rattle.std.proofs.lemmas.List.{ext_get_or, get_or_past, get_or-map, length-m
 use Rattle.std.proofs.lemmas.List.Elements.{All-get_or, All-from_get_or}
 use native.Mathlib.Decide.{dec_lt}
 use Rattle.axe_algebra.proofs.ListEntries.{listed_at}
-use Rattle.axe_lane.specs.Bytes.{multiple}
+use Rattle.axe_lane.specs.Bytes.{multiple_modulo}
 use Rattle.axe_lane.proofs.ByteLaws.{multiple_by_zero, multiple_by_one}
-use Rattle.axe_bits.specs.Digits.{AreZerosBetween, AreZerosFrom, IsNextNonzero}
+use Rattle.axe_lane.specs.Entries.{AreZerosBetween, AreZerosFrom, IsNextNonzero}
 use Rattle.std.specs.Option.{unwrap_or}
 use Rattle.axe_bits.specs.Earlier.{earlier_of}
 use Rattle.axe_bits.specs.Trits.{trits, HoldTrits}
@@ -92,7 +92,6 @@ module _ (a b x : List ℕ) (h : HoldTrits a b) (is : trits a b ≡ x) where
   -- the second layer is asked for a digit before the one of the first layer
   pub next_of_trits : (start end : ℕ) (r s : Option ℕ) → IsNext a start r → end ≡ unwrap_or r (length b) →
       IsNextBefore b start end s → IsNext x start (earlier_of r s)
-  unfolding earlier_of
   next_of_trits start end None None ones is_end twos = λ j from. elim (dec_lt j end) [
     | yes inside ↦ omega (arith, trit_of j, ones j from, twos j from inside)
     | no outside ↦ omega (arith, trit_of j, ones j from, get_or_past b j 0 (omega (arith, is_end)))
@@ -152,36 +151,36 @@ HoldTrits-exchanged a b h = record {
 }
 
 module _ (a b x : List ℕ) (h : HoldTrits a b) (is : trits a b ≡ x) where
-  no_ones : multiple 2 0 a ≡ zeros (length a)
+  no_ones : multiple_modulo 2 0 a ≡ zeros (length a)
   no_ones = sym (multiple_by_zero 2 0 refl (lit< tt) a)
 
-  no_twos : multiple 2 0 b ≡ zeros (length a)
+  no_twos : multiple_modulo 2 0 b ≡ zeros (length a)
   no_twos = sym (multiple_by_zero 2 0 refl (lit< tt) b) ∙ ap zeros h.as_long
 
-  pub HoldTrits-none : HoldTrits (multiple 2 0 a) (multiple 2 0 b)
+  pub HoldTrits-none : HoldTrits (multiple_modulo 2 0 a) (multiple_modulo 2 0 b)
   HoldTrits-none = rw (no_ones, no_twos) (HoldTrits-zeros (length a))
 
   -- the multiple by 0 has no bits
-  pub trits_by_zero : (m : ℕ) → m ≡ 0 → trits (multiple 2 0 a) (multiple 2 0 b) ≡ multiple 3 m x
+  pub trits_by_zero : (m : ℕ) → m ≡ 0 → trits (multiple_modulo 2 0 a) (multiple_modulo 2 0 b) ≡ multiple_modulo 3 m x
   trits_by_zero m zero =
       ap₂ trits no_ones no_twos ∙ trits-zeros (length a) ∙ ap zeros (sym (trits_long a b x h is))
       ∙ multiple_by_zero 3 m zero (lit< tt) x
 
   -- the multiple by 1 is the same
-  pub trits_by_one : (m : ℕ) → m ≡ 1 → x ≡ multiple 3 m x
+  pub trits_by_one : (m : ℕ) → m ≡ 1 → x ≡ multiple_modulo 3 m x
   trits_by_one m one =
       multiple_by_one 3 m one x
       (All-from_get_or (λ digit. digit < 3) x 0 (λ e _. omega (arith, trit_of a b x h is e, h.apart e)))
 
   -- the multiple by 2 has the layers the other way round
-  pub trits_by_two : (m : ℕ) → m ≡ 2 → trits b a ≡ multiple 3 m x
+  pub trits_by_two : (m : ℕ) → m ≡ 2 → trits b a ≡ multiple_modulo 3 m x
   trits_by_two m two =
-      ext_get_or 0 (trits b a) (multiple 3 m x) long (λ e inside.
+      ext_get_or 0 (trits b a) (multiple_modulo 3 m x) long (λ e inside.
       let here : e < length x = omega (arith, long, length-map x (λ y. (m * y) % 3)) in
       trit_at b a (HoldTrits-exchanged a b h) e ∙ twice e ∙ ap (λ k. (k * get_or x e 0) % 3) (sym two)
       ∙ sym (get_or-map (λ y. (m * y) % 3) x e 0 0 here))
     where
-      long : length (trits b a) ≡ length (multiple 3 m x)
+      long : length (trits b a) ≡ length (multiple_modulo 3 m x)
       long = length-trits b a ∙ h.as_long ∙ sym (trits_long a b x h is) ∙ sym (length-map x (λ y. (m * y) % 3))
 
       twice : (e : ℕ) → get_or b e 0 + 2 * get_or a e 0 ≡ (2 * get_or x e 0) % 3

@@ -1,5 +1,5 @@
 -- Lists of digits modulo a prime.
-use Rattle.std.specs.Prelude.{◌≡◌, ◌≢◌, ℕ, ◌+◌, ◌*◌, ◌/◌, ◌%◌, ◌^◌, ◌<◌, ◌≤◌, List, [], ◌∷◌}
+use Rattle.std.specs.Prelude.{ℕ, ◌+◌, ◌*◌, ◌/◌, ◌%◌, ◌^◌, ◌<◌, List, [], ◌∷◌}
 use Rattle.std.specs.Prelude.{length, map, slice_index, All}
 use Rattle.std.specs.Simd.Lanes.{chunk}
 use Rattle.axe_algebra.specs.Digits.{number_with_digits}
@@ -29,21 +29,6 @@ numbers_with_multiple a m digits = listed (length a) (λ e. slice_index a e + m 
 -- each sum of a number and m times the digit at its index is below 256
 abbrev pub AreSmallSums : List ℕ → ℕ → List ℕ → Type 0
 AreSmallSums a m digits = (e : ℕ) → e < length digits → slice_index a e + m * slice_index digits e < 256
-
--- the numbers of a list from an index on are 0
-abbrev pub AreZerosFrom : List ℕ → ℕ → Type 0
-AreZerosFrom numbers start = (j : ℕ) → start ≤ j → slice_index numbers j ≡ 0
-
--- the numbers of a list from an index on and before another are 0
-abbrev pub AreZerosBetween : List ℕ → ℕ → ℕ → Type 0
-AreZerosBetween numbers start end = (j : ℕ) → start ≤ j → j < end → slice_index numbers j ≡ 0
-
--- the first number other than 0 from `start` on is the one at this index
-pub record IsNextNonzero (numbers : List ℕ) (start index : ℕ) : Type 0 where
-  pub within : index < length numbers
-  pub not_before : start ≤ index
-  pub nonzero : slice_index numbers index ≢ 0
-  pub zeros_between : (j : ℕ) → start ≤ j → j < index → slice_index numbers j ≡ 0
 
 -- the number whose digits in base b, most significant first, are those of a list from an index on, `size` of them or
 -- those that there are

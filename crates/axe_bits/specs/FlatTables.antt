@@ -1,4 +1,4 @@
--- Tables of planes of bits in one flat list: entry x is the piece from x w on, where an entry takes w words of the list.
+-- Tables of planes of bits in one flat list: entry x is the piece from x w on, where an entry takes w words.
 use Rattle.std.specs.Prelude.{◌≡◌, ℕ, ◌+◌, ◌*◌, ◌/◌, ◌^◌, ◌<◌, List, length}
 use Rattle.std.specs.Simd.Lanes.{chunk}
 use Rattle.axe_algebra.specs.Lists.{listed}

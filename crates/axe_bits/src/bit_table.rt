@@ -5,13 +5,11 @@ ghost use Rattle.axe_bits.specs.Digits.{digits_with_multiple};
 ghost use Rattle.axe_bits.specs.Trits.{trits, trit_entries, HoldLayers, HoldTritEntries};
 
 use crate::BitPlane;
+use crate::parts::WORD;
 use crate::pieces::start_of;
 use axe_lane::{add_trits, xor_into};
 use std::alloc::{AllocError, Global};
 use std::marker::Model;
-
-/// How many digits a word has.
-const WORD: usize = 64;
 
 /// A list of planes of one length modulo 2, its entries: entry x has the words from x w on, where w, the width, is how
 /// many words a plane has.
@@ -55,7 +53,8 @@ impl BitTable {
     pub fn entry(&self, index: usize) -> &[u64]
         requires { index < length self.now }
         ensures holds { HoldsBits (length (slice_index_or self.now index [])) result.now }
-        ensures digits { bits (length (slice_index_or self.now index [])) result.now ≡ slice_index_or self.now index [] }
+        ensures digits { bits (length (slice_index_or self.now index [])) result.now
+            ≡ slice_index_or self.now index [] }
     {
         let start = start_of(index, self.width, self.count);
         &self.words[start..start + self.width]

@@ -4,21 +4,18 @@ ghost use Rattle.std.specs.Prelude.{ℕ, ◌≡◌, ◌≢◌, ◌+◌, ◌*◌,
 ghost use Rattle.std.specs.Prelude.{replicate, slice_index, slice_set, All, MatchOption};
 ghost use Rattle.axe_algebra.specs.Digits.{number_with_digits};
 ghost use Rattle.axe_algebra.specs.Lists.{listed};
-ghost use Rattle.axe_lane.specs.Bytes.{multiple, sum_of_products};
-ghost use Rattle.axe_lane.specs.Entries.{IsFirstNonzero};
+ghost use Rattle.axe_lane.specs.Bytes.{multiple_modulo, sum_of_products};
+ghost use Rattle.axe_lane.specs.Entries.{IsFirstNonzero, AreZerosBetween, AreZerosFrom, IsNextNonzero};
 ghost use Rattle.axe_bits.specs.Bits.{bits, HoldsBits};
 ghost use Rattle.axe_bits.specs.Digits.{AreDigits, digits_at, digits_with_four, digits_with_multiple};
 ghost use Rattle.axe_bits.specs.Digits.{AreSmallSums, numbers_with_multiple};
-ghost use Rattle.axe_bits.specs.Digits.{AreZerosBetween, AreZerosFrom, IsNextNonzero, number_from, numbers_from};
+ghost use Rattle.axe_bits.specs.Digits.{number_from, numbers_from};
 ghost use Rattle.axe_bits.specs.Trits.{trits, HoldLayers, HoldTrits};
 
-use crate::parts::{add_spread, gathered, lowest, spread, word_from};
+use crate::parts::{WORD, add_spread, gathered, lowest, spread, word_from};
 use axe_lane::{add_trits, any_nonzero, bits_of_bytes, first_set, parity_and, xor_into, xor4_into};
 use std::alloc::{AllocError, Global};
 use std::marker::Model;
-
-/// How many digits a word has.
-const WORD: usize = 64;
 
 /// A list of digits modulo 2, one in each bit: digit e is bit e mod 64 of word e / 64. The bits from its length on are
 /// 0.
@@ -251,7 +248,7 @@ impl BitPlane {
     /// Multiplies each digit by a factor modulo 2: the factor 0 makes zeros, and 1 changes nothing.
     pub fn scale(&mut self, factor: u8)
         requires { factor < 2 }
-        ensures { self.new ≡ multiple 2 factor self.old }
+        ensures { self.new ≡ multiple_modulo 2 factor self.old }
     {
         if factor == 0 {
             self.words.fill(0);

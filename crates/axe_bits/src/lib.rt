@@ -6,11 +6,13 @@ mod bit_table;
 mod bits;
 mod parts;
 mod pieces;
+mod places;
 mod trit_table;
 mod trits;
 
 pub use bit_table::BitTable;
 pub use bits::BitPlane;
 pub use pieces::start_of;
+pub use places::earlier;
 pub use trit_table::TritTable;
 pub use trits::TritPlane;

@@ -4,7 +4,7 @@ ghost use Rattle.std.specs.Prelude.{ℕ, ◌≡◌, ◌+◌, ◌*◌, ◌/◌, �
 ghost use Rattle.axe_bits.specs.Bits.{bit_of};
 
 /// How many digits a word has.
-const WORD: usize = 64;
+pub(crate) const WORD: usize = 64;
 
 /// The word of the digits at the indices that a list has from one of its places on, as many as a word holds; where
 /// there is no index, the digit is 0.

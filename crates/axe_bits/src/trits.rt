@@ -2,17 +2,15 @@
 ghost use Rattle.std.specs.Prelude.{ℕ, ◌≡◌, ◌+◌, ◌*◌, ◌%◌, ◌^◌, ◌<◌, ◌≤◌, ◌↔◌, IsTrue, IfOk, length, map};
 ghost use Rattle.std.specs.Prelude.{replicate, slice_index, slice_set, All, MatchOption};
 ghost use Rattle.axe_algebra.specs.Lists.{listed};
-ghost use Rattle.axe_lane.specs.Bytes.{multiple, sum_of_products};
-ghost use Rattle.axe_lane.specs.Entries.{IsFirstNonzero};
+ghost use Rattle.axe_lane.specs.Bytes.{multiple_modulo, sum_of_products};
+ghost use Rattle.axe_lane.specs.Entries.{IsFirstNonzero, AreZerosFrom, IsNextNonzero};
 ghost use Rattle.axe_bits.specs.Bits.{bits};
 ghost use Rattle.axe_bits.specs.Trits.{trits, HoldLayers};
 ghost use Rattle.axe_bits.specs.Digits.{AreDigits, digits_with_multiple};
-ghost use Rattle.axe_bits.specs.Earlier.{earlier_of};
-ghost use Rattle.axe_bits.specs.Digits.{AreSmallSums, numbers_with_multiple};
-ghost use Rattle.axe_bits.specs.Digits.{AreZerosFrom, IsNextNonzero, numbers_from};
+ghost use Rattle.axe_bits.specs.Digits.{AreSmallSums, numbers_with_multiple, numbers_from};
 
-use crate::BitPlane;
 use crate::bits::add_layers;
+use crate::{BitPlane, earlier};
 use axe_lane::dot_trits;
 use std::alloc::{AllocError, Global};
 use std::marker::Model;
@@ -190,7 +188,7 @@ impl TritPlane {
     /// Multiplies each digit by a factor modulo 3.
     pub fn scale(&mut self, factor: u8)
         requires { factor < 3 }
-        ensures { self.new ≡ multiple 3 factor self.old }
+        ensures { self.new ≡ multiple_modulo 3 factor self.old }
     {
         match factor {
             0 => {
@@ -240,19 +238,5 @@ impl TritPlane {
         ensures { IsTrue result ↔ (self.now ≡ other.now) }
     {
         self.ones.same(&other.ones) && self.twos.same(&other.twos)
-    }
-}
-
-/// The earlier of two places, each of which may be missing.
-#[tactic(auto, unfolding(crate::specs::Earlier::earlier_of))]
-fn earlier(a: Option<usize>, b: Option<usize>) -> Option<usize>
-    ensures { result ≡ earlier_of a b }
-{
-    match a {
-        None => b,
-        Some(i) => Some(match b {
-            None => i,
-            Some(j) => i.min(j),
-        }),
     }
 }

@@ -1,4 +1,3 @@
-pub mod Appending
 pub mod Knowing
 pub mod Placing
 pub mod Cutting

@@ -16,7 +16,7 @@ use Rattle.axe_series.specs.Runs.{FoundValue}
 use Rattle.axe_series.specs.Series.{IsSeries, IsPlaceOf, AreInOrderOfAppearance, sizes_of_places}
 use Rattle.axe_report.specs.Limits.{most_words}
 use Rattle.axe_report.specs.Names.{names_of}
-use Rattle.axe_report.specs.Reports.{FactorValue, ReportValue, names, dims, multiplicities, counts_in, IsHeader, IsReport}
+use Rattle.axe_report.specs.Reports.{FactorValue, ReportValue, names, dims, multiplicities, counts_in, IsReportHeader, IsReport}
 use Rattle.axe_report.specs.declared.report.ReportHeader.{ReportHeader}
 use Rattle.axe_report.proofs.NumberedFactors.{AreNumbered, numbered_report, numbered_by_parts}
 use Rattle.axe_chop.specs.Chopped.{dims_of, multiplicities_in, IsNamed}
@@ -56,7 +56,7 @@ module _ (m : ModuleValue) (seed words : ℕ) (basis : MatrixValue) (factors : L
   abbrev header : ReportHeader
   header = record { field = m.order; dim = m.dim; gens = length m.generators; seed = seed; words = words }
 
-  header_fits : IsHeader header
+  header_fits : IsReportHeader header
   header_fits = record {
     some_dim = omega (arith, is.over.positive);
     dim = is.dim_fits;

@@ -21,7 +21,8 @@ pub fn chop(alloc: Global, module: &Module, seed: u64, words: u32) -> Result<Cho
     requires words { words ≤ MAX_WORDS }
     ensures run { AnswersChop «module».now seed words result }
     ensures holds { IsTrueAnswer «module».now seed words result }
-    ensures small { point_count (order_number «module».now.order) «module».now.dim ≤ most_points → IsNotUndecided result }
+    ensures small { point_count (order_number «module».now.order) «module».now.dim ≤ most_points →
+        IsNotUndecided result }
 {
     prove!(module.dim() >= 1);
     match search(alloc, module, seed, words)? {

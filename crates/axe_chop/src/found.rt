@@ -1,6 +1,6 @@
 //! What is found of a composition series.
 
-ghost use Rattle.std.specs.Prelude.{◌≡◌, ℕ, ◌+◌, ◌≤◌, [], ◌++◌, length, All, None};
+ghost use Rattle.std.specs.Prelude.{◌≡◌, ℕ, ◌+◌, ◌≤◌, [], length, All, None};
 ghost use Rattle.axe_row.specs.Refusals.{Answers};
 ghost use Rattle.axe_matrix.specs.Limits.{most_rows};
 ghost use Rattle.axe_matrix.specs.Matrices.{IsMatrix};
@@ -95,7 +95,7 @@ impl Found {
         ensures well_formed { IsMatrix self.old.basis → Answers None (λ _. IsMatrix self.new.basis) result }
     {
         let rows = lift.mul(alloc, section.rows())?;
-        append_rows(alloc, &mut self.basis, &rows)?;
+        self.basis.append_rows(alloc, &rows)?;
         self.places.push(number as u16)?;
         Ok(())
     }
@@ -117,19 +117,4 @@ fn known_form(
         }
     }
     Ok(None)
-}
-
-/// Appends the rows of one matrix to those of another over one field and of one length; there are no more rows than a
-/// matrix may have.
-pub(crate) fn append_rows(alloc: Global, basis: &mut Matrix, rows: &Matrix) -> Result<(), Refusal>
-    requires field { rows.now.order ≡ basis.old.order }
-    requires fits { rows.now.cols ≡ basis.old.cols }
-    requires room { length basis.old.rows + length rows.now.rows ≤ most_rows }
-    ensures { Answers None (λ _. basis.new ≡ record basis.old { rows = basis.old.rows ++ rows.now.rows }) result }
-{
-    for index in 0..rows.rows() {
-        let row = rows.row(index).copy(alloc)?;
-        basis.append(row)?;
-    }
-    Ok(())
 }

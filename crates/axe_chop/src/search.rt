@@ -10,7 +10,7 @@ ghost use Rattle.axe_chop.specs.Stages.{IsSection, IsRowsLike, sections_dim, wit
 ghost use Rattle.axe_chop.specs.Searches.{ArePartsBefore, IsSearched};
 ghost use Rattle.axe_chop.specs.declared.search.Searched.TheVariants.{Open};
 
-use crate::found::{Found, append_rows};
+use crate::found::Found;
 use crate::section::Section;
 use axe_matrix::{Matrix, Refusal};
 use axe_norton::{MAX_WORDS, Verdict, decide};
@@ -96,15 +96,16 @@ fn open_at(
     requires after_like { All (IsRowsLike found.basis) after.now.items }
     requires room { length found.basis.rows + sections_dim (section.now ∷ after.now.items) ≤ most_rows }
     ensures opened { Answers None (λ searched. searched ≡ Open
-        (with_sections found.basis (section.now ∷ after.now.items)) (length found.basis.rows) section.now.action.dim) result }
+        (with_sections found.basis (section.now ∷ after.now.items)) (length found.basis.rows)
+        section.now.action.dim) result }
     ensures well_formed { IfOk result (λ _. IsMatrix (with_sections found.basis (section.now ∷ after.now.items))) }
 {
     let mut basis = found.basis;
     let offset = basis.rows();
     let dim = section.action().dim();
-    append_rows(alloc, &mut basis, section.rows())?;
+    basis.append_rows(alloc, section.rows())?;
     for index in 0..after.len() {
-        append_rows(alloc, &mut basis, after[index].rows())?;
+        basis.append_rows(alloc, after[index].rows())?;
     }
     Ok(Searched::Open { basis, offset, dim })
 }

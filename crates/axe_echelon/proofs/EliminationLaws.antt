@@ -24,7 +24,8 @@ use Rattle.axe_field.specs.Order.{Order, IsElement}
 use Rattle.axe_field.specs.Arithmetic.{field_neg, field_mul}
 use Rattle.axe_field.specs.NumberFields.{number_field, gf}
 use Rattle.axe_row.specs.Rows.{RowValue, IsRow}
-use Rattle.axe_row.specs.Operations.{multiple, multiple_row, IsZeroVector, IsFirstNonzero}
+use Rattle.axe_lane.specs.Entries.{IsFirstNonzero}
+use Rattle.axe_row.specs.Operations.{multiple, multiple_row, IsZeroVector}
 use Rattle.axe_row.proofs.OperationLaws.{get_or-multiple, length-multiple}
 use Rattle.axe_echelon.specs.Echelons.{EchelonValue, IsEchelon, with_row_where, AreCoordinates}
 use Rattle.axe_echelon.specs.Steps.{IsEliminated, Cancels, IsNextStep}

@@ -22,7 +22,7 @@ use Rattle.axe_field.specs.Order.{Order}
 use Rattle.axe_field.specs.NumberFields.{number_field}
 use Rattle.axe_matrix.specs.Matrices.{MatrixValue, IsMatrix}
 use Rattle.axe_matrix.specs.Limits.{most_rows, most_columns}
-use Rattle.axe_reduction.specs.Solutions.{IsInvertible as HasInverse}
+use Rattle.axe_reduction.specs.Solutions.{IsInvertibleMatrix as HasInverse}
 use Rattle.axe_echelon.specs.Echelons.{IsNullSpaceMatrix}
 use Rattle.axe_echelon.proofs.InverseLaws.{matrix_over}
 

@@ -20,7 +20,8 @@ use Rattle.axe_field.specs.Order.{Order, IsElement}
 use Rattle.axe_field.specs.Arithmetic.{field_mul}
 use Rattle.axe_field.specs.NumberFields.{number_field, gf}
 use Rattle.axe_row.specs.Rows.{RowValue, IsRow}
-use Rattle.axe_row.specs.Operations.{multiple, multiple_row, IsZeroVector, IsFirstNonzero}
+use Rattle.axe_lane.specs.Entries.{IsFirstNonzero}
+use Rattle.axe_row.specs.Operations.{multiple, multiple_row, IsZeroVector}
 use Rattle.axe_row.proofs.OperationLaws.{get_or-multiple, length-multiple}
 use Rattle.axe_echelon.specs.Echelons.{EchelonValue, IsEchelon}
 use Rattle.axe_echelon.specs.Steps.{echelon_of, IsNextStep, AreTabledSteps}

@@ -11,8 +11,8 @@ use Rattle.axe_row.specs.declared.refusals.Refusal.TheVariants.{NotSquare, NoRow
 use Rattle.axe_matrix.specs.Limits.{most_columns}
 use Rattle.axe_matrix.specs.Matrices.{MatrixValue}
 
--- the order of the field, the length of the rows, and independent rows: of an `Echelon` those for which insertion answered
--- true, in their order; of a `Subspace` those of its echelon form
+-- the order of the field, the length of the rows, and independent rows: of an `Echelon` those for which insertion
+-- answered true, in their order; of a `Subspace` those of its echelon form
 pub record EchelonValue : Type 0 where
   pub order : Order
   pub cols : ℕ

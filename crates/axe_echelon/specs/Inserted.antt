@@ -27,8 +27,9 @@ pub record IsRelation (e : EchelonValue) (units : MatrixValue) (v unit : List �
       (times (gf e.order) (length e.rows) (vector_of (number_field e.order) coordinates.entries)
       (matrix_of (number_field e.order) units.rows)))
 
--- the vector is the unit vector less the combination of the rows of `units` with these coordinates: it is the relation of
--- each v that has them over as many rows
-pub record IsRelationWith (units : MatrixValue) (coordinates : RowValue) (unit : List ℕ) (vector : RowValue) : Type 0 where
-  pub relates : (e : EchelonValue) (v : List ℕ) → e.order ≡ units.order → length e.rows ≡ length units.rows → AreCoordinates e v coordinates →
-      IsRelation e units v unit vector
+-- the vector is the unit vector less the combination of the rows of `units` with these coordinates: it is the relation
+-- of each v that has them over as many rows
+pub record IsRelationWith (units : MatrixValue) (coordinates : RowValue) (unit : List ℕ)
+    (vector : RowValue) : Type 0 where
+  pub relates : (e : EchelonValue) (v : List ℕ) → e.order ≡ units.order → length e.rows ≡ length units.rows →
+      AreCoordinates e v coordinates → IsRelation e units v unit vector

@@ -15,19 +15,23 @@ use Rattle.axe_echelon.specs.Echelons.{EchelonValue}
 use Rattle.axe_echelon.specs.Forms.{IsEchelonForm}
 use Rattle.axe_echelon.specs.declared.Step.{Step}
 
--- the rows as they were inserted, the rows of the echelon form, their coefficients, and their pivots
+-- the rows as they were inserted
 abbrev pub inserted_rows : List Step → List (List ℕ)
 inserted_rows steps = map (λ (step : Step). step.inserted.entries) steps
 
+-- the rows of the echelon form
 abbrev pub echelon_rows : List Step → List (List ℕ)
 echelon_rows steps = map (λ (step : Step). step.row.entries) steps
 
+-- their coefficients over the rows inserted
 abbrev pub coefficient_rows : List Step → List (List ℕ)
 coefficient_rows steps = map (λ (step : Step). step.coefficients.entries) steps
 
+-- their pivots
 abbrev pub pivots : List Step → List ℕ
 pivots steps = map (λ (step : Step). step.pivot) steps
 
+-- what these steps have inserted, over a field of this order and with so many columns
 abbrev pub echelon_of : Order → ℕ → List Step → EchelonValue
 echelon_of order cols steps = record { order = order; cols = cols; rows = inserted_rows steps }
 

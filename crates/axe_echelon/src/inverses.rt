@@ -4,7 +4,7 @@ ghost use Rattle.std.specs.Prelude.{IfOk};
 ghost use Rattle.axe_row.specs.Refusals.{AnswersOr, RefusedAs};
 ghost use Rattle.axe_row.specs.declared.refusals.Refusal.TheVariants.{Singular};
 ghost use Rattle.axe_matrix.specs.Matrices.{IsMatrix};
-ghost use Rattle.axe_reduction.specs.Solutions.{IsInverseMatrix, IsInvertible};
+ghost use Rattle.axe_reduction.specs.Solutions.{IsInverseMatrix, IsInvertibleMatrix};
 ghost use Rattle.axe_echelon.specs.Echelons.{inverse_refusal};
 
 use axe_matrix::{Matrix, Refusal};
@@ -15,7 +15,7 @@ use std::alloc::Global;
 /// square is refused as NotSquare, and a square one that has no inverse as Singular.
 pub fn inverse(alloc: Global, matrix: &Matrix) -> Result<Matrix, Refusal>
     ensures inverse { AnswersOr (inverse_refusal matrix.now) (IsInverseMatrix matrix.now)
-        (RefusedAs Singular (¬ (IsInvertible matrix.now))) result }
+        (RefusedAs Singular (¬ (IsInvertibleMatrix matrix.now))) result }
     ensures well_formed { IfOk result IsMatrix }
 {
     if matrix.rows() != matrix.cols() {

@@ -8,7 +8,7 @@ ghost use Rattle.axe_algebra.specs.Lists.{listed, IsVectorOver};
 ghost use Rattle.axe_algebra.specs.SpansOfLists.{IsPivot, IsRepresentative, IsSpanned};
 ghost use Rattle.axe_field.specs.Arithmetic.{field_neg};
 ghost use Rattle.axe_field.specs.NumberFields.{number_field};
-ghost use Rattle.axe_row.specs.Operations.{IsFirstNonzero};
+ghost use Rattle.axe_lane.specs.Entries.{IsFirstNonzero};
 ghost use Rattle.axe_row.specs.Refusals.{Answers};
 ghost use Rattle.axe_row.specs.Rows.{IsRow};
 ghost use Rattle.axe_matrix.specs.Limits.{most_columns};

@@ -4,7 +4,7 @@ use Rattle.std.proofs.lemmas.Bool.{eqb-true, true≢false}
 use Rattle.std.proofs.lemmas.Option.{none-some}
 use Rattle.axe_row.specs.declared.refusals.Refusal.TheVariants.{NotSquare, Singular, NoRows}
 use Rattle.axe_matrix.specs.Matrices.{MatrixValue, IsMatrix}
-use Rattle.axe_reduction.specs.Solutions.{IsInverseMatrix, IsInvertible}
+use Rattle.axe_reduction.specs.Solutions.{IsInverseMatrix, IsInvertibleMatrix}
 use Rattle.axe_echelon.specs.Echelons.{null_space_refusal, IsNullSpaceMatrix, inverse_refusal}
 use Rattle.axe_folder.specs.Files.{Files}
 use Rattle.axe_arguments.specs.Commands.{HasCounts}
@@ -47,17 +47,17 @@ rows_if_not_refused a e = rows_of_test (length a.rows == 0) (length a.rows) refl
 inverse_one : (a : MatrixValue) → IsMatrix a → AtMostOne (InverseOf a)
 unfolding InverseOf
 inverse_one a well =
-    unless_refused_one (inverse_refusal a) (HasOr (IsInverseMatrix a) (RefusedAs Singular (¬ (IsInvertible a))))
-    (λ e. has_or_one (IsInverseMatrix a) (RefusedAs Singular (¬ (IsInvertible a))) (λ b c. inverse_is_one a b c well (square_if_not_refused a e))
+    unless_refused_one (inverse_refusal a) (HasOr (IsInverseMatrix a) (RefusedAs Singular (¬ (IsInvertibleMatrix a))))
+    (λ e. has_or_one (IsInverseMatrix a) (RefusedAs Singular (¬ (IsInvertibleMatrix a))) (λ b c. inverse_is_one a b c well (square_if_not_refused a e))
     (λ first second stands holds. stands.0 ∙ sym holds.0) (λ b refusal inverts none. none.1 (b, inverts)))
 
 inverse_some : (a : MatrixValue) → IsMatrix a → Answered (InverseOf a)
 unfolding InverseOf
 inverse_some a well =
-    unless_refused_some (inverse_refusal a) (HasOr (IsInverseMatrix a) (RefusedAs Singular (¬ (IsInvertible a))))
+    unless_refused_some (inverse_refusal a) (HasOr (IsInverseMatrix a) (RefusedAs Singular (¬ (IsInvertibleMatrix a))))
     (λ e. from (inverse_or_none a well (square_if_not_refused a e)))
   where
-    from : IsInvertible a ⊎ (¬ (IsInvertible a)) → Answered (HasOr (IsInverseMatrix a) (RefusedAs Singular (¬ (IsInvertible a))))
+    from : IsInvertibleMatrix a ⊎ (¬ (IsInvertibleMatrix a)) → Answered (HasOr (IsInverseMatrix a) (RefusedAs Singular (¬ (IsInvertibleMatrix a))))
     from (inl (inverse, inverts)) = (Ok inverse, inverts)
     from (inr none) = (Err (Refuses Singular), (Singular, (refl, none), refl))
 

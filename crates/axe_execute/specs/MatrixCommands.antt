@@ -6,7 +6,7 @@ use Rattle.axe_matrix.specs.Matrices.{MatrixValue, IsMatrix, product_refusal, ma
 use Rattle.axe_matrix.specs.Matrices.{sum_of_matrices, transpose_refusal, transposed_matrix}
 use Rattle.axe_reduction.specs.Solutions.{IsInverseMatrix}
 use Rattle.axe_echelon.specs.Echelons.{null_space_refusal, IsNullSpaceMatrix, inverse_refusal}
-use Rattle.axe_reduction.specs.Solutions.{IsInvertible}
+use Rattle.axe_reduction.specs.Solutions.{IsInvertibleMatrix}
 use Rattle.axe_folder.specs.Files.{Files}
 use Rattle.axe_plan.specs.Plans.{Plan}
 use Rattle.axe_plan.specs.Meanings.{Meaning, Is, Has, HasOr, UnlessRefused, ◌>>=◌}
@@ -27,7 +27,8 @@ TransposeOf a = UnlessRefused (transpose_refusal a) (Has (λ transpose. transpos
 
 -- the inverse of a matrix, which has to be square; where there is none it is refused as singular
 unfoldable pub InverseOf : MatrixValue → Meaning MatrixValue
-InverseOf a = UnlessRefused (inverse_refusal a) (HasOr (IsInverseMatrix a) (RefusedAs Singular (¬ (IsInvertible a))))
+InverseOf a =
+    UnlessRefused (inverse_refusal a) (HasOr (IsInverseMatrix a) (RefusedAs Singular (¬ (IsInvertibleMatrix a))))
 
 -- the reduced basis of the null space of a matrix, unless it has no rows
 unfoldable pub NullSpaceOf : MatrixValue → Meaning MatrixValue

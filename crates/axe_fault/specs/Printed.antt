@@ -49,13 +49,13 @@ folder_number folder.Device = 42
 folder_number folder.Memory = 50
 
 -- the number of a fault
-abbrev pub number_of : Fault → ℕ
-number_of (File name fault) = file_number fault
-number_of (Folder name fault) = folder_number fault
-number_of (Refused refusal) = refusal_number refusal
-number_of (Undecided basis offset dim) = 30
-number_of (Usage text) = 60
-number_of Memory = 50
+abbrev pub fault_number : Fault → ℕ
+fault_number (File name fault) = file_number fault
+fault_number (Folder name fault) = folder_number fault
+fault_number (Refused refusal) = refusal_number refusal
+fault_number (Undecided basis offset dim) = 30
+fault_number (Usage text) = 60
+fault_number Memory = 50
 
 -- the exit status for a fault in a file's bytes
 abbrev pub file_status : FileFault → ℕ

@@ -1,7 +1,7 @@
 //! What is printed of a fault, and the status with which the program ends.
 ghost use Rattle.std.specs.Prelude.{◌≡◌, IfOk, IfErr};
 ghost use Rattle.axe_fault.specs.Printed.{file_status, folder_status, refusal_status, status_of};
-ghost use Rattle.axe_fault.specs.Printed.{file_number, folder_number, refusal_number, number_of};
+ghost use Rattle.axe_fault.specs.Printed.{file_number, folder_number, refusal_number, fault_number};
 ghost use Rattle.axe_fault.specs.Printed.{file_text, folder_text, refusal_text, file_offset, program_line, file_line};
 ghost use Rattle.axe_fault.specs.Printed.{undecided_text, line_of};
 
@@ -59,7 +59,7 @@ fn refusal_status(refusal: Refusal) -> u8
 
 /// The number of a fault.
 pub fn number(fault: &Fault) -> u8
-    ensures { result ≡ number_of fault.now }
+    ensures { result ≡ fault_number fault.now }
 {
     match fault {
         Fault::File { fault, .. } => file_number(*fault),

@@ -14,6 +14,7 @@ unfoldable pub passes_below : ℕ → (ℕ → Bool) → Bool
 passes_below zero test = true
 passes_below (suc n) test = test n && passes_below n test
 
+-- what passes below n holds of each number below n
 pub passes_below-at : (n : ℕ) (test : ℕ → Bool) → passes_below n test ≡ true → (a : ℕ) → a < n → test a ≡ true
 unfolding passes_below
 passes_below-at zero test e a h = absurd (omega arith)
@@ -61,13 +62,15 @@ product_associates o a b c = eqb (field_mul o (field_mul o a b) c) (field_mul o 
 product_distributes : Order → ℕ → ℕ → ℕ → Bool
 product_distributes o a b c = eqb (field_mul o a (field_add o b c)) (field_add o (field_mul o a b) (field_mul o a c))
 
--- a law of one, two or three elements is computed at all of them
+-- a law of one element is computed at all of them
 unfoldable pub at_one : (Order → ℕ → Bool) → Order → Bool
 at_one law o = passes_below (order_number o) (law o)
 
+-- a law of two elements is computed at all pairs
 unfoldable pub at_two : (Order → ℕ → ℕ → Bool) → Order → Bool
 at_two law o = passes_below (order_number o) (λ a. passes_below (order_number o) (law o a))
 
+-- a law of three elements is computed at all triples
 at_three : (Order → ℕ → ℕ → ℕ → Bool) → Order → Bool
 at_three law o =
     passes_below (order_number o) (λ a. passes_below (order_number o) (λ b. passes_below (order_number o) (law o a b)))
@@ -81,7 +84,10 @@ laws_pass o =
     && (at_three product_associates o && at_three product_distributes o)))))))))))
 
 laws_pass-true : (o : Order) → laws_pass o ≡ true
-unfolding laws_pass at_one at_two at_three passes_below neg_is_below inv_is_below adds_zero adds_neg multiplies_one multiplies_inv sum_is_below product_is_below sum_commutes product_commutes sum_associates product_associates product_distributes coefficients number_of polynomial_sum polynomial_multiple polynomial_negative polynomial_product without_leading polynomial_remainder polynomial_of field_add field_neg field_mul field_inv
+unfolding laws_pass at_one at_two at_three passes_below neg_is_below inv_is_below adds_zero adds_neg multiplies_one
+    multiplies_inv sum_is_below product_is_below sum_commutes product_commutes sum_associates product_associates
+    product_distributes coefficients number_of polynomial_sum polynomial_multiple polynomial_negative
+    polynomial_product without_leading polynomial_remainder polynomial_of field_add field_neg field_mul field_inv
 laws_pass-true Two = refl
 laws_pass-true Three = refl
 laws_pass-true Four = refl
@@ -137,10 +143,12 @@ passes o =
       mul-add = last.1;
     }
 
+-- what was computed at all elements holds of each
 pub from_one : (law : Order → ℕ → Bool) (o : Order) → at_one law o ≡ true → (a : ℕ) → IsElement o a → law o a ≡ true
 unfolding at_one
 from_one law o e a ha = passes_below-at (order_number o) (law o) e a ha
 
+-- what was computed at all pairs holds of each
 pub from_two : (law : Order → ℕ → ℕ → Bool) (o : Order) → at_two law o ≡ true →
     (a b : ℕ) → IsElement o a → IsElement o b → law o a b ≡ true
 unfolding at_two

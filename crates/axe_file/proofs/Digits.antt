@@ -5,7 +5,7 @@ use Rattle.std.proofs.lemmas.Nat.{mul-add-lt, div-mul-add, mod-mul-add, div-add-
 use Rattle.std.proofs.lemmas.List.FromFn.{sum_by-map-range_with_len_more}
 use Rattle.axe_algebra.specs.Lists.{listed}
 use Rattle.axe_file.proofs.Lists.{listed_same}
-use Rattle.axe_file.specs.Marks.{number_with_digits, digit_of}
+use Rattle.axe_file.specs.Marks.{number_from_digits, digit_of}
 
 -- what the first n digits make, one digit after the other (Horner's rule)
 unfoldable pub horner : ℕ → (ℕ → ℕ) → ℕ → ℕ
@@ -40,8 +40,8 @@ worth_last d q n =
     let e : suc n - 1 - n ≡ 0 = omega arith in
     rw (e, pow-zero) (omega arith)
 
-pub number_is_horner : (q : ℕ) (d : ℕ → ℕ) (n : ℕ) → number_with_digits q n d ≡ horner q d n
-unfolding number_with_digits horner
+pub number_is_horner : (q : ℕ) (d : ℕ → ℕ) (n : ℕ) → number_from_digits q n d ≡ horner q d n
+unfolding number_from_digits horner
 number_is_horner q d zero = refl
 number_is_horner q d (suc n) =
     let front : sum (listed n (λ j. d j * q ^ (suc n - 1 - j))) ≡ sum (listed n (λ j. d j * q ^ (n - 1 - j))) * q =
@@ -71,12 +71,12 @@ horner_front q d n (suc s) h =
     let rest : horner q d (n + s) / q ^ s ≡ horner q d n = horner_front q d n s (λ j lt. h j (omega arith)) in
     rw (e, pow-succ', ← div-div-eq-div-mul, cut) rest
 
-pub digit_of_number : (q n : ℕ) (d : ℕ → ℕ) (j : ℕ) → ((k : ℕ) → k < n → d k < q) → j < n → digit_of q n (number_with_digits q n d) j ≡ d j
+pub digit_of_number : (q n : ℕ) (d : ℕ → ℕ) (j : ℕ) → ((k : ℕ) → k < n → d k < q) → j < n → digit_of q n (number_from_digits q n d) j ≡ d j
 unfolding digit_of
 digit_of_number q n d j h lt =
     let e : (j + 1) + (n - 1 - j) ≡ n = omega arith in
     let front : horner q d (j + 1 + (n - 1 - j)) / q ^ (n - 1 - j) ≡ horner q d (j + 1) = horner_front q d (j + 1) (n - 1 - j) (λ k below. h k (omega arith)) in
-    let whole : number_with_digits q n d / q ^ (n - 1 - j) ≡ horner q d j * q + d j =
+    let whole : number_from_digits q n d / q ^ (n - 1 - j) ≡ horner q d j * q + d j =
     ap (λ (x : ℕ). x / q ^ (n - 1 - j)) (number_is_horner q d n ∙ ap (horner q d) (sym e)) ∙ front ∙ horner-more q d j in
     rw whole (mod-mul-add (horner q d j) q (d j) (h j lt))
 
@@ -97,14 +97,14 @@ horner_of_digits q n b (suc k) below le =
     ∙ ap (λ (x : ℕ). b / q ^ (n - suc k) / q * q + b / q ^ x % q) place
     ∙ div-add-mod' (b / q ^ (n - suc k)) q
 
-pub number_of_digits : (q n b : ℕ) → b < q ^ n → number_with_digits q n (digit_of q n b) ≡ b
+pub number_of_digits : (q n b : ℕ) → b < q ^ n → number_from_digits q n (digit_of q n b) ≡ b
 number_of_digits q n b below =
     let e : n - n ≡ 0 = omega arith in
     number_is_horner q (digit_of q n b) n ∙ horner_of_digits q n b n below (omega arith) ∙ ap (λ (x : ℕ). b / q ^ x) e
     ∙ ap (λ (x : ℕ). b / x) (pow-zero q) ∙ div-one b
 
-pub number_same : (q n : ℕ) (d e : ℕ → ℕ) → ((j : ℕ) → j < n → d j ≡ e j) → number_with_digits q n d ≡ number_with_digits q n e
-unfolding number_with_digits
+pub number_same : (q n : ℕ) (d e : ℕ → ℕ) → ((j : ℕ) → j < n → d j ≡ e j) → number_from_digits q n d ≡ number_from_digits q n e
+unfolding number_from_digits
 number_same q n d e h =
     ap (λ (xs : List ℕ). sum xs) (listed_same n (λ j. d j * q ^ (n - 1 - j)) (λ j. e j * q ^ (n - 1 - j)) 0 (λ j lt. ap (λ (x : ℕ). x * q ^ (n - 1 - j)) (h j lt)))
 

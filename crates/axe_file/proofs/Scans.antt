@@ -10,7 +10,7 @@ use Rattle.axe_field.specs.Order.{Order, order_number}
 use Rattle.axe_matrix.specs.Matrices.{MatrixValue}
 use Rattle.axe_file.specs.Marks.{marks_per_byte, byte_limit, mark_of, has_unused_mark, bytes_per_row, row_marks}
 use Rattle.axe_file.specs.Packed.{header_order, header_rows, header_columns, row_width, data_length, has_padding, mark_at, unpacked}
-use Rattle.axe_file.specs.Headers.{Says}
+use Rattle.axe_file.specs.Headers.{SaysShape}
 use Rattle.axe_file.proofs.Lists.{length-listed, get_or-listed, listed_same}
 use Rattle.axe_file.proofs.Bytes.{mark_below, byte_of_column}
 use Rattle.axe_file.proofs.Layouts.{width_fits}
@@ -27,7 +27,7 @@ width_is_positive : (p r w : ℕ) → p < r * w → 0 < w
 width_is_positive p r zero lt = absurd (omega arith)
 width_is_positive p r (suc w) lt = omega arith
 
-pub fit : (bytes : List ℕ) (layout : Layout) → Says bytes layout.field (header_rows bytes) layout.columns → Fit bytes layout
+pub fit : (bytes : List ℕ) (layout : Layout) → SaysShape bytes layout.field (header_rows bytes) layout.columns → Fit bytes layout
 unfolding row_width data_length
 fit bytes layout says =
     let width : layout.width ≡ bytes_per_row (header_order bytes) (header_columns bytes) = rw (says.order, says.columns) layout.width_is in
@@ -40,7 +40,7 @@ fit bytes layout says =
       inside = λ p lt. rw (← layout.width_is) (mod-lt p (positive p lt));
     }
 
-pub padding_by_layout : (bytes : List ℕ) (layout : Layout) (p : ℕ) → Says bytes layout.field (header_rows bytes) layout.columns
+pub padding_by_layout : (bytes : List ℕ) (layout : Layout) (p : ℕ) → SaysShape bytes layout.field (header_rows bytes) layout.columns
     → has_padding bytes p ≡ has_unused_mark layout.field layout.columns (p % layout.width) (get_or bytes (16 + p) 0)
 unfolding has_padding
 padding_by_layout bytes layout p says =
@@ -67,12 +67,12 @@ pub length-row_marks : (o : Order) (columns : ℕ) (bytes : List ℕ) → length
 unfolding row_marks
 length-row_marks o columns bytes = length-listed columns _
 
-pub data_by_layout : (bytes : List ℕ) (layout : Layout) (r : ℕ) → Says bytes layout.field r layout.columns → r * layout.width ≡ data_length bytes
+pub data_by_layout : (bytes : List ℕ) (layout : Layout) (r : ℕ) → SaysShape bytes layout.field r layout.columns → r * layout.width ≡ data_length bytes
 unfolding data_length row_width
 data_by_layout bytes layout r says = rw (says.order, says.rows, says.columns, layout.width_is) refl
 
 -- the marks of row i, read from its bytes
-pub marks_at : (bytes : List ℕ) (layout : Layout) (r i : ℕ) → Says bytes layout.field r layout.columns
+pub marks_at : (bytes : List ℕ) (layout : Layout) (r i : ℕ) → SaysShape bytes layout.field r layout.columns
     → row_marks layout.field layout.columns (slice_range bytes (16 + i * layout.width) (16 + i * layout.width + layout.width)) ≡ listed layout.columns (mark_at bytes i)
 unfolding row_marks mark_at row_width
 marks_at bytes layout r i says =
@@ -100,7 +100,7 @@ pushed m new o c n f entries em ee en =
     let more : listed n f ++ f n ∷ [] ≡ listed (n + 1) f = sym (map-range_with_len_more f 0 n n (omega arith)) in
     rw (en, em, ee) (λ i. record { order = o; cols = c; rows = more i })
 
-pub unpacked_is : (bytes : List ℕ) (o : Order) (r c n : ℕ) → Says bytes o r c → n ≡ r → record { order = o; cols = c; rows = listed n (λ i. listed c (mark_at bytes i)) } ≡ unpacked bytes
+pub unpacked_is : (bytes : List ℕ) (o : Order) (r c n : ℕ) → SaysShape bytes o r c → n ≡ r → record { order = o; cols = c; rows = listed n (λ i. listed c (mark_at bytes i)) } ≡ unpacked bytes
 unfolding unpacked
 unpacked_is bytes o r c n says e = rw (e, says.order, says.rows, says.columns) refl
 

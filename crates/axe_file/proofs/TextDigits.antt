@@ -4,7 +4,7 @@ use Rattle.std.specs.Prelude.{IsTrue}
 use Rattle.std.specs.List.{filter}
 use Rattle.std.proofs.lemmas.Bool.{cases_Bool, not-true}
 use Rattle.std.proofs.lemmas.List.Elements.{All-nil, All-cons, All-head, All-tail}
-use Rattle.axe_file.specs.TextGrammar.{is_white, is_dark, is_element_digit, AreDigits}
+use Rattle.axe_file.specs.TextGrammar.{is_white, is_dark, is_element_digit, AreElementDigits}
 use Rattle.axe_file.specs.TextReading.{digits_fault}
 use Rattle.axe_file.specs.declared.fault.FileFault.{FileFault}
 use Rattle.axe_file.specs.declared.fault.FileFault.TheVariants.{BadDigit, TooFewDigits, TrailingText}
@@ -77,7 +77,7 @@ fit_digit o b d e = rw (d, e) refl
 pub digit_if_fit : (o b : ℕ) → is_white b ≡ false → IsFit o b → is_element_digit o b ≡ true
 digit_if_fit o b d f = rw d at f
 
-pub after_front : (o : ℕ) (before tail : List ℕ) (w at : ℕ) → AreDigits o before → digits_fault o (length (filter is_dark before) + w) (before ++ tail) at ≡ digits_fault o w tail (at + length before)
+pub after_front : (o : ℕ) (before tail : List ℕ) (w at : ℕ) → AreElementDigits o before → digits_fault o (length (filter is_dark before) + w) (before ++ tail) at ≡ digits_fault o w tail (at + length before)
 after_front o [] tail w at all =
     let none : 0 + w ≡ w = omega arith in
     let here : at ≡ at + 0 = omega arith in
@@ -108,13 +108,13 @@ pub record StandsAt (o : ℕ) (bytes : List ℕ) (at k count byte : ℕ) : Type 
   pub after : List ℕ
   pub whole : bytes ≡ before ++ byte ∷ after
   pub offset : k ≡ at + length before
-  pub fit : AreDigits o before
+  pub fit : AreElementDigits o before
   pub counted : length (filter is_dark before) ≡ count
   pub dark : is_dark byte ≡ true
 
 abbrev pub IsDigitsFault : ℕ → ℕ → List ℕ → ℕ → FileFault → Type 0
 IsDigitsFault o w bytes at (BadDigit k) = (count : ℕ) × (byte : ℕ) × StandsAt o bytes at k count byte × (count < w) × (is_element_digit o byte ≡ true → ⊥)
-IsDigitsFault o w bytes at TooFewDigits = AreDigits o bytes × (length (filter is_dark bytes) < w)
+IsDigitsFault o w bytes at TooFewDigits = AreElementDigits o bytes × (length (filter is_dark bytes) < w)
 IsDigitsFault o w bytes at (TrailingText k) = (byte : ℕ) × StandsAt o bytes at k w byte
 IsDigitsFault o w bytes at _ = ⊥
 
@@ -180,7 +180,7 @@ fault_is o (suc n) (b ∷ bytes) at f e = elim (cases_Bool (is_white b)) [
 
 -- white space and so many digits, and nothing else
 pub record AreAllDigits (o w : ℕ) (bytes : List ℕ) : Type 0 where
-  pub fit : AreDigits o bytes
+  pub fit : AreElementDigits o bytes
   pub counted : length (filter is_dark bytes) ≡ w
 
 pub faultless_digits : (o w : ℕ) (bytes : List ℕ) (at : ℕ) → digits_fault o w bytes at ≡ None → AreAllDigits o w bytes
@@ -218,7 +218,7 @@ no_fault o w bytes at h =
 still_wanted : (n w : ℕ) → n < w → (m : ℕ) × (w ≡ n + suc m)
 still_wanted n w lt = (w - n - 1, omega arith)
 
-too_few : (o w : ℕ) (bytes : List ℕ) (at : ℕ) → AreDigits o bytes → length (filter is_dark bytes) < w → digits_fault o w bytes at ≡ Some TooFewDigits
+too_few : (o w : ℕ) (bytes : List ℕ) (at : ℕ) → AreElementDigits o bytes → length (filter is_dark bytes) < w → digits_fault o w bytes at ≡ Some TooFewDigits
 too_few o w bytes at fit few =
     let m = still_wanted (length (filter is_dark bytes)) w few in
     ap (λ (n : ℕ). digits_fault o n bytes at) m.1

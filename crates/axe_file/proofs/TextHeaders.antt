@@ -3,7 +3,7 @@
 use Rattle.std.proofs.Common.{◌≡◌, ℕ, suc, ◌+◌, ◌<◌, ◌≤◌, List, [], ◌∷◌, ◌++◌, length, take, drop, Ok, Err, refl, sym, ap, ap₂, subst, ◌∙◌, inl, inr, append_assoc, length-append, take-append-drop, take_at, zero-add, arith}
 use Rattle.std.proofs.lemmas.Bool.{cases_lt}
 use Rattle.std.proofs.lemmas.List.{take-append-le}
-use Rattle.axe_file.specs.TextGrammar.{is_white, AreParts, Part, Space, Gap, Word, Numeral, plain_form, named_form, IsHeader, Headed, IsBeginning, HasBadHeader}
+use Rattle.axe_file.specs.TextGrammar.{is_white, AreParts, Part, Space, Gap, Word, Numeral, plain_form, named_form, IsTextHeader, Headed, IsBeginning, HasBadHeader}
 use Rattle.axe_file.specs.TextReading.{Found, Reading, read_space, read_form, read_header}
 use Rattle.axe_file.proofs.TextParts.{Starts, Begins, Then}
 use Rattle.axe_file.proofs.TextForms.{IsForm, reads_header}
@@ -55,13 +55,13 @@ four_of_header bytes values (first, rest, own, others, eb, ev, (white, is), l) =
 
 -- ---- a header, and a form after white space
 
-header_is_form : (bytes : List ℕ) (mode order rows columns : ℕ) → IsHeader bytes mode order rows columns → Then Space IsForm bytes (mode ∷ order ∷ rows ∷ columns ∷ [])
+header_is_form : (bytes : List ℕ) (mode order rows columns : ℕ) → IsTextHeader bytes mode order rows columns → Then Space IsForm bytes (mode ∷ order ∷ rows ∷ columns ∷ [])
 header_is_form bytes mode order rows columns (inl (first, rest, own, others, eb, ev, p, l)) = (first, rest, own, others, eb, ev, p, inl l)
 header_is_form bytes mode order rows columns (inr (one, (first, rest, own, others, eb, ev, (white, is), l))) =
     let same : order ∷ rows ∷ columns ∷ [] ≡ others = ev ∙ ap (λ (x : List ℕ). x ++ others) is in
     (first, rest, [], 1 ∷ others, eb, ap₂ (λ (x : ℕ) (y : List ℕ). x ∷ y) one same, (white, refl), inr (others, refl, l))
 
-form_is_header : (bytes : List ℕ) (mode order rows columns : ℕ) → Then Space IsForm bytes (mode ∷ order ∷ rows ∷ columns ∷ []) → IsHeader bytes mode order rows columns
+form_is_header : (bytes : List ℕ) (mode order rows columns : ℕ) → Then Space IsForm bytes (mode ∷ order ∷ rows ∷ columns ∷ []) → IsTextHeader bytes mode order rows columns
 form_is_header bytes mode order rows columns (first, rest, own, others, eb, ev, p, inl l) = inl (first, rest, own, others, eb, ev, p, l)
 form_is_header bytes mode order rows columns (first, rest, own, others, eb, ev, (white, is), inr (three, eo, l)) =
     let whole : mode ∷ order ∷ rows ∷ columns ∷ [] ≡ 1 ∷ three = ev ∙ ap (λ (x : List ℕ). x ++ others) is ∙ eo in

@@ -5,7 +5,7 @@ use Rattle.std.specs.List.{filter, concat}
 use Rattle.std.proofs.lemmas.Bool.{cases_Bool, and_parts, and_from}
 use Rattle.std.proofs.lemmas.List.{nil_from_length}
 use Rattle.std.proofs.lemmas.List.Elements.{All-nil, All-cons, All-head, All-tail, All-take, All-drop, All-append}
-use Rattle.axe_file.specs.TextGrammar.{is_white, is_dark, is_element_digit, digit_value, digit_code, AreDigits}
+use Rattle.axe_file.specs.TextGrammar.{is_white, is_dark, is_element_digit, digit_value, digit_code, AreElementDigits}
 use Rattle.axe_file.specs.TextReading.{in_rows}
 use Rattle.axe_file.proofs.TextDigits.{IsFit, fit_white, fit_digit, digit_if_fit, dark_after_white, dark_after_dark}
 
@@ -66,7 +66,7 @@ codes_are_digits q (x ∷ xs) all =
 
 -- ---- the digits among white space
 
-pub dark_digits : (q : ℕ) (bytes : List ℕ) → AreDigits q bytes → All (IsDigitOf q) (filter is_dark bytes)
+pub dark_digits : (q : ℕ) (bytes : List ℕ) → AreElementDigits q bytes → All (IsDigitOf q) (filter is_dark bytes)
 dark_digits q [] all = All-nil (IsDigitOf q)
 dark_digits q (b ∷ bytes) all =
     let rest = dark_digits q bytes (All-tail (IsFit q) b bytes all) in
@@ -77,7 +77,7 @@ dark_digits q (b ∷ bytes) all =
           (All-cons (IsDigitOf q) b (filter is_dark bytes) (digit_if_fit q b d (All-head (IsFit q) b bytes all)) rest)
     ]
 
-pub digits_if_dark : (q : ℕ) (bytes : List ℕ) → All (IsDigitOf q) (filter is_dark bytes) → AreDigits q bytes
+pub digits_if_dark : (q : ℕ) (bytes : List ℕ) → All (IsDigitOf q) (filter is_dark bytes) → AreElementDigits q bytes
 digits_if_dark q [] all = All-nil (IsFit q)
 digits_if_dark q (b ∷ bytes) all = elim (cases_Bool (is_white b)) [
   | inl w ↦ All-cons (IsFit q) b bytes (fit_white q b w) (digits_if_dark q bytes (subst (λ (x : List ℕ). All (IsDigitOf q) x) (dark_after_white b bytes w) all))

@@ -8,14 +8,14 @@ use Rattle.axe_field.specs.Order.{Order}
 use Rattle.axe_matrix.specs.Matrices.{MatrixValue, IsMatrix}
 use Rattle.axe_file.specs.Marks.{marks_per_byte, byte_with_marks, mark_of, bytes_per_row}
 use Rattle.axe_file.specs.Packed.{packed, packed_row, unpacked, header_rows, header_columns, row_width, data_length, mark_at}
-use Rattle.axe_file.specs.Headers.{Says}
+use Rattle.axe_file.specs.Headers.{SaysShape}
 use Rattle.axe_file.proofs.Lists.{listed_is, length-pieces, get_or-pieces}
 use Rattle.axe_file.proofs.Bytes.{two-marks, mark_of_byte, byte_of_column, length-packed_row, get_or-packed_row, element_at}
 use Rattle.axe_file.proofs.Headers.{order_in_header, rows_in_header, columns_in_header, after_header, length_with_header}
 
 -- ---- the header of a spelling
 
-pub packed_says : (m : MatrixValue) → IsMatrix m → Says (packed m) m.order (length m.rows) m.cols
+pub packed_says : (m : MatrixValue) → IsMatrix m → SaysShape (packed m) m.order (length m.rows) m.cols
 unfolding packed
 packed_says m h = record {
   order = order_in_header m.order (length m.rows) m.cols (flat_map (packed_row m.order m.cols) m.rows);
@@ -23,15 +23,15 @@ packed_says m h = record {
   columns = columns_in_header m.order (length m.rows) m.cols (flat_map (packed_row m.order m.cols) m.rows) (omega (arith, h.columns_fit));
 }
 
-pub width_said : (bytes : List ℕ) (o : Order) (r c : ℕ) → Says bytes o r c → row_width bytes ≡ bytes_per_row o c
+pub width_said : (bytes : List ℕ) (o : Order) (r c : ℕ) → SaysShape bytes o r c → row_width bytes ≡ bytes_per_row o c
 unfolding row_width
 width_said bytes o r c says = rw (says.order, says.columns) refl
 
-pub data_said : (bytes : List ℕ) (o : Order) (r c : ℕ) → Says bytes o r c → data_length bytes ≡ r * bytes_per_row o c
+pub data_said : (bytes : List ℕ) (o : Order) (r c : ℕ) → SaysShape bytes o r c → data_length bytes ≡ r * bytes_per_row o c
 unfolding data_length
 data_said bytes o r c says = rw (says.rows, width_said bytes o r c says) refl
 
-pub mark_said : (bytes : List ℕ) (o : Order) (r c : ℕ) (i j : ℕ) → Says bytes o r c
+pub mark_said : (bytes : List ℕ) (o : Order) (r c : ℕ) (i j : ℕ) → SaysShape bytes o r c
     → mark_at bytes i j ≡ mark_of o (get_or bytes (16 + (i * bytes_per_row o c + j / marks_per_byte o)) 0) (j % marks_per_byte o)
 unfolding mark_at
 mark_said bytes o r c i j says = rw (says.order, width_said bytes o r c says) refl

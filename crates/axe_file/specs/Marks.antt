@@ -6,8 +6,8 @@ use Rattle.axe_algebra.specs.Lists.{listed}
 use Rattle.axe_field.specs.Order.{Order, Two, Three, Four, Five, Seven, Eight, Nine, order_number}
 
 -- the number whose n digits in base q are d 0, .., d (n - 1), the first the most significant (positional notation)
-unfoldable pub number_with_digits : ℕ → ℕ → (ℕ → ℕ) → ℕ
-number_with_digits q n d = sum (listed n (λ j. d j * q ^ (n - 1 - j)))
+unfoldable pub number_from_digits : ℕ → ℕ → (ℕ → ℕ) → ℕ
+number_from_digits q n d = sum (listed n (λ j. d j * q ^ (n - 1 - j)))
 
 -- digit j of a number that is written with n digits in base q
 unfoldable pub digit_of : ℕ → ℕ → ℕ → ℕ → ℕ
@@ -29,7 +29,7 @@ byte_limit o = order_number o ^ marks_per_byte o
 
 -- the byte that holds the marks d 0, .., d (m - 1)
 unfoldable pub byte_with_marks : Order → (ℕ → ℕ) → ℕ
-byte_with_marks o d = number_with_digits (order_number o) (marks_per_byte o) d
+byte_with_marks o d = number_from_digits (order_number o) (marks_per_byte o) d
 
 -- mark j of a byte
 unfoldable pub mark_of : Order → ℕ → ℕ → ℕ

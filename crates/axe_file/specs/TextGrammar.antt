@@ -81,8 +81,8 @@ named_form =
     ∷ Word (codes "cols=") ∷ Numeral ∷ []
 
 -- the bytes are a header, in one form or the other, after any white space; a header with names is of mode 1
-abbrev pub IsHeader : List ℕ → ℕ → ℕ → ℕ → ℕ → Type 0
-IsHeader bytes mode order rows columns =
+abbrev pub IsTextHeader : List ℕ → ℕ → ℕ → ℕ → ℕ → Type 0
+IsTextHeader bytes mode order rows columns =
     AreParts (Space ∷ plain_form) bytes (mode ∷ order ∷ rows ∷ columns ∷ [])
     ⊎ ((mode ≡ 1) × AreParts (Space ∷ named_form) bytes (order ∷ rows ∷ columns ∷ []))
 
@@ -100,7 +100,7 @@ pub record Headed (bytes : List ℕ) : Type 0 where
   pub rows : ℕ
   pub columns : ℕ
   pub whole : bytes ≡ header ++ rest
-  pub is_header : IsHeader header mode order rows columns
+  pub is_header : IsTextHeader header mode order rows columns
   pub apart : IsTrue (is_apart rest)
 
 -- ---- texts
@@ -128,7 +128,7 @@ pub record IsBeginning (bytes : List ℕ) : Type 0 where
   pub rows : ℕ
   pub columns : ℕ
   pub whole : bytes ++ more ≡ header ++ white ∷ []
-  pub is_header : IsHeader header mode order rows columns
+  pub is_header : IsTextHeader header mode order rows columns
   pub is_space : IsTrue (is_white white)
 
 -- no whole header, and k is the least offset such that the first k + 1 bytes are no beginning of a header that is
@@ -148,8 +148,8 @@ pub record IsAllowed (bytes : List ℕ) (h : Headed bytes) (o : Order) : Type 0 
   pub columns : h.columns ≤ most_columns
 
 -- each byte is white space or the digit of an element
-abbrev pub AreDigits : ℕ → List ℕ → Type 0
-AreDigits order bytes = All (λ byte. IsTrue (is_white byte || is_element_digit order byte)) bytes
+abbrev pub AreElementDigits : ℕ → List ℕ → Type 0
+AreElementDigits order bytes = All (λ byte. IsTrue (is_white byte || is_element_digit order byte)) bytes
 
 -- after a header, k is the offset of a byte before which stand white space and digits of elements, so many of
 -- these, and the byte is no white space
@@ -158,7 +158,7 @@ pub record StandsAfter (bytes : List ℕ) (h : Headed bytes) (k count byte : ℕ
   pub after : List ℕ
   pub whole : h.rest ≡ before ++ byte ∷ after
   pub offset : k ≡ length h.header + length before
-  pub fit : AreDigits h.order before
+  pub fit : AreElementDigits h.order before
   pub counted : length (filter is_dark before) ≡ count
   pub dark : IsTrue (is_dark byte)
 
@@ -176,7 +176,7 @@ IsTextFault bytes (BadDigit k) =
     (h : Headed bytes) × (o : Order) × (count : ℕ) × (byte : ℕ) × IsAllowed bytes h o
     × StandsAfter bytes h k count byte × (count < h.rows * h.columns) × (IsTrue (is_element_digit h.order byte) → ⊥)
 IsTextFault bytes TooFewDigits =
-    (h : Headed bytes) × (o : Order) × IsAllowed bytes h o × AreDigits h.order h.rest
+    (h : Headed bytes) × (o : Order) × IsAllowed bytes h o × AreElementDigits h.order h.rest
     × (length (filter is_dark h.rest) < h.rows * h.columns)
 IsTextFault bytes (TrailingText k) =
     (h : Headed bytes) × (o : Order) × (byte : ℕ) × IsAllowed bytes h o

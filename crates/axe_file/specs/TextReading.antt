@@ -33,15 +33,18 @@ abbrev pub with_value : ℕ → Reading → Reading
 with_value value (Ok found) = Ok (record { values = value ∷ found.values; end = found.end })
 with_value value (Err offset) = Err offset
 
--- each of the following reads one part at the front of the bytes, which begin at an offset, and then what comes next
+-- each of the following reads one part at the front of the bytes, which begin at an offset, and then what comes next;
+-- this one white space, or none
 unfoldable pub read_space : (List ℕ → ℕ → Reading) → List ℕ → ℕ → Reading
 read_space next [] at = next [] at
 read_space next (byte ∷ bytes) at = if is_white byte then read_space next bytes (at + 1) else next (byte ∷ bytes) at
 
+-- white space, at least one byte of it
 unfoldable pub read_gap : (List ℕ → ℕ → Reading) → List ℕ → ℕ → Reading
 read_gap next [] at = Err at
 read_gap next (byte ∷ bytes) at = if is_white byte then read_space next bytes (at + 1) else Err at
 
+-- this word
 unfoldable pub read_word : List ℕ → (List ℕ → ℕ → Reading) → List ℕ → ℕ → Reading
 read_word [] next bytes at = next bytes at
 read_word (letter ∷ word) next [] at = Err at
@@ -55,6 +58,7 @@ read_digits (suc room) value next (byte ∷ bytes) at =
     if is_digit byte then read_digits room (value * 10 + digit_value byte) next bytes (at + 1)
     else next value (byte ∷ bytes) at
 
+-- a numeral of one to nine digits, whose value is handed on
 unfoldable pub read_numeral : (ℕ → List ℕ → ℕ → Reading) → List ℕ → ℕ → Reading
 read_numeral next [] at = Err at
 read_numeral next (byte ∷ bytes) at =
@@ -105,6 +109,7 @@ in_rows (suc rows) columns entries = take columns entries ∷ in_rows rows colum
 
 -- ---- the text
 
+-- the first fault of bytes whose header was read: the header's, or that of the digits after it
 abbrev pub fault_after_header : List ℕ → Reading → Option FileFault
 fault_after_header bytes (Err offset) = Some (BadHeader offset)
 fault_after_header bytes (Ok found) =
@@ -117,6 +122,7 @@ fault_after_header bytes (Ok found) =
 unfoldable pub text_fault : List ℕ → Option FileFault
 text_fault bytes = fault_after_header bytes (read_header bytes)
 
+-- the matrix of bytes whose header was read: its digits in rows
 abbrev pub matrix_after_header : List ℕ → Reading → MatrixValue
 matrix_after_header bytes (Err offset) = record { order = Two; cols = 0; rows = [] }
 matrix_after_header bytes (Ok found) = record {

@@ -9,7 +9,7 @@ ghost use Rattle.axe_matrix.specs.Limits.{most_rows};
 ghost use Rattle.axe_file.specs.Marks.{bytes_per_row, marks_of_bytes, row_marks};
 ghost use Rattle.axe_file.specs.Packed.{packed, packed_fault, unpacked, header_faults, data_faults, byte_faults};
 ghost use Rattle.axe_file.specs.Packed.{header_rows, data_length};
-ghost use Rattle.axe_file.specs.Headers.{Says};
+ghost use Rattle.axe_file.specs.Headers.{SaysShape};
 ghost use Rattle.axe_file.specs.Answers.{AnswersFile};
 ghost use Rattle.axe_file.specs.declared.fault.FileFault.TheVariants.{Memory};
 
@@ -46,7 +46,7 @@ pub fn read_packed(alloc: Global, bytes: &[u8]) -> Result<Matrix, FileFault>
 fn header_of(bytes: &[u8]) -> Result<Header, FileFault>
     ensures faultless { OnOk result (header_faults bytes.now ≡ []) }
     ensures fault { IfErr result (λ fault. slice_get (header_faults bytes.now) 0 ≡ Some fault) }
-    ensures says { IfOk result (λ header. Says bytes.now header.layout.field header.rows header.layout.columns) }
+    ensures says { IfOk result (λ header. SaysShape bytes.now header.layout.field header.rows header.layout.columns) }
 {
     if bytes.len() < HEADER_LENGTH {
         return Err(FileFault::ShortHeader);
@@ -89,7 +89,7 @@ fn number_at(bytes: &[u8], offset: usize) -> usize
 
 /// Looks for the first fault after the header.
 fn check_data(header: &Header, bytes: &[u8]) -> Result<(), FileFault>
-    requires { Says bytes.now header.now.layout.field header.now.rows header.now.layout.columns }
+    requires { SaysShape bytes.now header.now.layout.field header.now.rows header.now.layout.columns }
     ensures faultless { OnOk result (data_faults bytes.now ≡ []) }
     ensures fault { IfErr result (λ fault. slice_get (data_faults bytes.now) 0 ≡ Some fault) }
 {
@@ -106,7 +106,7 @@ fn check_data(header: &Header, bytes: &[u8]) -> Result<(), FileFault>
 
 /// Looks for the first fault in the bytes of the rows.
 fn check_bytes(layout: &Layout, bytes: &[u8], count: usize) -> Result<(), FileFault>
-    requires says { Says bytes.now layout.now.field (header_rows bytes.now) layout.now.columns }
+    requires says { SaysShape bytes.now layout.now.field (header_rows bytes.now) layout.now.columns }
     requires count { count ≡ data_length bytes.now }
     requires long { 16 + count ≤ length bytes.now }
     ensures faultless { OnOk result (flat_map (byte_faults bytes.now) (range_with_len 0 count) ≡ []) }
@@ -126,7 +126,7 @@ fn check_bytes(layout: &Layout, bytes: &[u8], count: usize) -> Result<(), FileFa
 
 /// Looks for a fault in one byte of the rows, counted from the first row on, and in its row from the first byte.
 fn check_byte(layout: &Layout, bytes: &[u8], place: usize, in_row: usize) -> Result<(), FileFault>
-    requires says { Says bytes.now layout.now.field (header_rows bytes.now) layout.now.columns }
+    requires says { SaysShape bytes.now layout.now.field (header_rows bytes.now) layout.now.columns }
     requires place { place < data_length bytes.now }
     requires in_row { in_row ≡ place % layout.now.width }
     requires long { 16 + place < length bytes.now }
@@ -146,7 +146,7 @@ fn check_byte(layout: &Layout, bytes: &[u8], place: usize, in_row: usize) -> Res
 
 /// The matrix of bytes without fault.
 fn matrix_of(alloc: Global, header: &Header, bytes: &[u8]) -> Result<Matrix, FileFault>
-    requires says { Says bytes.now header.now.layout.field header.now.rows header.now.layout.columns }
+    requires says { SaysShape bytes.now header.now.layout.field header.now.rows header.now.layout.columns }
     requires some_column { 1 ≤ header.now.layout.columns }
     requires whole { length bytes.now ≡ 16 + data_length bytes.now }
     ensures value { IfOk result (λ m. m ≡ unpacked bytes.now) }

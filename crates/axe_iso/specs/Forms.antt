@@ -29,6 +29,7 @@ pub record FormValue : Type 0 where
 
 -- ---- the value of a word of a seed, in generators of a dimension over the field of an order
 
+-- the value of the word that a seed draws by this number (Parker 1984)
 abbrev pub drawn_value : (o : Order) → ℕ → List (List (List ℕ)) → ℕ → ℕ → Matrix (gf o)
 drawn_value o dim generators seed number =
     word_value (gf o) (module_of (number_field o) dim generators)
@@ -70,6 +71,7 @@ pub record IsFormOver (o : Order) (dim : ℕ) (generators : List (List (List ℕ
   pub is_nullity : HasNullity o dim generators seed number nullity
   pub few : point_count (order_number o) nullity ≤ most_points
 
+-- a standard form: its matrices make a module, and are standard ones over the word and the nullity that it names
 pub record IsForm (form : FormValue) : Type 0 where
   pub well_formed : IsModule form.matrices
   pub over : IsFormOver form.matrices.order form.matrices.dim form.matrices.generators form.seed form.word form.nullity

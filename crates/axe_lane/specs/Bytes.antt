@@ -15,12 +15,12 @@ abbrev pub sum_modulo : ℕ → List ℕ → List ℕ → List ℕ
 sum_modulo p a b = zip2 (λ x y. (x + y) % p) a b
 
 -- a row plus m times another, modulo p, entry by entry
-abbrev pub sum_with_multiple : ℕ → List ℕ → ℕ → List ℕ → List ℕ
-sum_with_multiple p a m b = zip2 (λ x y. (x + m * y) % p) a b
+abbrev pub sum_with_multiple_modulo : ℕ → List ℕ → ℕ → List ℕ → List ℕ
+sum_with_multiple_modulo p a m b = zip2 (λ x y. (x + m * y) % p) a b
 
 -- m times a row, modulo p, entry by entry
-abbrev pub multiple : ℕ → ℕ → List ℕ → List ℕ
-multiple p m a = map (λ x. (m * x) % p) a
+abbrev pub multiple_modulo : ℕ → ℕ → List ℕ → List ℕ
+multiple_modulo p m a = map (λ x. (m * x) % p) a
 
 -- x less y where x is not below y, and else x
 abbrev pub less_where_not_below : ℕ → ℕ → ℕ

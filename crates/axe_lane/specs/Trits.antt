@@ -34,14 +34,16 @@ common_trits ones twos other_ones other_twos =
     common_bits ones other_ones + common_bits twos other_twos
     + 2 * (common_bits ones other_twos + common_bits twos other_ones)
 
--- the words of the sum of entries whose words are o and t for ones and twos, and a and b: a place with 1 and 2, or with
--- one 0, is turned twice (Harrison, Page, Smart 2002)
+-- the part that both words of a sum share, where the words of the entries are o and t for ones and twos, and a and b
+-- (Harrison, Page, Smart 2002)
 abbrev pub turned_bits : ℕ → ℕ → ℕ → ℕ → ℕ
 turned_bits o t a b = bit_xor (bit_or o b) (bit_or t a)
 
+-- the word of the ones of that sum: the part, turned where t or b has a bit
 abbrev pub ones_of_sum : ℕ → ℕ → ℕ → ℕ → ℕ
 ones_of_sum o t a b = bit_xor (turned_bits o t a b) (bit_or t b)
 
+-- the word of the twos of that sum: the part, turned where o or a has a bit
 abbrev pub twos_of_sum : ℕ → ℕ → ℕ → ℕ → ℕ
 twos_of_sum o t a b = bit_xor (turned_bits o t a b) (bit_or o a)
 

@@ -1,8 +1,8 @@
 //! Kernels on bytes that are entries over a prime field.
 ghost use Rattle.std.specs.Prelude.{◌≡◌, ◌+◌, ◌*◌, ◌%◌, ◌^◌, ◌<◌, ◌≤◌, length, map, All, IsTrue, MatchOption};
 ghost use Rattle.std.specs.Simd.Lanes.{chunk, products, put_chunk, sum_l};
-ghost use Rattle.axe_lane.specs.Bytes.{AreBelow, IsSmallPrime, less_where_not_below, multiple, sum_modulo};
-ghost use Rattle.axe_lane.specs.Bytes.{sum_of_products, sum_with_multiple};
+ghost use Rattle.axe_lane.specs.Bytes.{AreBelow, IsSmallPrime, less_where_not_below, multiple_modulo, sum_modulo};
+ghost use Rattle.axe_lane.specs.Bytes.{sum_of_products, sum_with_multiple_modulo};
 ghost use Rattle.axe_lane.specs.Entries.{AreZerosBefore, IsFirstNonzero};
 
 use std::simd::prelude::*;
@@ -21,7 +21,7 @@ pub fn add_scaled_bytes(dst: &mut [u8], src: &[u8], m: u8, p: u8)
     requires fits { length src.now ≡ length dst.old }
     requires dst_below { AreBelow p dst.old }
     requires src_below { AreBelow p src.now }
-    ensures sum { dst.new ≡ sum_with_multiple p dst.old m src.now }
+    ensures sum { dst.new ≡ sum_with_multiple_modulo p dst.old m src.now }
     ensures below { AreBelow p dst.new }
 {
     match p {
@@ -62,7 +62,7 @@ pub fn scale_bytes(dst: &mut [u8], m: u8, p: u8)
     requires prime { IsSmallPrime p }
     requires factor { m < p }
     requires dst_below { AreBelow p dst.old }
-    ensures multiple { dst.new ≡ multiple p m dst.old }
+    ensures multiple { dst.new ≡ multiple_modulo p m dst.old }
     ensures below { AreBelow p dst.new }
 {
     match p {
@@ -111,7 +111,7 @@ fn add_multiple_over<const P: u8>(dst: &mut [u8], src: &[u8], m: u8)
     requires fits { length src.now ≡ length dst.old }
     requires dst_below { AreBelow P dst.old }
     requires src_below { AreBelow P src.now }
-    ensures { dst.new ≡ sum_with_multiple P dst.old m src.now }
+    ensures { dst.new ≡ sum_with_multiple_modulo P dst.old m src.now }
 {
     match m {
         0 => {}
@@ -128,7 +128,7 @@ fn scale_over<const P: u8>(dst: &mut [u8], m: u8)
     requires prime { IsSmallPrime P }
     requires factor { m < P }
     requires dst_below { AreBelow P dst.old }
-    ensures { dst.new ≡ multiple P m dst.old }
+    ensures { dst.new ≡ multiple_modulo P m dst.old }
 {
     match m {
         0 => dst.fill(0),
@@ -147,7 +147,7 @@ fn add_multiple<const M: u8, const P: u8>(dst: &mut [u8], src: &[u8])
     requires fits { length src.now ≡ length dst.old }
     requires dst_below { AreBelow P dst.old }
     requires src_below { AreBelow P src.now }
-    ensures { dst.new ≡ sum_with_multiple P dst.old M src.now }
+    ensures { dst.new ≡ sum_with_multiple_modulo P dst.old M src.now }
 {
     let whole = dst.len() / BLOCK;
     for block in 0..whole {
@@ -162,7 +162,7 @@ fn scale<const M: u8, const P: u8>(dst: &mut [u8])
     requires prime { IsSmallPrime P }
     requires factor { (0 < M) × (M < P) }
     requires dst_below { AreBelow P dst.old }
-    ensures { dst.new ≡ multiple P M dst.old }
+    ensures { dst.new ≡ multiple_modulo P M dst.old }
 {
     let whole = dst.len() / BLOCK;
     for block in 0..whole {
@@ -182,7 +182,8 @@ fn add_block<const M: u8, const P: u8>(dst: &mut [u8], src: &[u8], at: usize)
     requires src_has_block { at + BLOCK ≤ length src.now }
     requires dst_below { AreBelow P dst.old }
     requires src_below { AreBelow P src.now }
-    ensures { dst.new ≡ put_chunk at dst.old (sum_with_multiple P (chunk at BLOCK dst.old) M (chunk at BLOCK src.now)) }
+    ensures { dst.new ≡ put_chunk at dst.old
+        (sum_with_multiple_modulo P (chunk at BLOCK dst.old) M (chunk at BLOCK src.now)) }
 {
     let sum = sum_of::<M, P>(u8x32::from_slice(&dst[at..]), u8x32::from_slice(&src[at..]));
     sum.copy_to_slice(&mut dst[at..]);
@@ -232,7 +233,7 @@ fn scale_block<const M: u8, const P: u8>(dst: &mut [u8], at: usize)
     requires factor { (0 < M) × (M < P) }
     requires dst_has_block { at + BLOCK ≤ length dst.old }
     requires dst_below { AreBelow P dst.old }
-    ensures { dst.new ≡ put_chunk at dst.old (multiple P M (chunk at BLOCK dst.old)) }
+    ensures { dst.new ≡ put_chunk at dst.old (multiple_modulo P M (chunk at BLOCK dst.old)) }
 {
     let product = sum_of::<M, P>(u8x32::splat(0), u8x32::from_slice(&dst[at..]));
     product.copy_to_slice(&mut dst[at..]);
@@ -246,7 +247,7 @@ fn sum_of<const M: u8, const P: u8>(d: u8x32, s: u8x32) -> u8x32
     requires factor { (0 < M) × (M < P) }
     requires d_below { AreBelow P d }
     requires s_below { AreBelow P s }
-    ensures { result ≡ sum_with_multiple P d M s }
+    ensures { result ≡ sum_with_multiple_modulo P d M s }
 {
     let minus_one = P - 1;
     if M == 1 {

@@ -7,7 +7,8 @@ use Rattle.axe_field.specs.NumberFields.{number_field}
 use Rattle.axe_field.specs.Order.{order_number, IsElement}
 use Rattle.axe_row.specs.Addends.{IsRowAddend}
 use Rattle.axe_row.specs.Combinations.{row_with_four}
-use Rattle.axe_row.specs.Operations.{row_with_multiple, IsNextNonzero}
+use Rattle.axe_lane.specs.Entries.{IsNextNonzero}
+use Rattle.axe_row.specs.Operations.{row_with_multiple}
 use Rattle.axe_row.specs.Rows.{RowValue}
 use Rattle.axe_row.proofs.RowLaws.{one-IsElement}
 use Rattle.axe_matrix.specs.Matrices.{MatrixValue, IsMatrix, row_of}

@@ -16,3 +16,4 @@ mod DirectRows
 mod FourTerms
 pub mod ProductRows
 mod ScaledFactors
+mod Appending

@@ -1,5 +1,5 @@
 -- Matrices over one of the seven fields.
-use Rattle.std.specs.Prelude.{◌≡◌, ℕ, ◌+◌, ◌≤◌, ◌==◌, ◌&&◌, not, List, [], length, slice_index_or, All}
+use Rattle.std.specs.Prelude.{◌≡◌, ℕ, ◌+◌, ◌<◌, ◌≤◌, ◌==◌, ◌&&◌, not, List, [], ◌++◌, length, take, slice_index_or, All}
 use Rattle.std.specs.Prelude.{Option, Some, None, if◌then◌else◌}
 use Rattle.axe_algebra.specs.Lists.{entry, listed, table}
 use Rattle.axe_algebra.specs.ListArithmetic.{combination, product, matrix_sum, transpose, identity}
@@ -25,6 +25,12 @@ pub record IsMatrix (m : MatrixValue) : Type 0 where
   pub rows_fit : length m.rows ≤ most_rows
   pub row_lengths : All (λ row. length row ≡ m.cols) m.rows
   pub elements : All (All (IsElement m.order)) m.rows
+
+-- the matrix after is the one before with some first rows of another after its own, and not all
+pub record HasFirstRows (before other after : MatrixValue) : Type 0 where
+  pub count : ℕ
+  pub not_all : count < length other.rows
+  pub rows : after ≡ record before { rows = before.rows ++ take count other.rows }
 
 -- row i of a matrix, counted from 0, as a row vector
 abbrev pub row_of : MatrixValue → ℕ → RowValue

@@ -42,6 +42,7 @@ unfoldable pub rows_with_terms : NumberField → ℕ → List (List ℕ) → ℕ
 rows_with_terms K columns d c a b at n =
     listed (length d) (λ i. row_with_terms K columns (slice_index_or d i []) c (slice_index_or a i []) b at n)
 
+-- the matrix with these rows
 abbrev pub matrix_with_terms : MatrixValue → ℕ → MatrixValue → MatrixValue → ℕ → ℕ → MatrixValue
 matrix_with_terms d c a b at n = record {
   order = d.order;

@@ -1,7 +1,7 @@
 -- The first terms of the product of a row vector and a matrix.
 use Rattle.std.specs.Prelude.{ℕ, ◌+◌, List, slice_index}
 use Rattle.axe_field.specs.NumberFields.{number_field}
-use Rattle.axe_row.specs.Operations.{IsNextNonzero}
+use Rattle.axe_lane.specs.Entries.{IsNextNonzero}
 use Rattle.axe_row.specs.Rows.{RowValue}
 use Rattle.axe_matrix.specs.Matrices.{MatrixValue}
 use Rattle.axe_matrix.specs.Products.{row_with_terms}

@@ -1,9 +1,9 @@
 //! The zero matrix, the identity matrix, copies and blocks.
 
-ghost use Rattle.std.specs.Prelude.{◌≡◌, ◌+◌, ◌<◌, ◌≤◌, length, None, IfOk};
+ghost use Rattle.std.specs.Prelude.{◌≡◌, ◌+◌, ◌<◌, ◌≤◌, ◌++◌, length, None, IfOk, OnErr};
 ghost use Rattle.axe_row.specs.Refusals.{Answers};
 ghost use Rattle.axe_matrix.specs.Limits.{most_rows, most_columns};
-ghost use Rattle.axe_matrix.specs.Matrices.{IsMatrix, zero_matrix, identity_matrix, matrix_block};
+ghost use Rattle.axe_matrix.specs.Matrices.{IsMatrix, HasFirstRows, zero_matrix, identity_matrix, matrix_block};
 
 use super::{Matrix, Refusal, Row};
 use axe_field::Field;
@@ -53,6 +53,26 @@ impl Matrix {
             copy.append(row)?;
         }
         Ok(copy)
+    }
+
+    /// Appends copies of the rows of another matrix over the same field, with as many columns. For want of memory only
+    /// some first of them are appended.
+    pub fn append_rows(&mut self, alloc: Global, other: &Matrix) -> Result<(), Refusal>
+        requires field { other.now.order ≡ self.old.order }
+        requires fits { other.now.cols ≡ self.old.cols }
+        requires room { length self.old.rows + length other.now.rows ≤ most_rows }
+        ensures rows { Answers None
+            (λ _. self.new ≡ record self.old { rows = self.old.rows ++ other.now.rows }) result }
+        ensures some { OnErr result (HasFirstRows self.old other.now self.new) }
+        ensures well_formed { IsMatrix self.new }
+    {
+        // Called for what it ensures beside the number: that the matrix is one.
+        prove!(self.cols() == other.cols());
+        for index in 0..other.rows() {
+            let row = other.row(index).copy(alloc)?;
+            self.append(row)?;
+        }
+        Ok(())
     }
 
     /// The block of `rows` rows from row `row` on, and of `cols` columns from column `column` on.

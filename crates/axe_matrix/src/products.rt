@@ -127,7 +127,7 @@ impl Matrix {
         let mut at = 0;
         while at < b.rows() {
             tables.fill(b, at);
-            self.add_block(1, a, b, at, tables);
+            self.add_block(a, b, at, tables);
             at += 4 * size;
         }
     }
@@ -166,25 +166,24 @@ impl Matrix {
         b.add_vec_mul(scalar, vector, &mut self.rows[index]);
     }
 
-    /// Adds a multiple of some terms of the product of two matrices: those for which tables combine four pieces of the
-    /// second matrix's rows from an index on.
-    fn add_block(&mut self, scalar: u8, a: &Matrix, b: &Matrix, at: usize, tables: &FourTables)
+    /// Adds some terms of the product of two matrices: those for which tables combine four pieces of the second
+    /// matrix's rows from an index on.
+    fn add_block(&mut self, a: &Matrix, b: &Matrix, at: usize, tables: &FourTables)
         requires a_field { a.now.order ≡ self.old.order }
         requires b_field { b.now.order ≡ self.old.order }
         requires rows_fit { length a.now.rows ≡ length self.old.rows }
         requires inner_fit { a.now.cols ≡ length b.now.rows }
         requires columns_fit { b.now.cols ≡ self.old.cols }
-        requires element { IsElement self.old.order scalar }
         requires within { at < length b.now.rows }
         requires tables { AreTablesFor self.old.order self.old.cols tables.now }
         requires combine { CombineFrom at b.now.rows tables.now }
-        ensures sum { self.new ≡ matrix_with_terms self.old scalar a.now b.now at (4 * tables.now.size) }
+        ensures sum { self.new ≡ matrix_with_terms self.old 1 a.now b.now at (4 * tables.now.size) }
         ensures well_formed { IsMatrix self.new }
     {
         // `rows` is called for what it ensures beside their number: that the second matrix is one, of so few rows.
         prove!(at < b.rows());
         for index in 0..self.rows() {
-            let numbers = a.row(index).piece_numbers(scalar, tables.size, at);
+            let numbers = a.row(index).piece_numbers(1, tables.size, at);
             self.add_combinations(index, numbers, tables);
         }
     }

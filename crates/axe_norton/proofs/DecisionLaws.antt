@@ -5,7 +5,7 @@ use Rattle.axe_row.specs.Rows.{RowValue}
 use Rattle.axe_row.specs.Refusals.{Answers}
 use Rattle.axe_row.specs.declared.refusals.Refusal.{Refusal}
 use Rattle.axe_matrix.specs.Matrices.{MatrixValue, IsMatrix}
-use Rattle.axe_reduction.specs.Solutions.{IsInvertible}
+use Rattle.axe_reduction.specs.Solutions.{IsInvertibleMatrix}
 use Rattle.axe_echelon.specs.Echelons.{IsNullSpaceMatrix, null_space_refusal}
 use Rattle.axe_spin.specs.Modules.{ModuleValue, IsModule}
 use Rattle.axe_word.specs.Words.{WordValue, IsWordIn, IsValueOf}
@@ -37,7 +37,7 @@ module _ (m : ModuleValue) (matrix null : MatrixValue) (square : IsSquareIn m ma
   pub left_without_rows : length null.rows ≡ 0 → Tells m matrix null Left
   left_without_rows none = inl (invertible_without_rows matrix null (own_square m matrix square) is none)
 
-  pub singular_with_rows : 0 < length null.rows → ¬ (IsInvertible matrix)
+  pub singular_with_rows : 0 < length null.rows → ¬ (IsInvertibleMatrix matrix)
   singular_with_rows some invertible =
       let none : length null.rows ≡ 0 = no_rows_of_invertible matrix null (own_square m matrix square) is invertible in
       omega arith

@@ -8,7 +8,7 @@ use Rattle.axe_algebra.proofs.NortonLists.{invertible_without_null_rows, no_null
 use Rattle.axe_field.specs.Order.{order_number}
 use Rattle.axe_field.specs.NumberFields.{number_field}
 use Rattle.axe_matrix.specs.Matrices.{MatrixValue}
-use Rattle.axe_reduction.specs.Solutions.{IsInvertible}
+use Rattle.axe_reduction.specs.Solutions.{IsInvertibleMatrix}
 use Rattle.axe_echelon.specs.Echelons.{IsNullSpaceMatrix}
 use Rattle.axe_spin.specs.Modules.{ModuleValue, IsModule}
 use Rattle.axe_word.specs.Words.{WordValue, IsValueOf}
@@ -35,12 +35,12 @@ value_square m word matrix is_value = record { field = is_value.field; columns =
 
 -- a square matrix is invertible exactly where the basis of its null space has no rows
 module _ (matrix null : MatrixValue) (square : IsSquareOver (number_field matrix.order) matrix.cols matrix.rows) (is : IsNullSpaceMatrix matrix null) where
-  pub invertible_without_rows : length null.rows ≡ 0 → IsInvertible matrix
+  pub invertible_without_rows : length null.rows ≡ 0 → IsInvertibleMatrix matrix
   invertible_without_rows none =
       invertible_matrix matrix square
       (invertible_without_null_rows (number_field matrix.order) matrix.cols matrix.rows null.rows square is.basis_of_null_space none)
 
-  pub no_rows_of_invertible : IsInvertible matrix → length null.rows ≡ 0
+  pub no_rows_of_invertible : IsInvertibleMatrix matrix → length null.rows ≡ 0
   no_rows_of_invertible (inverse, inverts) =
       no_null_rows_of_invertible (number_field matrix.order) matrix.cols matrix.rows null.rows square is.basis_of_null_space (record {
         inverse = matrix_of (number_field matrix.order) inverse.rows;
@@ -64,7 +64,7 @@ many_where_open m is open_ = cases open_.tells
     field : open_.tested.null_space.order ≡ m.order
     field = (tested_over m [] open_.tested).field
 
-    cases : IsInvertible open_.tested.matrix ⊎ IsLeftWithMany m open_.tested.matrix open_.tested.null_space →
+    cases : IsInvertibleMatrix open_.tested.matrix ⊎ IsLeftWithMany m open_.tested.matrix open_.tested.null_space →
         most_points < point_count (order_number m.order) m.dim
     cases (inl invertible) =
         let none : length open_.tested.null_space.rows ≡ 0 = no_rows_of_invertible open_.tested.matrix open_.tested.null_space

@@ -23,7 +23,7 @@ use Rattle.axe_row.specs.declared.refusals.Refusal.{Refusal}
 use Rattle.axe_row.specs.declared.refusals.Refusal.TheVariants.{Memory}
 use Rattle.axe_matrix.specs.Matrices.{MatrixValue, IsMatrix, transposed_matrix, transpose_refusal}
 use Rattle.axe_matrix.proofs.TransposeLaws.{transpose_refusal-none}
-use Rattle.axe_reduction.specs.Solutions.{IsInvertible}
+use Rattle.axe_reduction.specs.Solutions.{IsInvertibleMatrix}
 use Rattle.axe_echelon.specs.Echelons.{IsNullSpaceMatrix, null_space_refusal}
 use Rattle.axe_echelon.proofs.Exits.{memory_if_accepted}
 use Rattle.axe_echelon.proofs.InverseLaws.{matrix_over}
@@ -143,10 +143,10 @@ found_of_first m basis v (Some space) many some is proper = record {
 
 -- a square matrix of lists that is invertible
 pub invertible_matrix : (matrix : MatrixValue) → IsSquareOver (number_field matrix.order) matrix.cols matrix.rows →
-    Spans.IsInvertible (gf matrix.order) matrix.cols (matrix_of (number_field matrix.order) matrix.rows) → IsInvertible matrix
+    Spans.IsInvertible (gf matrix.order) matrix.cols (matrix_of (number_field matrix.order) matrix.rows) → IsInvertibleMatrix matrix
 invertible_matrix matrix square invertible = make (inverse_list (number_field matrix.order) matrix.cols matrix.rows square invertible)
   where
-    make : (b : List (List ℕ)) × IsSquareOver (number_field matrix.order) matrix.cols b × IsInverse (number_field matrix.order) matrix.cols matrix.rows b → IsInvertible matrix
+    make : (b : List (List ℕ)) × IsSquareOver (number_field matrix.order) matrix.cols b × IsInverse (number_field matrix.order) matrix.cols matrix.rows b → IsInvertibleMatrix matrix
     make (b, square_b, inverts) = (
       record { order = matrix.order; cols = matrix.cols; rows = b },
       record {
@@ -157,7 +157,7 @@ invertible_matrix matrix square invertible = make (inverse_list (number_field ma
       },
     )
 
-pub transposed_null_rows : (matrix null : MatrixValue) → IsSquareOver (number_field matrix.order) matrix.cols matrix.rows → ¬ (IsInvertible matrix) →
+pub transposed_null_rows : (matrix null : MatrixValue) → IsSquareOver (number_field matrix.order) matrix.cols matrix.rows → ¬ (IsInvertibleMatrix matrix) →
     IsNullSpaceMatrix (transposed_matrix matrix) null → 0 < length null.rows
 transposed_null_rows matrix null square singular is = by_size (dec_lt 0 (length null.rows))
   where
@@ -174,7 +174,7 @@ transposed_null_rows matrix null square singular is = by_size (dec_lt 0 (length 
 pub null_is_reduced : (matrix null : MatrixValue) → IsNullSpaceMatrix matrix null → IsReduced null
 null_is_reduced matrix null is = subst (λ o. IsReducedBasis (number_field o) null.rows null.rows) (sym is.field) is.basis_of_null_space.reduced
 
-pub transposed_point_is : (matrix null : MatrixValue) → IsSquareOver (number_field matrix.order) matrix.cols matrix.rows → ¬ (IsInvertible matrix) →
+pub transposed_point_is : (matrix null : MatrixValue) → IsSquareOver (number_field matrix.order) matrix.cols matrix.rows → ¬ (IsInvertibleMatrix matrix) →
     IsNullSpaceMatrix (transposed_matrix matrix) null → IsMatrix null → TransposedPoint matrix
 transposed_point_is matrix null square singular is well_formed = record {
   null_space = null;
@@ -238,7 +238,7 @@ transposed_null matrix transpose result some is answer =
     (subst (λ (t : MatrixValue). Answers (null_space_refusal t) (IsNullSpaceMatrix t) result) is answer)
 
 -- a row that is the first point of that null space
-pub transposed_row_is : (matrix null : MatrixValue) (v : RowValue) → IsSquareOver (number_field matrix.order) matrix.cols matrix.rows → ¬ (IsInvertible matrix) →
+pub transposed_row_is : (matrix null : MatrixValue) (v : RowValue) → IsSquareOver (number_field matrix.order) matrix.cols matrix.rows → ¬ (IsInvertibleMatrix matrix) →
     IsNullSpaceMatrix (transposed_matrix matrix) null → IsMatrix null → v ≡ record { order = null.order; entries = point_of null 0 } → IsTransposedPointRow matrix v
 unfolding transposed_point_is
 transposed_row_is matrix null v square singular is well_formed same = record {

@@ -119,6 +119,7 @@ module _ (m : ModuleValue) (is : IsModule m) where
     invariant = basis.invariant;
     nonzero = basis.some;
     proper = by_size (dec_lt (length space.rows) m.dim);
+    well_formed = generates.well_formed;
   }
     where
       over_space : IsMatrixOver K m.dim space.rows
@@ -144,6 +145,7 @@ module _ (m : ModuleValue) (is : IsModule m) where
     invariant = both.0.invariant;
     nonzero = both.0.some;
     proper = both.1;
+    well_formed = found.well_formed;
   }
     where
       K : NumberField

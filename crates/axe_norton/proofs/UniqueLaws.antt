@@ -20,7 +20,7 @@ use Rattle.axe_field.specs.Order.{Order}
 use Rattle.axe_field.specs.NumberFields.{number_field, gf}
 use Rattle.axe_row.specs.Rows.{RowValue}
 use Rattle.axe_matrix.specs.Matrices.{MatrixValue, IsMatrix, transposed_matrix}
-use Rattle.axe_reduction.specs.Solutions.{IsInvertible}
+use Rattle.axe_reduction.specs.Solutions.{IsInvertibleMatrix}
 use Rattle.axe_echelon.specs.Echelons.{IsNullSpaceMatrix}
 use Rattle.axe_spin.specs.Modules.{ModuleValue}
 use Rattle.axe_spin.specs.Spinning.{IsGeneratedMatrix}
@@ -122,12 +122,12 @@ module _ (m : ModuleValue) (x null : MatrixValue) where
       let entries : v.entries ≡ w.entries = first.first ∙ sym second.first in
       λ i. record { order = fields i; entries = entries i }
 
-  module _ (some_rows : 0 < length (points_of null) → ¬ (IsInvertible x)) (transposed_rows : TransposedPoint x → ¬ (IsInvertible x)) where
-    irreducible_or_left : (v : RowValue) → ShowsIrreducible m x null v → IsInvertible x ⊎ IsLeftWithMany m x null → ⊥
+  module _ (some_rows : 0 < length (points_of null) → ¬ (IsInvertibleMatrix x)) (transposed_rows : TransposedPoint x → ¬ (IsInvertibleMatrix x)) where
+    irreducible_or_left : (v : RowValue) → ShowsIrreducible m x null v → IsInvertibleMatrix x ⊎ IsLeftWithMany m x null → ⊥
     irreducible_or_left v shows (inl invertible) = some_rows shows.some_point invertible
     irreducible_or_left v shows (inr left) = omega (arith, shows.few, left.many)
 
-    reducible_or_left : (space : MatrixValue) → ShowsReducible m x null space → IsInvertible x ⊎ IsLeftWithMany m x null → ⊥
+    reducible_or_left : (space : MatrixValue) → ShowsReducible m x null space → IsInvertibleMatrix x ⊎ IsLeftWithMany m x null → ⊥
     reducible_or_left space (inl found) (inl invertible) = some_rows (let below = found.tried.below in omega arith) invertible
     reducible_or_left space (inr found) (inl invertible) = transposed_rows found.1.point invertible
     reducible_or_left space (inl found) (inr left) = by_reason found.tried.first_or_few
@@ -159,7 +159,7 @@ no_points null none some =
     omega (arith, counted, zero)
 
 -- where a matrix is invertible the null space of its transpose has no rows
-transposed_no_rows : (x null : MatrixValue) → IsSquareOver (number_field x.order) x.cols x.rows → IsInvertible x → IsNullSpaceMatrix (transposed_matrix x) null →
+transposed_no_rows : (x null : MatrixValue) → IsSquareOver (number_field x.order) x.cols x.rows → IsInvertibleMatrix x → IsNullSpaceMatrix (transposed_matrix x) null →
     length null.rows ≡ 0
 transposed_no_rows x null square (inverse, inverts) is =
     no_null_rows_of_invertible (number_field x.order) x.cols (transpose x.cols x.rows) null.rows (transpose_square (number_field x.order) x.cols x.rows square)
@@ -191,11 +191,11 @@ says_one m word a b first second =
     square : IsSquareOver (number_field second.tested.matrix.order) second.tested.matrix.cols second.tested.matrix.rows
     square = own_square m second.tested.matrix (value_square m word second.tested.matrix second.tested.is_value)
 
-    some_rows : 0 < length (points_of second.tested.null_space) → ¬ (IsInvertible second.tested.matrix)
+    some_rows : 0 < length (points_of second.tested.null_space) → ¬ (IsInvertibleMatrix second.tested.matrix)
     some_rows some invertible =
         no_points second.tested.null_space (no_rows_of_invertible second.tested.matrix second.tested.null_space square second.tested.is_null_space invertible) some
 
-    transposed_rows : TransposedPoint second.tested.matrix → ¬ (IsInvertible second.tested.matrix)
+    transposed_rows : TransposedPoint second.tested.matrix → ¬ (IsInvertibleMatrix second.tested.matrix)
     transposed_rows point invertible =
         no_points point.null_space (transposed_no_rows second.tested.matrix point.null_space square invertible point.is_null_space) point.some_point
 

@@ -25,6 +25,7 @@ pub record IsProperSubmodule (m : ModuleValue) (space : MatrixValue) : Type 0 wh
   pub invariant : IsInvariant (number_field m.order) m.dim m.generators space.rows
   pub nonzero : 0 < length space.rows
   pub proper : length space.rows < m.dim
+  pub well_formed : IsMatrix space
 
 -- the tested matrix of a module: the value of a word, with the reduced basis of its null space (Parker 1984)
 pub record Tested (m : ModuleValue) (word : WordValue) : Type 0 where

@@ -3,7 +3,7 @@ use Rattle.std.specs.Prelude.{◌≡◌, ℕ, ◌<◌, ◌≤◌, ◌⊎◌, len
 use Rattle.axe_field.specs.Order.{order_number}
 use Rattle.axe_row.specs.Rows.{RowValue}
 use Rattle.axe_matrix.specs.Matrices.{MatrixValue}
-use Rattle.axe_reduction.specs.Solutions.{IsInvertible}
+use Rattle.axe_reduction.specs.Solutions.{IsInvertibleMatrix}
 use Rattle.axe_spin.specs.Modules.{ModuleValue}
 use Rattle.axe_word.specs.Words.{WordValue}
 use Rattle.axe_word.specs.Drawing.{drawn_word}
@@ -49,7 +49,7 @@ pub record IsLeftWithMany (m : ModuleValue) (matrix null_space : MatrixValue) : 
 abbrev pub Tells : ModuleValue → MatrixValue → MatrixValue → At → Type 0
 Tells m matrix null_space (Irreducible v) = ShowsIrreducible m matrix null_space v
 Tells m matrix null_space (Reducible space) = ShowsReducible m matrix null_space space
-Tells m matrix null_space Left = IsInvertible matrix ⊎ IsLeftWithMany m matrix null_space
+Tells m matrix null_space Left = IsInvertibleMatrix matrix ⊎ IsLeftWithMany m matrix null_space
 
 -- what a word says of a module: what its value tells
 pub record Says (m : ModuleValue) (word : WordValue) (answer : At) : Type 0 where

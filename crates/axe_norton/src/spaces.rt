@@ -6,7 +6,7 @@ ghost use Rattle.axe_field.specs.NumberFields.{number_field};
 ghost use Rattle.axe_row.specs.Operations.{IsZeroVector};
 ghost use Rattle.axe_row.specs.Refusals.{Answers};
 ghost use Rattle.axe_matrix.specs.Matrices.{IsMatrix};
-ghost use Rattle.axe_reduction.specs.Solutions.{IsInvertible};
+ghost use Rattle.axe_reduction.specs.Solutions.{IsInvertibleMatrix};
 ghost use Rattle.axe_action.specs.Actions.{dual_module};
 ghost use Rattle.axe_word.specs.PointsOfMatrix.{points_of};
 ghost use Rattle.axe_norton.specs.Spaces.{HasFewPoints};
@@ -94,7 +94,7 @@ pub(crate) fn transposed_space(
     transposes: &mut Option<Module>,
 ) -> Result<Option<Matrix>, Refusal>
     requires square { IsSquareIn «module».now matrix.now }
-    requires singular { ¬ (IsInvertible matrix.now) }
+    requires singular { ¬ (IsInvertibleMatrix matrix.now) }
     requires dual { IsDualOrNone «module».now transposes.old }
     ensures found { Answers None (FindsTransposed «module».now matrix.now) result }
     ensures dual { IsDualOrNone «module».now transposes.new }
@@ -128,7 +128,7 @@ fn transposed_module(
 fn transposed_point(alloc: Global, matrix: &Matrix) -> Result<Row, Refusal>
     requires square { IsSquareOver (number_field matrix.now.order) matrix.now.cols matrix.now.rows }
     requires some_row { 0 < matrix.now.cols }
-    requires singular { ¬ (IsInvertible matrix.now) }
+    requires singular { ¬ (IsInvertibleMatrix matrix.now) }
     ensures { Answers None (IsTransposedPointRow matrix.now) result }
 {
     let transpose = matrix.transpose(alloc)?;

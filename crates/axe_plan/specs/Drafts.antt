@@ -1,8 +1,11 @@
 -- The plan that a draft holds.
-use Rattle.std.specs.Prelude.{ℕ, List, [], ◌∷◌, ◌++◌, map, string_bytes}
+use Rattle.std.specs.Prelude.{◌≡◌, ℕ, ◌<◌, List, [], ◌∷◌, ◌++◌, length, map, string_bytes}
+use Rattle.axe_algebra.specs.Lists.{listed}
+use Rattle.axe_spin.specs.Modules.{ModuleValue}
 use Rattle.axe_plan.specs.declared.draft.Change.{Change}
 use Rattle.axe_plan.specs.declared.draft.Change.TheVariants as change
 use Rattle.axe_plan.specs.declared.draft.Draft.{Draft}
+use Rattle.axe_plan.specs.Outputs.{put_generator}
 use Rattle.axe_plan.specs.Plans.{Step, Put, Remove, Plan}
 
 -- the step that a change makes
@@ -25,3 +28,9 @@ with_steps plan steps = record { steps = plan.steps ++ steps; shown = plan.shown
 -- the plan that shows this text
 abbrev pub with_text : Plan → List ℕ → Plan
 with_text plan text = record { steps = plan.steps; shown = text }
+
+-- the plan after is the one before with the steps that put some first generators of a module, and not all
+pub record HasFirstGenerators (name : List ℕ) (m : ModuleValue) (before after : Plan) : Type 0 where
+  pub count : ℕ
+  pub not_all : count < length m.generators
+  pub puts : after ≡ with_steps before (listed count (put_generator name m))

@@ -59,7 +59,7 @@ impl Draft {
     ghost use Rattle.axe_plan.specs.Plans.{Put, Remove};
     ghost use Rattle.axe_plan.specs.Meanings.{Is};
     ghost use Rattle.axe_plan.specs.Outputs.{put_packed, put_or_show_text, put_generators};
-    ghost use Rattle.axe_plan.specs.Drafts.{plan_in, with_step, with_steps, with_text};
+    ghost use Rattle.axe_plan.specs.Drafts.{plan_in, with_step, with_steps, with_text, HasFirstGenerators};
 
     /// The draft that changes nothing and shows nothing.
     pub fn new(alloc: Global) -> Draft
@@ -106,12 +106,14 @@ impl Draft {
     pub fn put_packed(&mut self, alloc: Global, name: &Name, matrix: &Matrix) -> Result<(), Fault>
         ensures put { OnOk result (plan_in self.new ≡ with_step (plan_in self.old) (Put name.now (packed matrix.now))) }
         ensures memory { IfErr result (λ fault. fault ≡ Memory) }
+        ensures kept { IfErr result (λ _. plan_in self.new ≡ plan_in self.old) }
     {
         let file = String::from_str(alloc, name.as_str())?;
         self.put_packed_file(alloc, file, matrix)
     }
 
     /// Adds that the files NAME.1, NAME.2 and so on are given the packed spellings of a module's generators, in order.
+    /// Where memory is refused, the first of them are added, and not all.
     pub fn put_generators(
         &mut self,
         alloc: Global,
@@ -121,6 +123,8 @@ impl Draft {
         ensures put { OnOk result
             (plan_in self.new ≡ with_steps (plan_in self.old) (put_generators name.now «module».now)) }
         ensures memory { IfErr result (λ fault. fault ≡ Memory) }
+        ensures some { IfErr result
+            (λ _. HasFirstGenerators name.now «module».now (plan_in self.old) (plan_in self.new)) }
     {
         for index in 0..module.gens() {
             let file = numbered(alloc, name, index + 1)?;
@@ -139,6 +143,7 @@ impl Draft {
         ensures put { OnOk result
             (plan_in self.new ≡ with_step (plan_in self.old) (Put (string_bytes name) (packed matrix.now))) }
         ensures memory { IfErr result (λ fault. fault ≡ Memory) }
+        ensures kept { IfErr result (λ _. plan_in self.new ≡ plan_in self.old) }
     {
         match write_packed(alloc, matrix) {
             Ok(bytes) => self.put(name, bytes),
@@ -151,6 +156,7 @@ impl Draft {
         ensures put { OnOk result
             (plan_in self.new ≡ with_step (plan_in self.old) (Put name.now (text_of matrix.now))) }
         ensures memory { IfErr result (λ fault. fault ≡ Memory) }
+        ensures kept { IfErr result (λ _. plan_in self.new ≡ plan_in self.old) }
     {
         let name = String::from_str(alloc, name.as_str())?;
         match write_text(alloc, matrix) {
@@ -164,6 +170,7 @@ impl Draft {
         ensures put { OnOk result
             (plan_in self.new ≡ with_step (plan_in self.old) (Put (string_bytes name) bytes.items)) }
         ensures memory { IfErr result (λ fault. fault ≡ Memory) }
+        ensures kept { IfErr result (λ _. plan_in self.new ≡ plan_in self.old) }
     {
         self.changes.push(Change::Put { name, bytes })?;
         Ok(())
@@ -173,6 +180,7 @@ impl Draft {
     pub fn remove(&mut self, name: String) -> Result<(), Fault>
         ensures removed { OnOk result (plan_in self.new ≡ with_step (plan_in self.old) (Remove (string_bytes name))) }
         ensures memory { IfErr result (λ fault. fault ≡ Memory) }
+        ensures kept { IfErr result (λ _. plan_in self.new ≡ plan_in self.old) }
     {
         self.changes.push(Change::Remove { name })?;
         Ok(())
@@ -182,6 +190,7 @@ impl Draft {
     fn show_text(&mut self, alloc: Global, matrix: &Matrix) -> Result<(), Fault>
         ensures shown { OnOk result (plan_in self.new ≡ with_text (plan_in self.old) (text_of matrix.now)) }
         ensures memory { IfErr result (λ fault. fault ≡ Memory) }
+        ensures kept { IfErr result (λ _. plan_in self.new ≡ plan_in self.old) }
     {
         match write_text(alloc, matrix) {
             Ok(text) => {

@@ -81,7 +81,8 @@ impl ByteTable {
         requires fits { length plane.now.digits ≡ length (slice_index_or self.old.entries to []) }
         ensures { self.new ≡ record self.old {
           entries = slice_set self.old.entries to
-              (digits_with_multiple (byte_prime self.old.prime) (slice_index_or self.old.entries to []) factor plane.now.digits);
+              (digits_with_multiple (byte_prime self.old.prime) (slice_index_or self.old.entries to [])
+              factor plane.now.digits);
         } }
     {
         let prime = self.prime.number();

@@ -1,19 +1,11 @@
 //! Planes of digits modulo 5 or 7.
+ghost use Rattle.std.specs.Prelude.{map, replicate, slice_index, slice_set, All, MatchOption, ◌≡◌, ◌+◌, ◌/◌, ◌%◌};
+ghost use Rattle.std.specs.Prelude.{◌<◌, ◌≤◌, ◌↔◌, IsTrue, IfOk, length, ◌^◌};
 ghost use Rattle.axe_algebra.specs.Lists.{listed};
-ghost use Rattle.axe_lane.specs.Bytes.{multiple, sum_of_products};
-ghost use Rattle.axe_lane.specs.Entries.{IsFirstNonzero};
-ghost use Rattle.axe_bits.specs.Digits.{AreDigits, digits_at, digits_with_four, digits_with_multiple};
-ghost use Rattle.axe_bits.specs.Digits.{AreSmallSums, numbers_with_multiple};
-ghost use Rattle.axe_bits.specs.Digits.{AreZerosFrom, IsNextNonzero};
-ghost use Rattle.std.specs.Prelude.{map, replicate, slice_index, slice_set, All, MatchOption};
-ghost use Rattle.std.specs.Prelude.{slice_index, slice_set, All, MatchOption};
-ghost use Rattle.std.specs.Prelude.{slice_set, All, MatchOption};
-ghost use Rattle.std.specs.Prelude.{◌≡◌, ◌+◌, ◌/◌, ◌%◌, ◌<◌, ◌≤◌, ◌↔◌, IsTrue, IfOk, length, map, replicate};
-ghost use Rattle.std.specs.Prelude.{◌≡◌, ◌+◌, ◌/◌, ◌%◌, ◌^◌, ◌<◌, ◌≤◌, ◌↔◌, IsTrue, IfOk, length, map, replicate, slice_index};
-ghost use Rattle.std.specs.Prelude.{◌≡◌, ◌+◌, ◌/◌, ◌%◌, ◌^◌, ◌<◌, ◌≤◌, ◌↔◌, IsTrue, IfOk, length};
-ghost use Rattle.axe_lane.specs.Bytes.{multiple, sum_of_products};
-ghost use Rattle.axe_lane.specs.Entries.{IsFirstNonzero};
-ghost use Rattle.axe_bits.specs.Digits.{IsNextNonzero, number_from};
+ghost use Rattle.axe_lane.specs.Bytes.{multiple_modulo, sum_of_products};
+ghost use Rattle.axe_lane.specs.Entries.{IsFirstNonzero, AreZerosFrom, IsNextNonzero};
+ghost use Rattle.axe_bits.specs.Digits.{AreDigits, digits_at, digits_with_four, digits_with_multiple, AreSmallSums};
+ghost use Rattle.axe_bits.specs.Digits.{numbers_with_multiple, number_from};
 ghost use Rattle.axe_plane.specs.Primes.{byte_prime, ByteDigits};
 
 use crate::primes::BytePrime;
@@ -244,7 +236,7 @@ impl BytePlane {
         requires { factor < byte_prime self.old.prime }
         ensures { self.new ≡ record {
           prime = self.old.prime;
-          digits = multiple (byte_prime self.old.prime) factor self.old.digits;
+          digits = multiple_modulo (byte_prime self.old.prime) factor self.old.digits;
         } }
     {
         let prime = self.prime.number();

@@ -3,26 +3,13 @@
 #![tactic(auto)]
 
 ghost use Rattle.std.specs.Int.{bit_at};
-ghost use Rattle.std.specs.Prelude.{ℕ, ◌≡◌, ◌≢◌, ◌⊎◌, ◌+◌, ◌%◌, ◌<◌, ◌≤◌, ◌↔◌, IsTrue, IfOk, length};
-ghost use Rattle.std.specs.Prelude.{map, replicate, slice_index, slice_set, All, MatchOption};
+ghost use Rattle.std.specs.Prelude.{ℕ, ◌≡◌, ◌≢◌, ◌⊎◌, ◌+◌, ◌%◌, ◌<◌, ◌≤◌, ◌↔◌, IsTrue, IfOk, length, map, replicate};
+ghost use Rattle.std.specs.Prelude.{slice_index, slice_set, All, MatchOption, ◌^◌, ◌*◌};
 ghost use Rattle.axe_algebra.specs.Lists.{listed};
-ghost use Rattle.axe_lane.specs.Bytes.{multiple, sum_of_products};
-ghost use Rattle.axe_lane.specs.Entries.{IsFirstNonzero};
-ghost use Rattle.axe_bits.specs.Digits.{AreDigits, digits_at, digits_with_four, digits_with_multiple};
-ghost use Rattle.axe_bits.specs.Digits.{AreSmallSums, numbers_with_multiple};
-ghost use Rattle.axe_bits.specs.Digits.{AreZerosFrom, IsNextNonzero};
-ghost use Rattle.axe_bits.specs.Digits.{AreZerosFrom, IsNextNonzero};
-ghost use Rattle.std.specs.Prelude.{ℕ, ◌≡◌, ◌≢◌, ◌⊎◌, ◌+◌, ◌%◌, ◌^◌, ◌<◌, ◌≤◌, ◌↔◌, IsTrue, IfOk, length};
-ghost use Rattle.std.specs.Prelude.{replicate, slice_index, slice_set, All, MatchOption};
-ghost use Rattle.axe_lane.specs.Bytes.{multiple, sum_of_products};
-ghost use Rattle.axe_lane.specs.Entries.{IsFirstNonzero};
-ghost use Rattle.axe_bits.specs.Digits.{IsNextNonzero, number_from};
-ghost use Rattle.axe_bits.specs.Digits.{AreZerosFrom, IsNextNonzero};
-ghost use Rattle.std.specs.Prelude.{ℕ, ◌≡◌, ◌≢◌, ◌⊎◌, ◌+◌, ◌*◌, ◌%◌, ◌^◌, ◌<◌, ◌≤◌, ◌↔◌, IsTrue, IfOk, length};
-ghost use Rattle.std.specs.Prelude.{replicate, slice_index, slice_set, All, MatchOption};
-ghost use Rattle.axe_lane.specs.Bytes.{multiple, sum_of_products};
-ghost use Rattle.axe_lane.specs.Entries.{IsFirstNonzero};
-ghost use Rattle.axe_bits.specs.Digits.{IsNextNonzero, numbers_from};
+ghost use Rattle.axe_lane.specs.Bytes.{multiple_modulo, sum_of_products};
+ghost use Rattle.axe_lane.specs.Entries.{IsFirstNonzero, AreZerosFrom, IsNextNonzero};
+ghost use Rattle.axe_bits.specs.Digits.{AreDigits, digits_at, digits_with_four, digits_with_multiple, AreSmallSums};
+ghost use Rattle.axe_bits.specs.Digits.{numbers_with_multiple, numbers_from};
 ghost use Rattle.axe_plane.specs.Tables.{plane_at, IsEntryFor};
 
 use axe_bits::{BitPlane, TritPlane};
@@ -247,7 +234,8 @@ impl Plane {
         requires fits { factor ≢ 0 → length (digits_of other.now) ≡ length (digits_of self.old) }
         requires digits { AreDigits (prime_of_plane self.old) (digits_of self.old) }
         ensures { IsPlane (prime_of_plane self.old)
-            (digits_with_multiple (prime_of_plane self.old) (digits_of self.old) factor (digits_of other.now)) self.new }
+            (digits_with_multiple (prime_of_plane self.old) (digits_of self.old) factor (digits_of other.now))
+            self.new }
     {
         if factor != 0 {
             match (self, other) {
@@ -276,7 +264,8 @@ impl Plane {
         requires d { IsEntryFor self.old d.now (slice_index entries 3) }
         ensures { IsPlane (prime_of_plane self.old) (digits_with_four (prime_of_plane self.old) (digits_of self.old)
             (digits_of (plane_at a.now (slice_index entries 0))) (digits_of (plane_at b.now (slice_index entries 1)))
-            (digits_of (plane_at c.now (slice_index entries 2))) (digits_of (plane_at d.now (slice_index entries 3)))) self.new }
+            (digits_of (plane_at c.now (slice_index entries 2))) (digits_of (plane_at d.now (slice_index entries 3))))
+            self.new }
     {
         match self {
             Plane::Bits(plane) => {
@@ -362,7 +351,8 @@ impl Plane {
     /// Multiplies each digit by a factor modulo the prime.
     pub fn scale(&mut self, factor: u8)
         requires { factor < prime_of_plane self.old }
-        ensures { IsPlane (prime_of_plane self.old) (multiple (prime_of_plane self.old) factor (digits_of self.old)) self.new }
+        ensures { IsPlane (prime_of_plane self.old)
+            (multiple_modulo (prime_of_plane self.old) factor (digits_of self.old)) self.new }
     {
         match self {
             Plane::Bits(plane) => plane.scale(factor),

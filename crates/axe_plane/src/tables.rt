@@ -60,10 +60,12 @@ impl PlaneTable {
         requires to { to < length (entries_of_table self.old) }
         requires prime { prime_of_plane plane.now ≡ prime_of_table self.old }
         requires factor { factor < prime_of_table self.old }
-        requires fits { factor ≢ 0 → length (digits_of plane.now) ≡ length (slice_index_or (entries_of_table self.old) to []) }
+        requires fits { factor ≢ 0 → length (digits_of plane.now)
+            ≡ length (slice_index_or (entries_of_table self.old) to []) }
         requires digits { AreDigits (prime_of_table self.old) (slice_index_or (entries_of_table self.old) to []) }
         ensures { IsTable (prime_of_table self.old) (slice_set (entries_of_table self.old) to
-            (digits_with_multiple (prime_of_table self.old) (slice_index_or (entries_of_table self.old) to []) factor (digits_of plane.now)))
+            (digits_with_multiple (prime_of_table self.old) (slice_index_or (entries_of_table self.old) to [])
+            factor (digits_of plane.now)))
             self.new }
     {
         if factor != 0 {
@@ -89,7 +91,9 @@ impl PlaneTable {
         requires fits { factor ≢ 0 → length (digits_of (plane_at self.now index)) ≡ length (digits_of plane.old) }
         requires digits { AreDigits (prime_of_plane plane.old) (digits_of plane.old) }
         ensures { IsPlane (prime_of_plane plane.old)
-            (digits_with_multiple (prime_of_plane plane.old) (digits_of plane.old) factor (digits_of (plane_at self.now index))) plane.new }
+            (digits_with_multiple (prime_of_plane plane.old) (digits_of plane.old)
+            factor (digits_of (plane_at self.now index)))
+            plane.new }
     {
         if factor != 0 {
             match (self, plane) {
@@ -114,7 +118,8 @@ impl PlaneTable {
         requires index { index < length (entries_of_table self.now) }
         requires even { prime_of_table self.now ≡ 2 }
         ensures holds { HoldsBits (length (digits_of (plane_at self.now index))) result.now }
-        ensures digits { bits (length (digits_of (plane_at self.now index))) result.now ≡ digits_of (plane_at self.now index) }
+        ensures digits { bits (length (digits_of (plane_at self.now index))) result.now
+            ≡ digits_of (plane_at self.now index) }
     {
         match self {
             PlaneTable::Bits(table) => table.entry(index),

@@ -10,7 +10,8 @@ use Rattle.axe_algebra.proofs.ListEntries.{listed_length, listed_at, table_lengt
 use Rattle.axe_field.specs.Order.{Order, IsElement}
 use Rattle.axe_field.specs.NumberFields.{number_field}
 use Rattle.axe_row.specs.Rows.{RowValue}
-use Rattle.axe_row.specs.Operations.{IsZeroVector, IsFirstNonzero}
+use Rattle.axe_lane.specs.Entries.{IsFirstNonzero}
+use Rattle.axe_row.specs.Operations.{IsZeroVector}
 use Rattle.axe_matrix.specs.Matrices.{MatrixValue, IsMatrix, row_of}
 use Rattle.axe_matrix.proofs.MatrixLaws.{same_matrix, same_rows, length-row_of, IsRow-row_of}
 use Rattle.axe_reduction.specs.Augmented.{AugmentedValue, IsAugmented, AreBeside, IsZeroLeft, LeadsLeftAt, rows_beside, augmented, right_part}

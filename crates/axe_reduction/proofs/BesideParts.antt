@@ -10,7 +10,7 @@ use Rattle.axe_field.specs.Order.{Order}
 use Rattle.axe_row.specs.Rows.{RowValue}
 use Rattle.axe_matrix.specs.Matrices.{MatrixValue, IsMatrix, row_of, matrix_block}
 use Rattle.axe_matrix.proofs.MatrixLaws.{same_matrix}
-use Rattle.axe_reduction.specs.Augmented.{AugmentedValue, AreBeside, rows_beside, augmented, some_rows, with_rows, entries_at}
+use Rattle.axe_reduction.specs.Augmented.{AugmentedValue, AreBeside, rows_beside, augmented, some_rows, with_rows, entries_at_columns}
 use Rattle.axe_reduction.proofs.BesideLaws.{HaveLength, length-row, length-rows_beside, row-rows_beside, append_beside, same_augmented, view-count, view-entry}
 
 -- ---- some of the rows
@@ -164,7 +164,7 @@ chosen-row a columns i row taken row_is is =
 -- the matrix of them is that of the entries left of the bar
 pub chosen_are_entries : (a b entries : MatrixValue) (v : AugmentedValue) (columns : List ℕ) (o : Order) (width n : ℕ) → augmented a b ≡ v → AreBeside a b →
     All (λ column. column < v.left) columns → o ≡ v.order → width ≡ length columns → n ≡ length v.rows →
-    IsExtended o width [] (chosen a columns) n entries → entries ≡ entries_at v columns
+    IsExtended o width [] (chosen a columns) n entries → entries ≡ entries_at_columns v columns
 chosen_are_entries a b entries v columns o width n view_is h inside o_is width_is n_is made =
     let f = λ (i t : ℕ). entry v.rows i (get_or columns t 0) in
     let count = table_length (length v.rows) (length columns) f in

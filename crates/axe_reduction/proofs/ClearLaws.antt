@@ -13,7 +13,7 @@ use Rattle.axe_field.specs.NumberFields.{number_field}
 use Rattle.axe_field.specs.Order.{Order}
 use Rattle.axe_field.proofs.Orders.{one_is_element}
 use Rattle.axe_matrix.specs.Products.{rows_with_product}
-use Rattle.axe_reduction.specs.Augmented.{AugmentedValue, IsAugmented, entries_at, some_rows}
+use Rattle.axe_reduction.specs.Augmented.{AugmentedValue, IsAugmented, entries_at_columns, some_rows}
 use Rattle.axe_reduction.specs.Reductions.{cleared}
 use mathlib.Core.Path.{sym, ◌∙◌, ap}
 use native.Mathlib.Omega.{arith}
@@ -53,7 +53,7 @@ pub cleared_of_none : (pivots : List ℕ) (a b : AugmentedValue) → IsAugmented
     b ≡ cleared pivots a b
 cleared_of_none pivots a b h none =
     ap (λ rows. record b { rows = rows })
-    (sym (nothing_added (number_field b.order) b.cols b.rows (field_neg b.order 1) (entries_at b pivots).rows a.rows
+    (sym (nothing_added (number_field b.order) b.cols b.rows (field_neg b.order 1) (entries_at_columns b pivots).rows a.rows
     h.over (minus_one-below b.order) none))
 
 pub length-cleared : (pivots : List ℕ) (a b : AugmentedValue) → length (cleared pivots a b).rows ≡ length b.rows

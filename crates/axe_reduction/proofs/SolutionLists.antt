@@ -21,7 +21,7 @@ use Rattle.axe_matrix.specs.Matrices.{MatrixValue, IsMatrix, identity_matrix}
 use Rattle.axe_reduction.specs.Augmented.{AugmentedValue, rows_beside, augmented, right_part}
 use Rattle.axe_reduction.specs.Forms.{AreReducedRows}
 use Rattle.axe_reduction.specs.Reductions.{IsReductionOf}
-use Rattle.axe_reduction.specs.Solutions.{IsInverseMatrix, IsInvertible, IsRowAtPivot, AreRowsByPivot}
+use Rattle.axe_reduction.specs.Solutions.{IsInverseMatrix, IsInvertibleMatrix, IsRowAtPivot, AreRowsByPivot}
 use Rattle.axe_reduction.specs.declared.reduction.Reduction.{Reduction}
 use Rattle.axe_reduction.proofs.BesideLaws.{matrix_over}
 use Rattle.axe_reduction.proofs.SolutionLaws.{AreBesideUnits, AreReducedBefore, pivots_of_invertible, every_pivot, right_is_inverse}
@@ -156,7 +156,7 @@ square_reduction m r h square of_rows = record {
 }
 
 pub no_inverse_of_fewer : (m : MatrixValue) (r : Reduction) → IsMatrix m → length m.rows ≡ m.cols → IsReductionOf (beside_identity m) r →
-    ¬ (length r.pivots.items ≡ length m.rows) → ¬ (IsInvertible m)
+    ¬ (length r.pivots.items ≡ length m.rows) → ¬ (IsInvertibleMatrix m)
 no_inverse_of_fewer m r h square of_rows fewer (inverse, is) = fewer (omega (arith, enough, of_rows.count, of_rows.are_reduced.count, beside_count m, square))
   where
     facts : IsSquareReduction m m.cols r

@@ -8,16 +8,16 @@ use Rattle.axe_matrix.specs.Limits.{most_rows, most_columns}
 use Rattle.axe_matrix.specs.Matrices.{MatrixValue, IsMatrix}
 use Rattle.axe_matrix.specs.Products.{rows_with_product}
 
--- an augmented matrix: the order of its field, how many of its columns stand left of the bar, how many there are in all,
--- and the list of its rows (any linear algebra text)
+-- an augmented matrix: the order of its field, how many of its columns stand left of the bar, how many there are in
+-- all, and the list of its rows (any linear algebra text)
 pub record AugmentedValue : Type 0 where
   pub order : Order
   pub left : ℕ
   pub cols : ℕ
   pub rows : List (List ℕ)
 
--- on each side of the bar there are columns, no more than a matrix may have; nor are there more rows, and each of them is a
--- vector over the field with an entry in each column
+-- on each side of the bar there are columns, no more than a matrix may have; nor are there more rows, and each of them
+-- is a vector over the field with an entry in each column
 pub record IsAugmented (a : AugmentedValue) : Type 0 where
   pub some_left : 1 ≤ a.left
   pub some_right : a.left < a.cols
@@ -54,8 +54,8 @@ abbrev pub some_rows : AugmentedValue → ℕ → ℕ → AugmentedValue
 some_rows a start count = record a { rows = listed count (λ i. get_or a.rows (start + i) []) }
 
 -- the entries at these columns: entry i, t is the entry of row i at column t of the list
-abbrev pub entries_at : AugmentedValue → List ℕ → MatrixValue
-entries_at a columns = record {
+abbrev pub entries_at_columns : AugmentedValue → List ℕ → MatrixValue
+entries_at_columns a columns = record {
   order = a.order;
   cols = length columns;
   rows = table (length a.rows) (length columns) (λ i t. entry a.rows i (get_or columns t 0));

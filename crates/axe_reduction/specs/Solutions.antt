@@ -13,8 +13,8 @@ pub record IsInverseMatrix (m inverse : MatrixValue) : Type 0 where
   pub inverts : IsInverse (number_field m.order) m.cols m.rows inverse.rows
 
 -- the square matrix m has an inverse
-abbrev pub IsInvertible : MatrixValue → Type 0
-IsInvertible m = (inverse : MatrixValue) × IsInverseMatrix m inverse
+abbrev pub IsInvertibleMatrix : MatrixValue → Type 0
+IsInvertibleMatrix m = (inverse : MatrixValue) × IsInverseMatrix m inverse
 
 -- `row` is the one of the rows whose pivot is j, where row t has pivot t of the list
 pub record IsRowAtPivot (pivots : List ℕ) (rows : List (List ℕ)) (j : ℕ) (row : List ℕ) : Type 0 where

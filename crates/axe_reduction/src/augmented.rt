@@ -1,21 +1,21 @@
 //! Augmented matrices.
 
-ghost use Rattle.std.specs.Prelude.{◌≡◌, ◌+◌, ◌<◌, ◌≤◌, ◌++◌, None, IfOk, MatchOption, length, All};
+ghost use Rattle.std.specs.Prelude.{◌≡◌, ◌+◌, ◌<◌, ◌≤◌, None, IfOk, MatchOption, length, All};
 ghost use Rattle.axe_algebra.specs.Lists.{entry};
 ghost use Rattle.axe_field.specs.Order.{IsElement};
 ghost use Rattle.axe_row.specs.Refusals.{Answers};
 ghost use Rattle.axe_matrix.specs.Limits.{most_rows, most_columns};
 ghost use Rattle.axe_matrix.specs.Matrices.{IsMatrix};
 ghost use Rattle.axe_reduction.specs.Augmented.{IsAugmented, AreAlike, LeadsLeftAt, IsZeroLeft, augmented, right_part};
-ghost use Rattle.axe_reduction.specs.Augmented.{some_rows, scaled_rows, entries_at, with_rows, with_product};
+ghost use Rattle.axe_reduction.specs.Augmented.{some_rows, scaled_rows, entries_at_columns, with_rows, with_product};
 
 use axe_field::Field;
 use axe_matrix::{Matrix, Refusal};
 use std::alloc::Global;
 use std::marker::Model;
 
-/// A matrix beside another over the same field, with a bar between them: whatever is done to the rows of the one is done to
-/// those of the other. Columns are counted from 0, those right of the bar after those left of it.
+/// A matrix beside another over the same field, with a bar between them: whatever is done to the rows of the one is
+/// done to those of the other. Columns are counted from 0, those right of the bar after those left of it.
 #[derive(Drop)]
 pub(crate) struct Augmented {
     left: Matrix,
@@ -86,7 +86,7 @@ impl Augmented {
         requires some_column { 1 ≤ length columns.now }
         requires columns_fit { length columns.now ≤ most_columns }
         requires left { All (λ column. column < self.now.left) columns.now }
-        ensures entries { Answers None (λ entries. entries ≡ entries_at self.now columns.now) result }
+        ensures entries { Answers None (λ entries. entries ≡ entries_at_columns self.now columns.now) result }
         ensures well_formed { IfOk result IsMatrix }
     {
         let mut entries = Matrix::empty(alloc, *self.field(), columns.len());
@@ -127,8 +127,8 @@ impl Augmented {
         Ok(Augmented { left, right })
     }
 
-    /// These rows with a multiple of a product added: `factors` has as many rows as there are here, and as many columns as
-    /// there are rows in `other`, whose columns are those here.
+    /// These rows with a multiple of a product added: `factors` has as many rows as there are here, and as many columns
+    /// as there are rows in `other`, whose columns are those here.
     pub(crate) fn plus_product(
         self,
         alloc: Global,
@@ -160,8 +160,8 @@ impl Augmented {
     {
         let Augmented { left, right } = self;
         let (mut left, mut right) = (left, right);
-        append_rows(alloc, &mut left, &other.left)?;
-        append_rows(alloc, &mut right, &other.right)?;
+        left.append_rows(alloc, &other.left)?;
+        right.append_rows(alloc, &other.right)?;
         Ok(Augmented { left, right })
     }
 
@@ -173,20 +173,4 @@ impl Augmented {
     {
         self.right
     }
-}
-
-/// Appends copies of the rows of another matrix over the same field, with as many columns.
-fn append_rows(alloc: Global, matrix: &mut Matrix, other: &Matrix) -> Result<(), Refusal>
-    requires field { other.now.order ≡ matrix.old.order }
-    requires columns { other.now.cols ≡ matrix.old.cols }
-    requires room { length matrix.old.rows + length other.now.rows ≤ most_rows }
-    ensures rows { Answers None (λ _. matrix.new ≡ record matrix.old { rows = matrix.old.rows ++ other.now.rows }) result }
-    ensures well_formed { IsMatrix matrix.new }
-{
-    prove!(matrix.cols() == other.cols());
-    for index in 0..other.rows() {
-        let row = other.row(index).copy(alloc)?;
-        matrix.append(row)?;
-    }
-    Ok(())
 }

@@ -6,7 +6,7 @@ ghost use Rattle.axe_row.specs.Refusals.{Answers};
 ghost use Rattle.axe_matrix.specs.Matrices.{IsMatrix, identity_matrix};
 ghost use Rattle.axe_reduction.specs.Augmented.{augmented};
 ghost use Rattle.axe_reduction.specs.Reductions.{IsReductionOf};
-ghost use Rattle.axe_reduction.specs.Solutions.{AreRowsByPivot, IsInverseMatrix, IsInvertible};
+ghost use Rattle.axe_reduction.specs.Solutions.{AreRowsByPivot, IsInverseMatrix, IsInvertibleMatrix};
 
 use crate::augmented::Augmented;
 use crate::reduction::{Reduction, reduction_of};
@@ -16,7 +16,7 @@ use std::alloc::Global;
 /// The inverse of a square matrix, or `None` where it has none.
 pub fn inverse_of(alloc: Global, matrix: &Matrix) -> Result<Option<Matrix>, Refusal>
     requires { length matrix.now.rows ≡ matrix.now.cols }
-    ensures inverse { Answers None (λ found. MatchOption found (¬ (IsInvertible matrix.now))
+    ensures inverse { Answers None (λ found. MatchOption found (¬ (IsInvertibleMatrix matrix.now))
         (IsInverseMatrix matrix.now)) result }
     ensures well_formed { IfOk result (λ found. IfSome found IsMatrix) }
 {
@@ -58,6 +58,7 @@ fn place_of(numbers: &[usize], number: usize) -> usize
     ensures found { slice_index_or numbers.now result 0 ≡ number }
 {
     let Some(place) = numbers.iter().position(|candidate| *candidate == number) else {
+        // The list contains the number.
         unreachable!()
     };
     place

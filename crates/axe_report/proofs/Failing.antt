@@ -3,7 +3,7 @@ use Rattle.std.proofs.Common.{◌≡◌, ◌≢◌, ℕ, Bool, true, false, eqb,
 use Rattle.std.specs.List.{flat_map}
 use Rattle.std.proofs.lemmas.Bool.{cases_lt, eqb-true, eq-eqb}
 use Rattle.std.proofs.lemmas.List.{nil_from_length}
-use Rattle.axe_report.specs.Reports.{FactorValue, ReportValue, total_dim, IsHeader, AreFactors, IsFactorAfter, IsSeriesOf, IsReport}
+use Rattle.axe_report.specs.Reports.{FactorValue, ReportValue, total_dim, IsReportHeader, AreFactors, IsFactorAfter, IsSeriesOf, IsReport}
 use Rattle.axe_report.specs.Spelling.{header_line, factor_line, series_line, opening_bytes, report_bytes}
 use Rattle.axe_report.specs.Passing.{LinesPass, FailsFirstAt}
 use Rattle.axe_report.specs.declared.report.ReportHeader.{ReportHeader}
@@ -13,7 +13,7 @@ use Rattle.axe_report.proofs.Unique.{InRange, header_unique, lines_front, none_b
 
 -- ---- the first line
 
-pub fails_header : (bytes : List ℕ) → ((h : ReportHeader) (x : List ℕ) → IsHeader h → bytes ≢ header_line h ++ x) → FailsFirstAt bytes 1
+pub fails_header : (bytes : List ℕ) → ((h : ReportHeader) (x : List ℕ) → IsReportHeader h → bytes ≢ header_line h ++ x) → FailsFirstAt bytes 1
 fails_header bytes none = record {
   some_line = omega arith;
   no_report = λ s. none s.0.header _ s.1.header (s.2 ∙ sym (append-nil (report_bytes s.0)) ∙ report_open s.0 []);
@@ -29,7 +29,7 @@ fails_header bytes none = record {
 
 -- the header and these constituents stand at the front, and no further one follows
 pub record Opened (bytes : List ℕ) (h : ReportHeader) (fs : List FactorValue) (text : List ℕ) : Type 0 where
-  pub is_header : IsHeader h
+  pub is_header : IsReportHeader h
   pub factors : AreFactors h.dim fs
   pub spelled : bytes ≡ header_line h ++ (flat_map factor_line fs ++ text)
   pub all : (f : FactorValue) (x : List ℕ) → IsFactorAfter h.dim fs f → text ≢ factor_line f ++ x
@@ -44,7 +44,7 @@ no_more dim fs (f ∷ hs) text y all are e =
     absurd (all f _ (factor_after dim fs f front) (e ∙ append_assoc (factor_line f) (flat_map factor_line hs) y))
 
 -- the constituents of any opening are among these
-few_lines : (bytes : List ℕ) (h g : ReportHeader) (fs gs : List FactorValue) (text y : List ℕ) → Opened bytes h fs text → IsHeader g → AreFactors g.dim gs → bytes ≡ header_line g ++ (flat_map factor_line gs ++ y)
+few_lines : (bytes : List ℕ) (h g : ReportHeader) (fs gs : List FactorValue) (text y : List ℕ) → Opened bytes h fs text → IsReportHeader g → AreFactors g.dim gs → bytes ≡ header_line g ++ (flat_map factor_line gs ++ y)
     → length gs ≤ length fs
 few_lines bytes h g fs gs text y o ig ag e = elim (cases_lt (length fs) (length gs)) [
   | inr le ↦ le

@@ -2,7 +2,7 @@
 use Rattle.std.proofs.Common.{◌≡◌, ℕ, ◌^◌, ◌<◌, List, ◌∷◌, ◌++◌, decimal, codes, refl, sym, ap, ◌∙◌, arith}
 use Rattle.axe_field.specs.Order.{order_number}
 use Rattle.axe_report.specs.Fronts.{is_digit, Stops}
-use Rattle.axe_report.specs.Reports.{IsHeader, HasNumbers}
+use Rattle.axe_report.specs.Reports.{IsReportHeader, HasNumbers}
 use Rattle.axe_report.specs.Spelling.{header_line}
 use Rattle.axe_report.specs.declared.report.ReportHeader.{ReportHeader}
 use Rattle.axe_report.proofs.Numerals.{setting_unique}
@@ -26,21 +26,21 @@ pub order_read : (text left : List ℕ) (q : ℕ) (h : ReportHeader) (x : List �
 order_read text left q h x lt there stops e =
     setting_unique (codes "chop 1 field=") text q (order_number h.field) left (after_order h.dim h.gens h.seed h.words x) lt (order_small h.field) stops refl there (e ∙ header_open h x)
 
-pub dim_read : (text left : List ℕ) (d : ℕ) (h : ReportHeader) (x : List ℕ) → d < 2 ^ 64 → text ≡ codes " dim=" ++ (decimal d ++ left) → Stops is_digit left → IsHeader h
+pub dim_read : (text left : List ℕ) (d : ℕ) (h : ReportHeader) (x : List ℕ) → d < 2 ^ 64 → text ≡ codes " dim=" ++ (decimal d ++ left) → Stops is_digit left → IsReportHeader h
     → text ≡ after_order h.dim h.gens h.seed h.words x → (d ≡ h.dim) × (left ≡ after_dim h.gens h.seed h.words x)
 dim_read text left d h x lt there stops is e =
     setting_unique (codes " dim=") text d h.dim left (after_dim h.gens h.seed h.words x) lt (omega (arith, is.dim)) stops refl there e
 
-pub gens_read : (text left : List ℕ) (g : ℕ) (h : ReportHeader) (x : List ℕ) → g < 2 ^ 64 → text ≡ codes " gens=" ++ (decimal g ++ left) → Stops is_digit left → IsHeader h
+pub gens_read : (text left : List ℕ) (g : ℕ) (h : ReportHeader) (x : List ℕ) → g < 2 ^ 64 → text ≡ codes " gens=" ++ (decimal g ++ left) → Stops is_digit left → IsReportHeader h
     → text ≡ after_dim h.gens h.seed h.words x → (g ≡ h.gens) × (left ≡ after_gens h.seed h.words x)
 gens_read text left g h x lt there stops is e =
     setting_unique (codes " gens=") text g h.gens left (after_gens h.seed h.words x) lt (omega (arith, is.gens)) stops refl there e
 
-pub seed_read : (text left : List ℕ) (s : ℕ) (h : ReportHeader) (x : List ℕ) → s < 2 ^ 64 → text ≡ codes " seed=" ++ (decimal s ++ left) → Stops is_digit left → IsHeader h
+pub seed_read : (text left : List ℕ) (s : ℕ) (h : ReportHeader) (x : List ℕ) → s < 2 ^ 64 → text ≡ codes " seed=" ++ (decimal s ++ left) → Stops is_digit left → IsReportHeader h
     → text ≡ after_gens h.seed h.words x → (s ≡ h.seed) × (left ≡ after_seed h.words x)
 seed_read text left s h x lt there stops is e = setting_unique (codes " seed=") text s h.seed left (after_seed h.words x) lt is.seed stops refl there e
 
-pub words_read : (text left : List ℕ) (w : ℕ) (h : ReportHeader) (x : List ℕ) → w < 2 ^ 64 → text ≡ codes " words=" ++ (decimal w ++ left) → Stops is_digit left → IsHeader h
+pub words_read : (text left : List ℕ) (w : ℕ) (h : ReportHeader) (x : List ℕ) → w < 2 ^ 64 → text ≡ codes " words=" ++ (decimal w ++ left) → Stops is_digit left → IsReportHeader h
     → text ≡ after_seed h.words x → (w ≡ h.words) × (left ≡ 10 ∷ x)
 words_read text left w h x lt there stops is e = setting_unique (codes " words=") text w h.words left (10 ∷ x) lt (omega (arith, is.words)) stops refl there e
 

@@ -8,7 +8,7 @@ use Rattle.std.proofs.lemmas.List.FromFn.{fill_by_all, get_or-map-range_with_len
 use Rattle.std.proofs.lemmas.List.Sums.{sum_by-cons}
 use Rattle.axe_algebra.specs.Lists.{listed}
 use Rattle.axe_report.specs.Names.{count_of, names_of}
-use Rattle.axe_report.specs.Reports.{FactorValue, names, dims, multiplicities, total_dim, first_appearances, counts_in, IsHeader, AreFactors, IsReport}
+use Rattle.axe_report.specs.Reports.{FactorValue, names, dims, multiplicities, total_dim, first_appearances, counts_in, IsReportHeader, AreFactors, IsReport}
 use Rattle.axe_report.specs.declared.report.ReportHeader.{ReportHeader}
 use Rattle.axe_report.proofs.Orders.{Has, has_from_first, first_from_has, has_range, range_has, InOrderTo, in_order_begun, in_order_more, in_order_done}
 use Rattle.axe_report.proofs.Counts.{count_begun, count_here, count_there, counted_once}
@@ -217,7 +217,7 @@ module _ (ds series : List ℕ) (are : AreNumbered (length ds) series) (some : (
   }
 
   -- the dimensions of the places make up that of the module
-  pub numbered_report : (header : ReportHeader) → IsHeader header → sum_by (λ p. get_or ds p 0) series ≡ header.dim →
+  pub numbered_report : (header : ReportHeader) → IsReportHeader header → sum_by (λ p. get_or ds p 0) series ≡ header.dim →
       IsReport (record { header = header; factors = factors; series = series })
   numbered_report header is whole = record {
     header = is;

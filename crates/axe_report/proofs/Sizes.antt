@@ -7,7 +7,7 @@ use Rattle.std.proofs.lemmas.List.Sums.{sum_by-cons, count_by-le-length}
 use Rattle.axe_field.specs.Order.{order_number}
 use Rattle.axe_report.specs.Limits.{most_report_bytes}
 use Rattle.axe_report.specs.Names.{letters, constituent_name, count_of, names_after, names_of}
-use Rattle.axe_report.specs.Reports.{FactorValue, ReportValue, names, dims, multiplicities, total_dim, counts_in, IsHeader, AreFactors, IsReport}
+use Rattle.axe_report.specs.Reports.{FactorValue, ReportValue, names, dims, multiplicities, total_dim, counts_in, IsReportHeader, AreFactors, IsReport}
 use Rattle.axe_report.specs.Spelling.{header_line, factor_line, place_bytes, series_line, opening_bytes, report_bytes}
 use Rattle.axe_report.specs.declared.report.ReportHeader.{ReportHeader}
 use Rattle.axe_report.proofs.Letters.{three_letters}
@@ -152,7 +152,7 @@ series_short : (fs : List FactorValue) (s : List ℕ) → AreShort fs → InRang
 unfolding series_line
 series_short fs s h r = simp length-append (omega (arith, places_short fs s h r))
 
-header_short : (h : ReportHeader) → IsHeader h → length (header_line h) ≤ 150
+header_short : (h : ReportHeader) → IsReportHeader h → length (header_line h) ≤ 150
 unfolding header_line
 header_short h is =
     let q = any_decimal (order_number h.field) (order_small h.field) in

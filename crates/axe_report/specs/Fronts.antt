@@ -6,8 +6,8 @@ abbrev pub is_digit : ℕ → Bool
 is_digit byte = nat_le 48 byte && nat_lt byte 58
 
 -- a byte that may stand in a name: no space and no line feed
-abbrev pub is_dark : ℕ → Bool
-is_dark byte = not (byte == 32) && not (byte == 10)
+abbrev pub is_name_byte : ℕ → Bool
+is_name_byte byte = not (byte == 32) && not (byte == 10)
 
 -- there are no bytes, or the first one does not pass the test
 abbrev pub Stops : (ℕ → Bool) → List ℕ → Type 0

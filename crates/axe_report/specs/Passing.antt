@@ -1,6 +1,6 @@
 -- At which line bytes are no report.
 use Rattle.std.specs.Prelude.{◌≡◌, ℕ, ◌+◌, ◌-◌, ◌≤◌, ◌⊎◌, List, ◌++◌, length}
-use Rattle.axe_report.specs.Reports.{FactorValue, ReportValue, IsHeader, AreFactors, IsReport}
+use Rattle.axe_report.specs.Reports.{FactorValue, ReportValue, IsReportHeader, AreFactors, IsReport}
 use Rattle.axe_report.specs.Spelling.{opening_bytes, report_bytes}
 use Rattle.axe_report.specs.declared.fault.ReportFault.{ReportFault}
 use Rattle.axe_report.specs.declared.fault.ReportFault.TheVariants.{BadReport, Memory}
@@ -12,7 +12,7 @@ pub record BeginsWithOpening (bytes : List ℕ) (lines : ℕ) : Type 0 where
   pub header : ReportHeader
   pub factors : List FactorValue
   pub rest : List ℕ
-  pub is_header : IsHeader header
+  pub is_header : IsReportHeader header
   pub are_factors : AreFactors header.dim factors
   pub count : lines ≡ length factors + 1
   pub spelled : bytes ≡ opening_bytes header factors ++ rest

@@ -20,12 +20,15 @@ pub record ReportValue : Type 0 where
   pub factors : List FactorValue
   pub series : List ℕ
 
+-- the names of the constituents, in their order
 abbrev pub names : List FactorValue → List (List ℕ)
 names factors = map (λ (factor : FactorValue). factor.name) factors
 
+-- their dimensions
 abbrev pub dims : List FactorValue → List ℕ
 dims factors = map (λ (factor : FactorValue). factor.dim) factors
 
+-- their multiplicities
 abbrev pub multiplicities : List FactorValue → List ℕ
 multiplicities factors = map (λ (factor : FactorValue). factor.multiplicity) factors
 
@@ -34,7 +37,7 @@ unfoldable pub total_dim : List FactorValue → ℕ
 total_dim factors = sum_by (λ (factor : FactorValue). factor.dim * factor.multiplicity) factors
 
 -- numbers that a module and a run have
-pub record IsHeader (header : ReportHeader) : Type 0 where
+pub record IsReportHeader (header : ReportHeader) : Type 0 where
   pub some_dim : 1 ≤ header.dim
   pub dim : header.dim ≤ most_dimension
   pub some_generator : 1 ≤ header.gens
@@ -81,7 +84,7 @@ pub record IsSeriesOf (factors : List FactorValue) (series : List ℕ) : Type 0 
 
 -- a report: the dimensions of the constituents, so often as they stand in the series, make up that of the module
 pub record IsReport (report : ReportValue) : Type 0 where
-  pub header : IsHeader report.header
+  pub header : IsReportHeader report.header
   pub factors : AreFactors report.header.dim report.factors
   pub whole : total_dim report.factors ≡ report.header.dim
   pub series : IsSeriesOf report.factors report.series

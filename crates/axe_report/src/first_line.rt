@@ -2,7 +2,7 @@
 
 ghost use Rattle.std.specs.Prelude.{◌≡◌, ◌≢◌, ℕ, ◌++◌, List, MatchOption};
 ghost use Rattle.axe_field.specs.Order.{Order, order_number};
-ghost use Rattle.axe_report.specs.Reports.{IsHeader, HasNumbers};
+ghost use Rattle.axe_report.specs.Reports.{IsReportHeader, HasNumbers};
 ghost use Rattle.axe_report.specs.Spelling.{header_line};
 ghost use Rattle.axe_report.specs.declared.report.ReportHeader.{ReportHeader};
 
@@ -14,8 +14,8 @@ use axe_field::Field;
 /// The header whose line stands at the front, and what follows it.
 pub(crate) fn header(text: &[u8]) -> Option<(ReportHeader, &[u8])>
     ensures { MatchOption result
-        ((header : ReportHeader) (rest : List ℕ) → IsHeader header → text.now ≢ header_line header ++ rest)
-        (λ found. IsHeader found.0 × (text.now ≡ header_line found.0 ++ found.1.now)) }
+        ((header : ReportHeader) (rest : List ℕ) → IsReportHeader header → text.now ≢ header_line header ++ rest)
+        (λ found. IsReportHeader found.0 × (text.now ≡ header_line found.0 ++ found.1.now)) }
 {
     let Some((order, after_order)) = setting(text, b"chop 1 field=") else {
         return None;
@@ -44,8 +44,8 @@ pub(crate) fn header(text: &[u8]) -> Option<(ReportHeader, &[u8])>
 /// The header with these numbers, where they are in range.
 fn header_with(order: u64, dim: u64, gens: u64, seed: u64, words: u64) -> Option<ReportHeader>
     ensures { MatchOption result
-        ((header : ReportHeader) → IsHeader header → HasNumbers header order dim gens seed words → ⊥)
-        (λ header. IsHeader header × HasNumbers header order dim gens seed words) }
+        ((header : ReportHeader) → IsReportHeader header → HasNumbers header order dim gens seed words → ⊥)
+        (λ header. IsReportHeader header × HasNumbers header order dim gens seed words) }
 {
     let Some(field) = field_with_order(order) else {
         return None;

@@ -2,7 +2,7 @@
 
 ghost use Rattle.std.specs.Prelude.{◌≡◌, ◌≢◌, ℕ, ◌++◌, ◌^◌, ◌<◌, List, MatchOption, decimal};
 ghost use Rattle.std.specs.List.{prefix_len};
-ghost use Rattle.axe_report.specs.Fronts.{is_digit, is_dark, Stops};
+ghost use Rattle.axe_report.specs.Fronts.{is_digit, is_name_byte, Stops};
 
 use itoa::Buffer;
 use std::str;
@@ -27,18 +27,18 @@ fn digits_len(text: &[u8]) -> usize
 }
 
 /// Whether a byte may stand in a name.
-fn is_dark(byte: u8) -> bool
-    ensures { result ≡ is_dark byte }
+fn is_name_byte(byte: u8) -> bool
+    ensures { result ≡ is_name_byte byte }
 {
     byte != b' ' && byte != b'\n'
 }
 
 /// How many bytes stand at the front before a space or a line feed.
 pub(crate) fn word_len(text: &[u8]) -> usize
-    ensures { result ≡ prefix_len is_dark text.now }
+    ensures { result ≡ prefix_len is_name_byte text.now }
 {
     for (index, byte) in text.iter().enumerate() {
-        if !is_dark(*byte) {
+        if !is_name_byte(*byte) {
             return index;
         }
     }

@@ -11,8 +11,10 @@ use Rattle.axe_field.specs.Planes.{coefficient, element_of}
 use Rattle.axe_lane.specs.Entries as lane
 use Rattle.axe_plane.specs.Planes.{digits_of}
 use Rattle.axe_plane.specs.declared.Plane.{Plane}
-use Rattle.axe_row.specs.Operations.{IsZeroVector, IsFirstNonzero}
-use Rattle.axe_row.specs.Planes.{ArePlanes, earlier_of}
+use Rattle.axe_lane.specs.Entries.{IsFirstNonzero}
+use Rattle.axe_row.specs.Operations.{IsZeroVector}
+use Rattle.axe_bits.specs.Earlier.{earlier_of}
+use Rattle.axe_row.specs.Planes.{ArePlanes}
 use Rattle.axe_row.specs.Rows.{RowValue}
 use Rattle.axe_row.proofs.RowPlanes.{entries_of, length-entries, entries-at, element_at, element_of-zeros}
 

@@ -217,11 +217,11 @@ plane_plus p n f plane after b positive h e =
     )
 
 plane_times : (p n f : ℕ) (plane after : Plane) → 0 < p → IsPlaneOf p n plane →
-    IsPlane (prime_of_plane plane) (lane.multiple (prime_of_plane plane) f (digits_of plane)) after →
-    IsPlaneOf p n after × (digits_of after ≡ lane.multiple p f (digits_of plane))
+    IsPlane (prime_of_plane plane) (lane.multiple_modulo (prime_of_plane plane) f (digits_of plane)) after →
+    IsPlaneOf p n after × (digits_of after ≡ lane.multiple_modulo p f (digits_of plane))
 plane_times p n f plane after positive h e =
-    let digits_are : digits_of after ≡ lane.multiple p f (digits_of plane) =
-    e.digits_are ∙ ap (λ r. lane.multiple r f (digits_of plane)) h.prime in (
+    let digits_are : digits_of after ≡ lane.multiple_modulo p f (digits_of plane) =
+    e.digits_are ∙ ap (λ r. lane.multiple_modulo r f (digits_of plane)) h.prime in (
       record {
         prime = e.prime ∙ h.prime;
         long = ap length digits_are ∙ length-map (digits_of plane) _ ∙ h.long;
@@ -235,7 +235,7 @@ pub record AreTimesX (o : Order) (c l q c' l' q' : Plane) (f0 f1 f2 : ℕ) : Typ
   pub first : f0 ≡ top_factor o 0
   pub second : f1 ≡ top_factor o 1
   pub third : f2 ≡ top_factor o 2
-  pub constant : IsPlane (prime_of_plane c) (lane.multiple (prime_of_plane c) f0 (digits_of c)) c'
+  pub constant : IsPlane (prime_of_plane c) (lane.multiple_modulo (prime_of_plane c) f0 (digits_of c)) c'
   pub linear : IsPlane (prime_of_plane l) (digits_with_multiple (prime_of_plane l) (digits_of l) f1 (digits_of c)) l'
   pub quadratic : IsPlane (prime_of_plane q) (digits_with_multiple (prime_of_plane q) (digits_of q) f2 (digits_of c)) q'
 
@@ -328,9 +328,9 @@ row_times_x o c l q c2 l2 q2 self self_is e =
 -- ---- multiples by 0
 
 pub zeroed_planes : (o : Order) (n : ℕ) (c l q c' l' q' : Plane) → ArePlanes o n c l q →
-    IsPlane (prime_of_plane c) (lane.multiple (prime_of_plane c) 0 (digits_of c)) c' →
-    IsPlane (prime_of_plane l) (lane.multiple (prime_of_plane l) 0 (digits_of l)) l' →
-    IsPlane (prime_of_plane q) (lane.multiple (prime_of_plane q) 0 (digits_of q)) q' → ArePlanes o n c' l' q'
+    IsPlane (prime_of_plane c) (lane.multiple_modulo (prime_of_plane c) 0 (digits_of c)) c' →
+    IsPlane (prime_of_plane l) (lane.multiple_modulo (prime_of_plane l) 0 (digits_of l)) l' →
+    IsPlane (prime_of_plane q) (lane.multiple_modulo (prime_of_plane q) 0 (digits_of q)) q' → ArePlanes o n c' l' q'
 zeroed_planes o n c l q c' l' q' h hc hl hq = record {
   constant = (plane_times (prime_of o) n 0 c c' (prime-positive o) h.constant hc).0;
   linear = (plane_times (prime_of o) _ 0 l l' (prime-positive o) h.linear hl).0;
@@ -346,20 +346,20 @@ none_mod Seven = refl
 none_mod Eight = refl
 none_mod Nine = refl
 
-zeroed_digit : (o : Order) (a : List ℕ) (e : ℕ) → get_or (lane.multiple (prime_of o) 0 a) e 0 ≡ 0
+zeroed_digit : (o : Order) (a : List ℕ) (e : ℕ) → get_or (lane.multiple_modulo (prime_of o) 0 a) e 0 ≡ 0
 zeroed_digit o [] e = get_or_past [] e 0 (omega arith)
 zeroed_digit o (x ∷ a) zero = let nothing : 0 * x ≡ 0 = omega arith in ap (λ y. y % prime_of o) nothing ∙ none_mod o
 zeroed_digit o (x ∷ a) (suc e) = zeroed_digit o a e
 
 pub zeroed_entries : (o : Order) (n : ℕ) (c l q c' l' q' : Plane) → ArePlanes o n c l q →
-    IsPlane (prime_of_plane c) (lane.multiple (prime_of_plane c) 0 (digits_of c)) c' →
-    IsPlane (prime_of_plane l) (lane.multiple (prime_of_plane l) 0 (digits_of l)) l' →
-    IsPlane (prime_of_plane q) (lane.multiple (prime_of_plane q) 0 (digits_of q)) q' →
+    IsPlane (prime_of_plane c) (lane.multiple_modulo (prime_of_plane c) 0 (digits_of c)) c' →
+    IsPlane (prime_of_plane l) (lane.multiple_modulo (prime_of_plane l) 0 (digits_of l)) l' →
+    IsPlane (prime_of_plane q) (lane.multiple_modulo (prime_of_plane q) 0 (digits_of q)) q' →
     entries_of o c' l' q' ≡ multiple (number_field o) 0 (entries_of o c l q)
 zeroed_entries o n c l q c' l' q' h hc hl hq =
     let long : length (digits_of c') ≡ n = (zeroed_planes o n c l q c' l' q' h hc hl hq).constant.long in
     let digit : (m e : ℕ) (plane after : Plane) → IsPlaneOf (prime_of o) m plane →
-    IsPlane (prime_of_plane plane) (lane.multiple (prime_of_plane plane) 0 (digits_of plane)) after → get_or (digits_of after) e 0 ≡ 0 =
+    IsPlane (prime_of_plane plane) (lane.multiple_modulo (prime_of_plane plane) 0 (digits_of plane)) after → get_or (digits_of after) e 0 ≡ 0 =
     λ m e plane after hp is. ap (λ (y : List ℕ). get_or y e 0) (plane_times (prime_of o) m 0 plane after (prime-positive o) hp is).1
     ∙ zeroed_digit o (digits_of plane) e in
     ext_get_or 0 (entries_of o c' l' q') (multiple (number_field o) 0 (entries_of o c l q))

@@ -4,11 +4,11 @@ use Rattle.std.proofs.lemmas.Bool.{cases_lt}
 use Rattle.std.proofs.lemmas.List.{get_or_past}
 use native.Mathlib.Decide.{dec_lt}
 use Rattle.axe_field.specs.Order.{Order}
-use Rattle.axe_bits.specs.Digits as plane
 use Rattle.axe_plane.specs.Planes.{digits_of}
 use Rattle.axe_plane.specs.declared.Plane.{Plane}
-use Rattle.axe_row.specs.Operations.{AreZerosFrom, IsNextNonzero}
-use Rattle.axe_row.specs.Planes.{ArePlanes, earlier_of}
+use Rattle.axe_lane.specs.Entries.{AreZerosFrom, IsNextNonzero}
+use Rattle.axe_bits.specs.Earlier.{earlier_of}
+use Rattle.axe_row.specs.Planes.{ArePlanes}
 use Rattle.axe_row.specs.Rows.{RowValue}
 use Rattle.axe_row.proofs.FirstEntries.{at, digit_sum, entry_zero, digits_zero, digits_past}
 use Rattle.axe_row.proofs.RowPlanes.{entries_of, length-entries}
@@ -22,7 +22,7 @@ record IsNext (n : ℕ) (f : ℕ → ℕ) (i : ℕ) : Type 0 where
 abbrev FindsFrom : Option ℕ → ℕ → (ℕ → ℕ) → Type 0
 FindsFrom r n f = MatchOption r ((j : ℕ) → n ≤ j → f j ≡ 0) (IsNext n f)
 
-finds_digit : (r : Option ℕ) (n : ℕ) (xs : List ℕ) → MatchOption r (plane.AreZerosFrom xs n) (plane.IsNextNonzero xs n) → FindsFrom r n (at xs)
+finds_digit : (r : Option ℕ) (n : ℕ) (xs : List ℕ) → MatchOption r (AreZerosFrom xs n) (IsNextNonzero xs n) → FindsFrom r n (at xs)
 finds_digit None n xs zeros = zeros
 finds_digit (Some i) n xs h = record { not_before = h.not_before; nonzero = h.nonzero; zeros_between = h.zeros_between }
 
@@ -80,7 +80,7 @@ finds_entry (Some i) o m n c l q h next = next_entry o m n c l q i h next
 
 -- what a plane answers of its digits from an index on
 abbrev pub FindsNext : Option ℕ → ℕ → List ℕ → Type 0
-FindsNext r n digits = MatchOption r (plane.AreZerosFrom digits n) (plane.IsNextNonzero digits n)
+FindsNext r n digits = MatchOption r (AreZerosFrom digits n) (IsNextNonzero digits n)
 
 abbrev pub FindsEntry : Option ℕ → ℕ → List ℕ → Type 0
 FindsEntry r n entries = MatchOption r (AreZerosFrom entries n) (IsNextNonzero entries n)

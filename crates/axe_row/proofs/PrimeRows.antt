@@ -15,13 +15,13 @@ use Rattle.axe_field.specs.Planes.{coefficient, element_of, matrix_of_multiplica
 use Rattle.axe_field.proofs.CoefficientLaws.{coefficient-add, coefficient-mul, coefficient-below, element_of-coefficients, matrix_of_multiplication-first}
 use Rattle.axe_lane.specs.Bytes as lane
 use Rattle.axe_lane.specs.Entries as entries
-use Rattle.axe_bits.specs.Digits as plane
 use Rattle.axe_bits.specs.Digits.{AreDigits, digits_with_multiple}
 use Rattle.axe_plane.specs.Planes.{prime_of_plane, digits_of, IsPlane, IsPlaneOf}
 use Rattle.axe_plane.specs.declared.Plane.{Plane}
 use Rattle.axe_bits.proofs.DigitLaws.{AreDigits-set, AreDigits-sum, digit-below, length-digits_with_multiple, get_or-digits_with_multiple}
 use Rattle.axe_bits.proofs.DotLaws.{sum_below, dot_by_entries}
-use Rattle.axe_row.specs.Operations.{sum_with_multiple, multiple, dot_product, row_with_multiple, multiple_row, IsZeroVector, IsFirstNonzero, AreZerosFrom, IsNextNonzero}
+use Rattle.axe_lane.specs.Entries.{IsFirstNonzero, AreZerosFrom, IsNextNonzero}
+use Rattle.axe_row.specs.Operations.{sum_with_multiple, multiple, dot_product, row_with_multiple, multiple_row, IsZeroVector}
 use Rattle.axe_row.specs.Planes.{ArePlanes}
 use Rattle.axe_row.specs.Rows.{RowValue, IsRow}
 use Rattle.axe_row.proofs.RowLaws.{same_row, one-IsElement}
@@ -113,7 +113,7 @@ prime_sum o a k b e hk ha hb =
     ∙ reduced o (get_or a j 0) (k * get_or b j 0)))
 
 pub prime_multiple : (o : Order) (k : ℕ) (a : List ℕ) → degree_of o ≡ 1 → IsElement o k → AreDigits (prime_of o) a →
-    lane.multiple (prime_of o) k a ≡ multiple (number_field o) k a
+    lane.multiple_modulo (prime_of o) k a ≡ multiple (number_field o) k a
 prime_multiple o k a e hk ha =
     let f : ℕ → ℕ = λ x. (k * x) % prime_of o in
     ext_get_or 0 (map f a) (multiple (number_field o) k a)
@@ -217,22 +217,22 @@ prime_entries_sum o n m k c l q c' l' q' after e h h' hk is =
     ∙ prime_sum o (digits_of c) k (digits_of c') e hk h.constant.digits h'.constant.digits
     ∙ sym (ap₂ (λ (x y : List ℕ). sum_with_multiple (number_field o) x k y) (one_plane o n c l q e h) (one_plane o m c' l' q' e h'))
 
-pub multiple_is_below : (p k : ℕ) (a : List ℕ) → 0 < p → AreDigits p (lane.multiple p k a)
+pub multiple_is_below : (p k : ℕ) (a : List ℕ) → 0 < p → AreDigits p (lane.multiple_modulo p k a)
 multiple_is_below p k a positive = All-map (λ x. x < p) (λ x. (k * x) % p) a (λ i d inside. mod-lt _ positive)
 
 pub prime_planes_multiple : (o : Order) (n k : ℕ) (c l q after : Plane) → degree_of o ≡ 1 → ArePlanes o n c l q →
-    IsPlane (prime_of_plane c) (lane.multiple (prime_of_plane c) k (digits_of c)) after → ArePlanes o n after l q
+    IsPlane (prime_of_plane c) (lane.multiple_modulo (prime_of_plane c) k (digits_of c)) after → ArePlanes o n after l q
 prime_planes_multiple o n k c l q after e h is =
     with_constant o n c l q after _ h is (length-map (digits_of c) _)
-    (subst (λ p. AreDigits (prime_of o) (lane.multiple p k (digits_of c))) (sym h.constant.prime)
+    (subst (λ p. AreDigits (prime_of o) (lane.multiple_modulo p k (digits_of c))) (sym h.constant.prime)
     (multiple_is_below (prime_of o) k (digits_of c) (prime-positive o)))
 
 pub prime_entries_multiple : (o : Order) (n k : ℕ) (c l q after : Plane) → degree_of o ≡ 1 → ArePlanes o n c l q → IsElement o k →
-    IsPlane (prime_of_plane c) (lane.multiple (prime_of_plane c) k (digits_of c)) after →
+    IsPlane (prime_of_plane c) (lane.multiple_modulo (prime_of_plane c) k (digits_of c)) after →
     entries_of o after l q ≡ multiple (number_field o) k (entries_of o c l q)
 prime_entries_multiple o n k c l q after e h hk is =
     one_plane o n after l q e (prime_planes_multiple o n k c l q after e h is) ∙ is.digits_are
-    ∙ ap (λ p. lane.multiple p k (digits_of c)) h.constant.prime ∙ prime_multiple o k (digits_of c) e hk h.constant.digits
+    ∙ ap (λ p. lane.multiple_modulo p k (digits_of c)) h.constant.prime ∙ prime_multiple o k (digits_of c) e hk h.constant.digits
     ∙ sym (ap (multiple (number_field o) k) (one_plane o n c l q e h))
 
 pub prime_dot_of_planes : (o : Order) (n m : ℕ) (c l q c' l' q' : Plane) → degree_of o ≡ 1 → ArePlanes o n c l q → ArePlanes o m c' l' q' → m ≡ n →
@@ -283,7 +283,7 @@ prime_row_sum o r k d c l q c' l' q' after self other ed one h h' self_is other_
 
 pub prime_row_multiple : (o : Order) (k d : ℕ) (c l q after : Plane) (self : RowValue) → d ≡ degree_of o → d ≡ 1 →
     ArePlanes o (length (digits_of c)) c l q → record { order = o; entries = entries_of o c l q } ≡ self → IsElement self.order k →
-    IsPlane (prime_of_plane c) (lane.multiple (prime_of_plane c) k (digits_of c)) after →
+    IsPlane (prime_of_plane c) (lane.multiple_modulo (prime_of_plane c) k (digits_of c)) after →
     ◌≡◌ {A = RowValue} (record { order = o; entries = entries_of o after l q }) (multiple_row k self)
 prime_row_multiple o k d c l q after self ed one h self_is element is =
     ap (λ (x : List ℕ). record { order = o; entries = x })
@@ -347,7 +347,7 @@ pub first_of_one_plane : (r : Option ℕ) (o : Order) (d : ℕ) (c l q : Plane) 
     MatchOption r (IsZeroVector self.entries) (IsFirstNonzero self.entries)
 first_of_one_plane r o d c l q self ed one h self_is found = first_entry r _ _ (one_plane_entries o d c l q self ed one h self_is) found
 
-next_entry : (r : Option ℕ) (n : ℕ) (xs ys : List ℕ) → xs ≡ ys → MatchOption r (plane.AreZerosFrom xs n) (plane.IsNextNonzero xs n) →
+next_entry : (r : Option ℕ) (n : ℕ) (xs ys : List ℕ) → xs ≡ ys → MatchOption r (AreZerosFrom xs n) (IsNextNonzero xs n) →
     MatchOption r (AreZerosFrom ys n) (IsNextNonzero ys n)
 next_entry None n xs ys e zeros = subst (λ (l : List ℕ). AreZerosFrom l n) e zeros
 next_entry (Some i) n xs ys e h =
@@ -356,6 +356,6 @@ next_entry (Some i) n xs ys e h =
 
 pub next_of_one_plane : (r : Option ℕ) (n : ℕ) (o : Order) (d : ℕ) (c l q : Plane) (self : RowValue) → d ≡ degree_of o → d ≡ 1 →
     ArePlanes o (length (digits_of c)) c l q → record { order = o; entries = entries_of o c l q } ≡ self →
-    MatchOption r (plane.AreZerosFrom (digits_of c) n) (plane.IsNextNonzero (digits_of c) n) →
+    MatchOption r (AreZerosFrom (digits_of c) n) (IsNextNonzero (digits_of c) n) →
     MatchOption r (AreZerosFrom self.entries n) (IsNextNonzero self.entries n)
 next_of_one_plane r n o d c l q self ed one h self_is found = next_entry r n _ _ (one_plane_entries o d c l q self ed one h self_is) found

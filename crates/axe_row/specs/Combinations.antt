@@ -16,7 +16,7 @@ pub record CombosValue : Type 0 where
   pub len : ℕ
   pub rows : List (List ℕ)
 
--- how many rows a table combines at most: the greatest t up to 4 for which the field has at most 256 lists of t elements
+-- how many rows a table combines at most: the greatest t up to 4 with at most 256 lists of t elements of the field
 abbrev pub most_combined : Order → ℕ
 most_combined Two = 4
 most_combined Three = 4
@@ -65,7 +65,8 @@ pub record IsRowFor (row : RowValue) (table : CombosValue) (x : ℕ) : Type 0 wh
 
 -- a row plus four others
 abbrev pub row_with_four : RowValue → RowValue → RowValue → RowValue → RowValue → RowValue
-row_with_four row a b c d = row_with_multiple (row_with_multiple (row_with_multiple (row_with_multiple row 1 a) 1 b) 1 c) 1 d
+row_with_four row a b c d =
+    row_with_multiple (row_with_multiple (row_with_multiple (row_with_multiple row 1 a) 1 b) 1 c) 1 d
 
 -- the number of the combination that a piece of a row names: the entries from an index on, `size` of them or those that
 -- there are, each times c, are its digits in base q, most significant first

@@ -1,5 +1,5 @@
--- Sums, multiples and dot products of row vectors, and their nonzero entries.
-use Rattle.std.specs.Prelude.{◌≡◌, ◌≢◌, ℕ, zero, suc, ◌<◌, ◌≤◌, List, length, slice_index, All}
+-- Sums, multiples and dot products of row vectors, and the vectors that are zero.
+use Rattle.std.specs.Prelude.{◌≡◌, ℕ, zero, suc, List, length, slice_index, All}
 use Rattle.axe_algebra.specs.Lists.{listed}
 use Rattle.axe_algebra.specs.ListArithmetic.{number_sum}
 use Rattle.axe_algebra.specs.NumberField.{NumberField}
@@ -37,20 +37,3 @@ power_of_x o (suc k) = field_mul o (prime_of o) (power_of_x o k)
 -- each entry is 0
 abbrev pub IsZeroVector : List ℕ → Type 0
 IsZeroVector entries = All (λ number. number ≡ 0) entries
-
--- the first entry other than 0 is the one at this index
-pub record IsFirstNonzero (entries : List ℕ) (index : ℕ) : Type 0 where
-  pub within : index < length entries
-  pub nonzero : slice_index entries index ≢ 0
-  pub zeros_before : (j : ℕ) → j < index → slice_index entries j ≡ 0
-
--- each entry from an index on is 0
-abbrev pub AreZerosFrom : List ℕ → ℕ → Type 0
-AreZerosFrom entries start = (j : ℕ) → start ≤ j → slice_index entries j ≡ 0
-
--- the first entry other than 0 from `start` on is the one at this index
-pub record IsNextNonzero (entries : List ℕ) (start index : ℕ) : Type 0 where
-  pub within : index < length entries
-  pub not_before : start ≤ index
-  pub nonzero : slice_index entries index ≢ 0
-  pub zeros_between : (j : ℕ) → start ≤ j → j < index → slice_index entries j ≡ 0

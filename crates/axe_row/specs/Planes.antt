@@ -1,5 +1,5 @@
 -- What a row keeps: the planes of the coefficients of 1, x and x^2 of its entries.
-use Rattle.std.specs.Prelude.{◌≢◌, ◌≡◌, ℕ, ◌<◌, List, [], Option, Some, None, length, map, slice_index, cond, ltb, min}
+use Rattle.std.specs.Prelude.{◌≢◌, ◌≡◌, ℕ, ◌<◌, List, [], length, map, slice_index, cond, ltb}
 use Rattle.axe_algebra.specs.Lists.{listed}
 use Rattle.axe_field.specs.Order.{Order, prime_of, degree_of}
 use Rattle.axe_field.specs.Planes.{coefficient, element_of}
@@ -40,12 +40,6 @@ pub record AreAddable (plane : Plane) (factors : List ℕ) (c l q : Plane) : Typ
   pub constant : IsAddable plane (slice_index factors 0) c
   pub linear : IsAddable plane (slice_index factors 1) l
   pub quadratic : IsAddable plane (slice_index factors 2) q
-
--- the lesser of two indices that are there
-abbrev pub earlier_of : Option ℕ → Option ℕ → Option ℕ
-earlier_of (Some i) (Some j) = Some (min i j)
-earlier_of (Some i) None = Some i
-earlier_of None right = right
 
 -- the planes after are those before, moved to the next powers of x, and that of the highest power, 1 or 2, is that of
 -- the constants

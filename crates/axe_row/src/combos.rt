@@ -1,14 +1,15 @@
 //! Tables of the combinations of a few rows.
 
-ghost use Rattle.std.specs.Prelude.{ℕ, ◌≡◌, ◌+◌, ◌*◌, ◌^◌, ◌<◌, ◌≤◌, None, length, map, slice_index, slice_index_or, slice_set, [], All};
-ghost use Rattle.axe_field.specs.Order.{IsElement, order_number};
+ghost use Rattle.std.specs.Prelude.{ℕ, ◌≡◌, ◌+◌, ◌*◌, ◌^◌, ◌<◌, ◌≤◌, None, length, map, slice_index, slice_index_or};
+ghost use Rattle.std.specs.Prelude.{slice_set, [], All};
 ghost use Rattle.axe_field.specs.NumberFields.{number_field};
+ghost use Rattle.axe_field.specs.Order.{IsElement, order_number};
 ghost use Rattle.axe_plane.specs.Planes.{prime_of_plane, digits_of, IsPlane};
 ghost use Rattle.axe_plane.specs.Tables.{prime_of_table, entries_of_table, plane_at, IsTable};
-ghost use Rattle.axe_row.specs.Planes.{digits_with_multiples, AreAddable};
-ghost use Rattle.axe_row.specs.Combinations.{most_combined, zero_table, combination_at, row_with_four};
-ghost use Rattle.axe_row.specs.Combinations.{AreOfOneKind, Combines, IsRowFor, IsTableOfRows};
+ghost use Rattle.axe_row.specs.Combinations.{most_combined, zero_table, combination_at, row_with_four, AreOfOneKind};
+ghost use Rattle.axe_row.specs.Combinations.{Combines, IsRowFor, IsTableOfRows};
 ghost use Rattle.axe_row.specs.Operations.{row_with_multiple, sum_with_multiple};
+ghost use Rattle.axe_row.specs.Planes.{digits_with_multiples, AreAddable};
 ghost use Rattle.axe_row.specs.Refusals.{Answers};
 ghost use Rattle.axe_row.specs.Rows.{IsRow};
 

@@ -1,9 +1,9 @@
 //! The entries of a row other than 0, one after another.
 ghost use Rattle.std.specs.Prelude.{◌≤◌, length, MatchOption};
-ghost use Rattle.axe_row.specs.Operations.{AreZerosFrom, IsNextNonzero};
+ghost use Rattle.axe_lane.specs.Entries.{AreZerosFrom, IsNextNonzero};
 
 use crate::Row;
-use crate::planes::earlier;
+use axe_bits::earlier;
 
 impl Row {
     /// The index of the first entry other than 0 from an index on, counted from 0, or `None` where every entry from

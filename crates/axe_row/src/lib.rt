@@ -6,7 +6,8 @@ ghost use Rattle.std.specs.Prelude.{MatchOption};
 ghost use Rattle.axe_algebra.specs.Lists.{unit_row};
 ghost use Rattle.axe_field.specs.NumberFields.{number_field};
 ghost use Rattle.axe_field.specs.Order.{IsElement};
-ghost use Rattle.axe_row.specs.Operations.{dot_product, row_with_multiple, multiple_row, IsZeroVector, IsFirstNonzero};
+ghost use Rattle.axe_lane.specs.Entries.{IsFirstNonzero};
+ghost use Rattle.axe_row.specs.Operations.{dot_product, row_with_multiple, multiple_row, IsZeroVector};
 ghost use Rattle.axe_row.specs.Rows.{RowValue, IsRow};
 ghost use Rattle.axe_row.specs.Refusals.{Answers};
 
@@ -20,10 +21,11 @@ mod refusals;
 mod scaling;
 mod sums;
 
+use axe_bits::earlier;
 use axe_field::Field;
 use axe_plane::Plane;
 pub use combos::{Combos, most_combined};
-use planes::{add_multiples, digits_in_plane, earlier, element, plane_of};
+use planes::{add_multiples, digits_in_plane, element, plane_of};
 pub use refusals::Refusal;
 use scaling::exponent;
 use std::alloc::Global;
@@ -154,7 +156,8 @@ impl Row {
     pub fn set(&mut self, index: usize, element: u8)
         requires index { index < length self.old.entries }
         requires element { IsElement self.old.order element }
-        ensures replaced { self.new ≡ record { order = self.old.order; entries = slice_set self.old.entries index element } }
+        ensures replaced { self.new
+            ≡ record { order = self.old.order; entries = slice_set self.old.entries index element } }
         ensures well_formed { IsRow self.new }
     {
         if self.field.degree() == 1 {
@@ -168,7 +171,8 @@ impl Row {
     fn set_by_planes(&mut self, index: usize, element: u8)
         requires index { index < length self.old.entries }
         requires element { IsElement self.old.order element }
-        ensures replaced { self.new ≡ record { order = self.old.order; entries = slice_set self.old.entries index element } }
+        ensures replaced { self.new
+            ≡ record { order = self.old.order; entries = slice_set self.old.entries index element } }
         ensures well_formed { IsRow self.new }
     {
         let matrix = self.field.plane_matrix(element);

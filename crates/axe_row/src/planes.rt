@@ -3,7 +3,7 @@ ghost use Rattle.std.specs.Prelude.{◌≡◌, ◌<◌, IfOk, cond, ltb};
 ghost use Rattle.axe_field.specs.Order.{prime_of, degree_of};
 ghost use Rattle.axe_field.specs.Planes.{IsCoefficient, element_of};
 ghost use Rattle.axe_plane.specs.Planes.{prime_of_plane, digits_of, IsPlane};
-ghost use Rattle.axe_row.specs.Planes.{AreAddable, coefficients_at, digits_with_multiples, earlier_of};
+ghost use Rattle.axe_row.specs.Planes.{AreAddable, coefficients_at, digits_with_multiples};
 
 use axe_field::Field;
 use axe_plane::Plane;
@@ -64,15 +64,4 @@ pub(crate) fn add_multiples(
     plane.add_scaled(factors[0], constant);
     plane.add_scaled(factors[1], linear);
     plane.add_scaled(factors[2], quadratic);
-}
-
-/// The earlier of two indices, of which each may be missing.
-pub(crate) fn earlier(left: Option<usize>, right: Option<usize>) -> Option<usize>
-    ensures { result ≡ earlier_of left right }
-{
-    match (left, right) {
-        (Some(left), Some(right)) => Some(left.min(right)),
-        (Some(left), None) => Some(left),
-        (None, right) => right,
-    }
 }

@@ -14,7 +14,7 @@ use Rattle.axe_algebra.proofs.NortonLists.{transpose_square}
 use Rattle.axe_field.specs.Order.{order_number}
 use Rattle.axe_field.specs.NumberFields.{number_field}
 use Rattle.axe_matrix.specs.Matrices.{MatrixValue, IsMatrix, transposed_matrix}
-use Rattle.axe_reduction.specs.Solutions.{IsInvertible}
+use Rattle.axe_reduction.specs.Solutions.{IsInvertibleMatrix}
 use Rattle.axe_echelon.specs.Echelons.{IsNullSpaceMatrix}
 use Rattle.axe_echelon.proofs.SomeMatrix.{matrix_of_rows_over, some_null_space}
 use Rattle.axe_spin.specs.Modules.{ModuleValue, IsModule}
@@ -158,7 +158,7 @@ module _ (m : ModuleValue) (is : IsModule m) (word : WordValue) (matrix : Matrix
       (matrix_of_rows_over matrix.order matrix.cols (transpose matrix.cols matrix.rows) well.some_column well.columns_fit
       (omega (arith, well.columns_fit, transposed.length_is)) transposed.matrix)
 
-  some_transposed_point : ¬ (IsInvertible matrix) → TransposedPoint matrix
+  some_transposed_point : ¬ (IsInvertibleMatrix matrix) → TransposedPoint matrix
   some_transposed_point singular =
       from (some_null_space (transposed_matrix matrix) transposed_well
       (omega (arith, well.some_column, transposed.length_is)))
@@ -167,7 +167,7 @@ module _ (m : ModuleValue) (is : IsModule m) (word : WordValue) (matrix : Matrix
       from (null, (is_null, formed)) = transposed_point_is matrix null square singular is_null formed
 
   -- the first point of the transpose's null space generates everything under the transposes, or a proper space
-  pub some_transposed : ¬ (IsInvertible matrix) → SomeFound (FindsTransposed m matrix)
+  pub some_transposed : ¬ (IsInvertibleMatrix matrix) → SomeFound (FindsTransposed m matrix)
   some_transposed singular = from (some_proper (dual_module m) (dual_is_module m is) (point_of point.null_space 0) over)
     where
       point : TransposedPoint matrix

@@ -18,6 +18,7 @@ pub record FoundValue : Type 0 where
   pub forms : List FormValue
   pub places : List ℕ
 
+-- nothing is found yet: no rows, no forms and no places
 abbrev pub nothing_found : FoundValue
 nothing_found = record { rows = []; forms = []; places = [] }
 

@@ -8,7 +8,7 @@ use Rattle.axe_algebra.specs.BlocksOfLists.{IsBlockLowerTriangular, IsDiagonalBl
 use Rattle.axe_algebra.specs.ModulesOfLists.{AreIsomorphic}
 use Rattle.axe_field.specs.NumberFields.{number_field}
 use Rattle.axe_matrix.specs.Matrices.{MatrixValue, IsMatrix}
-use Rattle.axe_reduction.specs.Solutions.{IsInvertible}
+use Rattle.axe_reduction.specs.Solutions.{IsInvertibleMatrix}
 use Rattle.axe_spin.specs.Modules.{ModuleValue, IsModule}
 use Rattle.axe_action.specs.Actions.{IsConjugateModule}
 use Rattle.axe_norton.specs.Spaces.{IsIrreducibleModule}
@@ -24,7 +24,7 @@ pub record IsTriangularBy (m : ModuleValue) (basis : MatrixValue) (sizes : List 
   pub columns : basis.cols ≡ m.dim
   pub rows : length basis.rows ≡ m.dim
   pub well_formed : IsMatrix basis
-  pub invertible : IsInvertible basis
+  pub invertible : IsInvertibleMatrix basis
   pub conjugate : IsConjugateModule m basis conjugates
   pub sizes_are : AreBlockSizes m.dim sizes
   pub triangular : All (IsBlockLowerTriangular (number_field m.order) sizes) conjugates.generators

@@ -61,8 +61,8 @@ abbrev pub HasSpunRows : Bool → ModuleValue → MatrixValue → MatrixValue �
 HasSpunRows false m seed rows = IsGeneratedMatrix m seed rows
 HasSpunRows true m seed rows = (i : ℕ) × IsFirstNonzeroRow seed i × IsStandardMatrix m (row_of seed i) rows
 
--- the rows are a basis of a submodule: they are vectors of the module and independent, and their span is invariant and
--- not zero
+-- the rows are a basis of a submodule: they are over the module's field and as long as its vectors, and independent,
+-- and their span is invariant and not zero
 pub record IsSubmoduleBasis (m : ModuleValue) (rows : MatrixValue) : Type 0 where
   pub field : rows.order ≡ m.order
   pub columns : rows.cols ≡ m.dim

@@ -3,7 +3,7 @@ use Rattle.std.proofs.lemmas.Result.{IfOk-from_err}
 use Rattle.axe_matrix.specs.Matrices.{MatrixValue, matrix_product}
 use Rattle.axe_row.specs.Refusals.{RefusedAs}
 use Rattle.axe_row.specs.declared.refusals.Refusal.TheVariants.{Singular, Memory}
-use Rattle.axe_reduction.specs.Solutions.{IsInverseMatrix, IsInvertible}
+use Rattle.axe_reduction.specs.Solutions.{IsInverseMatrix, IsInvertibleMatrix}
 use Rattle.axe_echelon.proofs.Exits.{not_refused, refused_early, refused_late, no_memory_late}
 use Rattle.axe_spin.specs.Modules.{IsModule, generator_of}
 use Rattle.axe_action.specs.Actions.{conjugate_refusal}
@@ -39,7 +39,7 @@ pub returns-in_err-inverse-clause-conjugate : goal.returns-in_err-inverse-clause
 returns-in_err-inverse-clause-conjugate c =
     let fits : IsBasisFor c.args.module.now c.args.basis.now =
     basis_if_accepted _ _ (not_refused (conjugate_refusal c.args.module.now c.args.basis.now) tt c.in_ok-check_basis.field-0 c.in_ok-check_basis.ensures) in
-    refused_late (conjugate_refusal c.args.module.now c.args.basis.now) (IsInverseMatrix c.args.basis.now) _ (RefusedAs Singular (¬ (IsInvertible c.args.basis.now))) _
+    refused_late (conjugate_refusal c.args.module.now c.args.basis.now) (IsInverseMatrix c.args.basis.now) _ (RefusedAs Singular (¬ (IsInvertibleMatrix c.args.basis.now))) _
     c.from_residual-in_err-inverse.result _ (conjugate_accepted c.args.module.now c.args.basis.now fits) (λ refusal stands. stands)
     (asked_inverse c.args.module.now c.args.basis.now _ fits c.in_err-inverse.ensures.inverse) c.from_residual-in_err-inverse.ensures.1
 

@@ -1,4 +1,5 @@
 use Rattle.std.proofs.Common.{◌≡◌, ◌*◌, ◌<◌, ◌≤◌, ℕ, length, get_or, ap, ◌∙◌, arith}
+use Rattle.axe_row.proofs.RowLaws.{one-IsElement}
 use Rattle.axe_row.specs.Combinations.{CombosValue, IsRowFor, piece_number}
 use Rattle.axe_matrix.specs.Matrices.{row_of}
 use Rattle.axe_matrix.specs.PieceTables.{IsTableFor}
@@ -18,12 +19,12 @@ pub add_combinations-requires-clause-index : goal.add_combinations-requires-clau
 add_combinations-requires-clause-index c = omega (arith, below c, c.loop-index.invariant.count)
 
 may_be_added : (c : goal.After-add_combinations-arg-1) (table : CombosValue) (from k : ℕ) → IsTableFor c.args.self.now.order c.args.self.now.cols c.args.tables.now.size table →
-    get_or c.piece_numbers-numbers.result k 0 ≡ piece_number c.row.result.now c.args.scalar c.args.tables.now.size from →
+    get_or c.piece_numbers-numbers.result k 0 ≡ piece_number c.row.result.now 1 c.args.tables.now.size from →
     IsRowFor (row_of c.loop-index.self c.loop-index.index) table (get_or c.piece_numbers-numbers.result k 0)
 may_be_added c table from k is_table number =
     let invariant = c.loop-index.invariant in
-    row_may_be_added c.args.self.now c.args.a.now c.loop-index.index c.args.scalar c.args.tables.now.size from c.row.result.now
-    (row_of c.loop-index.self c.loop-index.index) table _ c.row.ensures.well_formed c.requires.a_field (let inside = below c in omega (arith, inside, c.requires.rows_fit)) c.requires.element
+    row_may_be_added c.args.self.now c.args.a.now c.loop-index.index 1 c.args.tables.now.size from c.row.result.now
+    (row_of c.loop-index.self c.loop-index.index) table _ c.row.ensures.well_formed c.requires.a_field (let inside = below c in omega (arith, inside, c.requires.rows_fit)) (one-IsElement c.args.self.now.order)
     c.row.ensures.value is_table invariant.field
     (length-row_of c.loop-index.self c.loop-index.index invariant.well_formed (add_combinations-requires-clause-index c) ∙ invariant.columns) number
 
@@ -47,16 +48,16 @@ pub loop-index-preserved : goal.loop-index-preserved
 loop-index-preserved c =
     let invariant = c.loop-index.invariant in
     let inside : c.loop-index.index < length c.args.self.now.rows = omega (arith, c.loop-index-test.true, c.rows-index-end.ensures.count) in
-    let row = row_of_block c.args.self.now c.args.a.now c.args.b.now c.loop-index.self c.loop-index.index c.args.scalar c.args.at c.args.tables.now
+    let row = row_of_block c.args.self.now c.args.a.now c.args.b.now c.loop-index.self c.loop-index.index 1 c.args.at c.args.tables.now
     c.piece_numbers-numbers.result c.row.result.now c.rows-index-end.ensures.well_formed c.row.ensures.well_formed c.rows.ensures.well_formed c.requires.a_field c.requires.b_field
-    inside (omega (arith, inside, c.requires.rows_fit)) c.requires.inner_fit c.requires.element c.requires.tables c.requires.combine c.row.ensures.value c.piece_numbers-numbers.ensures
+    inside (omega (arith, inside, c.requires.rows_fit)) c.requires.inner_fit (one-IsElement c.args.self.now.order) c.requires.tables c.requires.combine c.row.ensures.value c.piece_numbers-numbers.ensures
     invariant.field (invariant.kept c.loop-index.index (omega arith)) in
     IsRewrittenBelow-more _ _ _ _ _ _ invariant inside row c.add_combinations.ensures.sum c.add_combinations.ensures.well_formed
 
 pub returns-clause-sum : goal.returns-clause-sum
 returns-clause-sum c =
     let all : length c.args.self.now.rows ≤ c.loop-index.index = omega (arith, c.rows-index-end.ensures.count, c.loop-index-test.false) in
-    IsRewrittenBelow-all _ _ _ _ c.loop-index.invariant all ∙ rows_with_terms-listed c.args.self.now c.args.scalar c.args.a.now c.args.b.now c.args.at (4 * c.args.tables.now.size)
+    IsRewrittenBelow-all _ _ _ _ c.loop-index.invariant all ∙ rows_with_terms-listed c.args.self.now 1 c.args.a.now c.args.b.now c.args.at (4 * c.args.tables.now.size)
 
 pub returns-clause-well_formed : goal.returns-clause-well_formed
 returns-clause-well_formed c = c.loop-index.invariant.well_formed

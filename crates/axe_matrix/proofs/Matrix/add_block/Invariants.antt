@@ -7,5 +7,5 @@ use Rattle.axe_matrix.proofs.Matrix.add_block.Given as goal
 abbrev pub invariant-loop-index : goal.invariant-loop-index
 invariant-loop-index l =
     IsRewrittenBelow l.index l.fn.self
-    (λ i. row_with_terms (number_field l.fn.self.order) l.fn.self.cols (get_or l.fn.self.rows i []) l.scalar (get_or l.a.rows i []) l.b.rows l.at (4 * l.tables.size))
+    (λ i. row_with_terms (number_field l.fn.self.order) l.fn.self.cols (get_or l.fn.self.rows i []) 1 (get_or l.a.rows i []) l.b.rows l.at (4 * l.tables.size))
     l.self

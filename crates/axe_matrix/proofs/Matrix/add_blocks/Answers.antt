@@ -28,9 +28,6 @@ add_block-requires-clause-rows_fit c = c.requires.rows_fit ∙ sym c.loop-at.inv
 pub add_block-requires-clause-columns_fit : goal.add_block-requires-clause-columns_fit
 add_block-requires-clause-columns_fit c = c.requires.columns_fit ∙ ap (λ (m : MatrixValue). m.cols) (sym c.loop-at.invariant.so_far)
 
-pub add_block-requires-clause-element : goal.add_block-requires-clause-element
-add_block-requires-clause-element c = one-IsElement c.loop-at.self.order
-
 pub add_block-requires-clause-tables : goal.add_block-requires-clause-tables
 add_block-requires-clause-tables c =
     tables_for _ _ _ _ _ (add_block-requires-clause-b_field c) (add_block-requires-clause-columns_fit c) c.fill.ensures.tables

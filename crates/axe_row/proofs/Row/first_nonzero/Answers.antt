@@ -1,6 +1,7 @@
 use Rattle.std.proofs.Common.{Option, ℕ, ap, sym, subst, ◌∙◌, MatchOption}
-use Rattle.axe_row.specs.Operations.{IsZeroVector, IsFirstNonzero}
-use Rattle.axe_row.specs.Planes.{earlier_of}
+use Rattle.axe_lane.specs.Entries.{IsFirstNonzero}
+use Rattle.axe_row.specs.Operations.{IsZeroVector}
+use Rattle.axe_bits.specs.Earlier.{earlier_of}
 use Rattle.axe_row.specs.Rows.{RowValue}
 use Rattle.axe_row.proofs.FirstEntries.{first_of_planes}
 use Rattle.axe_row.proofs.PrimeRows.{first_of_one_plane}

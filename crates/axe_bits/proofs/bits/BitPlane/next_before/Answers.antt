@@ -2,7 +2,7 @@ use Rattle.std.proofs.Common.{rules, ◌≡◌, ◌<◌, ◌≤◌, ◌/◌, ◌
 use Rattle.std.specs.Int.{trailing_zeros}
 use Rattle.std.proofs.lemmas.Grind.{get_or_default_zero}
 use Rattle.axe_lane.specs.Words.{HasNoSetBit, IsFirstSetBit}
-use Rattle.axe_bits.specs.Digits.{AreZerosBetween, IsNextNonzero}
+use Rattle.axe_lane.specs.Entries.{AreZerosBetween, IsNextNonzero}
 use Rattle.axe_bits.proofs.BitLaws.{plane_long}
 use Rattle.axe_bits.proofs.NextDigits.{next_in_word, next_in_words, none_in_words}
 use Rattle.axe_bits.proofs.bits.BitPlane.next_before.Goals as goal

@@ -1,6 +1,6 @@
 use Rattle.std.proofs.Common.{MatchOption, sym, ap, subst, ◌∙◌}
 use Rattle.std.specs.Option.{unwrap_or}
-use Rattle.axe_bits.specs.Digits.{AreZerosFrom, IsNextNonzero}
+use Rattle.axe_lane.specs.Entries.{AreZerosFrom, IsNextNonzero}
 use Rattle.axe_bits.proofs.TritZeros.{next_of_trits}
 use Rattle.axe_bits.proofs.trits.TritPlane.next_nonzero.Goals as goal
 

@@ -15,6 +15,6 @@ returns-clause-well_formed c =
     let lifted : IsLifted c.args.section.now c.args.lift.now c.in_ok-rows.rows =
     lifted_by c.args.section.now c.args.lift.now c.args.lift.now c.rows.result.now c.rows.ensures.well_formed c.requires.lift refl
     c.rows.ensures.value c.in_ok-rows.rows c.in_ok-rows.ensures.product in
-    λ formed. subst IsMatrix (sym c.in_ok-append_rows.ensures)
+    λ formed. subst IsMatrix (sym c.in_ok-append_rows.ensures.rows)
     (IsMatrix-appended c.args.self.now.basis c.in_ok-rows.rows formed c.in_ok-rows.ensures.well_formed (lifted.field ∙ sym c.requires.field)
     (lifted.columns ∙ sym c.requires.fits) (omega (arith, lifted.count, c.requires.room)))

@@ -3,7 +3,7 @@ use Rattle.std.proofs.lemmas.Result.{err_from_is_err_and}
 use Rattle.axe_row.specs.Refusals.{RefusedAs}
 use Rattle.axe_row.specs.declared.refusals.Refusal.TheVariants.{Singular}
 use Rattle.axe_matrix.specs.Matrices.{IsMatrix, transpose_refusal, transposed_matrix}
-use Rattle.axe_reduction.specs.Solutions.{IsInverseMatrix, IsInvertible}
+use Rattle.axe_reduction.specs.Solutions.{IsInverseMatrix, IsInvertibleMatrix}
 use Rattle.axe_echelon.specs.Echelons.{inverse_refusal, null_space_refusal, IsNullSpaceMatrix}
 use Rattle.axe_execute.specs.MatrixCommands.{TransposeOf, InverseOf, NullSpaceOf}
 use Rattle.axe_plan.proofs.Refused.{refused_fault, refused_fault_or, accepted_value, accepted_value_or}
@@ -29,13 +29,13 @@ unfolding InverseOf
 returns-in_err-inverse-in-Inverse c =
     let p = err_from_is_err_and c.from_residual-in_err-inverse-in-Inverse.result c.from_residual-in_err-inverse-in-Inverse.ensures.1 in
     rw (p.1, p.2, c.in-Inverse.is) (refused_fault_or (IsInverseMatrix c.args.matrix.now) (IsInverseMatrix c.args.matrix.now)
-    (RefusedAs Singular (¬ (IsInvertible c.args.matrix.now))) (inverse_refusal c.args.matrix.now) c.in_err-inverse-in-Inverse.field-0.0 c.in_err-inverse-in-Inverse.ensures.inverse)
+    (RefusedAs Singular (¬ (IsInvertibleMatrix c.args.matrix.now))) (inverse_refusal c.args.matrix.now) c.in_err-inverse-in-Inverse.field-0.0 c.in_err-inverse-in-Inverse.ensures.inverse)
 
 pub returns-in_ok-inverse-in-Inverse : goal.returns-in_ok-inverse-in-Inverse
 unfolding InverseOf
 returns-in_ok-inverse-in-Inverse c =
     rw (c.in-Inverse.is) (accepted_value_or (IsInverseMatrix c.args.matrix.now) (IsInverseMatrix c.args.matrix.now)
-    (RefusedAs Singular (¬ (IsInvertible c.args.matrix.now))) (inverse_refusal c.args.matrix.now) c.in_ok-inverse-in-Inverse.field-0 (λ of. of)
+    (RefusedAs Singular (¬ (IsInvertibleMatrix c.args.matrix.now))) (inverse_refusal c.args.matrix.now) c.in_ok-inverse-in-Inverse.field-0 (λ of. of)
     c.in_ok-inverse-in-Inverse.ensures.inverse)
 
 pub returns-in_err-null_space-in-NullSpace : goal.returns-in_err-null_space-in-NullSpace

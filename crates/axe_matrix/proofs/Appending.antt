@@ -2,7 +2,7 @@
 use Rattle.std.proofs.Common.{◌≡◌, ℕ, ◌+◌, ◌<◌, ◌≤◌, [], ◌∷◌, ◌++◌, length, take, sym, ap, ◌∙◌, length-append}
 use Rattle.std.proofs.lemmas.List.{take_more, take_all, append-nil, append_assoc, length-take-le}
 use Rattle.axe_row.specs.Rows.{RowValue}
-use Rattle.axe_matrix.specs.Matrices.{MatrixValue, row_of}
+use Rattle.axe_matrix.specs.Matrices.{MatrixValue, HasFirstRows, row_of}
 
 -- the first rows of the other are appended
 pub record AreAppended (old rows : MatrixValue) (index : ℕ) (now : MatrixValue) : Type 0 where
@@ -37,3 +37,8 @@ pub appended_length : (old rows now : MatrixValue) (index : ℕ) → AreAppended
 appended_length old rows now index appended within =
     ap (λ (m : MatrixValue). length m.rows) appended.is ∙ length-append old.rows (take index rows.rows)
     ∙ ap (λ n. length old.rows + n) (length-take-le index rows.rows within)
+
+-- those before are some first ones
+pub appended_some : (old rows now : MatrixValue) (index : ℕ) → AreAppended old rows index now → index < length rows.rows →
+    HasFirstRows old rows now
+appended_some old rows now index appended below = record { count = index; not_all = below; rows = appended.is; }
