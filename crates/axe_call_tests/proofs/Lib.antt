@@ -1,2 +1,1 @@
 pub mod SubspaceShapes
-pub mod TwoRows

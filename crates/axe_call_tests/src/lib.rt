@@ -1,5 +1,5 @@
-//! Worked calls of the libraries below modules: kernels, fields, rows, matrices, echelon forms, their files, reports,
-//! and folders of them. Each answer is compared with a value that was worked out by hand. What the crates prove is not
+//! Worked calls of the libraries below modules, from matrices on: matrices, echelon forms, their files, reports, and
+//! folders of them. Each answer is compared with a value that was worked out by hand. What the crates prove is not
 //! tested again; this crate shows that the definitions mean what they should, and that memory is not refused where
 //! there is enough.
 //!
@@ -10,24 +10,14 @@
 #[cfg(test)]
 mod changed;
 #[cfg(test)]
-mod combos;
-#[cfg(test)]
 mod echelons;
-#[cfg(test)]
-mod fields;
 #[cfg(test)]
 mod files;
 #[cfg(test)]
 mod folders;
 #[cfg(test)]
-mod lanes;
-#[cfg(test)]
 mod matrices;
 #[cfg(test)]
 mod reports;
-#[cfg(test)]
-mod row_sweep;
-#[cfg(test)]
-mod rows;
 #[cfg(test)]
 mod tables;

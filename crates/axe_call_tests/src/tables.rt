@@ -3,7 +3,7 @@
 //! A further case of a call is a line. A further call is an arm in `answers` of its module, and a function that makes
 //! it where none is given the same values. A table without a call fails its test.
 
-use crate::{combos, echelons, fields, files, matrices, rows};
+use crate::{echelons, files, matrices};
 use axe_test_values::{TableFault, first_field, is_remark};
 use std::alloc::Global;
 use std::process::Abort;
@@ -11,24 +11,18 @@ use std::process::Abort;
 /// What the calls of a table are about: the module that makes them.
 #[derive(Clone, Copy)]
 pub(crate) enum Topic {
-    Combos,
     Echelons,
-    Fields,
     Files,
     Matrices,
-    Rows,
 }
 
 /// Whether a call answers what its line says.
 fn answers(rt: &impl Abort, alloc: Global, topic: Topic, line: &str) -> Result<bool, TableFault> {
     let (call, line) = first_field(line)?;
     match topic {
-        Topic::Combos => combos::answers(rt, alloc, call, line),
         Topic::Echelons => echelons::answers(alloc, call, line),
-        Topic::Fields => fields::answers(rt, call, line),
         Topic::Files => files::answers(alloc, call, line),
         Topic::Matrices => matrices::answers(rt, alloc, call, line),
-        Topic::Rows => rows::answers(rt, alloc, call, line),
     }
 }
 

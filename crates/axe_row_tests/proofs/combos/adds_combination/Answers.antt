@@ -2,8 +2,8 @@
 use Rattle.std.proofs.Common.{◌≡◌, length, ap, sym, ◌∙◌}
 use Rattle.axe_row.specs.Combinations.{CombosValue}
 use Rattle.axe_row.specs.Rows.{RowValue}
-use Rattle.axe_call_tests.proofs.TwoRows.{each_of_two}
-use Rattle.axe_call_tests.proofs.combos.adds_combination.Goals as goal
+use Rattle.axe_row_tests.proofs.TwoRows.{each_of_two}
+use Rattle.axe_row_tests.proofs.combos.adds_combination.Goals as goal
 
 pub fill-requires-clause-field : goal.fill-requires-clause-field
 fill-requires-clause-field g c =

@@ -1,15 +1,16 @@
 //! Kernels on words and on bytes, at lengths around those of whole vectors, beside sums that are made entry by entry.
 ghost use Rattle.std.specs.Prelude.{◌≡◌, length};
+ghost use Rattle.axe_lane.specs.Bytes.{AreBelow};
 
 use axe_lane::{
-    add_scaled_bytes, any_nonzero, dot_bytes, first_byte, first_set, parity_and, scale_bytes,
-    xor_into,
+    add_scaled_bytes, add4_bytes, any_nonzero, bits_of_bytes, dot_bytes, first_byte, first_set,
+    parity_and, scale_bytes, xor_into, xor4_into,
 };
 use std::alloc::{AllocError, Global};
 use std::process::Abort;
 
 /// Lengths around those of whole vectors of words and of bytes.
-const LENGTHS: [usize; 16] = [
+pub(crate) const LENGTHS: [usize; 16] = [
     0, 1, 7, 8, 9, 31, 32, 33, 63, 64, 65, 127, 128, 129, 2047, 2048,
 ];
 
@@ -163,6 +164,123 @@ fn words_are_combined(rt: &impl Abort, alloc: Global, len: usize) -> Result<bool
     Ok(is_right && u32::from(parity) == common % 2)
 }
 
+/// Asserts that there are so many bytes, each below a number.
+fn assert_bytes(rt: &impl Abort, bytes: &[u8], len: usize, p: u8)
+    ensures length { length bytes.now ≡ len }
+    ensures below { AreBelow p bytes.now }
+{
+    assert!(rt; bytes.len() == len);
+    assert!(rt; bytes.iter().all(|&byte| byte < p));
+}
+
+/// Adds four rows of bytes to a fifth.
+fn adds_four(rt: &impl Abort, dst: &mut [u8], a: &[u8], b: &[u8], c: &[u8], d: &[u8], p: u8) {
+    let len = dst.len();
+    assert_bytes(rt, dst, len, p);
+    assert_bytes(rt, a, len, p);
+    assert_bytes(rt, b, len, p);
+    assert_bytes(rt, c, len, p);
+    assert_bytes(rt, d, len, p);
+    match p {
+        2 => add4_bytes(dst, a, b, c, d, 2),
+        3 => add4_bytes(dst, a, b, c, d, 3),
+        5 => add4_bytes(dst, a, b, c, d, 5),
+        7 => add4_bytes(dst, a, b, c, d, 7),
+        _ => panic!(rt; "no small prime: {p}"),
+    }
+}
+
+/// Whether sums of five rows of so many bytes are made entry by entry.
+fn five_rows_of_bytes_are_summed(
+    rt: &impl Abort,
+    alloc: Global,
+    len: usize,
+    p: u8,
+) -> Result<bool, AllocError> {
+    let a = bytes_below(alloc, len, p, 3)?;
+    let b = bytes_below(alloc, len, p, 7)?;
+    let c = bytes_below(alloc, len, p, 11)?;
+    let d = bytes_below(alloc, len, p, 13)?;
+    let old = bytes_below(alloc, len, p, 29)?;
+    let mut sum = bytes_below(alloc, len, p, 29)?;
+    adds_four(rt, &mut sum, &a, &b, &c, &d, p);
+    let mut is_right = sum.len() == len;
+    for (((old, added), (a, b)), (c, d)) in old
+        .iter()
+        .zip(&sum)
+        .zip(a.iter().zip(&b))
+        .zip(c.iter().zip(&d))
+    {
+        let total = u32::from(*old)
+            .wrapping_add(u32::from(*a))
+            .wrapping_add(u32::from(*b))
+            .wrapping_add(u32::from(*c))
+            .wrapping_add(u32::from(*d));
+        is_right = is_right && total.checked_rem(u32::from(p)) == Some(u32::from(*added));
+    }
+    Ok(is_right)
+}
+
+/// Whether sums of five rows of so many words are made word by word.
+fn five_rows_of_words_are_summed(
+    rt: &impl Abort,
+    alloc: Global,
+    len: usize,
+) -> Result<bool, AllocError> {
+    let a = words_of(alloc, len, 3)?;
+    let b = words_of(alloc, len, 7)?;
+    let c = words_of(alloc, len, 11)?;
+    let d = words_of(alloc, len, 13)?;
+    let old = words_of(alloc, len, 29)?;
+    let mut sum = words_of(alloc, len, 29)?;
+    assert!(rt; a.len() == sum.len());
+    assert!(rt; b.len() == sum.len());
+    assert!(rt; c.len() == sum.len());
+    assert!(rt; d.len() == sum.len());
+    xor4_into(&mut sum, &a, &b, &c, &d);
+    let mut is_right = sum.len() == len;
+    for (((old, added), (a, b)), (c, d)) in old
+        .iter()
+        .zip(&sum)
+        .zip(a.iter().zip(&b))
+        .zip(c.iter().zip(&d))
+    {
+        is_right = is_right && *added == *old ^ *a ^ *b ^ *c ^ *d;
+    }
+    Ok(is_right)
+}
+
+/// Whether the bits that 64 bytes from an index on have at a place are taken one by one.
+fn bits_are_taken(rt: &impl Abort, bytes: &[u8], at: usize, place: u8) -> bool {
+    assert!(rt; bytes.len() >= 64);
+    assert!(rt; at <= bytes.len() - 64);
+    assert!(rt; place < 8);
+    let mut word = bits_of_bytes(bytes, at, place);
+    let mut is_right = true;
+    for byte in &bytes[at..at + 64] {
+        is_right = is_right && word % 2 == u64::from(*byte >> place & 1);
+        word /= 2;
+    }
+    is_right
+}
+
+/// Whether the bits of the first and of the last 64 of so many bytes are taken one by one, at each place.
+fn bits_are_taken_at_each_place(
+    rt: &impl Abort,
+    alloc: Global,
+    len: usize,
+) -> Result<bool, AllocError> {
+    let bytes = bytes_below(alloc, len, 255, 3)?;
+    assert!(rt; len >= 64);
+    let mut is_right = true;
+    for place in 0..8 {
+        is_right = is_right
+            && bits_are_taken(rt, &bytes, 0, place)
+            && bits_are_taken(rt, &bytes, len - 64, place);
+    }
+    Ok(is_right)
+}
+
 /// Whether the last of so many entries is found where it alone is not zero, and nothing where it is.
 fn last_is_found(rt: &impl Abort, alloc: Global, len: usize) -> Result<bool, AllocError> {
     let mut words = vec![in alloc; 0u64; len]?;
@@ -203,6 +321,36 @@ fn products_are_sums_at_each_length(rt: HostRuntime) -> Result<(), AllocError> {
         assert!(rt; words_are_combined(&rt, rt.alloc(), len)?, "{len}");
         for p in [2, 3, 5, 7] {
             assert!(rt; bytes_are_multiplied(&rt, rt.alloc(), len, p)?, "{len} {p}");
+        }
+    }
+    Ok(())
+}
+
+#[test]
+fn five_rows_are_summed_at_each_length(rt: HostRuntime) -> Result<(), AllocError> {
+    for len in LENGTHS {
+        assert!(rt;
+            five_rows_of_words_are_summed(&rt, rt.alloc(), len)?,
+            "{len}"
+        );
+        for p in [2, 3, 5, 7] {
+            assert!(rt;
+                five_rows_of_bytes_are_summed(&rt, rt.alloc(), len, p)?,
+                "{len} {p}"
+            );
+        }
+    }
+    Ok(())
+}
+
+#[test]
+fn bits_are_taken_at_each_length(rt: HostRuntime) -> Result<(), AllocError> {
+    for len in LENGTHS {
+        if len >= 64 {
+            assert!(rt;
+                bits_are_taken_at_each_place(&rt, rt.alloc(), len)?,
+                "{len}"
+            );
         }
     }
     Ok(())

@@ -1,0 +1,2 @@
+pub mod ApartWords
+pub mod TwoRows
