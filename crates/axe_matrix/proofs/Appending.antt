@@ -41,4 +41,4 @@ appended_length old rows now index appended within =
 -- those before are some first ones
 pub appended_some : (old rows now : MatrixValue) (index : ℕ) → AreAppended old rows index now → index < length rows.rows →
     HasFirstRows old rows now
-appended_some old rows now index appended below = record { count = index; not_all = below; rows = appended.is; }
+appended_some old rows now index appended below = record { count = index; not_all = below; rows = appended.is }
