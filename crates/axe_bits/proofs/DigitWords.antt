@@ -166,12 +166,12 @@ shifted_up w k i low =
     let whole : n / 2 ^ 64 * 2 ^ 64 + n % 2 ^ 64 ≡ n = omega arith in
     sym (bit_at_cat_low (n / 2 ^ 64) 64 (n % 2 ^ 64) i low) ∙ ap (λ x. bit_at x i) whole
 
-shifted_up_low : (w k i : ℕ) → i < 64 → i < k → bit_at (w * 2 ^ k % 2 ^ 64) i ≡ 0
+pub shifted_up_low : (w k i : ℕ) → i < 64 → i < k → bit_at (w * 2 ^ k % 2 ^ 64) i ≡ 0
 shifted_up_low w k i low below =
     let none : w * 2 ^ k ≡ w * 2 ^ k + 0 = omega arith in
     shifted_up w k i low ∙ ap (λ x. bit_at x i) none ∙ bit_at_cat_low w k 0 i below ∙ bit_at-zero i
 
-shifted_up_high : (w k i : ℕ) → i < 64 → k ≤ i → bit_at (w * 2 ^ k % 2 ^ 64) i ≡ bit_at w (i - k)
+pub shifted_up_high : (w k i : ℕ) → i < 64 → k ≤ i → bit_at (w * 2 ^ k % 2 ^ 64) i ≡ bit_at w (i - k)
 shifted_up_high w k i low above =
     let none : w * 2 ^ k ≡ w * 2 ^ k + 0 = omega arith in
     shifted_up w k i low ∙ ap (λ x. bit_at x i) none ∙ bit_at_cat_high w k 0 i (pow_pos k) above

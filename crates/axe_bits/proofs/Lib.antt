@@ -5,6 +5,8 @@ pub mod ZeroDigits
 pub mod NextDigits
 pub mod DigitWords
 pub mod NumberDigits
+pub mod TurnedBytes
+pub mod PackedWords
 pub mod NumberSums
 pub mod PieceDigits
 pub mod PieceBits

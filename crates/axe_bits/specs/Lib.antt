@@ -1,5 +1,6 @@
 pub mod Bits
 pub mod Digits
 pub mod FlatTables
+pub mod Packed
 pub mod Trits
 pub mod Earlier

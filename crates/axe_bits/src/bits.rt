@@ -1,6 +1,6 @@
 //! Planes of digits modulo 2.
 ghost use Rattle.std.specs.Int.{bit_at};
-ghost use Rattle.std.specs.Prelude.{ℕ, ◌≡◌, ◌≢◌, ◌+◌, ◌*◌, ◌^◌, ◌%◌, ◌<◌, ◌≤◌, ◌↔◌, IsTrue, IfOk, length, map};
+ghost use Rattle.std.specs.Prelude.{ℕ, ◌≡◌, ◌≢◌, ◌+◌, ◌*◌, ◌/◌, ◌^◌, ◌%◌, ◌<◌, ◌≤◌, ◌↔◌, IsTrue, IfOk, length, map};
 ghost use Rattle.std.specs.Prelude.{replicate, slice_index, slice_set, All, MatchOption};
 ghost use Rattle.axe_algebra.specs.Digits.{number_with_digits};
 ghost use Rattle.axe_algebra.specs.Lists.{listed};
@@ -10,8 +10,10 @@ ghost use Rattle.axe_bits.specs.Bits.{bits, HoldsBits};
 ghost use Rattle.axe_bits.specs.Digits.{AreDigits, digits_at, digits_with_four, digits_with_multiple};
 ghost use Rattle.axe_bits.specs.Digits.{AreSmallSums, numbers_with_multiple};
 ghost use Rattle.axe_bits.specs.Digits.{number_from, numbers_from};
+ghost use Rattle.axe_bits.specs.Packed.{packed_bit};
 ghost use Rattle.axe_bits.specs.Trits.{trits, HoldLayers, HoldTrits};
 
+use crate::packed::{WORD_BYTES, packed_word, word_of_packed};
 use crate::parts::{WORD, add_spread, gathered, lowest, spread, word_from};
 use axe_lane::{add_trits, any_nonzero, bits_of_bytes, first_set, parity_and, xor_into, xor4_into};
 use std::alloc::{AllocError, Global};
@@ -54,6 +56,20 @@ impl BitPlane {
         let mut words = vec![in alloc; 0; len.div_ceil(WORD)]?;
         for at in 0..words.len() {
             words[at] = word_of(numbers, at * WORD, place);
+        }
+        Ok(BitPlane { len, words })
+    }
+
+    /// The plane of the first `len` digits that bytes hold, eight to a byte, the first of a byte being its most
+    /// significant bit.
+    pub fn of_packed(alloc: Global, bytes: &[u8], len: usize) -> Result<BitPlane, AllocError>
+        requires { len ≤ 8 * length bytes.now }
+        ensures { IfOk result (λ plane. plane ≡ listed len (packed_bit bytes.now)) }
+    {
+        let mut words = vec![in alloc; 0; len.div_ceil(WORD)]?;
+        for at in 0..words.len() {
+            let word = word_of_packed(&bytes[at * WORD_BYTES..]);
+            words[at] = lowest(word, len - at * WORD);
         }
         Ok(BitPlane { len, words })
     }
@@ -190,6 +206,21 @@ impl BitPlane {
             let from = at * WORD;
             let count = WORD.min(self.len - from);
             spread(self.words[at], &mut numbers[from..from + count]);
+        }
+    }
+
+    /// Writes the digits into the bytes that they take, eight to a byte, the first of a byte being its most significant
+    /// bit. The bits after the last digit become 0.
+    pub fn copy_packed(&self, bytes: &mut [u8])
+        requires { length bytes.old ≡ (length self.now + 7) / 8 }
+        ensures long { length bytes.new ≡ length bytes.old }
+        ensures digits { (e : ℕ) → packed_bit bytes.new e ≡ slice_index self.now e }
+    {
+        for at in 0..self.words.len() {
+            let from = at * WORD_BYTES;
+            let count = WORD_BYTES.min(bytes.len() - from);
+            let packed = packed_word(self.words[at]);
+            bytes[from..from + count].copy_from_slice(&packed[..count]);
         }
     }
 

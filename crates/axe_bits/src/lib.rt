@@ -4,6 +4,7 @@
 
 mod bit_table;
 mod bits;
+mod packed;
 mod parts;
 mod pieces;
 mod places;

@@ -1,5 +1,5 @@
 -- A plane as its prime and its digits.
-use Rattle.std.specs.Prelude.{◌≡◌, ℕ, List, length}
+use Rattle.std.specs.Prelude.{◌≡◌, ℕ, ◌-◌, ◌%◌, List, length}
 use Rattle.axe_bits.specs.Digits.{AreDigits}
 use Rattle.axe_plane.specs.Primes.{byte_prime}
 use Rattle.axe_plane.specs.declared.Plane.{Plane}
@@ -16,6 +16,10 @@ abbrev pub digits_of : Plane → List ℕ
 digits_of (Bits digits) = digits
 digits_of (Trits digits) = digits
 digits_of (Bytes plane) = plane.digits
+
+-- the digit whose sum with the digit d is 0 modulo p
+abbrev pub negative_modulo : ℕ → ℕ → ℕ
+negative_modulo p d = (p - d) % p
 
 -- a plane of these digits modulo this prime
 pub record IsPlane (p : ℕ) (digits : List ℕ) (plane : Plane) : Type 0 where

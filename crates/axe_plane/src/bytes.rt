@@ -6,6 +6,7 @@ ghost use Rattle.axe_lane.specs.Bytes.{multiple_modulo, sum_of_products};
 ghost use Rattle.axe_lane.specs.Entries.{IsFirstNonzero, AreZerosFrom, IsNextNonzero};
 ghost use Rattle.axe_bits.specs.Digits.{AreDigits, digits_at, digits_with_four, digits_with_multiple, AreSmallSums};
 ghost use Rattle.axe_bits.specs.Digits.{numbers_with_multiple, number_from};
+ghost use Rattle.axe_plane.specs.Planes.{negative_modulo};
 ghost use Rattle.axe_plane.specs.Primes.{byte_prime, ByteDigits};
 
 use crate::primes::BytePrime;
@@ -187,6 +188,27 @@ impl BytePlane {
     {
         let prime = self.prime.number();
         add_scaled_bytes(&mut self.bytes, &other.bytes, factor, prime);
+    }
+
+    /// Adds the multiple of another plane modulo the same prime and of the same length by the negative of the digit at
+    /// an index, and gives that factor.
+    #[inline(never)]
+    pub(crate) fn cancel(&mut self, index: usize, other: &BytePlane) -> u8
+        requires prime { other.now.prime ≡ self.old.prime }
+        requires fits { length other.now.digits ≡ length self.old.digits }
+        ensures factor { result ≡ negative_modulo (byte_prime self.old.prime) (slice_index self.old.digits index) }
+        ensures digit { result < byte_prime self.old.prime }
+        ensures sum { self.new ≡ record {
+          prime = self.old.prime;
+          digits = digits_with_multiple (byte_prime self.old.prime) self.old.digits result other.now.digits;
+        } }
+    {
+        let prime = self.prime.number();
+        let factor = (prime - self.get(index)) % prime;
+        if factor != 0 {
+            self.add_scaled(factor, other);
+        }
+        factor
     }
 
     /// The digits of the plane.

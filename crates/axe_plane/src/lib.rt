@@ -10,6 +10,7 @@ ghost use Rattle.axe_lane.specs.Bytes.{multiple_modulo, sum_of_products};
 ghost use Rattle.axe_lane.specs.Entries.{IsFirstNonzero, AreZerosFrom, IsNextNonzero};
 ghost use Rattle.axe_bits.specs.Digits.{AreDigits, digits_at, digits_with_four, digits_with_multiple, AreSmallSums};
 ghost use Rattle.axe_bits.specs.Digits.{numbers_with_multiple, numbers_from};
+ghost use Rattle.axe_plane.specs.Planes.{negative_modulo};
 ghost use Rattle.axe_plane.specs.Tables.{plane_at, IsEntryFor};
 
 use axe_bits::{BitPlane, TritPlane};
@@ -247,6 +248,28 @@ impl Plane {
         }
     }
 
+    /// Adds the multiple of another plane modulo the same prime and of the same length by the negative of the digit at
+    /// an index, and gives that factor: where the other's digit at the index is 1, this plane's becomes 0. From the
+    /// length on the digit is 0, and nothing is added.
+    #[inline]
+    pub fn cancel(&mut self, index: usize, other: &Plane) -> u8
+        requires prime { prime_of_plane other.now ≡ prime_of_plane self.old }
+        requires fits { length (digits_of other.now) ≡ length (digits_of self.old) }
+        requires digits { AreDigits (prime_of_plane self.old) (digits_of self.old) }
+        ensures factor { result ≡ negative_modulo (prime_of_plane self.old) (slice_index (digits_of self.old) index) }
+        ensures digit { result < prime_of_plane self.old }
+        ensures sum { IsPlane (prime_of_plane self.old)
+            (digits_with_multiple (prime_of_plane self.old) (digits_of self.old) result (digits_of other.now))
+            self.new }
+    {
+        match (self, other) {
+            (Plane::Bits(plane), Plane::Bits(other)) => cancel_bits(plane, index, other),
+            (Plane::Trits(plane), Plane::Trits(other)) => cancel_trits(plane, index, other),
+            (Plane::Bytes(plane), Plane::Bytes(other)) => plane.cancel(index, other),
+            _ => 0,
+        }
+    }
+
     /// Adds an entry of each of four tables modulo the same prime, whose entries have this plane's length: in one pass,
     /// except modulo 3. The numbers of the entries stand in the tables' order.
     #[inline]
@@ -422,6 +445,41 @@ impl Plane {
             _ => false,
         }
     }
+}
+
+/// Adds another plane of the same length where the digit at an index is 1, and gives that digit, which is its own
+/// negative modulo 2.
+#[inline]
+fn cancel_bits(plane: &mut BitPlane, index: usize, other: &BitPlane) -> u8
+    requires fits { length other.now ≡ length plane.old }
+    requires digits { AreDigits 2 plane.old }
+    ensures factor { result ≡ negative_modulo 2 (slice_index plane.old index) }
+    ensures digit { result < 2 }
+    ensures sum { plane.new ≡ digits_with_multiple 2 plane.old result other.now }
+{
+    let digit = plane.get(index);
+    if digit != 0 {
+        plane.add(other);
+    }
+    digit
+}
+
+/// Adds the multiple of another plane of the same length by the negative modulo 3 of the digit at an index, and gives
+/// that factor. It stands apart so that `cancel` is short where it is asked most, modulo 2.
+#[inline(never)]
+fn cancel_trits(plane: &mut TritPlane, index: usize, other: &TritPlane) -> u8
+    requires fits { length other.now ≡ length plane.old }
+    requires digits { AreDigits 3 plane.old }
+    ensures factor { result ≡ negative_modulo 3 (slice_index plane.old index) }
+    ensures digit { result < 3 }
+    ensures sum { plane.new ≡ digits_with_multiple 3 plane.old result other.now }
+{
+    let trit = plane.get(index);
+    let factor = (3 - trit) % 3;
+    if trit != 0 {
+        plane.add_scaled(factor, other);
+    }
+    factor
 }
 
 /// The plane of the digits that numbers have at a place, 0 or 1, in base 3.

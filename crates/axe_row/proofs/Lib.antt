@@ -13,8 +13,10 @@ pub mod TablePlanes
 pub mod TableSums
 pub mod AddedRows
 pub mod PieceNumbers
+pub mod PackedRows
 pub mod PlaneNumbers
 pub mod CombinationLaws
 pub mod MultiplesByX
 pub mod TakenEntries
 pub mod EntrySums
+pub mod NegativeEntries

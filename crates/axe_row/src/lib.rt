@@ -11,9 +11,11 @@ ghost use Rattle.axe_row.specs.Operations.{dot_product, row_with_multiple, multi
 ghost use Rattle.axe_row.specs.Rows.{RowValue, IsRow};
 ghost use Rattle.axe_row.specs.Refusals.{Answers};
 
+mod cancelling;
 mod combos;
 mod dots;
 mod entries;
+mod packed;
 mod parts;
 mod pieces;
 mod planes;
@@ -145,6 +147,7 @@ impl Row {
         requires { index < length self.now.entries }
         ensures entry { result ≡ slice_index self.now.entries index }
         ensures element { IsElement self.now.order result }
+        ensures well_formed { IsRow self.now }
     {
         let constant = self.constant.get(index);
         let linear = self.linear.get(index);

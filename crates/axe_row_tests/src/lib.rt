@@ -14,6 +14,8 @@ mod fields;
 #[cfg(test)]
 mod lanes;
 #[cfg(test)]
+mod packed;
+#[cfg(test)]
 mod row_sweep;
 #[cfg(test)]
 mod rows;

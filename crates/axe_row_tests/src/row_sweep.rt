@@ -102,6 +102,24 @@ fn combines(
     Ok(())
 }
 
+/// An entry that is taken away: the factor's sum with it is 0, and the row is the sum with that multiple.
+fn cancels(
+    rt: &impl Abort,
+    alloc: Global,
+    row: &Row,
+    index: usize,
+    other: &Row,
+) -> Result<(), Refusal> {
+    let mut sum = row.copy(alloc)?;
+    assert_alike(rt, other, &sum);
+    assert!(rt; index < sum.len());
+    let factor = sum.cancel(index, other);
+    let opposite = sum_with_product(rt, row.field(), factor, 1, entry_of(rt, row, index));
+    assert!(rt; opposite == 0);
+    assert_sums(rt, &sum, row, factor, other);
+    Ok(())
+}
+
 fn multiplies(rt: &impl Abort, row: &Row, other: &Row) {
     assert_alike(rt, other, row);
     let mut product = 0;
@@ -157,6 +175,28 @@ fn each_call_is_the_sum_of_its_entries(rt: HostRuntime) -> Result<(), Refusal> {
     for order in ORDERS {
         for len in LENGTHS {
             each_call_at(&rt, rt.alloc(), order, len)?;
+        }
+    }
+    Ok(())
+}
+
+/// The first entry, one in the middle and the last are taken away.
+fn cancels_at(rt: &impl Abort, alloc: Global, order: u8, len: usize) -> Result<(), Refusal> {
+    let field = field_of_order(rt, order);
+    let row = row_of_seed(rt, alloc, field, len, order)?;
+    let other = row_of_seed(rt, alloc, field, len, 100)?;
+    cancels(rt, alloc, &row, 0, &other)?;
+    cancels(rt, alloc, &row, len / 2, &other)?;
+    cancels(rt, alloc, &row, len.saturating_sub(1), &other)
+}
+
+#[test]
+fn entries_are_taken_away_at_each_length(rt: HostRuntime) -> Result<(), Refusal> {
+    for order in ORDERS {
+        for len in LENGTHS {
+            if len != 0 {
+                cancels_at(&rt, rt.alloc(), order, len)?;
+            }
         }
     }
     Ok(())

@@ -2,8 +2,8 @@
 use crate::tables::{Topic, each_call};
 use axe_row::Row;
 use axe_test_values::{
-    TableFault, element_in, field_of, four_fields, is_row, is_row_answer, number_of, row_of,
-    row_of_shape, small_number_of, three_fields, truth_of, two_fields,
+    TableFault, element_in, field_of, first_field, four_fields, is_row, is_row_answer, number_of,
+    row_of, row_of_shape, small_number_of, three_fields, truth_of, two_fields,
 };
 use std::alloc::Global;
 use std::process::Abort;
@@ -109,6 +109,8 @@ copy_to | 3: 2200000100111002211211221110011110200221212012210202211112111212211
 
 /// - `add_scaled`: a row, a scalar, another row, and the sum of the first and of the multiple of the other;
 /// - `add_two_twice`: a row, two others, and the sum of the first and of twice the two;
+/// - `cancel`: a row, an index, another row, the negative of the first row's element there, and the sum of the first
+///   and of that multiple of the other;
 /// - `scale`: a row, a scalar, and the multiple;
 /// - `dot`: two rows, and their product.
 const ARITHMETIC: &str = "\
@@ -139,6 +141,33 @@ add_two_twice | 3: 0002121202111121222022200101202000020020212210010001002020201
 scale | 3: 00021212021111212220222001012020000200202122100100010020202011121202 | 2 | 3: 00012121012222121110111002021010000100101211200200020010101022212101
 dot | 3: 10021212021111212220222001012020000200202122100100010020202011121202 | 3: 00112112021011111002001001200121112200000010121012011212121001221200 | 2
 dot | 3: 10021212021111212220222001012020000200202122100100010020202011121202 | 3: 12110100202012021001211211210222111210110100000111010000210220122011 | 1
+cancel | 2: 1101 | 0 | 2: 1011 | 1 | 2: 0110
+cancel | 2: 0101 | 0 | 2: 1011 | 0 | 2: 0101
+cancel | 3: 1201 | 0 | 3: 1112 | 2 | 3: 0122
+cancel | 3: 2201 | 0 | 3: 1112 | 1 | 3: 0010
+cancel | 3: 0201 | 0 | 3: 1112 | 0 | 3: 0201
+cancel | 3: 1202 | 3 | 3: 1112 | 1 | 3: 2011
+cancel | 4: 1230 | 1 | 4: 3122 | 2 | 4: 0003
+cancel | 4: 1230 | 2 | 4: 0213 | 3 | 4: 1302
+cancel | 4: 1230 | 3 | 4: 0213 | 0 | 4: 1230
+cancel | 5: 3142 | 0 | 5: 1243 | 2 | 5: 0023
+cancel | 5: 3042 | 1 | 5: 1234 | 0 | 5: 3042
+cancel | 5: 3142 | 3 | 5: 0041 | 3 | 5: 3110
+cancel | 7: 6513 | 0 | 7: 1234 | 1 | 7: 0040
+cancel | 7: 6513 | 3 | 7: 0531 | 4 | 7: 6460
+cancel | 7: 6503 | 2 | 7: 0531 | 0 | 7: 6503
+cancel | 8: 7531 | 0 | 8: 1246 | 7 | 8: 0025
+cancel | 8: 7531 | 2 | 8: 0217 | 3 | 8: 7303
+cancel | 8: 7031 | 1 | 8: 0217 | 0 | 8: 7031
+cancel | 9: 8642 | 0 | 9: 1357 | 4 | 9: 0478
+cancel | 9: 8642 | 3 | 9: 0251 | 1 | 9: 8860
+cancel | 9: 8602 | 2 | 9: 0251 | 0 | 9: 8602
+# One digit more than a word of bits or a vector of bytes has.
+cancel | 2: 11010000110100001101000100000000110000110110010110101111101100101 | 64 | 2: 10111010000011111011010011011011100011000100111100011000100110011 | 1 | 2: 01101010110111110110010111011011010011110010101010110111001010110
+cancel | 3: 01202112211111100120211001122210122201122211122112020121121112222 | 64 | 3: 11212110211120200111202221022221122212000212200202201000001010201 | 1 | 3: 12111222122201000201110222111101211110122120022011221121122122120
+cancel | 5: 323404112023230420442024424221334 | 32 | 5: 423114343114020302444124333132331 | 1 | 5: 241013400132200222331143202303110
+cancel | 7: 61442523230223216 | 16 | 7: 00543120616303441 | 1 | 7: 61215643146526650
+cancel | 4: 13013212233001222203221002301033333312302032321133213001200023033 | 63 | 4: 00010123111310100302003103023322012121201221123311020000313332013 | 3 | 4: 13023100100231122002223300313222302001201121033300203001032202001
 ";
 
 fn makes_zero(alloc: Global, line: &str) -> Result<bool, TableFault> {
@@ -251,6 +280,18 @@ fn adds_multiple(alloc: Global, line: &str) -> Result<bool, TableFault> {
     is_row(alloc, &row, wanted)
 }
 
+fn cancels(rt: &impl Abort, alloc: Global, line: &str) -> Result<bool, TableFault> {
+    let (row, line) = first_field(line)?;
+    let (index, other, factor, wanted) = four_fields(line)?;
+    let index = number_of(index)?;
+    let mut row = row_of(alloc, row)?;
+    let other = row_of_shape(alloc, other, row.field(), row.len())?;
+    let factor = element_in(row.field(), factor)?;
+    assert!(rt; index < row.len());
+    let given = row.cancel(index, &other);
+    Ok(given == factor && is_row(alloc, &row, wanted)?)
+}
+
 fn adds_two_twice(alloc: Global, line: &str) -> Result<bool, TableFault> {
     let (row, first, second, wanted) = four_fields(line)?;
     let mut row = row_of(alloc, row)?;
@@ -296,6 +337,7 @@ pub(crate) fn answers(
         "copy_to" => copies_entries(alloc, line),
         "copy" => copies(alloc, line),
         "add_scaled" => adds_multiple(alloc, line),
+        "cancel" => cancels(rt, alloc, line),
         "add_two_twice" => adds_two_twice(alloc, line),
         "scale" => scales(alloc, line),
         "dot" => multiplies(alloc, line),

@@ -2,8 +2,8 @@ use Rattle.std.proofs.Common.{◌<◌, length, get_or, subst, sym, ap, ◌∙◌
 use Rattle.axe_field.specs.Order.{IsElement}
 use Rattle.axe_field.specs.Planes.{element_of}
 use Rattle.axe_plane.specs.Planes.{digits_of}
-use Rattle.axe_row.specs.Rows.{RowValue}
-use Rattle.axe_row.proofs.RowPlanes.{length-entries, entries-at, element_at}
+use Rattle.axe_row.specs.Rows.{RowValue, IsRow}
+use Rattle.axe_row.proofs.RowPlanes.{IsRow-of_planes, length-entries, entries-at, element_at}
 use Rattle.axe_row.proofs.Row.get_by_planes.Goals as goal
 
 pub returns-clause-entry : goal.returns-clause-entry
@@ -26,3 +26,6 @@ returns-clause-element c =
     (subst (IsElement o) (sym (c.element.ensures ∙ ap (λ x. element_of o x c.get-linear.result c.get-quadratic.result) c.get-constant.ensures
     ∙ ap (λ x. element_of o (get_or (digits_of c.self.inside.constant) c.args.index 0) x c.get-quadratic.result) c.get-linear.ensures
     ∙ ap (element_of o (get_or (digits_of c.self.inside.constant) c.args.index 0) (get_or (digits_of c.self.inside.linear) c.args.index 0)) c.get-quadratic.ensures)) element)
+
+pub returns-clause-well_formed : goal.returns-clause-well_formed
+returns-clause-well_formed c = subst IsRow c.self.view_is (IsRow-of_planes _ _ _ _ _ c.self.invariant)

@@ -1,0 +1,13 @@
+use Rattle.std.proofs.Common.{◌≡◌, ◌-◌, ◌%◌, List, ℕ, ap, subst, arith}
+use Rattle.axe_bits.specs.Digits.{AreDigits}
+use Rattle.axe_bits.proofs.DigitLaws.{digits_with_multiple-none}
+use Rattle.axe_plane.specs.Primes.{byte_prime, ByteDigits}
+use Rattle.axe_plane.proofs.PlaneLaws.{byte_prime-positive}
+use Rattle.axe_plane.proofs.bytes.BytePlane.cancel.Goals as goal
+
+pub returns-else-factor-ne0-clause-sum : goal.returns-else-factor-ne0-clause-sum
+returns-else-factor-ne0-clause-sum c =
+    let none : (c.number-prime.result - c.get.result) % c.number-prime.result ≡ 0 = omega (arith, c.if-factor-ne0.false) in
+    let digits = subst (λ (s : ByteDigits). AreDigits (byte_prime s.prime) s.digits) c.self.view_is c.self.invariant in
+    ap (λ (x : List ℕ). record { prime = c.args.self.now.prime; digits = x })
+    (digits_with_multiple-none _ _ _ _ (byte_prime-positive c.args.self.now.prime) none digits)

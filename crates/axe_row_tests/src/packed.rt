@@ -1,0 +1,85 @@
+//! Rows over two elements that are made of packed bytes, and that are written into them.
+use crate::tables::{Topic, each_call};
+use axe_row::Row;
+use axe_test_values::{
+    TableFault, bytes_of_hex, field_of, is_row_answer, number_of, row_of, three_fields, two_fields,
+};
+use std::alloc::Global;
+use std::process::Abort;
+
+/// - `of_packed_bits`: bytes, a length, and the row of so many of their bits;
+/// - `copy_packed_bits`: a row, and the bytes that it is written into, in which all bits were ones.
+const PACKED: &str = "\
+of_packed_bits | 80 | 1 | 2: 1
+of_packed_bits | d0 | 7 | 2: 1101000
+of_packed_bits | c4 | 8 | 2: 11000100
+of_packed_bits | 00 80 | 9 | 2: 000000001
+of_packed_bits | 72 e4 64 77 5a a3 95 12 | 63 | 2: 011100101110010001100100011101110101101010100011100101010001001
+of_packed_bits | 6d 71 60 8f 81 71 c9 a2 | 64 | 2: 0110110101110001011000001000111110000001011100011100100110100010
+of_packed_bits | 76 6e dd be f8 dc 04 6c 00 | 65 | 2: 01110110011011101101110110111110111110001101110000000100011011000
+of_packed_bits | a2 58 08 bd 4d 8e d0 24 9d d2 87 bb 87 05 6a 58 80 | 130 | 2: 1010001001011000000010001011110101001101100011101101000000100100100111011101001010000111101110111000011100000101011010100101100010
+# Bits after the last entry, and further bytes, are passed over.
+of_packed_bits | ad | 7 | 2: 1010110
+of_packed_bits | a4 ff | 9 | 2: 101001001
+of_packed_bits | 43 e2 d8 dc b6 7e 03 33 | 63 | 2: 010000111110001011011000110111001011011001111110000000110011001
+of_packed_bits | a3 86 cb 2b c2 99 ca ec 7f | 65 | 2: 10100011100001101100101100101011110000101001100111001010111011000
+of_packed_bits | a5 3c | 3 | 2: 101
+copy_packed_bits | 2: 1 | 80
+copy_packed_bits | 2: 0000011 | 06
+copy_packed_bits | 2: 11100010 | e2
+copy_packed_bits | 2: 100100100 | 92 00
+copy_packed_bits | 2: 000000110011111110010110110101001100101010011100011110000011100 | 03 3f 96 d4 ca 9c 78 38
+copy_packed_bits | 2: 0010101110010101101100011011001000000000001110001101010111110011 | 2b 95 b1 b2 00 38 d5 f3
+copy_packed_bits | 2: 00111110000110000001011110001110110001101000100011010111101100001 | 3e 18 17 8e c6 88 d7 b0 80
+copy_packed_bits | 2: 1110111100101110111101000011100110010010011110100110101011011000010111110110000010010100001100000110011100011010110111101011011101 | ef 2e f4 39 92 7a 6a d8 5f 60 94 30 67 1a de b7 40
+";
+
+fn makes_of_bits(rt: &impl Abort, alloc: Global, line: &str) -> Result<bool, TableFault> {
+    let (bytes, length, wanted) = three_fields(line)?;
+    let bytes = bytes_of_hex(alloc, bytes)?;
+    let length = number_of(length)?;
+    let field = field_of("2")?;
+    assert!(rt; field.order() == 2 && length.div_ceil(8) <= bytes.len());
+    let row = Row::of_packed_bits(alloc, field, &bytes, length);
+    is_row_answer(alloc, row, wanted)
+}
+
+fn copies_bits(rt: &impl Abort, alloc: Global, line: &str) -> Result<bool, TableFault> {
+    let (row, wanted) = two_fields(line)?;
+    let row = row_of(alloc, row)?;
+    let wanted = bytes_of_hex(alloc, wanted)?;
+    let mut bytes = Vec::new(alloc);
+    bytes.resize(row.len().div_ceil(8), 255)?;
+    assert!(rt; row.field().order() == 2);
+    row.copy_packed_bits(&mut bytes);
+    Ok(bytes == wanted)
+}
+
+/// Whether a call answers what its line says.
+pub(crate) fn answers(
+    rt: &impl Abort,
+    alloc: Global,
+    call: &str,
+    line: &str,
+) -> Result<bool, TableFault> {
+    match call {
+        "of_packed_bits" => makes_of_bits(rt, alloc, line),
+        "copy_packed_bits" => copies_bits(rt, alloc, line),
+        _ => Err(TableFault::NotWritten),
+    }
+}
+
+#[test]
+fn rows_over_two_elements_are_packed_bits(rt: HostRuntime) -> Result<(), TableFault> {
+    each_call(&rt, rt.alloc(), Topic::Packed, PACKED)
+}
+
+#[test]
+fn a_row_without_entries_takes_no_byte(rt: HostRuntime) -> Result<(), TableFault> {
+    let field = field_of("2")?;
+    assert!(rt; field.order() == 2);
+    let row = Row::of_packed_bits(rt.alloc(), field, &[], 0)?;
+    assert!(rt; row.is_empty() && row.field().order() == 2);
+    row.copy_packed_bits(&mut []);
+    Ok(())
+}
