@@ -10,8 +10,10 @@ pub mod Respelling
 pub mod Layouts
 pub mod Checks
 pub mod Scans
+pub mod LastBytes
 pub mod Magic
 pub mod MarkTables
+pub mod PackedBits
 pub mod TextSteps
 pub mod TextParts
 pub mod TextWords

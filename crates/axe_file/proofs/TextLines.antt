@@ -1,11 +1,12 @@
 -- The loops that write a text.
-use Rattle.std.proofs.Common.{◌≡◌, ℕ, zero, suc, ◌+◌, ◌-◌, ◌<◌, ◌≤◌, min, List, [], ◌∷◌, ◌++◌, length, map, take, drop, get_or, sym, ap, ◌∙◌, inl, inr, append_assoc, length-drop, get_or-drop, take_all, arith}
+use Rattle.std.proofs.Common.{◌≡◌, ℕ, zero, suc, ◌+◌, ◌-◌, ◌≤◌, min, List, [], ◌∷◌, ◌++◌, length, take, drop, get_or, refl, sym, ap, ◌∙◌, inl, inr, append_assoc, append-nil, length-drop, take_all, arith}
 use Rattle.std.specs.List.{flat_map, range_with_len}
 use Rattle.std.proofs.lemmas.Bool.{cases_lt}
-use Rattle.std.proofs.lemmas.List.{take_more, map_push, flat_map_more}
+use Rattle.std.proofs.lemmas.List.{drop_all, flat_map_more}
 use Rattle.std.specs.Fmt.{decimal}
 use Rattle.std.specs.Prelude.{codes}
 use Rattle.axe_field.specs.Order.{order_number}
+use Rattle.axe_bits.proofs.NumberDigits.{mapped_to}
 use Rattle.axe_matrix.specs.Matrices.{MatrixValue}
 use Rattle.axe_file.specs.TextGrammar.{digit_code}
 use Rattle.axe_file.specs.TextWriting.{text_header}
@@ -13,29 +14,19 @@ use Rattle.axe_file.specs.TextWriting.{text_header}
 header_shape : (a b c : List ℕ) → codes "matrix field=" ++ (a ++ (codes " rows=" ++ (b ++ (codes " cols=" ++ (c ++ 10 ∷ []))))) ≡ codes "matrix field=" ++ a ++ codes " rows=" ++ b ++ codes " cols=" ++ c ++ 10 ∷ []
 header_shape a b c = simp append_assoc
 
-code_is : (d a : ℕ) → d ≡ 48 + a → d ≡ digit_code a
-unfolding digit_code
-code_is d a e = e
+-- an entry of a row whose first n entries are spelled, from place n on
+pub left_to_spell : (n : ℕ) (row : List ℕ) → get_or (mapped_to digit_code n row) n 0 ≡ get_or row n 0
+left_to_spell zero row = refl
+left_to_spell (suc n) [] = refl
+left_to_spell (suc n) (x ∷ row) = left_to_spell n row
 
--- one more digit of a line
-pub line_more : (first items next : List ℕ) (row : List ℕ) (start column d : ℕ) → start ≤ column → column < length row → items ≡ first ++ map digit_code (take (column - start) (drop start row))
-    → next ≡ items ++ d ∷ [] → d ≡ 48 + get_or row column 0 → next ≡ first ++ map digit_code (take (column + 1 - start) (drop start row))
-line_more first items next row start column d low lt inv new code =
-    let i = column - start in
-    let within : column - start < length (drop start row) = omega (arith, length-drop start row) in
-    let place : start + (column - start) ≡ column = omega arith in
-    let count : column + 1 - start ≡ column - start + 1 = omega arith in
-    let entry : get_or (drop start row) (column - start) 0 ≡ get_or row column 0 = get_or-drop start row (column - start) 0 ∙ ap (λ (n : ℕ). get_or row n 0) place in
-    let digits : map digit_code (take (column + 1 - start) (drop start row)) ≡ map digit_code (take (column - start) (drop start row)) ++ d ∷ [] =
-    ap (λ (n : ℕ). map digit_code (take n (drop start row))) count
-    ∙ ap (λ (x : List ℕ). map digit_code x) (take_more (drop start row) (column - start) 0 within)
-    ∙ map_push digit_code (take (column - start) (drop start row)) (get_or (drop start row) (column - start) 0)
-    ∙ ap (λ (n : ℕ). map digit_code (take (column - start) (drop start row)) ++ digit_code n ∷ []) entry
-    ∙ ap (λ (n : ℕ). map digit_code (take (column - start) (drop start row)) ++ n ∷ []) (sym (code_is d (get_or row column 0) code)) in
-    new
-    ∙ ap (λ (x : List ℕ). x ++ d ∷ []) inv
-    ∙ append_assoc first (map digit_code (take (column - start) (drop start row))) (d ∷ [])
-    ∙ ap (λ (x : List ℕ). first ++ x) (sym digits)
+-- a list that is written over whole
+pub written_over : (len : ℕ) (old new : List ℕ) → length new ≡ length old → len ≡ length old → take len (new ++ drop (length new) old) ≡ new
+written_over len old new long count =
+    let none : drop (length new) old ≡ [] = drop_all (length new) old (omega arith) in
+    ap (λ (x : List ℕ). take len (new ++ x)) none
+    ∙ ap (λ (x : List ℕ). take len x) (append-nil new)
+    ∙ take_all len new (omega arith)
 
 -- the header, piece after piece
 pub header_written : (m : MatrixValue) (q r c : ℕ) → q ≡ order_number m.order → r ≡ length m.rows → c ≡ m.cols
@@ -76,10 +67,10 @@ piece_more f first items next n inv new =
     ∙ ap (λ (x : List ℕ). first ++ flat_map f x) range
 
 -- a whole line with its line feed
-pub line_ended : (first items next : List ℕ) (row : List ℕ) (start column : ℕ) → start ≤ length row → column ≡ start + min (length row - start) 80
-    → items ≡ first ++ map digit_code (take (column - start) (drop start row)) → next ≡ items ++ 10 ∷ [] → next ≡ first ++ (map digit_code (take 80 (drop start row)) ++ 10 ∷ [])
-line_ended first items next row start column low e inv new =
+pub line_ended : (first items next : List ℕ) (digits : List ℕ) (start end : ℕ) → start ≤ length digits → end ≡ start + min (length digits - start) 80
+    → items ≡ first ++ take (end - start) (drop start digits) → next ≡ items ++ 10 ∷ [] → next ≡ first ++ (take 80 (drop start digits) ++ 10 ∷ [])
+line_ended first items next digits start end low e inv new =
     new
     ∙ ap (λ (x : List ℕ). x ++ 10 ∷ []) inv
-    ∙ append_assoc first (map digit_code (take (column - start) (drop start row))) (10 ∷ [])
-    ∙ ap (λ (x : List ℕ). first ++ (map digit_code x ++ 10 ∷ [])) (line_done row start column low e)
+    ∙ append_assoc first (take (end - start) (drop start digits)) (10 ∷ [])
+    ∙ ap (λ (x : List ℕ). first ++ (x ++ 10 ∷ [])) (line_done digits start end low e)

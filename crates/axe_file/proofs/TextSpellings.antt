@@ -13,8 +13,8 @@ use Rattle.std.proofs.lemmas.List.Elements.{All-nil, All-cons, All-head, All-tai
 use Rattle.axe_field.specs.Order.{order_number}
 use Rattle.axe_matrix.specs.Matrices.{MatrixValue, IsMatrix}
 use Rattle.axe_file.specs.Limits.{most_text_bytes}
-use Rattle.axe_file.specs.TextGrammar.{is_white, is_dark, is_digit, digit_value, digit_code, IsNumeral, numeral_value, IsPart, AreParts, Space, Gap, named_form, IsTextOf}
-use Rattle.axe_file.specs.TextWriting.{text_header, text_line, text_row, text_of}
+use Rattle.axe_file.specs.TextGrammar.{is_white, is_dark, is_digit, digit_value, digit_code, is_element_digit, IsNumeral, numeral_value, IsPart, AreParts, Space, Gap, named_form, IsTextOf}
+use Rattle.axe_file.specs.TextWriting.{text_header, text_line, in_lines, text_row, text_of}
 use Rattle.axe_file.proofs.TextDigits.{dark_after_white}
 use Rattle.axe_file.proofs.TextNumbers.{order_fits}
 use Rattle.axe_file.proofs.TextRows.{codes_are_digits, all_digits_are_dark}
@@ -180,33 +180,34 @@ whole_text m = shape (decimal (order_number m.order)) (decimal (length m.rows)) 
 
 -- ---- the lines
 
-line_digits : (q : ℕ) (row : List ℕ) (i : ℕ) → All (λ a. a < q) row → filter is_dark (text_line row i) ≡ map digit_code (take 80 (drop (80 * i) row))
+line_digits : (q : ℕ) (digits : List ℕ) (i : ℕ) → All (λ byte. IsTrue (is_element_digit q byte)) digits → filter is_dark (text_line digits i) ≡ take 80 (drop (80 * i) digits)
 unfolding text_line is_white
-line_digits q row i all =
-    let here = take 80 (drop (80 * i) row) in
-    let digits = codes_are_digits q here (All-take (λ a. a < q) 80 (drop (80 * i) row) (All-drop (λ a. a < q) (80 * i) row all)) in
-    filter-append is_dark (map digit_code here) (10 ∷ [])
-    ∙ ap₂ (λ (x y : List ℕ). x ++ y) (all_digits_are_dark q (map digit_code here) digits) (dark_after_white 10 [] refl)
-    ∙ append-nil (map digit_code here)
+line_digits q digits i all =
+    let here = take 80 (drop (80 * i) digits) in
+    let some = All-take (λ byte. IsTrue (is_element_digit q byte)) 80 (drop (80 * i) digits) (All-drop (λ byte. IsTrue (is_element_digit q byte)) (80 * i) digits all) in
+    filter-append is_dark here (10 ∷ [])
+    ∙ ap₂ (λ (x y : List ℕ). x ++ y) (all_digits_are_dark q here some) (dark_after_white 10 [] refl)
+    ∙ append-nil here
 
-lines_digits : (q : ℕ) (row : List ℕ) (i k : ℕ) → All (λ a. a < q) row → filter is_dark (flat_map (text_line row) (range_with_len i k)) ≡ map digit_code (take (80 * k) (drop (80 * i) row))
-lines_digits q row i zero all = refl
-lines_digits q row i (suc k) all =
-    let next : drop (80 * (i + 1)) row ≡ drop 80 (drop (80 * i) row) =
-    ap (λ (n : ℕ). drop n row) (let e : 80 * (i + 1) ≡ 80 * i + 80 = omega arith in e) ∙ sym (drop-drop 80 (80 * i) row) in
+lines_digits : (q : ℕ) (digits : List ℕ) (i k : ℕ) → All (λ byte. IsTrue (is_element_digit q byte)) digits → filter is_dark (flat_map (text_line digits) (range_with_len i k)) ≡ take (80 * k) (drop (80 * i) digits)
+lines_digits q digits i zero all = refl
+lines_digits q digits i (suc k) all =
+    let next : drop (80 * (i + 1)) digits ≡ drop 80 (drop (80 * i) digits) =
+    ap (λ (n : ℕ). drop n digits) (let e : 80 * (i + 1) ≡ 80 * i + 80 = omega arith in e) ∙ sym (drop-drop 80 (80 * i) digits) in
     let long : 80 * suc k ≡ 80 + 80 * k = omega arith in
-    filter-append is_dark (text_line row i) (flat_map (text_line row) (range_with_len (i + 1) k))
-    ∙ ap₂ (λ (x y : List ℕ). x ++ y) (line_digits q row i all) (lines_digits q row (i + 1) k all)
-    ∙ sym (map-append digit_code (take 80 (drop (80 * i) row)) (take (80 * k) (drop (80 * (i + 1)) row)))
-    ∙ ap (λ (x : List ℕ). map digit_code x)
-    (ap (λ (y : List ℕ). take 80 (drop (80 * i) row) ++ take (80 * k) y) next ∙ sym (take-add 80 (80 * k) (drop (80 * i) row)) ∙ ap (λ (n : ℕ). take n (drop (80 * i) row)) (sym long))
+    filter-append is_dark (text_line digits i) (flat_map (text_line digits) (range_with_len (i + 1) k))
+    ∙ ap₂ (λ (x y : List ℕ). x ++ y) (line_digits q digits i all) (lines_digits q digits (i + 1) k all)
+    ∙ ap (λ (y : List ℕ). take 80 (drop (80 * i) digits) ++ take (80 * k) y) next
+    ∙ sym (take-add 80 (80 * k) (drop (80 * i) digits))
+    ∙ ap (λ (n : ℕ). take n (drop (80 * i) digits)) (sym long)
 
 row_digits : (q : ℕ) (row : List ℕ) → All (λ a. a < q) row → filter is_dark (text_row row) ≡ map digit_code row
-unfolding text_row
+unfolding text_row in_lines
 row_digits q row all =
-    let enough = div_ceil_times (length row) 80 (omega arith) in
-    let long : length row ≤ 80 * div_ceil (length row) 80 = omega (arith, enough.0) in
-    lines_digits q row 0 (div_ceil (length row) 80) all ∙ ap (λ (x : List ℕ). map digit_code x) (take_all (80 * div_ceil (length row) 80) row long)
+    let digits = map digit_code row in
+    let enough = div_ceil_times (length digits) 80 (omega arith) in
+    let long : length digits ≤ 80 * div_ceil (length digits) 80 = omega (arith, enough.0) in
+    lines_digits q digits 0 (div_ceil (length digits) 80) (codes_are_digits q row all) ∙ take_all (80 * div_ceil (length digits) 80) digits long
 
 rows_digits : (q : ℕ) (rows : List (List ℕ)) → All (All (λ a. a < q)) rows → filter is_dark (flat_map text_row rows) ≡ map digit_code (concat rows)
 rows_digits q [] all = refl
@@ -239,22 +240,21 @@ written_text m h = record {
 
 -- ---- its length
 
-line_length : (row : List ℕ) (i : ℕ) → length (text_line row i) ≤ 81
+line_length : (digits : List ℕ) (i : ℕ) → length (text_line digits i) ≤ 81
 unfolding text_line
-line_length row i =
-    let here = take 80 (drop (80 * i) row) in
-    omega (arith, length_push (map digit_code here) 10, length-map here digit_code, length-take 80 (drop (80 * i) row))
+line_length digits i = omega (arith, length_push (take 80 (drop (80 * i) digits)) 10, length-take 80 (drop (80 * i) digits))
 
-lines_length : (row : List ℕ) (i k : ℕ) → length (flat_map (text_line row) (range_with_len i k)) ≤ k * 81
-lines_length row i zero = omega arith
-lines_length row i (suc k) =
-    omega (arith, line_length row i, lines_length row (i + 1) k, length-append (text_line row i) (flat_map (text_line row) (range_with_len (i + 1) k)))
+lines_length : (digits : List ℕ) (i k : ℕ) → length (flat_map (text_line digits) (range_with_len i k)) ≤ k * 81
+lines_length digits i zero = omega arith
+lines_length digits i (suc k) =
+    omega (arith, line_length digits i, lines_length digits (i + 1) k, length-append (text_line digits i) (flat_map (text_line digits) (range_with_len (i + 1) k)))
 
 row_length : (row : List ℕ) → length row ≤ 2048 → length (text_row row) ≤ 2106
-unfolding text_row
+unfolding text_row in_lines
 row_length row le =
-    let few = div_ceil_times (length row) 80 (omega arith) in
-    omega (arith, lines_length row 0 (div_ceil (length row) 80), few.1)
+    let digits = map digit_code row in
+    let few = div_ceil_times (length digits) 80 (omega arith) in
+    omega (arith, lines_length digits 0 (div_ceil (length digits) 80), few.1, length-map row digit_code)
 
 rows_length : (columns : ℕ) (rows : List (List ℕ)) → columns ≤ 2048 → All (λ row. length row ≡ columns) rows → length (flat_map text_row rows) ≤ length rows * 2106
 rows_length columns [] le all = omega arith

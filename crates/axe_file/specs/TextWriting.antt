@@ -13,13 +13,17 @@ text_header m =
     codes "matrix field=" ++ decimal (order_number m.order) ++ codes " rows=" ++ decimal (length m.rows)
     ++ codes " cols=" ++ decimal m.cols ++ 10 ∷ []
 
--- line i of a row: the digits of the entries from place 80 i on, at most 80 of them, ended by a line feed
+-- line i of digits: those from place 80 i on, at most 80 of them, ended by a line feed
 unfoldable pub text_line : List ℕ → ℕ → List ℕ
-text_line row i = map digit_code (take 80 (drop (80 * i) row)) ++ 10 ∷ []
+text_line digits i = take 80 (drop (80 * i) digits) ++ 10 ∷ []
 
--- a row in lines of 80 digits, the last of which has what is left
+-- digits in lines of 80, the last of which has what is left
+unfoldable pub in_lines : List ℕ → List ℕ
+in_lines digits = flat_map (text_line digits) (range_with_len 0 (div_ceil (length digits) 80))
+
+-- a row: the digits of its entries, in lines
 unfoldable pub text_row : List ℕ → List ℕ
-text_row row = flat_map (text_line row) (range_with_len 0 (div_ceil (length row) 80))
+text_row row = in_lines (map digit_code row)
 
 -- the text that is written: the header, then row after row
 unfoldable pub text_of : MatrixValue → List ℕ

@@ -1,9 +1,10 @@
 //! Reading the packed form: first all checks, which take no memory, then the matrix.
 
-ghost use Rattle.std.specs.Prelude.{◌≡◌, ◌+◌, ◌%◌, ◌<◌, ◌≤◌, [], None, Some, length, slice_get, slice_range, IfOk};
+ghost use Rattle.std.specs.Prelude.{◌≡◌, ◌≢◌, ◌+◌, ◌%◌, ◌<◌, ◌≤◌, [], None, Some, length, slice_get, slice_range, IfOk};
 ghost use Rattle.std.specs.Prelude.{OnOk, IfErr};
 ghost use Rattle.std.specs.List.{flat_map, range_with_len};
 ghost use Rattle.std.specs.Int.{w32, from_le_bytes};
+ghost use Rattle.axe_field.specs.Order.{order_number};
 ghost use Rattle.axe_matrix.specs.Matrices.{MatrixValue, IsMatrix};
 ghost use Rattle.axe_matrix.specs.Limits.{most_rows};
 ghost use Rattle.axe_file.specs.Marks.{bytes_per_row, marks_of_bytes, row_marks};
@@ -113,6 +114,9 @@ fn check_bytes(layout: &Layout, bytes: &[u8], count: usize) -> Result<(), FileFa
     ensures fault { IfErr result (λ fault.
         slice_get (flat_map (byte_faults bytes.now) (range_with_len 0 count)) 0 ≡ Some fault) }
 {
+    if layout.limit == 256 {
+        return check_last_bytes(layout, bytes, count);
+    }
     let mut in_row = 0;
     for place in 0..count {
         check_byte(layout, bytes, place, in_row)?;
@@ -120,6 +124,27 @@ fn check_bytes(layout: &Layout, bytes: &[u8], count: usize) -> Result<(), FileFa
         if in_row == layout.width {
             in_row = 0;
         }
+    }
+    Ok(())
+}
+
+/// Looks for the first fault in the bytes of the rows where any byte may stand for marks, so that only the last byte of
+/// a row can have one.
+fn check_last_bytes(layout: &Layout, bytes: &[u8], count: usize) -> Result<(), FileFault>
+    requires any { layout.now.limit ≡ 256 }
+    requires says { SaysShape bytes.now layout.now.field (header_rows bytes.now) layout.now.columns }
+    requires count { count ≡ data_length bytes.now }
+    requires long { 16 + count ≤ length bytes.now }
+    ensures faultless { OnOk result (flat_map (byte_faults bytes.now) (range_with_len 0 count) ≡ []) }
+    ensures fault { IfErr result (λ fault.
+        slice_get (flat_map (byte_faults bytes.now) (range_with_len 0 count)) 0 ≡ Some fault) }
+{
+    if count == 0 {
+        return Ok(());
+    }
+    for index in 0..count / layout.width {
+        let in_row = layout.width - 1;
+        check_byte(layout, bytes, index * layout.width + in_row, in_row)?;
     }
     Ok(())
 }
@@ -153,7 +178,11 @@ fn matrix_of(alloc: Global, header: &Header, bytes: &[u8]) -> Result<Matrix, Fil
     ensures memory { IfErr result (λ fault. fault ≡ Memory) }
 {
     let layout = &header.layout;
-    let table = marks_of_bytes(alloc, layout)?;
+    let table = if layout.field.order() == 2 {
+        Vec::new(alloc)
+    } else {
+        marks_of_bytes(alloc, layout)?
+    };
     let mut matrix = Matrix::empty(alloc, layout.field, layout.columns);
     for index in 0..header.rows {
         let start = HEADER_LENGTH + index * layout.width;
@@ -176,9 +205,9 @@ fn marks_of_bytes(alloc: Global, layout: &Layout) -> Result<Vec<u8>, AllocError>
     Ok(table)
 }
 
-/// The row that some bytes hold.
+/// The row that some bytes hold. Over two elements its bits are taken as they stand, and the table is not looked at.
 fn row_of(alloc: Global, layout: &Layout, table: &[u8], bytes: &[u8]) -> Result<Row, FileFault>
-    requires table { table.now ≡ marks_of_bytes layout.now.field }
+    requires table { order_number layout.now.field ≢ 2 → table.now ≡ marks_of_bytes layout.now.field }
     requires bytes { length bytes.now ≡ bytes_per_row layout.now.field layout.now.columns }
     ensures value { IfOk result (λ row. row ≡ record {
       order = layout.now.field;
@@ -186,6 +215,10 @@ fn row_of(alloc: Global, layout: &Layout, table: &[u8], bytes: &[u8]) -> Result<
     }) }
     ensures memory { IfErr result (λ fault. fault ≡ Memory) }
 {
+    if layout.field.order() == 2 {
+        let row = Row::of_packed_bits(alloc, layout.field, bytes, layout.columns);
+        return row.map_err(|_refusal| FileFault::Memory);
+    }
     let marks = marks_of(alloc, layout, table, bytes)?;
     Row::from_elements(alloc, layout.field, &marks).map_err(|_refusal| FileFault::Memory)
 }

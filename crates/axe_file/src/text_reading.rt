@@ -52,14 +52,13 @@ fn check_digits(bytes: &[u8], start: usize, order: u8, wanted: usize) -> Result<
     let mut left = wanted;
     for at in start..bytes.len() {
         let byte = bytes[at];
-        if !is_white(byte) {
+        if left > 0 && is_element_digit(order, byte) {
+            left -= 1;
+        } else if !is_white(byte) {
             if left == 0 {
                 return Err(FileFault::TrailingText(at));
             }
-            if !is_element_digit(order, byte) {
-                return Err(FileFault::BadDigit(at));
-            }
-            left -= 1;
+            return Err(FileFault::BadDigit(at));
         }
     }
     if left == 0 {

@@ -1,11 +1,12 @@
 //! The text form, written.
 
-ghost use Rattle.std.specs.Prelude.{◌≡◌, ℕ, ◌+◌, ◌*◌, ◌<◌, ◌≤◌, ◌++◌, length, IfOk, IfErr, OnOk, All};
-ghost use Rattle.axe_file.specs.TextWriting.{text_header, text_line, text_row, text_of};
+ghost use Rattle.std.specs.Prelude.{◌≡◌, ◌*◌, ◌<◌, ◌++◌, length, map, IfOk, IfErr, OnOk};
+ghost use Rattle.axe_file.specs.TextGrammar.{digit_code};
+ghost use Rattle.axe_file.specs.TextWriting.{text_header, text_line, in_lines, text_of};
 ghost use Rattle.axe_file.specs.declared.fault.FileFault.TheVariants.{Memory};
 
 use crate::fault::FileFault;
-use axe_matrix::Matrix;
+use axe_matrix::{Matrix, Row};
 use std::alloc::{AllocError, Global};
 
 /// How many digits a line of a text has.
@@ -17,10 +18,10 @@ pub fn write_text(alloc: Global, matrix: &Matrix) -> Result<Vec<u8>, FileFault>
     ensures memory { IfErr result (λ fault. fault ≡ Memory) }
 {
     let mut text = header_text(alloc, matrix)?;
-    let mut entries = vec![in alloc; 0; matrix.cols()]?;
+    let mut digits = vec![in alloc; 0; matrix.cols()]?;
     for index in 0..matrix.rows() {
-        matrix.row(index).copy_to(&mut entries);
-        put_row(&mut text, &entries)?;
+        spell(matrix.row(index), &mut digits);
+        put_lines(&mut text, &digits)?;
     }
     Ok(text)
 }
@@ -34,29 +35,37 @@ fn header_text(alloc: Global, matrix: &Matrix) -> Result<Vec<u8>, AllocError>
     Ok(header.into_bytes())
 }
 
-/// Appends a row in lines.
-fn put_row(text: &mut Vec<u8>, row: &[u8]) -> Result<(), AllocError>
-    requires { All (λ entry. entry < 10) row.now }
-    ensures { OnOk result (text.new.items ≡ text.old.items ++ text_row row.now) }
+/// Writes the digits of the entries of a row into a list of its length.
+fn spell(row: &Row, digits: &mut [u8])
+    requires { length digits.old ≡ length row.now.entries }
+    ensures { digits.new ≡ map digit_code row.now.entries }
 {
-    for index in 0..row.len().div_ceil(DIGITS_PER_LINE) {
-        put_line(text, row, index)?;
+    // `len` is called for what it ensures beside the number: that the entries are elements, and so below 10.
+    prove!(row.len() == digits.len());
+    row.copy_to(digits);
+    for at in 0..digits.len() {
+        digits[at] += b'0';
+    }
+}
+
+/// Appends digits in lines.
+fn put_lines(text: &mut Vec<u8>, digits: &[u8]) -> Result<(), AllocError>
+    ensures { OnOk result (text.new.items ≡ text.old.items ++ in_lines digits.now) }
+{
+    for index in 0..digits.len().div_ceil(DIGITS_PER_LINE) {
+        put_line(text, digits, index)?;
     }
     Ok(())
 }
 
-/// Appends one line of a row, counted from 0.
-fn put_line(text: &mut Vec<u8>, row: &[u8], index: usize) -> Result<(), AllocError>
-    requires digits { All (λ entry. entry < 10) row.now }
-    requires inside { 80 * index < length row.now }
-    ensures { OnOk result (text.new.items ≡ text.old.items ++ text_line row.now index) }
+/// Appends one line of digits, counted from 0.
+fn put_line(text: &mut Vec<u8>, digits: &[u8], index: usize) -> Result<(), AllocError>
+    requires { 80 * index < length digits.now }
+    ensures { OnOk result (text.new.items ≡ text.old.items ++ text_line digits.now index) }
 {
-    let columns = row.len();
     let start = DIGITS_PER_LINE * index;
-    let end = start + (columns - start).min(DIGITS_PER_LINE);
-    for column in start..end {
-        text.push(b'0' + row[column])?;
-    }
+    let end = start + (digits.len() - start).min(DIGITS_PER_LINE);
+    text.extend_from_slice(&digits[start..end])?;
     text.push(b'\n')?;
     Ok(())
 }

@@ -5,4 +5,4 @@ use Rattle.axe_file.proofs.text_writing.write_text.Given as goal
 
 abbrev pub invariant-loop-index : goal.invariant-loop-index
 invariant-loop-index l =
-    (l.text.items ≡ text_header l.matrix ++ flat_map text_row (take l.index l.matrix.rows)) × (length l.entries.items ≡ l.matrix.cols)
+    (l.text.items ≡ text_header l.matrix ++ flat_map text_row (take l.index l.matrix.rows)) × (length l.digits.items ≡ l.matrix.cols)

@@ -1,7 +1,7 @@
 use Rattle.std.proofs.Common.{◌≡◌, ◌+◌, ◌*◌, ◌++◌, get_or}
 use Rattle.axe_algebra.specs.Lists.{listed}
 use Rattle.axe_file.specs.Marks.{marks_per_byte, byte_with_marks}
-use Rattle.axe_file.proofs.writing.put_row.Given as goal
+use Rattle.axe_file.proofs.writing.put_marks.Given as goal
 
 abbrev pub invariant-loop-place : goal.invariant-loop-place
 invariant-loop-place l =
