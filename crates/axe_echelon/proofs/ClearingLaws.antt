@@ -1,13 +1,15 @@
 -- Rows from which the pivots of the steps are cleared, one step after another.
-use Rattle.std.specs.Prelude.{◌≡◌, ℕ, suc, ◌+◌, ◌<◌, ◌≤◌, List, length, get_or, replicate}
-use Rattle.std.proofs.Common.{add-one}
-use Rattle.std.proofs.lemmas.List.{length-replicate}
+use Rattle.std.specs.Prelude.{◌≡◌, ◌≢◌, ℕ, suc, ◌+◌, ◌<◌, ◌≤◌, List, length, get_or, set, replicate}
+use Rattle.std.proofs.Common.{add-one, get_or-set_other, get_or-set_same}
+use Rattle.std.proofs.lemmas.List.{length-set, set-get_or}
 use Rattle.axe_algebra.specs.NumberField.{NumberField}
-use Rattle.axe_algebra.specs.Vectors.{Vector, HasLength, zero_vector, add_vectors, scale, times}
+use Rattle.axe_algebra.specs.Vectors.{Vector, HasLength, zero_vector, unit_vector, add_vectors, scale, times}
 use Rattle.axe_algebra.specs.Bridge.{element, vector_of, matrix_of}
 use Rattle.axe_algebra.specs.Lists.{IsVectorOver}
 use Rattle.axe_algebra.specs.SpansOfLists.{IsSpanned, IsRepresentative}
-use Rattle.axe_algebra.proofs.ProductLaws.{times_zero}
+use Rattle.axe_algebra.proofs.ProductLaws.{times_zero, times_unit, unit_at, unit_off}
+use Rattle.axe_algebra.proofs.FieldLaws.{zero-add, mul-zero}
+use Rattle.axe_algebra.proofs.Spanning.{span_same}
 use Rattle.axe_algebra.proofs.ElementNumbers.{element_neg, element_zero, entry-below}
 use Rattle.axe_algebra.proofs.ListVectors.{vector_of_added, IsInCoset, coset_of_itself, added_in_coset}
 use Rattle.axe_field.specs.Order.{Order, IsElement}
@@ -15,14 +17,15 @@ use Rattle.axe_field.specs.Arithmetic.{field_neg}
 use Rattle.axe_field.specs.NumberFields.{number_field, gf}
 use Rattle.axe_row.specs.Rows.{RowValue, IsRow}
 use Rattle.axe_row.specs.Operations.{sum_with_multiple, row_with_multiple}
-use Rattle.axe_row.proofs.RowLaws.{IsRow-zero}
 use Rattle.axe_row.proofs.OperationLaws.{get_or-sum_with_multiple}
-use Rattle.axe_echelon.specs.Steps.{inserted_rows, echelon_rows, coefficient_rows, pivots, echelon_of, IsStep, AreSteps, IsEliminated}
+use Rattle.axe_echelon.specs.Steps.{inserted_rows, echelon_rows, multiplier_rows, scalars, pivots, IsStep, AreSteps, IsCleared}
 use Rattle.axe_echelon.specs.declared.Step.{Step}
-use Rattle.axe_echelon.proofs.FormLaws.{below_or_at, cleared_more, cleared_all, offset_more, length_more}
-use Rattle.axe_echelon.proofs.StepLaws.{over_of_row, below_of_element, negative_of, get_or_copies, row_of_steps, pivot_of_steps, length-inserted, step_at}
+use Rattle.axe_echelon.proofs.FormLaws.{below_or_at, cleared_more, cleared_all, rows_within, offset_more}
+use Rattle.axe_echelon.proofs.StepLaws.{over_of_row, is_row_of_over, below_of_element, negative_of, steps_fit, zeros_over, vector_of_zeros, row_of_steps, pivot_of_steps, length-inserted, step_at}
+use Rattle.axe_echelon.proofs.EliminationLaws.{zero_entry}
 use mathlib.Core.Path.{sym, ◌∙◌, ap, ap₂, subst, fun_ext}
 use native.Mathlib.Omega.{arith}
+use native.Mathlib.Decide.{ℕ_discrete}
 
 -- a row with a multiple of another
 sum_entry : (o : Order) (n : ℕ) (row other next : RowValue) (scalar : ℕ) → row.order ≡ o → IsVectorOver (number_field o) n row.entries →
@@ -33,7 +36,7 @@ sum_entry o n row other next scalar field over is j inside =
     ∙ ap (λ q. get_or (sum_with_multiple (number_field q) row.entries scalar other.entries) j 0) field
     ∙ get_or-sum_with_multiple (number_field o) row.entries scalar other.entries j (omega (arith, over.length_is))
 
-vector_of_sum : (o : Order) (n : ℕ) (row other next : RowValue) (scalar : ℕ) → row.order ≡ o → IsVectorOver (number_field o) n row.entries →
+pub vector_of_sum : (o : Order) (n : ℕ) (row other next : RowValue) (scalar : ℕ) → row.order ≡ o → IsVectorOver (number_field o) n row.entries →
     IsVectorOver (number_field o) n other.entries → next ≡ row_with_multiple row scalar other → IsVectorOver (number_field o) n next.entries →
     scalar < (number_field o).order →
     vector_of (number_field o) next.entries ≡
@@ -48,17 +51,17 @@ pub record IsReducedSoFar (o : Order) (n : ℕ) (steps : List Step) (i : ℕ) (f
   pub in_coset : IsInCoset (number_field o) (inserted_rows steps) first.entries row.entries
   pub cleared : (s : ℕ) → s < i → vector_of (number_field o) row.entries (get_or (pivots steps) s 0) ≡ (gf o).zero
 
--- a row from which the pivots of the first i steps are cleared: the first row plus a combination of the inserted rows
-pub record IsEliminatedSoFar (o : Order) (n : ℕ) (steps : List Step) (i : ℕ) (first row coefficients : RowValue) : Type 0 where
+-- a row from which the pivots of the first i steps are cleared: the first row plus a combination of their rows
+pub record IsClearedSoFar (o : Order) (n : ℕ) (steps : List Step) (i : ℕ) (first row multipliers : RowValue) : Type 0 where
   pub row_field : row.order ≡ o
-  pub coefficients_field : coefficients.order ≡ o
+  pub multipliers_field : multipliers.order ≡ o
   pub row_over : IsVectorOver (number_field o) n row.entries
-  pub coefficients_over : IsVectorOver (number_field o) n coefficients.entries
+  pub multipliers_over : IsVectorOver (number_field o) n multipliers.entries
   pub offset : vector_of (number_field o) row.entries ≡
       add_vectors (gf o) (vector_of (number_field o) first.entries)
-      (times (gf o) (length (inserted_rows steps)) (vector_of (number_field o) coefficients.entries) (matrix_of (number_field o) (inserted_rows steps)))
+      (times (gf o) (length (inserted_rows steps)) (vector_of (number_field o) multipliers.entries) (matrix_of (number_field o) (echelon_rows steps)))
   pub cleared : (s : ℕ) → s < i → vector_of (number_field o) row.entries (get_or (pivots steps) s 0) ≡ (gf o).zero
-  pub few : HasLength (gf o) (length (inserted_rows steps)) (vector_of (number_field o) coefficients.entries)
+  pub few : HasLength (gf o) i (vector_of (number_field o) multipliers.entries)
 
 -- the scalar that clears the pivot of a step
 pub record IsClearing (o : Order) (step : Step) (row : RowValue) (scalar : ℕ) : Type 0 where
@@ -85,10 +88,11 @@ module _ (o : Order) (n : ℕ) (steps : List Step) (i : ℕ) (step : Step) (are 
   inside = omega (arith, length-inserted steps)
 
   row_spanned : IsSpanned K (inserted_rows steps) step.row.entries
-  row_spanned = record {
-    coefficients = matrix_of K (coefficient_rows steps) i;
-    combines = sym (row_of_steps o (λ (s : Step). s.row.entries) steps i step below is) ∙ are.form.combines i inside;
-  }
+  row_spanned =
+      span_same (gf o) (length (inserted_rows steps)) (matrix_of K (inserted_rows steps)) (vector_of K step.row.entries) (matrix_of K (echelon_rows steps) i)
+      (sym (row_of_steps o (λ (s : Step). s.row.entries) steps i step below is))
+      (rows_within (gf o) n (length (inserted_rows steps)) (matrix_of K (inserted_rows steps)) (matrix_of K (echelon_rows steps))
+      (matrix_of K (multiplier_rows steps)) (vector_of K (scalars steps)) (λ t. get_or (pivots steps) t 0) are.form i inside)
 
   clears : (row next : RowValue) (scalar : ℕ) → row.order ≡ o → IsVectorOver K n row.entries → IsVectorOver K n next.entries →
       IsClearing o step row scalar → next ≡ row_with_multiple row scalar step.row →
@@ -96,7 +100,7 @@ module _ (o : Order) (n : ℕ) (steps : List Step) (i : ℕ) (step : Step) (are 
       (s : ℕ) → s < suc i → vector_of K next.entries (get_or (pivots steps) s 0) ≡ (gf o).zero
   clears row next scalar field over over_next clearing same cleared =
       cleared_more (gf o) n (length (inserted_rows steps)) (matrix_of K (inserted_rows steps)) (matrix_of K (echelon_rows steps))
-      (matrix_of K (coefficient_rows steps)) (λ t. get_or (pivots steps) t 0) are.form i (vector_of K row.entries) (vector_of K next.entries)
+      (matrix_of K (multiplier_rows steps)) (vector_of K (scalars steps)) (λ t. get_or (pivots steps) t 0) are.form i (vector_of K row.entries) (vector_of K next.entries)
       inside cleared
       (vector_of_sum o n row step.row next scalar field over at_i.row_over same over_next clearing.below
       ∙ ap₂ (λ e (x : Vector (gf o)). add_vectors (gf o) (vector_of K row.entries) (scale (gf o) e x))
@@ -104,33 +108,51 @@ module _ (o : Order) (n : ℕ) (steps : List Step) (i : ℕ) (step : Step) (are 
       ∙ ap (λ k. (gf o).neg (vector_of K row.entries k)) (sym (pivot_of_steps steps i step below is)))
       (sym (row_of_steps o (λ (s : Step). s.row.entries) steps i step below is)))
 
-  pub eliminated_more : (first row next coefficients following : RowValue) (scalar : ℕ) → IsEliminatedSoFar o n steps i first row coefficients →
-      IsClearing o step row scalar → next ≡ row_with_multiple row scalar step.row → following ≡ row_with_multiple coefficients scalar step.coefficients →
-      next.order ≡ o → following.order ≡ o → IsVectorOver K n next.entries → IsVectorOver K n following.entries →
-      IsEliminatedSoFar o n steps (suc i) first next following
-  eliminated_more first row next coefficients following scalar so_far clearing same_next same_following next_field following_field next_over following_over =
+  pub cleared_by_step : (first row next multipliers following : RowValue) (scalar : ℕ) → IsClearedSoFar o n steps i first row multipliers →
+      IsClearing o step row scalar → next ≡ row_with_multiple row scalar step.row →
+      following ≡ record { order = multipliers.order; entries = set multipliers.entries i scalar } →
+      next.order ≡ o → IsVectorOver K n next.entries → IsRow following → IsClearedSoFar o n steps (suc i) first next following
+  cleared_by_step first row next multipliers following scalar so_far clearing same_next placed next_field next_over following_row =
       record {
         row_field = next_field;
-        coefficients_field = following_field;
+        multipliers_field = following_field;
         row_over = next_over;
-        coefficients_over = following_over;
-        offset = offset_more (gf o) (length (inserted_rows steps)) (matrix_of K (inserted_rows steps)) (vector_of K first.entries) (vector_of K row.entries)
-            (vector_of K next.entries) (vector_of K step.row.entries) (vector_of K coefficients.entries) (vector_of K following.entries)
-            (matrix_of K (coefficient_rows steps) i) (element K scalar) so_far.offset
-            (sym (row_of_steps o (λ (s : Step). s.row.entries) steps i step below is) ∙ are.form.combines i inside)
-            (vector_of_sum o n row step.row next scalar so_far.row_field so_far.row_over at_i.row_over same_next next_over clearing.below) coefficients_sum;
+        multipliers_over = over_of_row o n following following_field following_row
+            (ap (λ (r : RowValue). length r.entries) placed ∙ length-set multipliers.entries i scalar ∙ so_far.multipliers_over.length_is);
+        offset = offset_more (gf o) (length (inserted_rows steps)) (matrix_of K (echelon_rows steps)) (vector_of K first.entries) (vector_of K row.entries)
+            (vector_of K next.entries) (vector_of K step.row.entries) (vector_of K multipliers.entries) (vector_of K following.entries)
+            (unit_vector (gf o) i) (element K scalar) so_far.offset
+            (sym (row_of_steps o (λ (s : Step). s.row.entries) steps i step below is)
+            ∙ sym (times_unit (gf o) (length (inserted_rows steps)) i (matrix_of K (echelon_rows steps)) inside))
+            (vector_of_sum o n row step.row next scalar so_far.row_field so_far.row_over at_i.row_over same_next next_over clearing.below)
+            (fun_ext λ j. at j (ℕ_discrete j i));
         cleared = clears row next scalar so_far.row_field so_far.row_over next_over clearing same_next so_far.cleared;
-        few = length_more (gf o) (length (inserted_rows steps)) (vector_of K coefficients.entries) (vector_of K following.entries)
-            (matrix_of K (coefficient_rows steps) i) (element K scalar) so_far.few (are.form.few i inside) coefficients_sum;
+        few = λ j past. other j (omega (arith, past)) ∙ so_far.few j (omega (arith, past));
       }
     where
-      coefficients_sum : vector_of K following.entries ≡
-          add_vectors (gf o) (vector_of K coefficients.entries) (scale (gf o) (element K scalar) (matrix_of K (coefficient_rows steps) i))
-      coefficients_sum =
-          vector_of_sum o n coefficients step.coefficients following scalar so_far.coefficients_field so_far.coefficients_over at_i.coefficients_over
-          same_following following_over clearing.below
-          ∙ ap (λ (x : Vector (gf o)). add_vectors (gf o) (vector_of K coefficients.entries) (scale (gf o) (element K scalar) x))
-          (sym (row_of_steps o (λ (s : Step). s.coefficients.entries) steps i step below is))
+      following_field : following.order ≡ o
+      following_field = ap (λ (r : RowValue). r.order) placed ∙ so_far.multipliers_field
+
+      place : i < length multipliers.entries
+      place = omega (arith, below, steps_fit o n steps are, so_far.multipliers_over.length_is)
+
+      other : (j : ℕ) → j ≢ i → vector_of K following.entries j ≡ vector_of K multipliers.entries j
+      other j differs = ap (element K) (ap (λ (r : RowValue). get_or r.entries j 0) placed ∙ get_or-set_other multipliers.entries i j scalar 0 differs)
+
+      at : (j : ℕ) → Dec (j ≡ i) → vector_of K following.entries j ≡
+          (gf o).add (vector_of K multipliers.entries j) ((gf o).mul (element K scalar) (unit_vector (gf o) i j))
+      at j (yes e) =
+          ap (vector_of K following.entries) e
+          ∙ ap (element K) (ap (λ (r : RowValue). get_or r.entries i 0) placed ∙ get_or-set_same multipliers.entries i scalar 0 place)
+          ∙ sym (ap₂ (gf o).add (so_far.few j (omega (arith, e)))
+          (ap (λ (k : ℕ). (gf o).mul (element K scalar) (unit_vector (gf o) i k)) e ∙ ap ((gf o).mul (element K scalar)) (unit_at (gf o) i)
+          ∙ (gf o).mul-one (element K scalar))
+          ∙ zero-add (gf o) (element K scalar))
+      at j (no differs) =
+          other j differs
+          ∙ sym (ap ((gf o).add (vector_of K multipliers.entries j))
+          (ap ((gf o).mul (element K scalar)) (unit_off (gf o) i j (λ e. differs (sym e))) ∙ mul-zero (gf o) (element K scalar))
+          ∙ (gf o).add-zero (vector_of K multipliers.entries j))
 
   -- a row that is 0 at the pivot already
   is_clear : (row : RowValue) → get_or row.entries step.pivot 0 ≡ 0 → ((s : ℕ) → s < i → vector_of K row.entries (get_or (pivots steps) s 0) ≡ (gf o).zero) →
@@ -138,16 +160,16 @@ module _ (o : Order) (n : ℕ) (steps : List Step) (i : ℕ) (step : Step) (are 
   is_clear row no_entry cleared = below_or_at (λ s. vector_of K row.entries (get_or (pivots steps) s 0) ≡ (gf o).zero) i cleared
       (ap (vector_of K row.entries) (pivot_of_steps steps i step below is) ∙ ap (element K) no_entry ∙ element_zero K)
 
-  pub eliminated_same : (first row coefficients : RowValue) → IsEliminatedSoFar o n steps i first row coefficients →
-      get_or row.entries step.pivot 0 ≡ 0 → IsEliminatedSoFar o n steps (suc i) first row coefficients
-  eliminated_same first row coefficients so_far no_entry = record {
+  pub clear_at_step : (first row multipliers : RowValue) → IsClearedSoFar o n steps i first row multipliers →
+      get_or row.entries step.pivot 0 ≡ 0 → IsClearedSoFar o n steps (suc i) first row multipliers
+  clear_at_step first row multipliers so_far no_entry = record {
     row_field = so_far.row_field;
-    coefficients_field = so_far.coefficients_field;
+    multipliers_field = so_far.multipliers_field;
     row_over = so_far.row_over;
-    coefficients_over = so_far.coefficients_over;
+    multipliers_over = so_far.multipliers_over;
     offset = so_far.offset;
     cleared = is_clear row no_entry so_far.cleared;
-    few = so_far.few;
+    few = λ j past. so_far.few j (omega (arith, past));
   }
 
   pub reduced_so_far_same : (first row : RowValue) → IsReducedSoFar o n steps i first row → get_or row.entries step.pivot 0 ≡ 0 →
@@ -169,45 +191,45 @@ module _ (o : Order) (n : ℕ) (steps : List Step) (i : ℕ) (step : Step) (are 
     cleared = clears row next scalar so_far.field so_far.over over clearing same so_far.cleared;
   }
 
-pub eliminated_none : (o : Order) (n : ℕ) (steps : List Step) (row coefficients : RowValue) → row.order ≡ o → IsVectorOver (number_field o) n row.entries →
-    coefficients ≡ record { order = o; entries = replicate n 0 } → IsEliminatedSoFar o n steps 0 row row coefficients
-eliminated_none o n steps row coefficients field over zeros = record {
+pub cleared_by_none : (o : Order) (n : ℕ) (steps : List Step) (row multipliers : RowValue) → row.order ≡ o → IsVectorOver (number_field o) n row.entries →
+    multipliers ≡ record { order = o; entries = replicate n 0 } → IsClearedSoFar o n steps 0 row row multipliers
+cleared_by_none o n steps row multipliers field over zeros = record {
   row_field = field;
-  coefficients_field = ap (λ (r : RowValue). r.order) zeros;
+  multipliers_field = ap (λ (r : RowValue). r.order) zeros;
   row_over = over;
-  coefficients_over = over_of_row o n coefficients (ap (λ (r : RowValue). r.order) zeros) (subst IsRow (sym zeros) (IsRow-zero o n))
-      (ap (λ (r : RowValue). length r.entries) zeros ∙ length-replicate n 0);
+  multipliers_over = subst (λ (r : RowValue). IsVectorOver (number_field o) n r.entries) (sym zeros) (zeros_over o n);
   offset = fun_ext (λ j. sym ((gf o).add-zero (vector_of (number_field o) row.entries j)))
-      ∙ ap (add_vectors (gf o) (vector_of (number_field o) row.entries)) (sym (times_zero (gf o) (length (inserted_rows steps)) (matrix_of (number_field o) (inserted_rows steps)))
-      ∙ ap (λ (x : Vector (gf o)). times (gf o) (length (inserted_rows steps)) x (matrix_of (number_field o) (inserted_rows steps))) (sym no_coefficients));
+      ∙ ap (add_vectors (gf o) (vector_of (number_field o) row.entries)) (sym (times_zero (gf o) (length (inserted_rows steps)) (matrix_of (number_field o) (echelon_rows steps)))
+      ∙ ap (λ (x : Vector (gf o)). times (gf o) (length (inserted_rows steps)) x (matrix_of (number_field o) (echelon_rows steps))) (sym no_multipliers));
   cleared = λ s below. absurd (omega arith);
-  few = λ j past. ap (λ (x : Vector (gf o)). x j) no_coefficients;
+  few = λ j past. ap (λ (x : Vector (gf o)). x j) no_multipliers;
 }
   where
-    no_coefficients : vector_of (number_field o) coefficients.entries ≡ zero_vector (gf o)
-    no_coefficients = fun_ext (λ j. ap (element (number_field o)) (ap (λ (r : RowValue). get_or r.entries j 0) zeros ∙ get_or_copies 0 n j) ∙ element_zero (number_field o))
+    no_multipliers : vector_of (number_field o) multipliers.entries ≡ zero_vector (gf o)
+    no_multipliers = ap (λ (r : RowValue). vector_of (number_field o) r.entries) zeros ∙ vector_of_zeros o n
 
 pub reduced_all : (o : Order) (n : ℕ) (steps : List Step) (i : ℕ) (first row : RowValue) → AreSteps o n steps → length steps ≤ i →
     IsReducedSoFar o n steps i first row → IsRepresentative (number_field o) (inserted_rows steps) first.entries row.entries
 reduced_all o n steps i first row are all so_far = record {
   in_coset = so_far.in_coset;
   at_pivots = cleared_all (gf o) n (length (inserted_rows steps)) (matrix_of (number_field o) (inserted_rows steps))
-      (matrix_of (number_field o) (echelon_rows steps)) (matrix_of (number_field o) (coefficient_rows steps)) (λ t. get_or (pivots steps) t 0)
+      (matrix_of (number_field o) (echelon_rows steps)) (matrix_of (number_field o) (multiplier_rows steps)) (vector_of (number_field o) (scalars steps)) (λ t. get_or (pivots steps) t 0)
       are.form (vector_of (number_field o) row.entries) (λ s below. so_far.cleared s (omega (arith, length-inserted steps)));
 }
 
-pub eliminated_all : (o : Order) (n : ℕ) (steps : List Step) (i : ℕ) (first row coefficients : RowValue) → AreSteps o n steps → length steps ≤ i →
-    IsEliminatedSoFar o n steps i first row coefficients → IsEliminated (echelon_of o n steps) first row coefficients
-eliminated_all o n steps i first row coefficients are all so_far = record {
+pub cleared_by_all : (o : Order) (n : ℕ) (steps : List Step) (i : ℕ) (first row multipliers : RowValue) → AreSteps o n steps → length steps ≤ i →
+    i ≤ length steps → IsClearedSoFar o n steps i first row multipliers → IsCleared o n steps first row multipliers
+cleared_by_all o n steps i first row multipliers are all within so_far = record {
   row_field = so_far.row_field;
-  coefficients_field = so_far.coefficients_field;
+  multipliers_field = so_far.multipliers_field;
   row_over = so_far.row_over;
-  coefficients_over = so_far.coefficients_over;
+  multipliers_over = so_far.multipliers_over;
   offset = so_far.offset;
   at_pivots = cleared_all (gf o) n (length (inserted_rows steps)) (matrix_of (number_field o) (inserted_rows steps))
-      (matrix_of (number_field o) (echelon_rows steps)) (matrix_of (number_field o) (coefficient_rows steps)) (λ t. get_or (pivots steps) t 0)
+      (matrix_of (number_field o) (echelon_rows steps)) (matrix_of (number_field o) (multiplier_rows steps)) (vector_of (number_field o) (scalars steps))
+      (λ t. get_or (pivots steps) t 0)
       are.form (vector_of (number_field o) row.entries) (λ s below. so_far.cleared s (omega (arith, length-inserted steps)));
-  few = so_far.few;
+  few = λ j past. so_far.few j (omega (arith, past, within, length-inserted steps));
 }
 
 -- the rows of a step of the code are those of a step of the elimination
@@ -232,30 +254,30 @@ reduce_step o q n steps i step first row next scalar number are below is so_far 
     (reduced_so_far_more o n steps i step are below is first row next scalar so_far (clearing_of o q step row scalar number same element value entry) sum
     (ap (λ (r : RowValue). r.order) sum ∙ so_far.field) (sum_over o n row step.row next scalar so_far.field so_far.over sum long h))
 
-pub eliminate_step : (o q : Order) (n : ℕ) (steps : List Step) (i : ℕ) (step : Step) (first row next coefficients following : RowValue) (scalar number : ℕ) →
-    AreSteps o n steps → i < length steps → step ≡ get_or steps i step → IsEliminatedSoFar o n steps i first row coefficients → q ≡ o → IsElement q scalar →
+pub eliminate_step : (o q : Order) (n : ℕ) (steps : List Step) (i : ℕ) (step : Step) (first row next multipliers following : RowValue) (scalar number : ℕ) →
+    AreSteps o n steps → i < length steps → step ≡ get_or steps i step → IsClearedSoFar o n steps i first row multipliers → q ≡ o → IsElement q scalar →
     scalar ≡ field_neg q number → number ≡ get_or row.entries step.pivot 0 → next ≡ row_with_multiple row scalar step.row →
-    length next.entries ≡ length row.entries → IsRow next → following ≡ row_with_multiple coefficients scalar step.coefficients →
-    length following.entries ≡ length coefficients.entries → IsRow following → IsEliminatedSoFar o n steps (i + 1) first next following
-eliminate_step o q n steps i step first row next coefficients following scalar number are below is so_far same element value entry
-    sum long h following_sum following_long following_h =
-    subst (λ k. IsEliminatedSoFar o n steps k first next following) (sym (add-one i))
-    (eliminated_more o n steps i step are below is first row next coefficients following scalar so_far
-    (clearing_of o q step row scalar number same element value entry) sum following_sum
-    (ap (λ (r : RowValue). r.order) sum ∙ so_far.row_field) (ap (λ (r : RowValue). r.order) following_sum ∙ so_far.coefficients_field)
-    (sum_over o n row step.row next scalar so_far.row_field so_far.row_over sum long h)
-    (sum_over o n coefficients step.coefficients following scalar so_far.coefficients_field so_far.coefficients_over following_sum following_long following_h))
+    length next.entries ≡ length row.entries → IsRow next →
+    following ≡ record { order = multipliers.order; entries = set multipliers.entries i scalar } → IsRow following →
+    IsClearedSoFar o n steps (i + 1) first next following
+eliminate_step o q n steps i step first row next multipliers following scalar number are below is so_far same element value entry sum long h placed following_h =
+    subst (λ k. IsClearedSoFar o n steps k first next following) (sym (add-one i))
+    (cleared_by_step o n steps i step are below is first row next multipliers following scalar so_far
+    (clearing_of o q step row scalar number same element value entry) sum placed
+    (ap (λ (r : RowValue). r.order) sum ∙ so_far.row_field)
+    (sum_over o n row step.row next scalar so_far.row_field so_far.row_over sum long h) following_h)
 
-pub reduce_step_none : (o : Order) (n : ℕ) (steps : List Step) (i : ℕ) (step : Step) (first row : RowValue) (number : ℕ) → AreSteps o n steps →
-    i < length steps → step ≡ get_or steps i step → IsReducedSoFar o n steps i first row → number ≡ get_or row.entries step.pivot 0 → number ≡ 0 →
-    IsReducedSoFar o n steps (i + 1) first row
-reduce_step_none o n steps i step first row number are below is so_far entry none =
-    subst (λ k. IsReducedSoFar o n steps k first row) (sym (add-one i))
-    (reduced_so_far_same o n steps i step are below is first row so_far (sym entry ∙ none))
+-- where nothing is added, the multiplier 0 that stands there is the step's
+pub eliminate_step_none : (o q : Order) (n : ℕ) (steps : List Step) (i : ℕ) (step : Step) (first row next multipliers : RowValue) (scalar number : ℕ) →
+    AreSteps o n steps → i < length steps → step ≡ get_or steps i step → IsClearedSoFar o n steps i first row multipliers → q ≡ o → IsElement q scalar →
+    scalar ≡ field_neg q number → number ≡ get_or row.entries step.pivot 0 → next ≡ row_with_multiple row scalar step.row →
+    length next.entries ≡ length row.entries → IsRow next → scalar ≡ 0 → IsClearedSoFar o n steps (i + 1) first next multipliers
+eliminate_step_none o q n steps i step first row next multipliers scalar number are below is so_far same element value entry sum long h none =
+    eliminate_step o q n steps i step first row next multipliers multipliers scalar number are below is so_far same element value entry sum long h
+    (λ j. record { order = multipliers.order; entries = placed j }) (is_row_of_over o n multipliers so_far.multipliers_field so_far.multipliers_over)
+  where
+    zero_there : get_or multipliers.entries i 0 ≡ scalar
+    zero_there = zero_entry (number_field o) n multipliers.entries i so_far.multipliers_over (so_far.few i (omega arith)) ∙ sym none
 
-pub eliminate_step_none : (o : Order) (n : ℕ) (steps : List Step) (i : ℕ) (step : Step) (first row coefficients : RowValue) (number : ℕ) → AreSteps o n steps →
-    i < length steps → step ≡ get_or steps i step → IsEliminatedSoFar o n steps i first row coefficients → number ≡ get_or row.entries step.pivot 0 →
-    number ≡ 0 → IsEliminatedSoFar o n steps (i + 1) first row coefficients
-eliminate_step_none o n steps i step first row coefficients number are below is so_far entry none =
-    subst (λ k. IsEliminatedSoFar o n steps k first row coefficients) (sym (add-one i))
-    (eliminated_same o n steps i step are below is first row coefficients so_far (sym entry ∙ none))
+    placed : multipliers.entries ≡ set multipliers.entries i scalar
+    placed = sym (ap (λ a. set multipliers.entries i a) (sym zero_there) ∙ set-get_or multipliers.entries i 0)

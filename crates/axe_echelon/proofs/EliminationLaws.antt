@@ -1,8 +1,7 @@
 -- What an elimination shows: whether a row is in the span, its coordinates, and the step that a new row gives.
-use Rattle.std.specs.Prelude.{◌≡◌, ◌≢◌, ℕ, suc, ◌<◌, ◌≤◌, List, [], ◌∷◌, ◌++◌, length, get_or, set, Bool, true, false, not, IsTrue, ◌↔◌}
+use Rattle.std.specs.Prelude.{◌≡◌, ◌≢◌, ℕ, ◌<◌, ◌≤◌, List, length, get_or, Bool, true, false, not, IsTrue, ◌↔◌}
 use Rattle.std.specs.Prelude.{Option, Some, None, is_some, MatchOption}
-use Rattle.std.proofs.Common.{get_or-set_other, get_or-set_same, true≢false}
-use Rattle.std.proofs.lemmas.List.{length-set}
+use Rattle.std.proofs.Common.{true≢false}
 use Rattle.std.proofs.lemmas.List.Elements.{All-from_get_or}
 use Rattle.axe_algebra.specs.NumberField.{NumberField}
 use Rattle.axe_algebra.specs.Field.{Field}
@@ -11,26 +10,28 @@ use Rattle.axe_algebra.specs.Bridge.{field_of, element, vector_of, matrix_of}
 use Rattle.axe_algebra.specs.Lists.{listed, IsVectorOver}
 use Rattle.axe_algebra.specs.ListArithmetic.{combination}
 use Rattle.axe_algebra.specs.SpansOfLists.{IsSpanned}
-use Rattle.axe_algebra.proofs.FieldLaws.{zero-add, neg_is, one-mul, mul-zero}
-use Rattle.axe_algebra.proofs.ProductLaws.{times_same, times-subtract, times_zero, times_more, times-scale}
-use Rattle.axe_algebra.proofs.Spanning.{span_same, span_add}
+use Rattle.axe_algebra.proofs.FieldLaws.{zero-add, neg_is, mul-zero}
+use Rattle.axe_algebra.proofs.ProductLaws.{times_same, times-subtract, times_zero}
+use Rattle.axe_algebra.proofs.Spanning.{span_same, span_add, span_times}
 use Rattle.axe_algebra.proofs.ReducedBases.{zero_at_pivots_is_zero}
 use Rattle.axe_algebra.proofs.ElementNumbers.{element_neg, element_one, element_zero, entry-below, same_number, zero-below}
 use Rattle.axe_algebra.proofs.ListEntries.{listed_at, listed_over, rows_length, vector_length, same_vector}
 use Rattle.axe_algebra.proofs.ListProducts.{vector_of_combination, combination_over}
-use Rattle.axe_algebra.proofs.ListSpans.{appended_before, appended_last, enough_rows_span, independent_rows_are_few}
+use Rattle.axe_algebra.proofs.ListSpans.{enough_rows_span, independent_rows_are_few}
 use Rattle.axe_algebra.proofs.ListVectors.{vector_of_scaled}
-use Rattle.axe_field.specs.Order.{Order, IsElement}
+use Rattle.axe_field.specs.Order.{Order}
 use Rattle.axe_field.specs.Arithmetic.{field_neg, field_mul}
 use Rattle.axe_field.specs.NumberFields.{number_field, gf}
 use Rattle.axe_row.specs.Rows.{RowValue, IsRow}
 use Rattle.axe_lane.specs.Entries.{IsFirstNonzero}
-use Rattle.axe_row.specs.Operations.{multiple, multiple_row, IsZeroVector}
+use Rattle.axe_row.specs.Operations.{multiple, IsZeroVector}
 use Rattle.axe_row.proofs.OperationLaws.{get_or-multiple, length-multiple}
 use Rattle.axe_echelon.specs.Echelons.{EchelonValue, IsEchelon, with_row_where, AreCoordinates}
-use Rattle.axe_echelon.specs.Steps.{IsEliminated, Cancels, IsNextStep}
-use Rattle.axe_echelon.proofs.StepLaws.{over_of_row, below_of_element, negative_of, product_of}
-use mathlib.Core.Path.{refl, sym, ◌∙◌, ap, ap₂, subst, fun_ext}
+use Rattle.axe_echelon.specs.Steps.{inserted_rows, echelon_rows, multiplier_rows, scalars, pivots, echelon_of, AreSteps, IsCleared, IsSolved, Cancels, IsScaledStep, IsNextStep}
+use Rattle.axe_echelon.specs.declared.Step.{Step}
+use Rattle.axe_echelon.proofs.FormLaws.{rows_within}
+use Rattle.axe_echelon.proofs.StepLaws.{over_of_row, below_of_element, negative_of, product_of, echelon_of_steps}
+use mathlib.Core.Path.{refl, sym, ◌∙◌, ap, subst, fun_ext}
 use native.Mathlib.Omega.{arith}
 use native.Mathlib.Decide.{dec_lt}
 
@@ -44,17 +45,6 @@ module _ (F : Field) where
       ∙ sym (zero-add F (F.neg (times F r d v j))))
       ∙ ap (λ (x : Vector F). subtract F x (times F r d v)) (sym (times_zero F r v))
       ∙ sym (times-subtract F r (zero_vector F) d v)
-
-  -- a scaled sum of a vector and a combination is a combination of the rows with that vector after them
-  pub combination_with_last : (r : ℕ) (v v' : Matrix F) (first row d d' : Vector F) (s : F.Element) → row ≡ add_vectors F first (times F r d v) →
-      ((t : ℕ) → t < r → v' t ≡ v t) → v' r ≡ first → ((t : ℕ) → t < r → d' t ≡ d t) → d' r ≡ F.one →
-      scale F s row ≡ times F (suc r) (scale F s d') v'
-  combination_with_last r v v' first row d d' s offset same_v last same_d one =
-      ap (scale F s) (offset ∙ (fun_ext λ j. F.add_comm (first j) (times F r d v j))
-      ∙ ap₂ (add_vectors F) (times_same F r d d' v v' (λ t below. sym (same_d t below)) (λ t below. sym (same_v t below)))
-      (fun_ext λ j. sym (one-mul F (first j)) ∙ ap₂ (λ (e : F.Element) (x : Vector F). F.mul e (x j)) (sym one) (sym last))
-      ∙ sym (times_more F r d' v'))
-      ∙ sym (times-scale F (suc r) s d' v')
 
 -- a row of zeros, and the zero vector
 pub vector_of_zero_row : (K : NumberField) (entries : List ℕ) → IsZeroVector entries → vector_of K entries ≡ zero_vector (field_of K)
@@ -83,163 +73,173 @@ room_of_echelon e h other = omega (arith, other, independent_rows_are_few (numbe
 pub room_of_rank : (e : EchelonValue) → IsEchelon e → length e.rows ≤ e.cols
 room_of_rank e h = independent_rows_are_few (number_field e.order) e.cols e.rows h.over h.independent
 
-module _ (e : EchelonValue) (h : IsEchelon e) (first row coefficients : RowValue) (eliminated : IsEliminated e first row coefficients) where
+module _ (e : EchelonValue) (h : IsEchelon e) (first coefficients : RowValue) (cancels : Cancels e first coefficients) where
   abbrev K : NumberField
   K = number_field e.order
 
   abbrev F : Field
   F = gf e.order
 
-  -- the row is in the span exactly where nothing is left of it
-  first_combines : IsZeroVector row.entries →
-      vector_of K first.entries ≡ times F (length e.rows) (subtract F (zero_vector F) (vector_of K coefficients.entries)) (matrix_of K e.rows)
-  first_combines zeros =
-      negatives_combine F (length e.rows) (matrix_of K e.rows) (vector_of K first.entries) (vector_of K row.entries) (vector_of K coefficients.entries)
-      eliminated.offset (vector_of_zero_row K row.entries zeros)
+  first_combines : vector_of K first.entries ≡ times F (length e.rows) (subtract F (zero_vector F) (vector_of K coefficients.entries)) (matrix_of K e.rows)
+  first_combines =
+      negatives_combine F (length e.rows) (matrix_of K e.rows) (vector_of K first.entries) (zero_vector F) (vector_of K coefficients.entries)
+      (sym cancels.vanishes) refl
 
-  pub spanned_if_nothing_left : IsZeroVector row.entries → IsSpanned K e.rows first.entries
-  spanned_if_nothing_left zeros = record {
-    coefficients = subtract F (zero_vector F) (vector_of K coefficients.entries);
-    combines = first_combines zeros;
-  }
-
-  pub nothing_left_if_spanned : IsSpanned K e.rows first.entries → IsZeroVector row.entries
-  nothing_left_if_spanned spanned = zero_row_of_vector K e.cols row.entries eliminated.row_over
-      (zero_at_pivots_is_zero F e.cols (length e.rows) (matrix_of K e.rows) (vector_of K row.entries) (rows_length K e.cols e.rows h.over)
-      (span_same F (length e.rows) (matrix_of K e.rows) (vector_of K row.entries) _ eliminated.offset
-      (span_add F (length e.rows) (matrix_of K e.rows) (vector_of K first.entries) _ spanned
-      (record { coefficients = vector_of K coefficients.entries; combines = refl })))
-      eliminated.at_pivots)
+  pub spanned_if_cancelled : IsSpanned K e.rows first.entries
+  spanned_if_cancelled = record { coefficients = subtract F (zero_vector F) (vector_of K coefficients.entries); combines = first_combines }
 
   -- the negatives of the coefficients are the coordinates
-  pub coordinates_of_nothing_left : (start : RowValue) → IsVectorOver K e.cols first.entries → IsZeroVector row.entries →
+  pub coordinates_of_cancels : (start : RowValue) →
       start ≡ record { order = coefficients.order; entries = listed (length e.rows) (λ j. field_neg coefficients.order (get_or coefficients.entries j 0)) } →
       AreCoordinates e first.entries start
-  coordinates_of_nothing_left start over_first zeros is = record {
-    field = ap (λ (r : RowValue). r.order) is ∙ eliminated.coefficients_field;
+  coordinates_of_cancels start is = record {
+    field = ap (λ (r : RowValue). r.order) is ∙ cancels.coefficients_field;
     over = over_start;
-    combine = same_vector K e.cols first.entries (combination K e.cols start.entries e.rows) over_first
+    combine = same_vector K e.cols first.entries (combination K e.cols start.entries e.rows) cancels.over
         (combination_over K e.cols start.entries e.rows over_start h.over)
-        (first_combines zeros ∙ times_same F (length e.rows) _ (vector_of K start.entries) (matrix_of K e.rows) (matrix_of K e.rows) negatives (λ t below. refl)
+        (first_combines ∙ times_same F (length e.rows) _ (vector_of K start.entries) (matrix_of K e.rows) (matrix_of K e.rows) negatives (λ t below. refl)
         ∙ sym (vector_of_combination K e.cols start.entries e.rows over_start h.over));
   }
     where
       entries_are : start.entries ≡ listed (length e.rows) (λ j. K.neg (get_or coefficients.entries j 0))
       entries_are = ap (λ (r : RowValue). r.entries) is
           ∙ ap (λ (f : ℕ → ℕ). listed (length e.rows) f) (fun_ext λ j.
-          ap (λ o. field_neg o (get_or coefficients.entries j 0)) eliminated.coefficients_field ∙ sym (negative_of e.order (get_or coefficients.entries j 0)))
+          ap (λ o. field_neg o (get_or coefficients.entries j 0)) cancels.coefficients_field ∙ sym (negative_of e.order (get_or coefficients.entries j 0)))
 
       over_start : IsVectorOver K (length e.rows) start.entries
       over_start = subst (IsVectorOver K (length e.rows)) (sym entries_are)
           (listed_over K (length e.rows) (λ j. K.neg (get_or coefficients.entries j 0))
-          (λ j below. K.neg-below (get_or coefficients.entries j 0) (entry-below K coefficients.entries j eliminated.coefficients_over.elements)))
+          (λ j below. K.neg-below (get_or coefficients.entries j 0) (entry-below K coefficients.entries j cancels.coefficients_over.elements)))
 
       negatives : (t : ℕ) → t < length e.rows → subtract F (zero_vector F) (vector_of K coefficients.entries) t ≡ vector_of K start.entries t
       negatives t below =
           zero-add F (F.neg (vector_of K coefficients.entries t))
           ∙ sym (ap (element K) (ap (λ (l : List ℕ). get_or l t 0) entries_are ∙ listed_at (length e.rows) (λ j. K.neg (get_or coefficients.entries j 0)) t 0 below)
-          ∙ element_neg K (get_or coefficients.entries t 0) (entry-below K coefficients.entries t eliminated.coefficients_over.elements))
+          ∙ element_neg K (get_or coefficients.entries t 0) (entry-below K coefficients.entries t cancels.coefficients_over.elements))
 
-  -- where something is left of a row there is room for it
-  pub room_if_left : (pivot : ℕ) → IsFirstNonzero row.entries pivot → length first.entries ≡ e.cols → length e.rows < e.cols
-  room_if_left pivot leads long =
-      room_of_echelon e h (λ full. leads.nonzero (nothing_left_if_spanned (full_echelon_spans e first.entries h full long) pivot 0 leads.within))
+module _ (o : Order) (n : ℕ) (steps : List Step) (are : AreSteps o n steps) (first row multipliers : RowValue) (cleared : IsCleared o n steps first row multipliers) where
+  abbrev N : NumberField
+  N = number_field o
 
-  -- the step that a new row gives: what is left of it, scaled
-  pub next_step_of : (v placed scaled_coefficients scaled_row : RowValue) (pivot scalar number k : ℕ) (q : Order) → first ≡ v →
-      IsVectorOver K e.cols v.entries → IsFirstNonzero row.entries pivot → k ≡ length e.rows → k < e.cols →
-      placed ≡ record { order = coefficients.order; entries = set coefficients.entries k 1 } → IsRow placed → q ≡ e.order →
-      number ≡ get_or row.entries pivot 0 → IsElement q scalar → field_mul q number scalar ≡ 1 → scaled_coefficients ≡ multiple_row scalar placed →
-      IsRow scaled_coefficients → scaled_row ≡ multiple_row scalar row → IsRow scaled_row →
-      IsNextStep e v.entries (record { inserted = v; pivot = pivot; row = scaled_row; coefficients = scaled_coefficients })
-  next_step_of v placed scaled_coefficients scaled_row pivot scalar number k q same_first over_v leads rank room placed_is placed_row same_field
-      number_is is_element inverse coefficients_is coefficients_row row_is row_row = record {
-        inserted = refl;
-        rows = record {
-          row_field = row_field;
-          coefficients_field = coefficients_field;
-          inserted_over = over_v;
-          row_over = row_over;
-          coefficients_over = coefficients_over;
-        };
-        outside = λ spanned. leads.nonzero (nothing_left_if_spanned (subst (λ (r : RowValue). IsSpanned K e.rows r.entries) (sym same_first) spanned) pivot 0 leads.within);
-        place = omega (arith, leads.within, eliminated.row_over.length_is);
-        one = ap (element K) (scaled_entry scaled_row row pivot row_is eliminated.row_field leads.within ∙ one_number) ∙ element_one K;
-        before = λ i ahead. ap (λ (x : Vector F). x i) scaled_vector
-            ∙ ap (F.mul (element K scalar)) (ap (element K) (leads.zeros_before i ahead) ∙ element_zero K) ∙ mul-zero F (element K scalar);
-        at_pivots = λ j is_pivot. ap (λ (x : Vector F). x j) scaled_vector ∙ ap (F.mul (element K scalar)) (eliminated.at_pivots j is_pivot) ∙ mul-zero F (element K scalar);
-        combines = scaled_vector
-            ∙ combination_with_last F (length e.rows) (matrix_of K e.rows) (matrix_of K (e.rows ++ v.entries ∷ [])) (vector_of K first.entries) (vector_of K row.entries)
-            (vector_of K coefficients.entries) (vector_of K placed.entries) (element K scalar) eliminated.offset
-            (λ t below. appended_before K e.rows v.entries t below)
-            (appended_last K e.rows v.entries ∙ ap (λ (r : RowValue). vector_of K r.entries) (sym same_first))
-            (λ t below. placed_other t (omega (arith, rank, below))) placed_one
-            ∙ ap (λ (x : Vector F). times F (suc (length e.rows)) x (matrix_of K (e.rows ++ v.entries ∷ []))) (sym scaled_coefficients_vector);
-        few = λ j past. ap (λ (x : Vector F). x j) scaled_coefficients_vector
-            ∙ ap (F.mul (element K scalar)) (placed_other j (omega (arith, rank, past)) ∙ eliminated.few j (omega (arith, past))) ∙ mul-zero F (element K scalar);
-      }
+  abbrev G : Field
+  G = gf o
+
+  abbrev rows : List (List ℕ)
+  rows = inserted_rows steps
+
+  h_steps : IsEchelon (echelon_of o n steps)
+  h_steps = echelon_of_steps o n steps are
+
+  -- where nothing is left of the row, the coefficients that the multipliers give cancel it
+  pub cancels_if_solved : (coefficients : RowValue) → IsVectorOver N n first.entries → IsZeroVector row.entries → IsSolved o n steps multipliers coefficients →
+      Cancels (echelon_of o n steps) first coefficients
+  cancels_if_solved coefficients over_first zeros solved = record {
+    over = over_first;
+    coefficients_field = solved.field;
+    coefficients_over = solved.over;
+    vanishes = ap (add_vectors G (vector_of N first.entries)) (sym solved.same) ∙ sym cleared.offset ∙ vector_of_zero_row N row.entries zeros;
+  }
+
+  -- where the row is in the span nothing is left of it
+  pub nothing_left_if_spanned : IsSpanned N rows first.entries → IsZeroVector row.entries
+  nothing_left_if_spanned spanned = zero_row_of_vector N n row.entries cleared.row_over
+      (zero_at_pivots_is_zero G n (length rows) (matrix_of N rows) (vector_of N row.entries) (rows_length N n rows h_steps.over)
+      (span_same G (length rows) (matrix_of N rows) (vector_of N row.entries) _ cleared.offset
+      (span_add G (length rows) (matrix_of N rows) (vector_of N first.entries) _ spanned
+      (span_times G (length rows) (matrix_of N rows) (length rows) (vector_of N multipliers.entries) (matrix_of N (echelon_rows steps))
+      (rows_within G n (length rows) (matrix_of N rows) (matrix_of N (echelon_rows steps)) (matrix_of N (multiplier_rows steps))
+      (vector_of N (scalars steps)) (λ t. get_or (pivots steps) t 0) are.form))))
+      cleared.at_pivots)
+
+  -- the step that a new row gives
+  pub next_step_of : (step : Step) (column : ℕ) → IsVectorOver N n first.entries → IsFirstNonzero row.entries column → IsScaledStep first row column multipliers step →
+      IsNextStep (echelon_of o n steps) (echelon_rows steps) first.entries step
+  next_step_of step column over_first leads scaled = record {
+    inserted = ap (λ (r : RowValue). r.entries) scaled.inserted;
+    each = record {
+      row_field = row_field;
+      multipliers_field = ap (λ (r : RowValue). r.order) scaled.multipliers ∙ cleared.multipliers_field;
+      inserted_over = subst (λ (r : RowValue). IsVectorOver N n r.entries) (sym scaled.inserted) over_first;
+      row_over = row_over;
+      multipliers_over = subst (λ (r : RowValue). IsVectorOver N n r.entries) (sym scaled.multipliers) cleared.multipliers_over;
+      scalar_below = below;
+    };
+    outside = λ spanned. leads.nonzero (nothing_left_if_spanned spanned column 0 leads.within);
+    place = omega (arith, leads.within, cleared.row_over.length_is, scaled.pivot);
+    one = ap (vector_of N step.row.entries) scaled.pivot ∙ ap (element N) (scaled_entry column leads.within ∙ one_number) ∙ element_one N;
+    before = λ i ahead. ap (λ (x : Vector G). x i) scaled_vector
+        ∙ ap (G.mul (element N step.scalar)) (ap (element N) (leads.zeros_before i (omega (arith, ahead, scaled.pivot))) ∙ element_zero N) ∙ mul-zero G (element N step.scalar);
+    at_pivots = λ j is_pivot. ap (λ (x : Vector G). x j) scaled_vector ∙ ap (G.mul (element N step.scalar)) (cleared.at_pivots j is_pivot)
+        ∙ mul-zero G (element N step.scalar);
+    combines = scaled_vector ∙ ap (scale G (element N step.scalar)) (cleared.offset
+        ∙ ap (λ (r : RowValue). add_vectors G (vector_of N first.entries) (times G (length rows) (vector_of N r.entries) (matrix_of N (echelon_rows steps))))
+        (sym scaled.multipliers));
+    few = λ j past. ap (λ (r : RowValue). vector_of N r.entries j) scaled.multipliers ∙ cleared.few j past;
+  }
     where
-      below : scalar < K.order
-      below = subst (λ o. scalar < (number_field o).order) same_field (below_of_element q scalar is_element)
+      below : step.scalar < N.order
+      below = subst (λ q. step.scalar < (number_field q).order) cleared.row_field (below_of_element row.order step.scalar scaled.element)
 
-      row_field : scaled_row.order ≡ e.order
-      row_field = ap (λ (r : RowValue). r.order) row_is ∙ eliminated.row_field
+      row_field : step.row.order ≡ o
+      row_field = ap (λ (r : RowValue). r.order) scaled.row ∙ cleared.row_field
 
-      placed_field : placed.order ≡ e.order
-      placed_field = ap (λ (r : RowValue). r.order) placed_is ∙ eliminated.coefficients_field
+      row_over : IsVectorOver N n step.row.entries
+      row_over = over_of_row o n step.row row_field scaled.row_well_formed
+          (ap (λ (r : RowValue). length r.entries) scaled.row ∙ length-multiple (number_field row.order) step.scalar row.entries ∙ cleared.row_over.length_is)
 
-      coefficients_field : scaled_coefficients.order ≡ e.order
-      coefficients_field = ap (λ (r : RowValue). r.order) coefficients_is ∙ placed_field
+      scaled_entry : (j : ℕ) → j < length row.entries → get_or step.row.entries j 0 ≡ N.mul step.scalar (get_or row.entries j 0)
+      scaled_entry j inside =
+          ap (λ (r : RowValue). get_or r.entries j 0) scaled.row ∙ ap (λ q. get_or (multiple (number_field q) step.scalar row.entries) j 0) cleared.row_field
+          ∙ get_or-multiple N step.scalar row.entries j inside
 
-      row_over : IsVectorOver K e.cols scaled_row.entries
-      row_over = over_of_row e.order e.cols scaled_row row_field row_row
-          (ap (λ (r : RowValue). length r.entries) row_is ∙ length-multiple (number_field row.order) scalar row.entries ∙ eliminated.row_over.length_is)
+      scaled_vector : vector_of N step.row.entries ≡ scale G (element N step.scalar) (vector_of N row.entries)
+      scaled_vector = vector_of_scaled N n step.scalar row.entries step.row.entries cleared.row_over row_over below
+          (λ j inside. scaled_entry j (omega (arith, inside, cleared.row_over.length_is)))
 
-      placed_length : length placed.entries ≡ e.cols
-      placed_length = ap (λ (r : RowValue). length r.entries) placed_is ∙ length-set coefficients.entries k 1 ∙ eliminated.coefficients_over.length_is
-
-      placed_over : IsVectorOver K e.cols placed.entries
-      placed_over = over_of_row e.order e.cols placed placed_field placed_row placed_length
-
-      coefficients_over : IsVectorOver K e.cols scaled_coefficients.entries
-      coefficients_over = over_of_row e.order e.cols scaled_coefficients coefficients_field coefficients_row
-          (ap (λ (r : RowValue). length r.entries) coefficients_is ∙ length-multiple (number_field placed.order) scalar placed.entries ∙ placed_length)
-
-      scaled_entry : (next other : RowValue) (j : ℕ) → next ≡ multiple_row scalar other → other.order ≡ e.order → j < length other.entries →
-          get_or next.entries j 0 ≡ K.mul scalar (get_or other.entries j 0)
-      scaled_entry next other j is field inside =
-          ap (λ (r : RowValue). get_or r.entries j 0) is ∙ ap (λ o. get_or (multiple (number_field o) scalar other.entries) j 0) field
-          ∙ get_or-multiple K scalar other.entries j inside
-
-      scaled_vector : vector_of K scaled_row.entries ≡ scale F (element K scalar) (vector_of K row.entries)
-      scaled_vector = vector_of_scaled K e.cols scalar row.entries scaled_row.entries eliminated.row_over row_over below
-          (λ j inside. scaled_entry scaled_row row j row_is eliminated.row_field (omega (arith, inside, eliminated.row_over.length_is)))
-
-      scaled_coefficients_vector : vector_of K scaled_coefficients.entries ≡ scale F (element K scalar) (vector_of K placed.entries)
-      scaled_coefficients_vector = vector_of_scaled K e.cols scalar placed.entries scaled_coefficients.entries placed_over coefficients_over below
-          (λ j inside. scaled_entry scaled_coefficients placed j coefficients_is placed_field (omega (arith, inside, placed_length)))
-
-      placed_other : (t : ℕ) → t ≢ k → vector_of K placed.entries t ≡ vector_of K coefficients.entries t
-      placed_other t other = ap (element K) (ap (λ (r : RowValue). get_or r.entries t 0) placed_is ∙ get_or-set_other coefficients.entries k t 1 0 other)
-
-      placed_one : vector_of K placed.entries (length e.rows) ≡ F.one
-      placed_one = ap (vector_of K placed.entries) (sym rank)
-          ∙ ap (element K) (ap (λ (r : RowValue). get_or r.entries k 0) placed_is
-          ∙ get_or-set_same coefficients.entries k 1 0 (omega (arith, room, eliminated.coefficients_over.length_is)))
-          ∙ element_one K
-
-      one_number : K.mul scalar (get_or row.entries pivot 0) ≡ 1
+      one_number : N.mul step.scalar (get_or row.entries column 0) ≡ 1
       one_number =
-          K.mul_comm scalar (get_or row.entries pivot 0) below (entry-below K row.entries pivot eliminated.row_over.elements)
-          ∙ product_of e.order (get_or row.entries pivot 0) scalar
-          ∙ ap₂ (λ o a. field_mul o a scalar) (sym same_field) (sym number_is) ∙ inverse
+          N.mul_comm step.scalar (get_or row.entries column 0) below (entry-below N row.entries column cleared.row_over.elements)
+          ∙ product_of o (get_or row.entries column 0) step.scalar
+          ∙ ap (λ q. field_mul q (get_or row.entries column 0) step.scalar) (sym cleared.row_field) ∙ scaled.inverse
 
--- the negatives of the coefficients that cancel a row are its coordinates
-pub coordinates_of_cancels : (e : EchelonValue) (h : IsEchelon e) (first coefficients start : RowValue) → Cancels e first coefficients →
-    start ≡ record { order = coefficients.order; entries = listed (length e.rows) (λ j. field_neg coefficients.order (get_or coefficients.entries j 0)) } →
-    AreCoordinates e first.entries start
-coordinates_of_cancels e h first coefficients start cancels is =
-    coordinates_of_nothing_left e h first cancels.row coefficients cancels.eliminated start cancels.over cancels.zeros is
+-- the same of a copy of the row, for the echelon form that has these steps
+module _ (o : Order) (n : ℕ) (steps : List Step) (are : AreSteps o n steps) (e : EchelonValue) (view : echelon_of o n steps ≡ e)
+    (first copy row multipliers : RowValue) (copied : copy ≡ first) (well_formed : IsRow copy) (field : first.order ≡ e.order)
+    (fits : length first.entries ≡ e.cols) (of_copy : IsCleared copy.order (length copy.entries) steps copy row multipliers) where
+  order_is : first.order ≡ o
+  order_is = field ∙ sym (ap (λ (x : EchelonValue). x.order) view)
+
+  columns_are : length first.entries ≡ n
+  columns_are = fits ∙ sym (ap (λ (x : EchelonValue). x.cols) view)
+
+  over_first : IsVectorOver (number_field o) n first.entries
+  over_first = over_of_row o n first order_is (subst IsRow copied well_formed) columns_are
+
+  cleared : IsCleared o n steps first row multipliers
+  cleared =
+      subst (λ k. IsCleared o k steps first row multipliers) columns_are
+      (subst (λ q. IsCleared q (length first.entries) steps first row multipliers) order_is
+      (subst (λ (r : RowValue). IsCleared r.order (length r.entries) steps r row multipliers) copied of_copy))
+
+  pub row_cancels : (coefficients : RowValue) → IsZeroVector row.entries →
+      IsSolved multipliers.order (length multipliers.entries) steps multipliers coefficients → Cancels e first coefficients
+  row_cancels coefficients zeros solved =
+      subst (λ (x : EchelonValue). Cancels x first coefficients) view
+      (cancels_if_solved o n steps are first row multipliers cleared coefficients over_first zeros
+      (subst (λ k. IsSolved o k steps multipliers coefficients) cleared.multipliers_over.length_is
+      (subst (λ q. IsSolved q (length multipliers.entries) steps multipliers coefficients) cleared.multipliers_field solved)))
+
+  pub row_spanned_leaves_none : IsSpanned (number_field e.order) e.rows first.entries → IsZeroVector row.entries
+  row_spanned_leaves_none spanned =
+      nothing_left_if_spanned o n steps are first row multipliers cleared
+      (subst (λ (x : EchelonValue). IsSpanned (number_field x.order) x.rows first.entries) (sym view) spanned)
+
+  pub row_is_outside : (column : ℕ) → IsFirstNonzero row.entries column → ¬ (IsSpanned (number_field e.order) e.rows first.entries)
+  row_is_outside column leads spanned = leads.nonzero (row_spanned_leaves_none spanned column 0 leads.within)
+
+  pub step_of_new_row : (step : Step) (column : ℕ) → IsFirstNonzero row.entries column → IsScaledStep first row column multipliers step →
+      IsNextStep (echelon_of o n steps) (echelon_rows steps) first.entries step
+  step_of_new_row step column leads scaled = next_step_of o n steps are first row multipliers cleared step column over_first leads scaled
 
 -- a row is new exactly where nothing cancels it
 pub new_if_none : (e : EchelonValue) (h : IsEchelon e) (row : RowValue) (found : Option RowValue) (new : Bool) →
@@ -250,7 +250,7 @@ new_if_none e h row None false outside is = absurd (true≢false (sym is))
 new_if_none e h row (Some coefficients) true cancels is = absurd (true≢false is)
 new_if_none e h row (Some coefficients) false cancels is = (
   λ no. absurd (true≢false (sym no)),
-  λ outside. absurd (outside (spanned_if_nothing_left e h row cancels.row coefficients cancels.eliminated cancels.zeros)),
+  λ outside. absurd (outside (spanned_if_cancelled e h row coefficients cancels)),
 )
 
 -- what an insertion leaves, by whether the row is new

@@ -2,12 +2,12 @@
 use Rattle.std.specs.Prelude.{◌≡◌, ◌≢◌, ℕ, zero, suc, ◌<◌, ◌⊎◌}
 use Rattle.axe_algebra.specs.Field.{Field}
 use Rattle.axe_algebra.specs.Vectors.{Vector, Matrix, HasLength, zero_vector, add_vectors, scale, times}
-use Rattle.axe_algebra.specs.Spans.{IsIndependent, SpanWithin, SameSpan}
+use Rattle.axe_algebra.specs.Spans.{IsIndependent, InSpan, SpanWithin, SameSpan}
 use Rattle.axe_algebra.specs.Reduced.{IsPivot, IsZeroAtPivots}
 use Rattle.axe_algebra.proofs.FieldLaws.{zero-mul, mul-zero}
 use Rattle.axe_algebra.proofs.Sums.{sum_one, sum_zeros}
-use Rattle.axe_algebra.proofs.ProductLaws.{times-at, times_same, times_longer, times-add_vectors, times-scale}
-use Rattle.axe_algebra.proofs.Spanning.{span_row}
+use Rattle.axe_algebra.proofs.ProductLaws.{times-at, times_same, times-add_vectors, times-scale}
+use Rattle.axe_algebra.proofs.Spanning.{span_row, span_same, span_add, span_scale, span_times}
 use Rattle.axe_algebra.proofs.Exchange.{independent_rows_span}
 use Rattle.axe_algebra.proofs.ReducedBases.{place_or_none, pivot_of_same_span}
 use Rattle.axe_echelon.specs.Forms.{IsEchelonForm}
@@ -26,8 +26,8 @@ below_or_at P r before at t below = cases (ℕ_discrete t r)
 
 module _ (F : Field) where
   -- no rows
-  pub form_of_none : (n : ℕ) (v w c : Matrix F) (p : ℕ → ℕ) → IsEchelonForm F n 0 v w c p
-  form_of_none n v w c p = record {
+  pub form_of_none : (n : ℕ) (v w m : Matrix F) (c : Vector F) (p : ℕ → ℕ) → IsEchelonForm F n 0 v w m c p
+  form_of_none n v w m c p = record {
     independent = record { only_zero = λ d vanishes t below. absurd (omega arith) };
     place = λ t below. absurd (omega arith);
     one = λ t below. absurd (omega arith);
@@ -37,17 +37,17 @@ module _ (F : Field) where
     few = λ t below. absurd (omega arith);
   }
 
-  module _ (n r : ℕ) (v w c : Matrix F) (p : ℕ → ℕ) (form : IsEchelonForm F n r v w c p) where
+  module _ (n r : ℕ) (v w m : Matrix F) (c : Vector F) (p : ℕ → ℕ) (form : IsEchelonForm F n r v w m c p) where
     -- where a combination of the rows is 0 at the pivots below b, the coefficients at these rows are 0
     coefficients_below : (x d : Vector F) → x ≡ times F r d w → (b : ℕ) → ((t : ℕ) → t < r → p t < b → x (p t) ≡ F.zero) →
-        (m t : ℕ) → t < m → t < r → p t < b → d t ≡ F.zero
+        (k t : ℕ) → t < k → t < r → p t < b → d t ≡ F.zero
     coefficients_below x d same b zeros zero t earlier below small = absurd (omega arith)
-    coefficients_below x d same b zeros (suc m) t earlier below small =
+    coefficients_below x d same b zeros (suc k) t earlier below small =
         sym (F.mul-one (d t)) ∙ ap (F.mul (d t)) (sym (form.one t below))
-        ∙ sym (sum_one F r t (λ s. F.mul (d s) (w s (p t))) below (others (coefficients_below x d same b zeros m)))
+        ∙ sym (sum_one F r t (λ s. F.mul (d s) (w s (p t))) below (others (coefficients_below x d same b zeros k)))
         ∙ sym (times-at F r d w (p t)) ∙ sym (ap (λ (y : Vector F). y (p t)) same) ∙ zeros t below small
       where
-        others : ((s : ℕ) → s < m → s < r → p s < b → d s ≡ F.zero) → (s : ℕ) → s < r → s ≢ t → F.mul (d s) (w s (p t)) ≡ F.zero
+        others : ((s : ℕ) → s < k → s < r → p s < b → d s ≡ F.zero) → (s : ℕ) → s < r → s ≢ t → F.mul (d s) (w s (p t)) ≡ F.zero
         others zero_before s inside other = cases (dec_lt s t) (dec_lt (p s) b)
           where
             cases : Dec (s < t) → Dec (p s < b) → F.mul (d s) (w s (p t)) ≡ F.zero
@@ -83,8 +83,16 @@ module _ (F : Field) where
           coefficients_below (zero_vector F) d (sym vanishes) n (λ s inside small. refl) (suc t) t (omega arith) below (form.place t below);
     }
 
+    within_before : (k t : ℕ) → t < k → t < r → InSpan F r v (w t)
+    within_before zero t earlier below = absurd (omega arith)
+    within_before (suc k) t earlier below =
+        span_same F r v (w t) (scale F (c t) (add_vectors F (v t) (times F t (m t) w))) (form.combines t below)
+        (span_scale F r v (c t) (add_vectors F (v t) (times F t (m t) w))
+        (span_add F r v (v t) (times F t (m t) w) (span_row F r v t below)
+        (span_times F r v t (m t) w (λ s inside. within_before k s (omega (arith, inside, earlier)) (omega (arith, inside, below))))))
+
     pub rows_within : SpanWithin F r w r v
-    rows_within t below = record { coefficients = c t; combines = form.combines t below }
+    rows_within t below = within_before (suc t) t (omega arith) below
 
     pub form_spans : SameSpan F r v r w
     form_spans = record {
@@ -124,11 +132,11 @@ module _ (F : Field) where
         at (t, below, e) = ap x (sym e) ∙ cleared t below
 
     -- one more row
-    pub form_more : (v' w' c' : Matrix F) (p' : ℕ → ℕ) → ((t : ℕ) → t < r → v' t ≡ v t) → ((t : ℕ) → t < r → w' t ≡ w t) →
-        ((t : ℕ) → t < r → c' t ≡ c t) → ((t : ℕ) → t < r → p' t ≡ p t) → IsIndependent F (suc r) v' → p' r < n →
+    pub form_more : (v' w' m' : Matrix F) (c' : Vector F) (p' : ℕ → ℕ) → ((t : ℕ) → t < r → v' t ≡ v t) → ((t : ℕ) → t < r → w' t ≡ w t) →
+        ((t : ℕ) → t < r → m' t ≡ m t) → ((t : ℕ) → t < r → c' t ≡ c t) → ((t : ℕ) → t < r → p' t ≡ p t) → IsIndependent F (suc r) v' → p' r < n →
         w' r (p' r) ≡ F.one → ((i : ℕ) → i < p' r → w' r i ≡ F.zero) → IsZeroAtPivots F r v (w' r) →
-        w' r ≡ times F (suc r) (c' r) v' → HasLength F (suc r) (c' r) → IsEchelonForm F n (suc r) v' w' c' p'
-    form_more v' w' c' p' same_v same_w same_c same_p independent inside one before at_pivots combines few = record {
+        w' r ≡ scale F (c' r) (add_vectors F (v' r) (times F r (m' r) w)) → HasLength F r (m' r) → IsEchelonForm F n (suc r) v' w' m' c' p'
+    form_more v' w' m' c' p' same_v same_w same_m same_c same_p independent inside one before at_pivots combines few = record {
       independent = independent;
       place = below_or_at (λ t. p' t < n) r (λ t below. subst (λ k. k < n) (sym (same_p t below)) (form.place t below)) inside;
       one = below_or_at (λ t. w' t (p' t) ≡ F.one) r
@@ -139,16 +147,19 @@ module _ (F : Field) where
       cleared = λ s t first below. below_or_at (λ t. s < t → w' t (p' s) ≡ F.zero) r
           (λ t below first. ap₂ (λ (x : Vector F) (k : ℕ). x k) (same_w t below) (same_p s (omega arith)) ∙ form.cleared s t first below)
           (λ first. ap (w' r) (same_p s first) ∙ at_pivots (p s) (span_pivot_of_place s first)) t below first;
-      combines = below_or_at (λ t. w' t ≡ times F (suc r) (c' t) v') r (λ t below. same_w t below ∙ form.combines t below ∙ longer t below) combines;
-      few = below_or_at (λ t. HasLength F (suc r) (c' t)) r
-          (λ t below j past. ap (λ (x : Vector F). x j) (same_c t below) ∙ form.few t below j (omega arith)) few;
+      combines = below_or_at (λ t. w' t ≡ scale F (c' t) (add_vectors F (v' t) (times F t (m' t) w'))) r
+          (λ t below. same_w t below ∙ form.combines t below
+          ∙ ap₂ (λ (e : F.Element) (x : Vector F). scale F e x) (sym (same_c t below))
+          (ap₂ (add_vectors F) (sym (same_v t below)) (earlier_rows t below)))
+          (combines ∙ ap (λ (x : Vector F). scale F (c' r) (add_vectors F (v' r) x))
+          (times_same F r (m' r) (m' r) w w' (λ s first. refl) (λ s first. sym (same_w s first))));
+      few = below_or_at (λ t. HasLength F t (m' t)) r
+          (λ t below j past. ap (λ (x : Vector F). x j) (same_m t below) ∙ form.few t below j past) few;
     }
       where
-        longer : (t : ℕ) → t < r → times F r (c t) v ≡ times F (suc r) (c' t) v'
-        longer t below =
-            times_same F r (c t) (c' t) v v' (λ s inside. ap (λ (x : Vector F). x s) (sym (same_c t below))) (λ s inside. sym (same_v s inside))
-            ∙ sym (times_longer F r (suc r) (c' t) v' (omega arith)
-            (λ s past inside. ap (λ (x : Vector F). x s) (same_c t below) ∙ form.few t below s past))
+        earlier_rows : (t : ℕ) → t < r → times F t (m t) w ≡ times F t (m' t) w'
+        earlier_rows t below = times_same F t (m t) (m' t) w w' (λ s first. ap (λ (x : Vector F). x s) (sym (same_m t below)))
+            (λ s first. sym (same_w s (omega (arith, first, below))))
 
   -- a vector plus a combination, with a multiple of another combination added
   pub offset_more : (r : ℕ) (v : Matrix F) (first x y u d e g : Vector F) (s : F.Element) → x ≡ add_vectors F first (times F r d v) →
@@ -158,7 +169,3 @@ module _ (F : Field) where
       ∙ fun_ext (λ j. F.add_assoc (first j) (times F r d v j) (F.mul s (times F r g v j)))
       ∙ ap (add_vectors F first) (ap (add_vectors F (times F r d v)) (sym (times-scale F r s g v))
       ∙ sym (times-add_vectors F r d (scale F s g) v) ∙ ap (λ (a : Vector F). times F r a v) (sym same_e))
-
-  pub length_more : (r : ℕ) (d e g : Vector F) (s : F.Element) → HasLength F r d → HasLength F r g → e ≡ add_vectors F d (scale F s g) → HasLength F r e
-  length_more r d e g s length_d length_g same j past =
-      ap (λ (x : Vector F). x j) same ∙ ap₂ F.add (length_d j past) (ap (F.mul s) (length_g j past) ∙ mul-zero F s) ∙ F.add-zero F.zero

@@ -3,6 +3,7 @@ pub mod FormLaws
 pub mod StepLaws
 pub mod NegatedRows
 pub mod ClearingLaws
+pub mod SolvingLaws
 pub mod PivotLaws
 pub mod MoreStepsLaws
 pub mod EliminationLaws

@@ -2,11 +2,11 @@
 use Rattle.std.specs.Prelude.{◌≡◌, ℕ, zero, suc, ◌<◌, List, [], ◌∷◌, ◌++◌, Contains, length, get_or, set, take, replicate, ◌↔◌, ◌⊎◌, Bool, true, false, IsTrue}
 use Rattle.std.proofs.lemmas.List.{length-map, map-append, length-set, take_all, get_or_default, get_or-set_same, get_or-set_other}
 use Rattle.std.proofs.lemmas.List.Elements.{Contains-get_or, Contains-append_left, Contains-push, Contains-push_cases}
-use Rattle.axe_algebra.specs.Bridge.{matrix_of}
+use Rattle.axe_algebra.specs.Bridge.{vector_of, matrix_of}
 use Rattle.axe_algebra.specs.SpansOfLists.{IsPivot}
 use Rattle.axe_field.specs.Order.{Order}
 use Rattle.axe_field.specs.NumberFields.{number_field, gf}
-use Rattle.axe_echelon.specs.Steps.{inserted_rows, echelon_rows, coefficient_rows, pivots, AreSteps, AreTabledSteps}
+use Rattle.axe_echelon.specs.Steps.{inserted_rows, echelon_rows, multiplier_rows, scalars, pivots, AreSteps, AreTabledSteps}
 use Rattle.axe_echelon.specs.declared.Step.{Step}
 use Rattle.axe_echelon.proofs.FormLaws.{place_of_span_pivot, span_pivot_of_place}
 use Rattle.axe_echelon.proofs.StepLaws.{get_or_copies, length-inserted}
@@ -19,7 +19,7 @@ use native.Mathlib.Decide.{ℕ_discrete}
 pub pivot_of_some_step : (o : Order) (n : ℕ) (steps : List Step) (j : ℕ) → AreSteps o n steps → IsPivot (number_field o) (inserted_rows steps) j →
     (t : ℕ) × (t < length steps) × (get_or (pivots steps) t 0 ≡ j)
 pivot_of_some_step o n steps j are pivot = from (place_of_span_pivot (gf o) n (length (inserted_rows steps)) (matrix_of (number_field o) (inserted_rows steps))
-    (matrix_of (number_field o) (echelon_rows steps)) (matrix_of (number_field o) (coefficient_rows steps)) (λ t. get_or (pivots steps) t 0) are.form j pivot)
+    (matrix_of (number_field o) (echelon_rows steps)) (matrix_of (number_field o) (multiplier_rows steps)) (vector_of (number_field o) (scalars steps)) (λ t. get_or (pivots steps) t 0) are.form j pivot)
   where
     from : (t : ℕ) × (t < length (inserted_rows steps)) × (get_or (pivots steps) t 0 ≡ j) → (t : ℕ) × (t < length steps) × (get_or (pivots steps) t 0 ≡ j)
     from (t, below, e) = (t, omega (arith, length-inserted steps), e)
@@ -27,7 +27,7 @@ pivot_of_some_step o n steps j are pivot = from (place_of_span_pivot (gf o) n (l
 pub pivot_of_step : (o : Order) (n : ℕ) (steps : List Step) (t : ℕ) → AreSteps o n steps → t < length steps →
     IsPivot (number_field o) (inserted_rows steps) (get_or (pivots steps) t 0)
 pivot_of_step o n steps t are below = span_pivot_of_place (gf o) n (length (inserted_rows steps)) (matrix_of (number_field o) (inserted_rows steps))
-    (matrix_of (number_field o) (echelon_rows steps)) (matrix_of (number_field o) (coefficient_rows steps)) (λ t. get_or (pivots steps) t 0) are.form t
+    (matrix_of (number_field o) (echelon_rows steps)) (matrix_of (number_field o) (multiplier_rows steps)) (vector_of (number_field o) (scalars steps)) (λ t. get_or (pivots steps) t 0) are.form t
     (omega (arith, length-inserted steps))
 
 -- the table tells which columns are pivots of the span

@@ -1,17 +1,21 @@
 -- The steps of an elimination: their rows over the field, and the rows that were inserted as an echelon form that callers see.
-use Rattle.std.specs.Prelude.{◌≡◌, ℕ, zero, suc, ◌<◌, List, [], ◌∷◌, All, map, length, get_or, replicate}
-use Rattle.std.proofs.lemmas.List.{get_or-map, length-map}
+use Rattle.std.specs.Prelude.{◌≡◌, ℕ, zero, suc, ◌<◌, ◌≤◌, List, [], ◌∷◌, All, map, length, get_or, replicate}
+use Rattle.std.proofs.lemmas.List.{get_or-map, length-map, length-replicate}
 use Rattle.std.proofs.lemmas.List.Elements.{All-from_get_or}
-use Rattle.axe_algebra.specs.Bridge.{vector_of, matrix_of}
+use Rattle.axe_algebra.specs.Bridge.{element, vector_of, matrix_of}
 use Rattle.axe_algebra.specs.Lists.{IsVectorOver}
+use Rattle.axe_algebra.specs.Vectors.{zero_vector}
+use Rattle.axe_algebra.proofs.ElementNumbers.{element_zero}
+use Rattle.axe_algebra.proofs.ListSpans.{independent_rows_are_few}
 use Rattle.axe_field.specs.Order.{Order, IsElement}
 use Rattle.axe_field.specs.Arithmetic.{field_neg, field_mul}
-use Rattle.axe_field.specs.NumberFields.{number_field}
+use Rattle.axe_field.specs.NumberFields.{number_field, gf}
 use Rattle.axe_row.specs.Rows.{RowValue, IsRow}
+use Rattle.axe_row.proofs.RowLaws.{IsRow-zero}
 use Rattle.axe_echelon.specs.Echelons.{IsEchelon}
-use Rattle.axe_echelon.specs.Steps.{inserted_rows, pivots, echelon_of, IsStep, AreSteps}
+use Rattle.axe_echelon.specs.Steps.{inserted_rows, pivots, scalars, echelon_of, IsStep, AreSteps}
 use Rattle.axe_echelon.specs.declared.Step.{Step}
-use mathlib.Core.Path.{refl, sym, ◌∙◌, ap, subst}
+use mathlib.Core.Path.{refl, sym, ◌∙◌, ap, subst, fun_ext}
 use native.Mathlib.Omega.{arith}
 
 -- the operations of the seven fields
@@ -30,6 +34,10 @@ pub below_of_element : (o : Order) (a : ℕ) → IsElement o a → a < (number_f
 unfolding number_field
 below_of_element o a below = below
 
+pub element_of_below : (o q : Order) (a : ℕ) → q ≡ o → a < (number_field o).order → IsElement q a
+unfolding number_field
+element_of_below o q a same below = subst (λ p. IsElement p a) (sym same) below
+
 pub negative_of : (o : Order) (a : ℕ) → (number_field o).neg a ≡ field_neg o a
 unfolding number_field
 negative_of o a = refl
@@ -44,6 +52,13 @@ get_or_copies a zero j = refl
 get_or_copies a (suc n) zero = refl
 get_or_copies a (suc n) (suc j) = get_or_copies a n j
 
+-- a row of zeros
+pub zeros_over : (o : Order) (n : ℕ) → IsVectorOver (number_field o) n (replicate n 0)
+zeros_over o n = over_of_row o n (record { order = o; entries = replicate n 0 }) refl (IsRow-zero o n) (length-replicate n 0)
+
+pub vector_of_zeros : (o : Order) (n : ℕ) → vector_of (number_field o) (replicate n 0) ≡ zero_vector (gf o)
+vector_of_zeros o n = fun_ext λ j. ap (element (number_field o)) (get_or_copies 0 n j) ∙ element_zero (number_field o)
+
 -- a row of a list of steps
 pub row_of_steps : (o : Order) (f : Step → List ℕ) (steps : List Step) (i : ℕ) (step : Step) → i < length steps → step ≡ get_or steps i step →
     matrix_of (number_field o) (map f steps) i ≡ vector_of (number_field o) (f step)
@@ -52,6 +67,9 @@ row_of_steps o f steps i step below is =
 
 pub pivot_of_steps : (steps : List Step) (i : ℕ) (step : Step) → i < length steps → step ≡ get_or steps i step → get_or (pivots steps) i 0 ≡ step.pivot
 pivot_of_steps steps i step below is = get_or-map (λ (s : Step). s.pivot) steps i step 0 below ∙ ap (λ (s : Step). s.pivot) (sym is)
+
+pub scalar_of_steps : (steps : List Step) (i : ℕ) (step : Step) → i < length steps → step ≡ get_or steps i step → get_or (scalars steps) i 0 ≡ step.scalar
+scalar_of_steps steps i step below is = get_or-map (λ (s : Step). s.scalar) steps i step 0 below ∙ ap (λ (s : Step). s.scalar) (sym is)
 
 pub length-inserted : (steps : List Step) → length (inserted_rows steps) ≡ length steps
 length-inserted steps = length-map steps (λ (s : Step). s.inserted.entries)
@@ -92,3 +110,9 @@ echelon_of_steps o n steps are = record {
   over = inserted_are_over o n steps are.each;
   independent = are.form.independent;
 }
+
+-- there are no more steps than columns
+pub steps_fit : (o : Order) (n : ℕ) (steps : List Step) → AreSteps o n steps → length steps ≤ n
+steps_fit o n steps are =
+    let few = independent_rows_are_few (number_field o) n (inserted_rows steps) (inserted_are_over o n steps are.each) are.form.independent in
+    omega (arith, few, length-inserted steps)

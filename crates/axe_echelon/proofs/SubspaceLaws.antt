@@ -1,21 +1,22 @@
 -- Subspaces: the rows of an echelon form as the steps of an elimination that is given these rows, and what one more row spans.
-use Rattle.std.specs.Prelude.{◌≡◌, ℕ, zero, suc, ◌+◌, ◌<◌, List, [], ◌∷◌, ◌++◌, length, get_or, set, cond, eqb, Bool, true, false}
+use Rattle.std.specs.Prelude.{◌≡◌, ℕ, zero, suc, ◌+◌, ◌<◌, List, [], ◌∷◌, ◌++◌, length, get_or, set, Bool, true, false}
+use Rattle.std.proofs.lemmas.List.{get_or_append_left, get_or-map}
 use Rattle.axe_algebra.specs.NumberField.{NumberField}
 use Rattle.axe_algebra.specs.Field.{Field}
-use Rattle.axe_algebra.specs.Vectors.{Vector, unit_vector, add_vectors, subtract, scale, times}
+use Rattle.axe_algebra.specs.Vectors.{Vector, add_vectors, subtract, scale, times}
 use Rattle.axe_algebra.specs.Bridge.{element, vector_of, matrix_of}
-use Rattle.axe_algebra.specs.Lists.{unit_row, IsVectorOver}
+use Rattle.axe_algebra.specs.Lists.{IsVectorOver}
 use Rattle.axe_algebra.specs.SpansOfLists.{IsSpanned, IsRepresentative, HaveSameSpan}
 use Rattle.axe_algebra.specs.Spans.{InSpan, SpanWithin}
 use Rattle.axe_algebra.specs.Reduced.{IsZeroAtPivots}
 use Rattle.axe_algebra.proofs.FieldLaws.{zero-add, neg-add, neg-zero, neg-neg, neg-sum_of_two, one-mul, mul-zero}
-use Rattle.axe_algebra.proofs.ProductLaws.{times_unit, unit_length}
+use Rattle.axe_algebra.proofs.ProductLaws.{times_zero}
 use Rattle.axe_algebra.proofs.Spanning.{span_same, span_add, span_subtract, span_scale, span_within}
 use Rattle.axe_algebra.proofs.ReducedBases.{zero_at_pivots_is_zero}
-use Rattle.axe_algebra.proofs.ElementNumbers.{element_mul, element_one, element_zero, entry-below, zero-below}
-use Rattle.axe_algebra.proofs.ListEntries.{listed_over, rows_length}
+use Rattle.axe_algebra.proofs.ElementNumbers.{element_mul, element_one, element_zero, entry-below}
+use Rattle.axe_algebra.proofs.ListEntries.{rows_length}
 use Rattle.axe_algebra.proofs.ListSpans.{appended_length, appended_before, appended_last, appended_spans, appended_row_spanned, row_spanned}
-use Rattle.axe_algebra.proofs.ListVectors.{vector_of_unit_row, vector_of_scaled, same_span_refl}
+use Rattle.axe_algebra.proofs.ListVectors.{vector_of_scaled, same_span_refl}
 use Rattle.axe_field.specs.Order.{Order, IsElement}
 use Rattle.axe_field.specs.Arithmetic.{field_mul}
 use Rattle.axe_field.specs.NumberFields.{number_field, gf}
@@ -24,15 +25,14 @@ use Rattle.axe_lane.specs.Entries.{IsFirstNonzero}
 use Rattle.axe_row.specs.Operations.{multiple, multiple_row, IsZeroVector}
 use Rattle.axe_row.proofs.OperationLaws.{get_or-multiple, length-multiple}
 use Rattle.axe_echelon.specs.Echelons.{EchelonValue, IsEchelon}
-use Rattle.axe_echelon.specs.Steps.{echelon_of, IsNextStep, AreTabledSteps}
+use Rattle.axe_echelon.specs.Steps.{inserted_rows, echelon_rows, echelon_of, IsStep, AreSteps, IsNextStep, AreTabledSteps}
 use Rattle.axe_echelon.specs.Subspaces.{step_of, steps_from, steps_of, IsNextRow, SpansOneMore}
 use Rattle.axe_echelon.specs.declared.Step.{Step}
 use Rattle.axe_echelon.specs.declared.subspace.PivotRow.{PivotRow}
 use Rattle.axe_echelon.proofs.EliminationLaws.{vector_of_zero_row, zero_row_of_vector}
 use Rattle.axe_echelon.proofs.FormLaws.{below_or_at}
-use Rattle.axe_echelon.proofs.MoreStepsLaws.{steps_more, echelon_of_more}
-use Rattle.axe_echelon.proofs.PivotLaws.{table_more}
-use Rattle.axe_echelon.proofs.StepLaws.{over_of_row, below_of_element, product_of, length-inserted}
+use Rattle.axe_echelon.proofs.MoreStepsLaws.{tabled_by_step, echelon_of_more}
+use Rattle.axe_echelon.proofs.StepLaws.{over_of_row, below_of_element, product_of, zeros_over, vector_of_zeros, length-inserted, step_at}
 use mathlib.Core.Path.{refl, sym, ◌∙◌, ap, ap₂, subst, fun_ext}
 use native.Mathlib.Omega.{arith}
 
@@ -57,6 +57,30 @@ step_of_row o n rows i p below is =
     subst (λ k. step_of o n k p ≡ get_or (steps_of o n rows) i (step_of o n k p)) (let same : 0 + i ≡ i = omega arith in same)
     (step_from_at o n 0 rows i p below is)
 
+-- as many rows as a subspace has, and each of them
+pub length-rows : (o : Order) (n : ℕ) (rows : List PivotRow) (e : EchelonValue) → echelon_of o n (steps_of o n rows) ≡ e → length rows ≡ length e.rows
+length-rows o n rows e view =
+    sym (length-steps_from o n 0 rows) ∙ sym (length-inserted (steps_of o n rows)) ∙ ap (λ (x : EchelonValue). length x.rows) view
+
+pub row_at : (o : Order) (n : ℕ) (rows : List PivotRow) (i : ℕ) (p : PivotRow) (e : EchelonValue) → AreSteps o n (steps_of o n rows) →
+    echelon_of o n (steps_of o n rows) ≡ e → i < length rows → p ≡ get_or rows i p → p.row ≡ record { order = e.order; entries = get_or e.rows i [] }
+row_at o n rows i p e are view below is =
+    subst (λ (x : EchelonValue). p.row ≡ record { order = x.order; entries = get_or x.rows i [] }) view
+    (λ j. record { order = at.row_field j; entries = (sym entries_are) j })
+  where
+    step_is : step_of o n i p ≡ get_or (steps_of o n rows) i (step_of o n i p)
+    step_is = step_of_row o n rows i p below is
+
+    inside : i < length (steps_of o n rows)
+    inside = omega (arith, below, length-steps_from o n 0 rows)
+
+    at : IsStep o n (step_of o n i p)
+    at = step_at o n (steps_of o n rows) i (step_of o n i p) are inside step_is
+
+    entries_are : get_or (inserted_rows (steps_of o n rows)) i [] ≡ p.row.entries
+    entries_are = get_or-map (λ (s : Step). s.inserted.entries) (steps_of o n rows) i (step_of o n i p) [] inside
+        ∙ ap (λ (s : Step). s.inserted.entries) (sym step_is)
+
 steps_from_more : (o : Order) (n t : ℕ) (rows : List PivotRow) (p : PivotRow) →
     steps_from o n t (rows ++ p ∷ []) ≡ steps_from o n t rows ++ step_of o n (t + length rows) p ∷ []
 steps_from_more o n t [] p = ap (λ k. step_of o n k p ∷ []) (let same : t ≡ t + 0 = omega arith in same)
@@ -71,13 +95,10 @@ steps_of_more o n rows p =
     steps_from_more o n 0 rows p
     ∙ ap (λ k. steps_of o n rows ++ step_of o n k p ∷ []) (let same : 0 + length rows ≡ length rows = omega arith in same)
 
--- the unit vectors over the field
-unit_row_over : (K : NumberField) (n t : ℕ) → IsVectorOver K n (unit_row n t)
-unit_row_over K n t = listed_over K n (λ j. cond (eqb t j) 1 0) (λ j below. at (eqb t j))
-  where
-    at : (b : Bool) → cond b 1 0 < K.order
-    at true = K.one-below
-    at false = zero-below K
+-- these steps' rows are the inserted ones
+rows_from : (o : Order) (n t : ℕ) (rows : List PivotRow) → inserted_rows (steps_from o n t rows) ≡ echelon_rows (steps_from o n t rows)
+rows_from o n t [] = refl
+rows_from o n t (p ∷ rest) = ap (λ (l : List (List ℕ)). p.row.entries ∷ l) (rows_from o n (suc t) rest)
 
 -- a less the difference of a and b is b
 less_difference : (F : Field) (a b : F.Element) → F.add a (F.neg (F.add a (F.neg b))) ≡ b
@@ -167,12 +188,13 @@ module _ (e : EchelonValue) (h : IsEchelon e) (first row : RowValue) (represents
   next_row_of scaled pivot scalar number q leads room same_field number_is is_element inverse scaled_is scaled_row = record {
     next = record {
       inserted = refl;
-      rows = record {
+      each = record {
         row_field = scaled_field;
-        coefficients_field = refl;
+        multipliers_field = refl;
         inserted_over = scaled_over;
         row_over = scaled_over;
-        coefficients_over = unit_row_over K e.cols (length e.rows);
+        multipliers_over = zeros_over e.order e.cols;
+        scalar_below = K.one-below;
       };
       outside = λ spanned. F.one-not-zero (sym at_pivot ∙ zero_of_spanned spanned pivot);
       place = inside;
@@ -180,10 +202,11 @@ module _ (e : EchelonValue) (h : IsEchelon e) (first row : RowValue) (represents
       before = λ i ahead. ap (λ (x : Vector F). x i) scaled_vector
           ∙ ap (F.mul (element K scalar)) (ap (element K) (leads.zeros_before i ahead) ∙ element_zero K) ∙ mul-zero F (element K scalar);
       at_pivots = scaled_at_pivots;
-      combines = sym (appended_last K e.rows scaled.entries)
-          ∙ sym (times_unit F (suc (length e.rows)) (length e.rows) (matrix_of K (e.rows ++ scaled.entries ∷ [])) (omega arith))
-          ∙ ap (λ (x : Vector F). times F (suc (length e.rows)) x (matrix_of K (e.rows ++ scaled.entries ∷ []))) (sym unit_is);
-      few = λ j past. ap (λ (x : Vector F). x j) unit_is ∙ unit_length F (suc (length e.rows)) (length e.rows) (omega arith) j past;
+      combines = fun_ext λ j. sym (ap₂ F.mul (element_one K)
+          (ap (F.add (vector_of K scaled.entries j)) (ap (λ (d : Vector F). times F (length e.rows) d (matrix_of K e.rows) j) (vector_of_zeros e.order e.cols)
+          ∙ ap (λ (x : Vector F). x j) (times_zero F (length e.rows) (matrix_of K e.rows))) ∙ F.add-zero (vector_of K scaled.entries j))
+          ∙ one-mul F (vector_of K scaled.entries j));
+      few = λ j past. ap (λ (x : Vector F). x j) (vector_of_zeros e.order e.cols);
     };
     outside = λ spanned. leads.nonzero (zero_if_spanned spanned pivot 0 leads.within);
     same = same_with scaled.entries (element K scalar) (element K number_at) scaled_vector
@@ -230,24 +253,21 @@ module _ (e : EchelonValue) (h : IsEchelon e) (first row : RowValue) (represents
       zero_of_spanned spanned j = ap (λ (x : Vector F). x j)
           (zero_at_pivots_is_zero F e.cols (length e.rows) (matrix_of K e.rows) (vector_of K scaled.entries) (rows_length K e.cols e.rows h.over) spanned scaled_at_pivots)
 
-      unit_is : vector_of K (unit_row e.cols (length e.rows)) ≡ unit_vector F (length e.rows)
-      unit_is = vector_of_unit_row K e.cols (length e.rows) room
-
 -- one more row, and none
 next_step_of_row : (o : Order) (n : ℕ) (rows : List PivotRow) (p : PivotRow) (v : List ℕ) → IsNextRow (echelon_of o n (steps_of o n rows)) v p →
-    IsNextStep (echelon_of o n (steps_of o n rows)) p.row.entries (step_of o n (length rows) p)
+    IsNextStep (echelon_of o n (steps_of o n rows)) (echelon_rows (steps_of o n rows)) p.row.entries (step_of o n (length rows) p)
 next_step_of_row o n rows p v given =
-    subst (λ k. IsNextStep (echelon_of o n (steps_of o n rows)) p.row.entries (step_of o n k p))
-    (length-inserted (steps_of o n rows) ∙ length-steps_from o n 0 rows) given.next
+    subst (λ k. IsNextStep (echelon_of o n (steps_of o n rows)) (echelon_rows (steps_of o n rows)) p.row.entries (step_of o n k p))
+    (length-inserted (steps_of o n rows) ∙ length-steps_from o n 0 rows)
+    (subst (λ (l : List (List ℕ)). IsNextStep (echelon_of o n (steps_of o n rows)) l p.row.entries (step_of o n (length (inserted_rows (steps_of o n rows))) p))
+    (rows_from o n 0 rows) given.next)
 
 pub tabled_more : (o : Order) (n : ℕ) (rows next : List PivotRow) (p : PivotRow) (v : List ℕ) (table : List Bool) → next ≡ rows ++ p ∷ [] →
     AreTabledSteps o n (steps_of o n rows) table → IsNextRow (echelon_of o n (steps_of o n rows)) v p → length table ≡ n →
     AreTabledSteps o n (steps_of o n next) (set table p.pivot true)
 tabled_more o n rows next p v table pushed tabled given long =
-    subst (λ (steps : List Step). AreTabledSteps o n steps (set table p.pivot true)) (sym (ap (steps_of o n) pushed ∙ steps_of_more o n rows p))
-    (table_more o n (steps_of o n rows) (step_of o n (length rows) p) table tabled
-    (steps_more o n (steps_of o n rows) (step_of o n (length rows) p) p.row.entries tabled.are_steps (next_step_of_row o n rows p v given))
-    (omega (arith, long, given.next.place)))
+    tabled_by_step o n (steps_of o n rows) (steps_of o n next) (step_of o n (length rows) p) p.row.entries table p.pivot
+    (ap (steps_of o n) pushed ∙ steps_of_more o n rows p) tabled (next_step_of_row o n rows p v given) long refl
 
 pub spans_one_more : (o : Order) (n : ℕ) (rows next : List PivotRow) (p : PivotRow) (v : List ℕ) (e : EchelonValue) → next ≡ rows ++ p ∷ [] →
     echelon_of o n (steps_of o n rows) ≡ e → IsNextRow e v p → SpansOneMore true e v (echelon_of o n (steps_of o n next))
@@ -255,7 +275,13 @@ spans_one_more o n rows next p v e pushed view given =
     subst (SpansOneMore true e v)
     (sym (echelon_of_more o n (steps_of o n rows) (steps_of o n next) (step_of o n (length rows) p) p.row.entries e
     (ap (steps_of o n) pushed ∙ steps_of_more o n rows p) refl view))
-    (record { field = refl; columns = refl; same = given.same; count = appended_length (number_field e.order) e.rows p.row.entries })
+    (record {
+      field = refl;
+      columns = refl;
+      same = given.same;
+      count = appended_length (number_field e.order) e.rows p.row.entries;
+      begins = λ t below. get_or_append_left e.rows (p.row.entries ∷ []) [] t below;
+    })
 
 pub spans_no_more : (e : EchelonValue) (v : List ℕ) → SpansOneMore false e v e
-spans_no_more e v = record { field = refl; columns = refl; same = same_span_refl (number_field e.order) e.rows; count = refl }
+spans_no_more e v = record { field = refl; columns = refl; same = same_span_refl (number_field e.order) e.rows; count = refl; begins = λ t below. refl }

@@ -1,17 +1,17 @@
--- Echelon forms: rows whose pivots were cleared from all later rows, with the combinations of the given rows that they
--- are.
+-- Echelon forms: rows whose pivots were cleared from all later rows, with what was added to the given rows for it.
 use Rattle.std.specs.Prelude.{◌≡◌, ℕ, ◌<◌}
 use Rattle.axe_algebra.specs.Field.{Field}
-use Rattle.axe_algebra.specs.Vectors.{Matrix, HasLength, times}
+use Rattle.axe_algebra.specs.Vectors.{Vector, Matrix, HasLength, add_vectors, scale, times}
 use Rattle.axe_algebra.specs.Spans.{IsIndependent}
 
 -- the r rows of w are an echelon form of the r independent rows of v of length n: row t of w has 1 at the column p t, 0
--- before it, and 0 at the columns p s of the rows before; it is the combination of v's rows with the coefficients c t
-pub record IsEchelonForm (F : Field) (n r : ℕ) (v w c : Matrix F) (p : ℕ → ℕ) : Type 0 where
+-- before it, and 0 at the columns p s of the rows before; it is c t times the sum of row t of v and the combination of
+-- the rows of w before it with the multipliers m t
+pub record IsEchelonForm (F : Field) (n r : ℕ) (v w m : Matrix F) (c : Vector F) (p : ℕ → ℕ) : Type 0 where
   pub independent : IsIndependent F r v
   pub place : (t : ℕ) → t < r → p t < n
   pub one : (t : ℕ) → t < r → w t (p t) ≡ F.one
   pub before : (t i : ℕ) → t < r → i < p t → w t i ≡ F.zero
   pub cleared : (s t : ℕ) → s < t → t < r → w t (p s) ≡ F.zero
-  pub combines : (t : ℕ) → t < r → w t ≡ times F r (c t) v
-  pub few : (t : ℕ) → t < r → HasLength F r (c t)
+  pub combines : (t : ℕ) → t < r → w t ≡ scale F (c t) (add_vectors F (v t) (times F t (m t) w))
+  pub few : (t : ℕ) → t < r → HasLength F t (m t)

@@ -1,15 +1,16 @@
 -- The steps of an elimination, one for each row that was new.
-use Rattle.std.specs.Prelude.{◌≡◌, ◌≢◌, ◌↔◌, ℕ, suc, ◌<◌, ◌≤◌, Bool, false, IsTrue}
-use Rattle.std.specs.Prelude.{List, [], ◌∷◌, ◌++◌, All, Contains, map, length, get_or}
-use Rattle.axe_algebra.specs.Vectors.{HasLength, add_vectors, times}
+use Rattle.std.specs.Prelude.{◌≡◌, ◌≢◌, ◌↔◌, ℕ, ◌<◌, ◌≤◌, Bool, false, IsTrue}
+use Rattle.std.specs.Prelude.{List, All, Contains, map, length, get_or}
+use Rattle.axe_algebra.specs.Vectors.{HasLength, zero_vector, add_vectors, scale, times}
 use Rattle.axe_algebra.specs.Reduced.{IsZeroAtPivots}
-use Rattle.axe_algebra.specs.Bridge.{vector_of, matrix_of}
+use Rattle.axe_algebra.specs.Bridge.{element, vector_of, matrix_of}
 use Rattle.axe_algebra.specs.Lists.{IsVectorOver}
 use Rattle.axe_algebra.specs.SpansOfLists.{IsSpanned, IsPivot}
-use Rattle.axe_field.specs.Order.{Order}
+use Rattle.axe_field.specs.Order.{Order, IsElement}
+use Rattle.axe_field.specs.Arithmetic.{field_mul}
 use Rattle.axe_field.specs.NumberFields.{number_field, gf}
-use Rattle.axe_row.specs.Operations.{IsZeroVector}
-use Rattle.axe_row.specs.Rows.{RowValue}
+use Rattle.axe_row.specs.Operations.{multiple_row}
+use Rattle.axe_row.specs.Rows.{RowValue, IsRow}
 use Rattle.axe_matrix.specs.Limits.{most_columns}
 use Rattle.axe_echelon.specs.Echelons.{EchelonValue}
 use Rattle.axe_echelon.specs.Forms.{IsEchelonForm}
@@ -23,9 +24,13 @@ inserted_rows steps = map (λ (step : Step). step.inserted.entries) steps
 abbrev pub echelon_rows : List Step → List (List ℕ)
 echelon_rows steps = map (λ (step : Step). step.row.entries) steps
 
--- their coefficients over the rows inserted
-abbrev pub coefficient_rows : List Step → List (List ℕ)
-coefficient_rows steps = map (λ (step : Step). step.coefficients.entries) steps
+-- what was added to each inserted row: the multipliers of the rows of the echelon form before it
+abbrev pub multiplier_rows : List Step → List (List ℕ)
+multiplier_rows steps = map (λ (step : Step). step.multipliers.entries) steps
+
+-- what each sum was multiplied by
+abbrev pub scalars : List Step → List ℕ
+scalars steps = map (λ (step : Step). step.scalar) steps
 
 -- their pivots
 abbrev pub pivots : List Step → List ℕ
@@ -35,13 +40,14 @@ pivots steps = map (λ (step : Step). step.pivot) steps
 abbrev pub echelon_of : Order → ℕ → List Step → EchelonValue
 echelon_of order cols steps = record { order = order; cols = cols; rows = inserted_rows steps }
 
--- the rows of a step are over one field, and as long as the echelon form has columns
+-- the rows of a step are over one field, as its scalar is, and as long as the echelon form has columns
 pub record IsStep (order : Order) (cols : ℕ) (step : Step) : Type 0 where
   pub row_field : step.row.order ≡ order
-  pub coefficients_field : step.coefficients.order ≡ order
+  pub multipliers_field : step.multipliers.order ≡ order
   pub inserted_over : IsVectorOver (number_field order) cols step.inserted.entries
   pub row_over : IsVectorOver (number_field order) cols step.row.entries
-  pub coefficients_over : IsVectorOver (number_field order) cols step.coefficients.entries
+  pub multipliers_over : IsVectorOver (number_field order) cols step.multipliers.entries
+  pub scalar_below : step.scalar < (number_field order).order
 
 -- the steps give an echelon form of the rows that were inserted
 pub record AreSteps (order : Order) (cols : ℕ) (steps : List Step) : Type 0 where
@@ -50,7 +56,8 @@ pub record AreSteps (order : Order) (cols : ℕ) (steps : List Step) : Type 0 wh
   pub each : All (IsStep order cols) steps
   pub form : IsEchelonForm (gf order) cols (length (inserted_rows steps))
       (matrix_of (number_field order) (inserted_rows steps)) (matrix_of (number_field order) (echelon_rows steps))
-      (matrix_of (number_field order) (coefficient_rows steps)) (λ t. get_or (pivots steps) t 0)
+      (matrix_of (number_field order) (multiplier_rows steps)) (vector_of (number_field order) (scalars steps))
+      (λ t. get_or (pivots steps) t 0)
 
 -- the table tells of each column whether it is the pivot of a step
 pub record AreTabledSteps (order : Order) (cols : ℕ) (steps : List Step) (table : List Bool) : Type 0 where
@@ -58,32 +65,54 @@ pub record AreTabledSteps (order : Order) (cols : ℕ) (steps : List Step) (tabl
   pub table_fits : length table ≤ cols
   pub tells : (column : ℕ) → IsTrue (get_or table column false) ↔ Contains (pivots steps) column
 
--- a row from which all pivots were cleared: it is the first row plus the combination of the echelon's rows with these
--- coefficients
-pub record IsEliminated (e : EchelonValue) (first row coefficients : RowValue) : Type 0 where
-  pub row_field : row.order ≡ e.order
-  pub coefficients_field : coefficients.order ≡ e.order
-  pub row_over : IsVectorOver (number_field e.order) e.cols row.entries
-  pub coefficients_over : IsVectorOver (number_field e.order) e.cols coefficients.entries
-  pub offset : vector_of (number_field e.order) row.entries ≡
-      add_vectors (gf e.order) (vector_of (number_field e.order) first.entries)
-      (times (gf e.order) (length e.rows) (vector_of (number_field e.order) coefficients.entries)
-      (matrix_of (number_field e.order) e.rows))
-  pub at_pivots : IsZeroAtPivots (gf e.order) (length e.rows) (matrix_of (number_field e.order) e.rows)
-      (vector_of (number_field e.order) row.entries)
-  pub few : HasLength (gf e.order) (length e.rows) (vector_of (number_field e.order) coefficients.entries)
+-- a row from which all pivots were cleared: it is the first row plus the combination of the rows of the echelon form
+-- with these multipliers
+pub record IsCleared (order : Order) (cols : ℕ) (steps : List Step) (first row multipliers : RowValue) : Type 0 where
+  pub row_field : row.order ≡ order
+  pub multipliers_field : multipliers.order ≡ order
+  pub row_over : IsVectorOver (number_field order) cols row.entries
+  pub multipliers_over : IsVectorOver (number_field order) cols multipliers.entries
+  pub offset : vector_of (number_field order) row.entries ≡
+      add_vectors (gf order) (vector_of (number_field order) first.entries)
+      (times (gf order) (length (inserted_rows steps)) (vector_of (number_field order) multipliers.entries)
+      (matrix_of (number_field order) (echelon_rows steps)))
+  pub at_pivots : IsZeroAtPivots (gf order) (length (inserted_rows steps))
+      (matrix_of (number_field order) (inserted_rows steps)) (vector_of (number_field order) row.entries)
+  pub few : HasLength (gf order) (length (inserted_rows steps)) (vector_of (number_field order) multipliers.entries)
+
+-- the combination of the inserted rows with these coefficients is that of the rows of the echelon form with the
+-- multipliers
+pub record IsSolved (order : Order) (cols : ℕ) (steps : List Step) (multipliers coefficients : RowValue) : Type 0 where
+  pub field : coefficients.order ≡ order
+  pub over : IsVectorOver (number_field order) cols coefficients.entries
+  pub same : times (gf order) (length (inserted_rows steps)) (vector_of (number_field order) multipliers.entries)
+      (matrix_of (number_field order) (echelon_rows steps)) ≡
+      times (gf order) (length (inserted_rows steps)) (vector_of (number_field order) coefficients.entries)
+      (matrix_of (number_field order) (inserted_rows steps))
 
 -- the row plus the combination of the echelon's rows with these coefficients is zero
 pub record Cancels (e : EchelonValue) (first coefficients : RowValue) : Type 0 where
   pub over : IsVectorOver (number_field e.order) e.cols first.entries
-  pub row : RowValue
-  pub eliminated : IsEliminated e first row coefficients
-  pub zeros : IsZeroVector row.entries
+  pub coefficients_field : coefficients.order ≡ e.order
+  pub coefficients_over : IsVectorOver (number_field e.order) e.cols coefficients.entries
+  pub vanishes : add_vectors (gf e.order) (vector_of (number_field e.order) first.entries)
+      (times (gf e.order) (length e.rows) (vector_of (number_field e.order) coefficients.entries)
+      (matrix_of (number_field e.order) e.rows)) ≡ zero_vector (gf e.order)
 
--- the step that one more row gives
-pub record IsNextStep (e : EchelonValue) (v : List ℕ) (step : Step) : Type 0 where
+-- the step of a row with what is left of it, scaled to 1 at a column, and with what was added to it
+pub record IsScaledStep (v rest : RowValue) (column : ℕ) (added : RowValue) (step : Step) : Type 0 where
+  pub inserted : step.inserted ≡ v
+  pub pivot : step.pivot ≡ column
+  pub multipliers : step.multipliers ≡ added
+  pub element : IsElement rest.order step.scalar
+  pub inverse : field_mul rest.order (get_or rest.entries column 0) step.scalar ≡ 1
+  pub row : step.row ≡ multiple_row step.scalar rest
+  pub row_well_formed : IsRow step.row
+
+-- the step that one more row gives, beside the rows of the echelon form
+pub record IsNextStep (e : EchelonValue) (rows : List (List ℕ)) (v : List ℕ) (step : Step) : Type 0 where
   pub inserted : step.inserted.entries ≡ v
-  pub rows : IsStep e.order e.cols step
+  pub each : IsStep e.order e.cols step
   pub outside : ¬ (IsSpanned (number_field e.order) e.rows v)
   pub place : step.pivot < e.cols
   pub one : vector_of (number_field e.order) step.row.entries step.pivot ≡ (gf e.order).one
@@ -91,9 +120,11 @@ pub record IsNextStep (e : EchelonValue) (v : List ℕ) (step : Step) : Type 0 w
   pub at_pivots : IsZeroAtPivots (gf e.order) (length e.rows) (matrix_of (number_field e.order) e.rows)
       (vector_of (number_field e.order) step.row.entries)
   pub combines : vector_of (number_field e.order) step.row.entries ≡
-      times (gf e.order) (suc (length e.rows)) (vector_of (number_field e.order) step.coefficients.entries)
-      (matrix_of (number_field e.order) (e.rows ++ v ∷ []))
-  pub few : HasLength (gf e.order) (suc (length e.rows)) (vector_of (number_field e.order) step.coefficients.entries)
+      scale (gf e.order) (element (number_field e.order) step.scalar)
+      (add_vectors (gf e.order) (vector_of (number_field e.order) v)
+      (times (gf e.order) (length e.rows) (vector_of (number_field e.order) step.multipliers.entries)
+      (matrix_of (number_field e.order) rows)))
+  pub few : HasLength (gf e.order) (length e.rows) (vector_of (number_field e.order) step.multipliers.entries)
 
 -- the vector of the span that is 1 at a pivot and 0 at all other pivots
 pub record IsPivotRow (e : EchelonValue) (pivot : ℕ) (row : RowValue) : Type 0 where

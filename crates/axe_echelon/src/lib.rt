@@ -4,7 +4,7 @@
 
 ghost use Rattle.std.specs.Prelude.{◌≡◌, ◌<◌, ◌≤◌, ◌↔◌, ◌++◌, ◌∷◌, [], length, replicate, slice_index, IsTrue, None};
 ghost use Rattle.std.specs.Prelude.{IfOk, OnErr, MatchOption, true};
-ghost use Rattle.axe_algebra.specs.Lists.{listed, IsVectorOver};
+ghost use Rattle.axe_algebra.specs.Lists.{listed};
 ghost use Rattle.axe_algebra.specs.SpansOfLists.{IsPivot, IsRepresentative, IsSpanned};
 ghost use Rattle.axe_field.specs.Arithmetic.{field_neg};
 ghost use Rattle.axe_field.specs.NumberFields.{number_field};
@@ -14,7 +14,7 @@ ghost use Rattle.axe_row.specs.Rows.{IsRow};
 ghost use Rattle.axe_matrix.specs.Limits.{most_columns};
 ghost use Rattle.axe_matrix.specs.Matrices.{IsMatrix};
 ghost use Rattle.axe_echelon.specs.Echelons.{IsEchelon, with_row_where, AreCoordinates, IsReducedMatrix};
-ghost use Rattle.axe_echelon.specs.Steps.{IsEliminated, Cancels, IsNextStep, IsPivotRow};
+ghost use Rattle.axe_echelon.specs.Steps.{AreSteps, Cancels, IsCleared, IsSolved, IsScaledStep, IsPivotRow};
 
 mod inverses;
 mod null_spaces;
@@ -31,13 +31,15 @@ use std::marker::Model;
 pub use subspace::Subspace;
 
 /// What one new row gave: the row as it was inserted, and a row of the echelon form with its pivot. The latter is the
-/// combination of the inserted rows with these coefficients, of which only as many as there are rows may differ from 0.
+/// scalar times the sum of the former and the combination of the form's rows before it with these multipliers, of which
+/// only as many as there are such rows may differ from 0.
 #[derive(Drop)]
 struct Step {
     inserted: Row,
     pivot: usize,
     row: Row,
-    coefficients: Row,
+    scalar: u8,
+    multipliers: Row,
 }
 
 /// Independent rows of one length over one field, in the order in which they were inserted, with an echelon form of
@@ -157,71 +159,18 @@ impl Echelon {
         ensures well_formed { IsEchelon self.new }
     {
         let mut rest = row.copy(self.alloc)?;
-        let mut coefficients = Row::zero(self.alloc, *self.field(), self.cols())?;
-        self.eliminate(&mut rest, &mut coefficients);
+        let mut multipliers = Row::zero(self.alloc, *self.field(), self.cols())?;
+        eliminate(&self.steps, &mut rest, &mut multipliers);
         let Some(pivot) = rest.first_nonzero() else {
-            return Ok(Some(coefficients));
+            solve(&self.steps, &mut multipliers);
+            return Ok(Some(multipliers));
         };
-        let step = self.next_step(row, rest, pivot, coefficients);
-        self.add_step(step)?;
-        Ok(None)
-    }
-
-    /// The step that a new row gives, from what is left of it and the coefficients of what was added.
-    fn next_step(&self, row: Row, rest: Row, pivot: usize, coefficients: Row) -> Step
-        requires over { IsVectorOver (number_field self.now.order) self.now.cols row.entries }
-        requires eliminated { IsEliminated self.now row rest coefficients }
-        requires pivot { IsFirstNonzero rest.entries pivot }
-        ensures next { IsNextStep self.now row.entries result }
-        ensures inserted { result.inserted ≡ row }
-    {
-        let mut row_of_form = rest;
-        let mut combined = coefficients;
-        let scalar = self.field().inv(row_of_form.get(pivot));
-        // What is left is the row itself plus a combination of the rows before it: hence the 1 in the row's own place.
-        combined.set(self.rank(), 1);
-        combined.scale(scalar);
-        row_of_form.scale(scalar);
-        Step {
-            inserted: row,
-            pivot,
-            row: row_of_form,
-            coefficients: combined,
-        }
-    }
-
-    /// Adds the step of a new row. Where there is no memory nothing changes.
-    fn add_step(&mut self, step: Step) -> Result<(), Refusal>
-        requires { IsNextStep self.old step.inserted.entries step }
-        ensures inserted { Answers None (λ _. self.new ≡ with_row_where true self.old step.inserted.entries) result }
-        ensures unchanged { OnErr result (self.new ≡ self.old) }
-        ensures well_formed { IsEchelon self.new }
-    {
-        let pivot = step.pivot;
+        let step = next_step(row, rest, pivot, multipliers);
         // The table is made first: a longer one tells the same, so where the push finds no memory nothing has changed.
         self.pivots.resize(self.cols, false)?;
         self.steps.push(step)?;
         self.pivots[pivot] = true;
-        Ok(())
-    }
-
-    /// Clears the pivots from a row by adding multiples of the form's rows, and collects the coefficients of what was
-    /// added in a row of zeros.
-    fn eliminate(&self, row: &mut Row, coefficients: &mut Row)
-        requires row_field { row.old.order ≡ self.now.order }
-        requires row_fits { length row.old.entries ≡ self.now.cols }
-        requires zeros { coefficients.old ≡ record { order = self.now.order; entries = replicate self.now.cols 0 } }
-        ensures { IsEliminated self.now row.old row.new coefficients.new }
-    {
-        let field = *row.field();
-        for step in &self.steps {
-            let entry = row.get(step.pivot);
-            if entry != 0 {
-                let scalar = field.neg(entry);
-                row.add_scaled(scalar, &step.row);
-                coefficients.add_scaled(scalar, &step.coefficients);
-            }
-        }
+        Ok(None)
     }
 
     /// Makes a row over the field the one vector of its coset modulo the span that is 0 at each pivot.
@@ -235,13 +184,10 @@ impl Echelon {
         ensures row_well_formed { IsRow row.new }
         ensures well_formed { IsEchelon self.now }
     {
-        let field = *row.field();
+        // `len` is called for what it ensures beside the number: that the entries are elements.
+        prove!(row.len() == self.cols);
         for step in &self.steps {
-            let entry = row.get(step.pivot);
-            if entry != 0 {
-                let factor = field.neg(entry);
-                row.add_scaled(factor, &step.row);
-            }
+            row.cancel(step.pivot, &step.row);
         }
     }
 
@@ -254,14 +200,15 @@ impl Echelon {
             (AreCoordinates self.now row.now.entries)) result }
         ensures well_formed { IsEchelon self.now }
     {
-        let mut coefficients = Row::zero(alloc, *self.field(), self.cols())?;
+        let mut multipliers = Row::zero(alloc, *self.field(), self.cols())?;
         let mut rest = row.copy(alloc)?;
-        self.eliminate(&mut rest, &mut coefficients);
+        eliminate(&self.steps, &mut rest, &mut multipliers);
         if !rest.is_zero() {
             return Ok(None);
         }
-        // The row plus the combination with these coefficients is zero, so their negatives combine to the row.
-        Ok(Some(negated_start(alloc, &coefficients, self.rank())?))
+        solve(&self.steps, &mut multipliers);
+        // The row plus the combination with what they are now is zero, so their negatives combine to the row.
+        Ok(Some(negated_start(alloc, &multipliers, self.rank())?))
     }
 
     /// The reduced basis of the span: for each pivot, in ascending order, the vector of the span that is 1 there and 0
@@ -302,6 +249,61 @@ impl Echelon {
         ensures { IsTrue result ↔ IsPivot (number_field self.now.order) self.now.rows column }
     {
         self.pivots.get(column).copied().unwrap_or(false)
+    }
+}
+
+/// Clears the pivots of the steps from a row by adding multiples of their rows of the echelon form, and keeps the
+/// multiplier of each in a row of zeros.
+fn eliminate(steps: &[Step], row: &mut Row, multipliers: &mut Row)
+    requires steps { AreSteps row.old.order (length row.old.entries) steps.now }
+    requires zeros { multipliers.old
+        ≡ record { order = row.old.order; entries = replicate (length row.old.entries) 0 } }
+    ensures { IsCleared row.old.order (length row.old.entries) steps.now row.old row.new multipliers.new }
+{
+    // `len` is called for what it ensures beside the number: that the entries are elements.
+    prove!(row.len() == multipliers.len());
+    for (index, step) in steps.iter().enumerate() {
+        let multiplier = row.cancel(step.pivot, &step.row);
+        if multiplier != 0 {
+            multipliers.set(index, multiplier);
+        }
+    }
+}
+
+/// Makes the multipliers of the rows of the echelon form in a combination the coefficients of the inserted rows in it.
+fn solve(steps: &[Step], multipliers: &mut Row)
+    requires steps { AreSteps multipliers.old.order (length multipliers.old.entries) steps.now }
+    ensures { IsSolved multipliers.old.order (length multipliers.old.entries) steps.now
+        multipliers.old multipliers.new }
+{
+    let field = *multipliers.field();
+    // In a row of the form are the rows before it alone: so what is left of the form's rows ends before the index.
+    for index in (0..steps.len()).rev() {
+        let step = &steps[index];
+        let multiplier = multipliers.get(index);
+        if multiplier != 0 {
+            let coefficient = field.mul(multiplier, step.scalar);
+            multipliers.add_scaled(coefficient, &step.multipliers);
+            multipliers.set(index, coefficient);
+        }
+    }
+}
+
+/// The step of a row, from what is left of it, the column of the first entry of that, and the multipliers of what was
+/// added.
+fn next_step(inserted: Row, rest: Row, pivot: usize, multipliers: Row) -> Step
+    requires { IsFirstNonzero rest.entries pivot }
+    ensures { IsScaledStep inserted rest pivot multipliers result }
+{
+    let mut row = rest;
+    let scalar = row.field().inv(row.get(pivot));
+    row.scale(scalar);
+    Step {
+        inserted,
+        pivot,
+        row,
+        scalar,
+        multipliers,
     }
 }
 

@@ -1,6 +1,6 @@
 //! Subspaces, each by an echelon form of it.
 
-ghost use Rattle.std.specs.Prelude.{◌≡◌, ◌<◌, ◌≤◌, ◌↔◌, [], length, IsTrue, None, IfOk, MatchOption, OnErr};
+ghost use Rattle.std.specs.Prelude.{◌≡◌, ◌<◌, ◌≤◌, ◌↔◌, [], length, get_or, IsTrue, None, IfOk, MatchOption, OnErr};
 ghost use Rattle.axe_algebra.specs.SpansOfLists.{IsPivot, IsRepresentative, IsSpanned};
 ghost use Rattle.axe_field.specs.NumberFields.{number_field};
 ghost use Rattle.axe_row.specs.Refusals.{Answers};
@@ -89,6 +89,18 @@ impl Subspace {
         self.rows.len()
     }
 
+    /// The row of the echelon form at an index, counted from 0. The rows stand in the order in which the vectors that
+    /// gave them were inserted.
+    pub fn row(&self, index: usize) -> &Row
+        requires { index < length self.now.rows }
+        ensures value { result.now ≡ record { order = self.now.order; entries = get_or self.now.rows index [] } }
+        ensures as_long { length result.now.entries ≡ self.now.cols }
+        ensures row_well_formed { IsRow result.now }
+        ensures well_formed { IsEchelon self.now }
+    {
+        &self.rows[index].row
+    }
+
     /// Inserts a vector over the field with an entry for each column, and tells whether it is new: whether it was not
     /// in the space. A vector that is not new changes nothing, nor does one for which there is no memory.
     pub fn insert(&mut self, row: Row) -> Result<bool, Refusal>
@@ -145,13 +157,10 @@ impl Subspace {
         ensures row_well_formed { IsRow row.new }
         ensures well_formed { IsEchelon self.now }
     {
-        let field = *row.field();
+        // `len` is called for what it ensures beside the number: that the entries are elements.
+        prove!(row.len() == self.cols);
         for pivot_row in &self.rows {
-            let entry = row.get(pivot_row.pivot);
-            if entry != 0 {
-                let factor = field.neg(entry);
-                row.add_scaled(factor, &pivot_row.row);
-            }
+            row.cancel(pivot_row.pivot, &pivot_row.row);
         }
     }
 

@@ -10,10 +10,11 @@ use Rattle.axe_algebra.specs.SpansOfLists.{IsIndependent, IsReducedBasis}
 use Rattle.axe_algebra.specs.PointTheorems.{IsNonzeroSpanned}
 use Rattle.axe_algebra.proofs.SquareMatrices.{transpose_criterion}
 use Rattle.axe_algebra.proofs.ReducedBases.{reduced_independent}
+use Rattle.axe_algebra.proofs.ListGenerated.{generates_everything, everything_is_full}
 use Rattle.axe_algebra.proofs.ListLaws.{inverse_list}
 use Rattle.axe_algebra.proofs.ListProducts.{matrix_of_transpose}
 use Rattle.axe_algebra.proofs.ListIrreducible.{transpose_length}
-use Rattle.axe_algebra.proofs.NortonLists.{transpose_square, invertible_without_null_rows, generated_basis_is_full}
+use Rattle.axe_algebra.proofs.NortonLists.{transpose_square, invertible_without_null_rows}
 use Rattle.axe_field.specs.Order.{Order, order_number}
 use Rattle.axe_field.specs.NumberFields.{number_field, gf}
 use Rattle.axe_row.specs.Rows.{RowValue}
@@ -24,13 +25,14 @@ use Rattle.axe_row.specs.declared.refusals.Refusal.TheVariants.{Memory}
 use Rattle.axe_matrix.specs.Matrices.{MatrixValue, IsMatrix, transposed_matrix, transpose_refusal}
 use Rattle.axe_matrix.proofs.TransposeLaws.{transpose_refusal-none}
 use Rattle.axe_reduction.specs.Solutions.{IsInvertibleMatrix}
-use Rattle.axe_echelon.specs.Echelons.{IsNullSpaceMatrix, null_space_refusal}
+use Rattle.axe_echelon.specs.Echelons.{EchelonValue, IsReducedMatrix, IsNullSpaceMatrix, null_space_refusal}
 use Rattle.axe_echelon.proofs.Exits.{memory_if_accepted}
 use Rattle.axe_echelon.proofs.InverseLaws.{matrix_over}
 use Rattle.axe_echelon.proofs.EliminationLaws.{vector_of_zero_row}
 use Rattle.axe_spin.specs.Modules.{ModuleValue}
-use Rattle.axe_spin.specs.Spinning.{has_only_zeros, seed_refusal, IsGeneratedMatrix}
-use Rattle.axe_spin.proofs.GeneratedLaws.{some_nonzero}
+use Rattle.axe_spin.specs.Spinning.{has_only_zeros, seed_refusal, IsGeneratedSpace}
+use Rattle.axe_spin.proofs.GeneratedLaws.{some_nonzero, generated_matrix}
+use Rattle.axe_spin.proofs.SpaceLaws.{space_over}
 use Rattle.axe_action.specs.Actions.{dual_module, IsAnnihilatorMatrix}
 use Rattle.axe_word.specs.PointsOfMatrix.{points_of, IsReduced}
 use Rattle.axe_norton.specs.Spaces.{GeneratesModule, GeneratesProper, one_row, point_of, HasFewPoints, IsTried, TransposedPoint, TransposeGenerates, IsTransposedSpace}
@@ -66,24 +68,29 @@ pub one_row_accepted : (m : ModuleValue) (v : List ℕ) → ¬ (IsZeroVector v) 
 one_row_accepted m v nonzero =
     seed_refusal-none m (one_row m v) refl refl (some_nonzero (v ∷ []) 0 v false (omega arith) refl (λ zeros. absurd (nonzero zeros)) refl)
 
-pub seed_accepted : (m : ModuleValue) (v : List ℕ) (seed : MatrixValue) (result : Result MatrixValue Refusal) → seed ≡ one_row m v → ¬ (IsZeroVector v) →
-    Answers (seed_refusal m seed) (IsGeneratedMatrix m seed) result → Answers None (IsGeneratedMatrix m (one_row m v)) result
+pub seed_accepted : (m : ModuleValue) (v : List ℕ) (seed : MatrixValue) (result : Result EchelonValue Refusal) → seed ≡ one_row m v → ¬ (IsZeroVector v) →
+    Answers (seed_refusal m seed) (IsGeneratedSpace m seed.rows) result → Answers None (IsGeneratedSpace m (v ∷ [])) result
 seed_accepted m v seed result is nonzero answer =
-    subst (λ (r : Option Refusal). Answers r (IsGeneratedMatrix m (one_row m v)) result) (one_row_accepted m v nonzero)
-    (subst (λ (s : MatrixValue). Answers (seed_refusal m s) (IsGeneratedMatrix m s) result) is answer)
+    subst (λ (r : Option Refusal). Answers r (IsGeneratedSpace m (v ∷ [])) result) (one_row_accepted m v nonzero)
+    (subst (λ (s : MatrixValue). Answers (seed_refusal m s) (IsGeneratedSpace m s.rows) result) is answer)
 
-module _ (m : ModuleValue) (v : List ℕ) (space : MatrixValue) (well_formed : IsMatrix space) (generated : IsGeneratedMatrix m (one_row m v) space) where
+module _ (m : ModuleValue) (v : List ℕ) (space : EchelonValue) (is : IsGeneratedSpace m (v ∷ []) space) where
   over_space : IsMatrixOver (number_field m.order) m.dim space.rows
-  over_space = rows_over_field m.order m.dim space generated.field generated.columns well_formed
+  over_space = space_over m space is.field is.columns is.well_formed
 
+  independent_space : IsIndependent (number_field m.order) space.rows
+  independent_space = subst (λ o. IsIndependent (number_field o) space.rows) is.field is.well_formed.independent
+
+  -- the vector generates everything where the space has the module's dimension, and else a proper space
   pub everything_generated : length space.rows ≡ m.dim → GeneratesModule m v
-  everything_generated full = (generated_basis_is_full (number_field m.order) m.dim m.generators v space.rows over_space generated.basis_of_generated).1 full
+  everything_generated full =
+      generates_everything (number_field m.order) m.dim m.generators v space.rows over_space is.generated independent_space full
 
-  pub proper_generated : length space.rows ≢ m.dim → GeneratesProper m v space
-  proper_generated less = record {
-    generated = generated;
+  pub proper_generated : (basis : MatrixValue) → IsReducedMatrix space basis → IsMatrix basis → length space.rows ≢ m.dim → GeneratesProper m v basis
+  proper_generated basis reduced well_formed less = record {
+    generated = generated_matrix m (one_row m v) basis space is reduced;
     well_formed = well_formed;
-    proper = λ all. less ((generated_basis_is_full (number_field m.order) m.dim m.generators v space.rows over_space generated.basis_of_generated).0 all);
+    proper = λ all. less (everything_is_full (number_field m.order) m.dim m.generators v space.rows over_space is.generated independent_space all);
   }
 
 -- ---- points of a space in a module

@@ -16,7 +16,7 @@ ghost use Rattle.axe_norton.specs.Searches.{IsTransposedPointRow, FindsTranspose
 use axe_action::{annihilator, dual};
 use axe_echelon::null_space;
 use axe_matrix::{Matrix, Refusal, Row};
-use axe_spin::{Module, generate};
+use axe_spin::{Module, generated_space};
 use axe_word::{Points, first_point};
 use std::alloc::Global;
 
@@ -34,11 +34,11 @@ pub(crate) fn proper_space(
 {
     let mut seed = Matrix::empty(alloc, *module.field(), module.dim());
     seed.append(vector)?;
-    let space = generate(alloc, module, &seed)?;
-    if space.rows() == module.dim() {
+    let space = generated_space(alloc, module, &seed)?;
+    if space.dim() == module.dim() {
         Ok(None)
     } else {
-        Ok(Some(space))
+        Ok(Some(space.reduced(alloc)?))
     }
 }
 

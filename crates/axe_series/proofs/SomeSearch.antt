@@ -6,6 +6,7 @@ use Rattle.axe_algebra.specs.NumberField.{NumberField}
 use Rattle.axe_algebra.specs.Bridge.{field_of, matrix_of}
 use Rattle.axe_algebra.specs.Lists.{IsVectorOver, IsMatrixOver, IsSquareOver}
 use Rattle.axe_algebra.specs.ListArithmetic.{transpose}
+use Rattle.axe_algebra.specs.SpansOfLists.{IsIndependent}
 use Rattle.axe_algebra.specs.ModulesOfLists.{IsGeneratedBasis}
 use Rattle.axe_algebra.proofs.ReducedBases.{reduced_independent}
 use Rattle.axe_algebra.proofs.ListExistence.{generated_basis_list}
@@ -15,9 +16,10 @@ use Rattle.axe_field.specs.Order.{order_number}
 use Rattle.axe_field.specs.NumberFields.{number_field}
 use Rattle.axe_matrix.specs.Matrices.{MatrixValue, IsMatrix, transposed_matrix}
 use Rattle.axe_reduction.specs.Solutions.{IsInvertibleMatrix}
-use Rattle.axe_echelon.specs.Echelons.{IsNullSpaceMatrix}
+use Rattle.axe_echelon.specs.Echelons.{EchelonValue, IsNullSpaceMatrix}
 use Rattle.axe_echelon.proofs.SomeMatrix.{matrix_of_rows_over, some_null_space}
 use Rattle.axe_spin.specs.Modules.{ModuleValue, IsModule}
+use Rattle.axe_spin.specs.Spinning.{IsGeneratedSpace}
 use Rattle.axe_action.specs.Actions.{dual_module, IsAnnihilatorMatrix}
 use Rattle.axe_word.specs.Words.{WordValue, IsValueOf}
 use Rattle.axe_word.specs.PointsOfMatrix.{points_of, point_count, most_points}
@@ -60,25 +62,39 @@ module _ (m : ModuleValue) (is : IsModule m) where
           space : MatrixValue
           space = record { order = m.order; cols = m.dim; rows = basis }
 
+          independent : IsIndependent K basis
+          independent = reduced_independent (field_of K) (length basis) (matrix_of K basis) (length basis)
+              (matrix_of K basis) generated.reduced
+
           few : length basis ≤ m.dim
-          few = independent_rows_are_few K m.dim basis over_basis
-              (reduced_independent (field_of K) (length basis) (matrix_of K basis) (length basis)
-              (matrix_of K basis) generated.reduced)
+          few = independent_rows_are_few K m.dim basis over_basis independent
 
           well : IsMatrix space
           well = matrix_of_rows_over m.order m.dim basis (omega (arith, is.over.positive)) (omega (arith, is.dim_fits))
               (omega (arith, is.dim_fits, few)) over_basis
 
+          spanned : EchelonValue
+          spanned = record { order = m.order; cols = m.dim; rows = basis }
+
+          generated_space : IsGeneratedSpace m (v ∷ []) spanned
+          generated_space = record {
+            field = refl;
+            columns = refl;
+            generated = record { forth = generated.forth; back = generated.back };
+            well_formed = record {
+              some_column = omega (arith, is.over.positive);
+              columns_fit = is.dim_fits;
+              over = over_basis;
+              independent = independent;
+            };
+          }
+
           by_size : Dec (length basis ≡ m.dim) → SomeFound (FindsProper m v)
-          by_size (yes full) = (
-            None,
-            everything_generated m v space well
-                (record { field = refl; columns = refl; basis_of_generated = generated }) full,
-          )
+          by_size (yes full) = (None, everything_generated m v spanned generated_space full)
           by_size (no less) = (
             Some space,
-            proper_generated m v space well
-                (record { field = refl; columns = refl; basis_of_generated = generated }) less,
+            proper_generated m v spanned generated_space space
+                (record { field = refl; columns = refl; basis = generated.reduced }) well less,
           )
 
   -- the first so many vectors generate everything

@@ -1,20 +1,21 @@
 -- Rows that are vectors of a module, and seeds.
-use Rattle.std.specs.Prelude.{◌≡◌, ℕ, ◌==◌, not, if◌then◌else◌, Bool, true, false, Option, Some, None, Ok, Err}
+use Rattle.std.specs.Prelude.{◌≡◌, ℕ, ◌==◌, not, if◌then◌else◌, Bool, true, false, Option, Some, None, Result, Ok, Err}
+use Rattle.std.specs.Result.{IsErrAnd}
 use Rattle.std.proofs.lemmas.Bool.{eq-eqb, eqb-true}
 use Rattle.axe_algebra.specs.Lists.{IsMatrixOver}
 use Rattle.axe_field.specs.Order.{order_number}
 use Rattle.axe_field.specs.NumberFields.{number_field}
 use Rattle.axe_row.specs.declared.refusals.Refusal.{Refusal}
 use Rattle.axe_row.specs.declared.refusals.Refusal.TheVariants.{FieldsDiffer, ShapesDiffer, ZeroSeed}
-use Rattle.axe_row.specs.Refusals.{first_of, unless_refused}
+use Rattle.axe_row.specs.Refusals.{Answers, first_of, unless_refused}
 use Rattle.axe_matrix.specs.Matrices.{MatrixValue, IsMatrix}
 use Rattle.axe_matrix.proofs.MatrixLaws.{same_order}
-use Rattle.axe_echelon.proofs.Exits.{no_value}
+use Rattle.axe_echelon.proofs.Exits.{handed_on, no_memory, no_value, same_refusal}
 use Rattle.axe_echelon.proofs.InverseLaws.{matrix_over}
 use Rattle.axe_spin.specs.Modules.{ModuleValue, rows_refusal}
 use Rattle.axe_spin.specs.Spinning.{has_only_zeros, seed_refusal, IsFirstNonzeroRow}
 use Rattle.axe_spin.proofs.ZeroRows.{false_if_absurd, row_of_zeros}
-use mathlib.Core.Path.{refl, ap, subst}
+use mathlib.Core.Path.{refl, sym, ◌∙◌, ap, subst}
 
 -- ---- one refusal after another
 
@@ -32,6 +33,17 @@ then_second first second value none = rw none refl
 pub none_of_both : (first second : Option Refusal) → first_of first second ≡ None → (first ≡ None) × (second ≡ None)
 none_of_both None second e = (refl, e)
 none_of_both (Some refusal) second e = cc
+
+-- a callee's refusal is handed on, and what it gives goes on
+pub handed_on_refusal : {S T : Type 0} (why : Option Refusal) (P : S → Type 0) (Q : T → Type 0) (result : Result T Refusal) (refusal : Refusal) →
+    Answers why P (Err refusal) → IsErrAnd result (λ r. r ≡ refusal) → Answers why Q result
+handed_on_refusal None P Q result refusal h is = no_memory Q result refusal is h
+handed_on_refusal (Some other) P Q result refusal h is = handed_on result refusal is ∙ ap Err (same_refusal refusal other h)
+
+pub goes_on : {S T : Type 0} (why : Option Refusal) (P : S → Type 0) (Q : T → Type 0) (value : S) (result : Result T Refusal) →
+    Answers why P (Ok value) → (P value → Answers None Q result) → Answers why Q result
+goes_on None P Q value result h more = more h
+goes_on (Some other) P Q value result h more = absurd (no_value value other (sym h))
 
 -- the refusal of rows of zeros
 abbrev pub zeros_refusal : Bool → Refusal → Option Refusal

@@ -118,7 +118,7 @@ module _ (m : ModuleValue) where
       ap (λ (x : List ℕ). combination (number_field m.order) m.dim x (get_or m.generators i [])) (get_or_append_left rows (row ∷ []) [] r below)
 
   -- an image is a vector over the field
-  image_over : (rows : List (List ℕ)) (r i : ℕ) → IsModule m → IsMatrixOver (number_field m.order) m.dim rows → r < length rows → i < length m.generators →
+  pub image_over : (rows : List (List ℕ)) (r i : ℕ) → IsModule m → IsMatrixOver (number_field m.order) m.dim rows → r < length rows → i < length m.generators →
       IsVectorOver (number_field m.order) m.dim (image_of_row m rows r i)
   image_over rows r i h over below inside =
       let square = h.over.square i [] inside in
@@ -425,7 +425,7 @@ room_of_new span new rows row b is h inserted taken = omega (arith, no_more, cou
     count = subst (λ (x : Bool). length new.rows ≡ (if x then suc (length span.rows) else length span.rows)) taken inserted.count
 
 -- with one row more on both sides lists of rows have one span
-same_span_with_row : (K : NumberField) (rows others : List (List ℕ)) (row : List ℕ) → HaveSameSpan K rows others →
+pub same_span_with_row : (K : NumberField) (rows others : List (List ℕ)) (row : List ℕ) → HaveSameSpan K rows others →
     HaveSameSpan K (rows ++ row ∷ []) (others ++ row ∷ [])
 same_span_with_row K rows others row same =
     same_span_by_rows K (rows ++ row ∷ []) (others ++ row ∷ []) (within rows others same)

@@ -3,4 +3,5 @@ pub mod Modules
 pub mod Generators
 pub mod Spinning
 pub mod Spun
+pub mod Spaces
 pub mod SpinLaws

@@ -1,9 +1,9 @@
 -- What spinning rows in a module gives: the space that they generate, and standard bases.
 use Rattle.std.specs.Prelude.{◌≡◌, ℕ, ◌<◌, ◌==◌, Bool, true, false, Option, Some, None, if◌then◌else◌}
-use Rattle.std.specs.Prelude.{List, [], length, get_or, slice_index_or}
+use Rattle.std.specs.Prelude.{List, [], length, slice_index_or}
 use Rattle.std.specs.List.{list_all}
-use Rattle.axe_algebra.specs.SpansOfLists.{IsIndependent, IsSpanned}
-use Rattle.axe_algebra.specs.ModulesOfLists.{IsGeneratedBasis, IsStandardBasis}
+use Rattle.axe_algebra.specs.SpansOfLists.{IsIndependent}
+use Rattle.axe_algebra.specs.ModulesOfLists.{Generates, IsGeneratedBasis, IsStandardBasis}
 use Rattle.axe_field.specs.NumberFields.{number_field}
 use Rattle.axe_row.specs.Rows.{RowValue}
 use Rattle.axe_row.specs.declared.refusals.Refusal.{Refusal}
@@ -11,6 +11,7 @@ use Rattle.axe_row.specs.declared.refusals.Refusal.TheVariants.{ZeroSeed}
 use Rattle.axe_row.specs.Refusals.{first_of}
 use Rattle.axe_row.specs.Operations.{IsZeroVector}
 use Rattle.axe_matrix.specs.Matrices.{MatrixValue, row_of}
+use Rattle.axe_echelon.specs.Echelons.{EchelonValue, IsEchelon}
 use Rattle.axe_spin.specs.Modules.{ModuleValue, rows_refusal, IsInvariantIn}
 
 -- each entry of each row is 0
@@ -23,14 +24,13 @@ abbrev pub seed_refusal : ModuleValue → MatrixValue → Option Refusal
 seed_refusal m seed =
     first_of (rows_refusal m seed) (if has_only_zeros seed.rows then Some ZeroSeed else None)
 
--- the matrix has as its rows independent rows of m that span all rows of m (any linear algebra text)
-pub record IsRowBasis (m basis : MatrixValue) : Type 0 where
-  pub field : basis.order ≡ m.order
-  pub columns : basis.cols ≡ m.cols
-  pub independent : IsIndependent (number_field m.order) basis.rows
-  pub chosen : (t : ℕ) → t < length basis.rows →
-      (s : ℕ) × (s < length m.rows) × (get_or basis.rows t [] ≡ get_or m.rows s [])
-  pub spanned : (s : ℕ) → s < length m.rows → IsSpanned (number_field m.order) basis.rows (get_or m.rows s [])
+-- the subspace is the space that the rows generate in the module: the span of these rows times all products of
+-- generators (Parker 1984)
+pub record IsGeneratedSpace (m : ModuleValue) (rows : List (List ℕ)) (space : EchelonValue) : Type 0 where
+  pub field : space.order ≡ m.order
+  pub columns : space.cols ≡ m.dim
+  pub generated : Generates (number_field m.order) m.dim m.generators rows space.rows
+  pub well_formed : IsEchelon space
 
 -- the matrix has as its rows the reduced basis of the space that the seed's rows generate in the module: of the span of
 -- these rows times all products of generators (Parker 1984)

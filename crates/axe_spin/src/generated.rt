@@ -1,13 +1,13 @@
 //! The spaces that rows generate in a module.
 
-ghost use Rattle.std.specs.Prelude.{◌≡◌, [], None, IfOk};
+ghost use Rattle.std.specs.Prelude.{◌≡◌, ◌<◌, length, None, IfOk};
 ghost use Rattle.axe_row.specs.Refusals.{Answers, unless_refused};
 ghost use Rattle.axe_matrix.specs.Matrices.{IsMatrix};
-ghost use Rattle.axe_spin.specs.Spinning.{has_only_zeros, seed_refusal, IsRowBasis, IsGeneratedMatrix};
-ghost use Rattle.axe_spin.specs.Spun.{IsSpanOf};
+ghost use Rattle.axe_spin.specs.Modules.{IsModule};
+ghost use Rattle.axe_spin.specs.Spaces.{IsRowSpace, IsSubspaceOf, IsEnlarged, AreImagesSpanned};
+ghost use Rattle.axe_spin.specs.Spinning.{has_only_zeros, seed_refusal, IsGeneratedSpace, IsGeneratedMatrix};
 
 use crate::module::Module;
-use crate::spinning::{offer, spin};
 use axe_echelon::Subspace;
 use axe_matrix::{Matrix, Refusal};
 use std::alloc::Global;
@@ -20,12 +20,17 @@ pub fn generate(alloc: Global, module: &Module, seed: &Matrix) -> Result<Matrix,
     ensures basis { Answers (seed_refusal «module».now seed.now) (IsGeneratedMatrix «module».now seed.now) result }
     ensures well_formed { IfOk result IsMatrix }
 {
+    generated_space(alloc, module, seed)?.reduced(alloc)
+}
+
+/// The same space as [`generate`] gives, by an echelon form of it. The refusals are the same.
+pub fn generated_space(alloc: Global, module: &Module, seed: &Matrix) -> Result<Subspace, Refusal>
+    ensures { Answers (seed_refusal «module».now seed.now) (IsGeneratedSpace «module».now seed.now.rows) result }
+{
     check_seed(module, seed)?;
-    let mut span = Subspace::zero(alloc, *module.field(), module.dim());
-    let mut rows = Matrix::empty(alloc, *module.field(), module.dim());
-    offer_all(alloc, &mut span, &mut rows, seed)?;
-    spin(alloc, module, &mut span, &mut rows)?;
-    span.reduced(alloc)
+    let mut space = row_space(alloc, seed)?;
+    make_invariant(alloc, module, &mut space)?;
+    Ok(space)
 }
 
 /// Refuses a matrix that is no seed in a module.
@@ -52,26 +57,55 @@ pub fn has_only_zeros(matrix: &Matrix) -> bool
     true
 }
 
-/// Offers the rows of a matrix, in order, to no rows: those that are not in the span of the rows before them are
-/// appended.
-fn offer_all(
-    alloc: Global,
-    span: &mut Subspace,
-    rows: &mut Matrix,
-    matrix: &Matrix,
-) -> Result<(), Refusal>
-    requires well_formed { IsMatrix rows.old }
-    requires no_rows { rows.old.rows ≡ [] }
-    requires span { IsSpanOf span.old rows.old }
-    requires field { rows.old.order ≡ matrix.now.order }
-    requires fits { rows.old.cols ≡ matrix.now.cols }
-    ensures basis { Answers None (λ _. IsRowBasis matrix.now rows.new) result }
-    ensures span { Answers None (λ _. IsSpanOf span.new rows.new) result }
-    ensures well_formed { Answers None (λ _. IsMatrix rows.new) result }
+/// The row space of a seed.
+fn row_space(alloc: Global, seed: &Matrix) -> Result<Subspace, Refusal>
+    ensures { Answers None (IsRowSpace seed.now) result }
 {
-    for index in 0..matrix.rows() {
-        let row = matrix.row(index).copy(alloc)?;
-        offer(alloc, span, rows, row)?;
+    let mut space = Subspace::zero(alloc, *seed.field(), seed.cols());
+    for index in 0..seed.rows() {
+        let row = seed.row(index).copy(alloc)?;
+        space.insert(row)?;
+    }
+    Ok(space)
+}
+
+/// Enlarges a space of vectors of a module to the least invariant space with it. It takes the rows of the echelon form
+/// in turn, those that it adds among them, and inserts the images of each under the generators.
+fn make_invariant(alloc: Global, module: &Module, space: &mut Subspace) -> Result<(), Refusal>
+    requires { IsSubspaceOf «module».now space.old }
+    ensures generated { Answers None (λ _. IsGeneratedSpace «module».now space.old.rows space.new) result }
+    ensures module_well_formed { IsModule «module».now }
+{
+    // There are no more independent rows than the dimension.
+    for source in 0..module.dim() {
+        if source == space.dim() {
+            break;
+        }
+        insert_images(alloc, module, space, source)?;
+    }
+    Ok(())
+}
+
+/// Inserts the images of one row of the echelon form under the generators.
+fn insert_images(
+    alloc: Global,
+    module: &Module,
+    space: &mut Subspace,
+    source: usize,
+) -> Result<(), Refusal>
+    requires subspace { IsSubspaceOf «module».now space.old }
+    requires within { source < length space.old.rows }
+    ensures enlarged { Answers None (λ _. IsEnlarged «module».now space.old space.new) result }
+    ensures images { Answers None
+        (λ _. AreImagesSpanned «module».now space.new.rows source (length «module».now.generators)) result }
+{
+    for number in 0..module.gens() {
+        // Once the rows span everything, no image is new.
+        if space.dim() == module.dim() {
+            break;
+        }
+        let image = module.generator(number).vec_mul(alloc, space.row(source))?;
+        space.insert(image)?;
     }
     Ok(())
 }

@@ -1,16 +1,15 @@
-use Rattle.std.proofs.Common.{◌≡◌, ◌<◌, ◌≤◌, length, ap, ◌∙◌, arith}
+use Rattle.std.proofs.Common.{◌≡◌, ◌<◌, ◌≤◌, length, refl, ap, ◌∙◌, arith}
 use Rattle.axe_echelon.specs.Echelons.{EchelonValue}
 use Rattle.axe_echelon.specs.Steps.{AreSteps, inserted_rows}
 use Rattle.axe_echelon.proofs.StepLaws.{over_of_row, is_row_of_over, step_place, echelon_of_steps}
-use Rattle.axe_echelon.proofs.ClearingLaws.{reduced_so_far_none, reduce_step, reduce_step_none, reduced_all}
-use Rattle.axe_echelon.proofs.Echelon.reduce.Goals.{then-entry-ne0, else-entry-ne0}
+use Rattle.axe_echelon.proofs.ClearingLaws.{reduced_so_far_none, reduce_step, reduced_all}
 use Rattle.axe_echelon.proofs.Echelon.reduce.Goals as goal
 
 pub loop-step-init : goal.loop-step-init
-loop-step-init c = reduced_so_far_none _ _ _ _ c.requires.field (over_of_row _ _ _ c.requires.field c.field.ensures.well_formed c.requires.fits)
+loop-step-init c = reduced_so_far_none _ _ _ _ c.requires.field (over_of_row _ _ _ c.requires.field c.len.ensures.well_formed c.requires.fits)
 
-pub get-entry-requires : goal.get-entry-requires
-get-entry-requires c =
+pub cancel-requires-clause-index : goal.cancel-requires-clause-index
+cancel-requires-clause-index c =
     let are : AreSteps c.args.self.now.order c.args.self.now.cols c.deref-step-items.result.now =
     rw (c.deref-step-items.ensures.value, ← c.self.view_is) c.self.invariant.are_steps in
     let below : c.loop-step.step-index < length c.deref-step-items.result.now = omega (arith, c.loop-step-test.true) in
@@ -22,16 +21,10 @@ loop-step-preserved c =
     let are : AreSteps c.args.self.now.order c.args.self.now.cols c.deref-step-items.result.now =
     rw (c.deref-step-items.ensures.value, ← c.self.view_is) c.self.invariant.are_steps in
     let below : c.loop-step.step-index < length c.deref-step-items.result.now = omega (arith, c.loop-step-test.true) in
-    elim c.if-entry-ne0.branch [
-      | then-entry-ne0 w ↦
-          rw w.row-is (reduce_step c.args.self.now.order c.field.result.now c.args.self.now.cols c.deref-step-items.result.now c.loop-step.step-index
-          c.step-item.result c.args.row.now c.loop-step.row w.add_scaled.new.self w.neg-factor.result c.get-entry.result are below c.step-item.is
-          c.loop-step.invariant (c.field.ensures.order ∙ c.requires.field) w.neg-factor.ensures.element w.neg-factor.ensures.value
-          c.get-entry.ensures.entry w.add_scaled.ensures.sum w.add_scaled.ensures.as_long w.add_scaled.ensures.well_formed)
-      | else-entry-ne0 w ↦
-          rw w.row-is (reduce_step_none _ _ _ c.loop-step.step-index c.step-item.result _ c.loop-step.row c.get-entry.result
-          are below c.step-item.is c.loop-step.invariant c.get-entry.ensures.entry w.if-entry-ne0.false)
-    ]
+    reduce_step c.args.self.now.order c.loop-step.row.order c.args.self.now.cols c.deref-step-items.result.now c.loop-step.step-index
+    c.step-item.result c.args.row.now c.loop-step.row c.cancel.new.self c.cancel.result _ are below c.step-item.is
+    c.loop-step.invariant c.loop-step.invariant.field c.cancel.ensures.element c.cancel.ensures.factor refl
+    c.cancel.ensures.sum c.cancel.ensures.as_long c.cancel.ensures.well_formed
 
 pub returns-clause-representative : goal.returns-clause-representative
 returns-clause-representative c =

@@ -2,16 +2,15 @@ use Rattle.std.proofs.Common.{◌≡◌, ◌<◌, ◌≤◌, length, sym, ◌∙
 use Rattle.axe_echelon.specs.Steps.{AreSteps, inserted_rows}
 use Rattle.axe_echelon.specs.Subspaces.{step_of, steps_of}
 use Rattle.axe_echelon.proofs.StepLaws.{over_of_row, is_row_of_over, step_at, step_place, echelon_of_steps}
-use Rattle.axe_echelon.proofs.ClearingLaws.{reduced_so_far_none, reduce_step, reduce_step_none, reduced_all}
+use Rattle.axe_echelon.proofs.ClearingLaws.{reduced_so_far_none, reduce_step, reduced_all}
 use Rattle.axe_echelon.proofs.SubspaceLaws.{length-steps_from, step_of_row}
-use Rattle.axe_echelon.proofs.subspace.Subspace.reduce.Goals.{then-entry-ne0, else-entry-ne0}
 use Rattle.axe_echelon.proofs.subspace.Subspace.reduce.Goals as goal
 
 pub loop-pivot_row-init : goal.loop-pivot_row-init
-loop-pivot_row-init c = reduced_so_far_none _ _ _ _ c.requires.field (over_of_row _ _ _ c.requires.field c.field.ensures.well_formed c.requires.fits)
+loop-pivot_row-init c = reduced_so_far_none _ _ _ _ c.requires.field (over_of_row _ _ _ c.requires.field c.len.ensures.well_formed c.requires.fits)
 
-pub get-entry-requires : goal.get-entry-requires
-get-entry-requires c =
+pub cancel-requires-clause-index : goal.cancel-requires-clause-index
+cancel-requires-clause-index c =
     let are : AreSteps c.args.self.now.order c.args.self.now.cols (steps_of c.args.self.now.order c.args.self.now.cols c.deref-pivot_row-items.result.now) =
     rw (c.deref-pivot_row-items.ensures.value, ← c.self.view_is) c.self.invariant.are_steps in
     let inside : c.loop-pivot_row.pivot_row-index < length c.deref-pivot_row-items.result.now = omega (arith, c.loop-pivot_row-test.true) in
@@ -21,8 +20,8 @@ get-entry-requires c =
     are below (step_of_row _ _ _ _ _ inside c.pivot_row-item.is) in
     omega (arith, place, c.loop-pivot_row.invariant.over.length_is)
 
-pub add_scaled-requires-clause-field : goal.add_scaled-requires-clause-field
-add_scaled-requires-clause-field c =
+pub cancel-requires-clause-field : goal.cancel-requires-clause-field
+cancel-requires-clause-field c =
     let are : AreSteps c.args.self.now.order c.args.self.now.cols (steps_of c.args.self.now.order c.args.self.now.cols c.deref-pivot_row-items.result.now) =
     rw (c.deref-pivot_row-items.ensures.value, ← c.self.view_is) c.self.invariant.are_steps in
     let inside : c.loop-pivot_row.pivot_row-index < length c.deref-pivot_row-items.result.now = omega (arith, c.loop-pivot_row-test.true) in
@@ -32,8 +31,8 @@ add_scaled-requires-clause-field c =
     are below (step_of_row _ _ _ _ _ inside c.pivot_row-item.is) in
     at.row_field ∙ sym c.loop-pivot_row.invariant.field
 
-pub add_scaled-requires-clause-fits : goal.add_scaled-requires-clause-fits
-add_scaled-requires-clause-fits c =
+pub cancel-requires-clause-fits : goal.cancel-requires-clause-fits
+cancel-requires-clause-fits c =
     let are : AreSteps c.args.self.now.order c.args.self.now.cols (steps_of c.args.self.now.order c.args.self.now.cols c.deref-pivot_row-items.result.now) =
     rw (c.deref-pivot_row-items.ensures.value, ← c.self.view_is) c.self.invariant.are_steps in
     let inside : c.loop-pivot_row.pivot_row-index < length c.deref-pivot_row-items.result.now = omega (arith, c.loop-pivot_row-test.true) in
@@ -52,19 +51,11 @@ loop-pivot_row-preserved c =
     omega (arith, inside, length-steps_from c.args.self.now.order c.args.self.now.cols 0 c.deref-pivot_row-items.result.now) in
     let is = step_of_row c.args.self.now.order c.args.self.now.cols c.deref-pivot_row-items.result.now c.loop-pivot_row.pivot_row-index c.pivot_row-item.result
     inside c.pivot_row-item.is in
-    elim c.if-entry-ne0.branch [
-      | then-entry-ne0 w ↦
-          rw w.row-is (reduce_step c.args.self.now.order c.field.result.now c.args.self.now.cols
-          (steps_of c.args.self.now.order c.args.self.now.cols c.deref-pivot_row-items.result.now) c.loop-pivot_row.pivot_row-index
-          (step_of c.args.self.now.order c.args.self.now.cols c.loop-pivot_row.pivot_row-index c.pivot_row-item.result) c.args.row.now c.loop-pivot_row.row
-          w.add_scaled.new.self w.neg-factor.result c.get-entry.result are below is
-          c.loop-pivot_row.invariant (c.field.ensures.order ∙ c.requires.field) w.neg-factor.ensures.element w.neg-factor.ensures.value
-          c.get-entry.ensures.entry w.add_scaled.ensures.sum w.add_scaled.ensures.as_long w.add_scaled.ensures.well_formed)
-      | else-entry-ne0 w ↦
-          rw w.row-is (reduce_step_none _ _ _ c.loop-pivot_row.pivot_row-index
-          (step_of c.args.self.now.order c.args.self.now.cols c.loop-pivot_row.pivot_row-index c.pivot_row-item.result) _ c.loop-pivot_row.row c.get-entry.result
-          are below is c.loop-pivot_row.invariant c.get-entry.ensures.entry w.if-entry-ne0.false)
-    ]
+    reduce_step c.args.self.now.order c.loop-pivot_row.row.order c.args.self.now.cols
+    (steps_of c.args.self.now.order c.args.self.now.cols c.deref-pivot_row-items.result.now) c.loop-pivot_row.pivot_row-index
+    (step_of c.args.self.now.order c.args.self.now.cols c.loop-pivot_row.pivot_row-index c.pivot_row-item.result) c.args.row.now c.loop-pivot_row.row
+    c.cancel.new.self c.cancel.result _ are below is c.loop-pivot_row.invariant c.loop-pivot_row.invariant.field c.cancel.ensures.element c.cancel.ensures.factor refl
+    c.cancel.ensures.sum c.cancel.ensures.as_long c.cancel.ensures.well_formed
 
 pub returns-clause-representative : goal.returns-clause-representative
 returns-clause-representative c =
