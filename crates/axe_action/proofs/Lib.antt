@@ -6,6 +6,8 @@ pub mod SubRows
 pub mod SubBases
 pub mod QuotientSpans
 pub mod QuotientRows
+pub mod ModuloLaws
+pub mod QuotientImages
 pub mod DualLaws
 pub mod BasisLaws
 pub mod ConjugateLaws

@@ -3,7 +3,7 @@ use Rattle.std.specs.Prelude.{◌≡◌, ℕ, ◌<◌, List, [], length, get_or}
 use Rattle.axe_algebra.specs.Bridge.{matrix_of}
 use Rattle.axe_algebra.specs.Reduced.{IsAscendingListOf}
 use Rattle.axe_algebra.specs.Actions.{IsFree}
-use Rattle.axe_algebra.specs.Lists.{IsVectorOver}
+use Rattle.axe_algebra.specs.Lists.{IsVectorOver, unit_row}
 use Rattle.axe_algebra.specs.SpansOfLists.{IsRepresentative}
 use Rattle.axe_field.specs.NumberFields.{number_field, gf}
 use Rattle.axe_matrix.specs.Matrices.{MatrixValue, IsMatrix}
@@ -25,11 +25,31 @@ pub record IsRowModulo (e : EchelonValue) (columns v row : List ℕ) : Type 0 wh
   pub represents : IsRepresentative (number_field e.order) e.rows v representative
   pub entries : (s : ℕ) → s < length columns → get_or row s 0 ≡ get_or representative (get_or columns s 0) 0
 
--- the matrix has the rows of g at the first i of these columns, modulo the rows' span
-pub record HasRowsModulo (e : EchelonValue) (columns : List ℕ) (g : List (List ℕ)) (i : ℕ) (action : MatrixValue) :
+-- the matrix has as its rows the first i of these vectors modulo the rows' span
+pub record HasRowsModulo (e : EchelonValue) (columns : List ℕ) (vectors : ℕ → List ℕ) (i : ℕ) (matrix : MatrixValue) :
     Type 0 where
-  pub field : action.order ≡ e.order
-  pub width : action.cols ≡ length columns
-  pub count : length action.rows ≡ i
-  pub well_formed : IsMatrix action
-  pub each : (t : ℕ) → t < i → IsRowModulo e columns (get_or g (get_or columns t 0) []) (get_or action.rows t [])
+  pub field : matrix.order ≡ e.order
+  pub width : matrix.cols ≡ length columns
+  pub count : length matrix.rows ≡ i
+  pub well_formed : IsMatrix matrix
+  pub each : (t : ℕ) → t < i → IsRowModulo e columns (vectors t) (get_or matrix.rows t [])
+
+-- the matrix has as its rows all unit vectors modulo the rows' span, in order
+abbrev pub HasUnitsModulo : EchelonValue → List ℕ → MatrixValue → Type 0
+HasUnitsModulo e columns matrix = HasRowsModulo e columns (unit_row e.cols) e.cols matrix
+
+-- the rows of a matrix, as the rows of a span
+abbrev pub rows_to_span : MatrixValue → EchelonValue
+rows_to_span rows = record { order = rows.order; cols = rows.cols; rows = rows.rows }
+
+-- the row of g with the index that is number t of the list
+abbrev pub row_at : List (List ℕ) → List ℕ → ℕ → List ℕ
+row_at g indices t = get_or g (get_or indices t 0) []
+
+-- the matrix has as its rows those of m with the first i of these indices
+pub record HasRowsAt (m : MatrixValue) (indices : List ℕ) (i : ℕ) (matrix : MatrixValue) : Type 0 where
+  pub field : matrix.order ≡ m.order
+  pub width : matrix.cols ≡ m.cols
+  pub count : length matrix.rows ≡ i
+  pub well_formed : IsMatrix matrix
+  pub each : (t : ℕ) → t < i → get_or matrix.rows t [] ≡ row_at m.rows indices t

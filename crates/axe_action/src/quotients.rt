@@ -1,17 +1,22 @@
 //! The action of a module modulo an invariant space.
 
 ghost use Rattle.std.specs.Prelude.{◌≡◌, ◌<◌, ◌≤◌, ◌↔◌, length, All, IsTrue, None, IfOk};
-ghost use Rattle.axe_row.specs.Refusals.{Answers, AnswersOr};
-ghost use Rattle.axe_matrix.specs.Matrices.{IsMatrix};
-ghost use Rattle.axe_echelon.specs.Echelons.{IsEchelon, IsSpanOfRows};
+ghost use Rattle.axe_algebra.specs.Lists.{unit_row};
+ghost use Rattle.axe_row.specs.Refusals.{Answers, AnswersOr, RefusedAs};
+ghost use Rattle.axe_row.specs.declared.refusals.Refusal.TheVariants.{NotInvariant};
+ghost use Rattle.axe_matrix.specs.Limits.{most_rows};
+ghost use Rattle.axe_matrix.specs.Matrices.{IsMatrix, matrix_product};
+ghost use Rattle.axe_echelon.specs.Echelons.{IsEchelon};
 ghost use Rattle.axe_spin.specs.Modules.{IsModule, rows_refusal, IsInvariantIn};
-ghost use Rattle.axe_action.specs.Actions.{quotient_late, IsActionModulo, IsProperActionModulo};
+ghost use Rattle.axe_spin.specs.Spinning.{has_only_zeros};
+ghost use Rattle.axe_action.specs.Actions.{quotient_late, action_late, IsActionModulo, IsProperActionModulo};
 ghost use Rattle.axe_action.specs.Coordinates.{HasImagesIn};
 ghost use Rattle.axe_action.specs.FreeColumns.{IsFreeColumn, AreFreeColumns, IsRowModulo, HasRowsModulo};
+ghost use Rattle.axe_action.specs.FreeColumns.{HasUnitsModulo, HasRowsAt, rows_to_span, row_at};
 
 use axe_echelon::{Echelon, span_of};
 use axe_matrix::{Matrix, Refusal, Row};
-use axe_spin::Module;
+use axe_spin::{Module, has_only_zeros};
 use std::alloc::Global;
 
 /// The action of a module modulo the span of the rows of a matrix, which may be zero, over the unit vectors of the
@@ -29,77 +34,11 @@ pub fn quotient_action(alloc: Global, module: &Module, rows: &Matrix) -> Result<
     if span.rank() == module.dim() {
         return Err(Refusal::WholeSpace);
     }
-    if !is_invariant(alloc, module, &span, rows)? {
-        return Err(Refusal::NotInvariant);
-    }
-    action_modulo(alloc, module, &span)
-}
-
-/// Whether the span of rows, which is given too, is invariant in a module.
-fn is_invariant(
-    alloc: Global,
-    module: &Module,
-    span: &Echelon,
-    rows: &Matrix,
-) -> Result<bool, Refusal>
-    requires span { IsSpanOfRows rows.now span.now }
-    requires well_formed { IsMatrix rows.now }
-    requires field { rows.now.order ≡ «module».now.order }
-    requires fits { rows.now.cols ≡ «module».now.dim }
-    ensures { Answers None (λ invariant. IsTrue invariant ↔ IsInvariantIn «module».now rows.now) result }
-{
-    for number in 0..module.gens() {
-        if !has_images_in(alloc, module.generator(number), span, rows)? {
-            return Ok(false);
-        }
-    }
-    Ok(true)
-}
-
-/// Whether rows times a square matrix are in a span.
-fn has_images_in(
-    alloc: Global,
-    generator: &Matrix,
-    span: &Echelon,
-    rows: &Matrix,
-) -> Result<bool, Refusal>
-    requires square { length generator.now.rows ≡ generator.now.cols }
-    requires span_field { span.now.order ≡ generator.now.order }
-    requires span_fits { span.now.cols ≡ generator.now.cols }
-    requires field { rows.now.order ≡ generator.now.order }
-    requires fits { rows.now.cols ≡ generator.now.cols }
-    ensures { Answers None (λ within. IsTrue within ↔ HasImagesIn generator.now rows.now.rows span.now.rows) result }
-{
-    let images = rows.mul(alloc, generator)?;
-    for index in 0..images.rows() {
-        let mut image = images.row(index).copy(alloc)?;
-        span.reduce(&mut image);
-        if !image.is_zero() {
-            return Ok(false);
-        }
-    }
-    Ok(true)
-}
-
-/// The action of a module modulo an invariant span other than everything.
-fn action_modulo(alloc: Global, module: &Module, span: &Echelon) -> Result<Module, Refusal>
-    requires field { span.now.order ≡ «module».now.order }
-    requires fits { span.now.cols ≡ «module».now.dim }
-    requires proper { length span.now.rows < «module».now.dim }
-    ensures action { Answers None (IsActionModulo «module».now (record {
-      order = span.now.order;
-      cols = span.now.cols;
-      rows = span.now.rows;
-    })) result }
-    ensures well_formed { IfOk result IsModule }
-{
-    let columns = free_columns(alloc, span)?;
-    let mut actions = Vec::new(alloc);
-    for number in 0..module.gens() {
-        let action = generator_modulo(alloc, module.generator(number), span, &columns)?;
-        actions.push(action)?;
-    }
-    Module::new(actions)
+    let columns = free_columns(alloc, &span)?;
+    let units = units_modulo(alloc, &span, &columns)?;
+    // Its memory is free again before the products are made.
+    drop(span);
+    action_modulo(alloc, module, rows, &columns, &units)
 }
 
 /// The columns that are no pivots of a span, ascending.
@@ -124,38 +63,120 @@ fn is_free(span: &Echelon, column: usize) -> bool
     !span.is_pivot(column)
 }
 
-/// The matrix by which a generator acts modulo a span: its rows at the columns that are no pivots, reduced, at these
-/// columns.
+/// The matrix of all unit vectors modulo a span, in order, so that a vector times it is the vector modulo the span: the
+/// entries, at the columns that are no pivots, of the one vector of the coset that is 0 at each pivot.
+fn units_modulo(alloc: Global, span: &Echelon, columns: &[usize]) -> Result<Matrix, Refusal>
+    requires free { AreFreeColumns span.now columns.now }
+    requires some_column { 1 ≤ length columns.now }
+    ensures { Answers None (HasUnitsModulo span.now columns.now) result }
+{
+    let mut units = Matrix::empty(alloc, *span.field(), columns.len());
+    for column in 0..span.cols() {
+        let row = unit_modulo(alloc, span, columns, column)?;
+        units.append(row)?;
+    }
+    Ok(units)
+}
+
+/// The unit vector of a column modulo a span.
+fn unit_modulo(
+    alloc: Global,
+    span: &Echelon,
+    columns: &[usize],
+    column: usize,
+) -> Result<Row, Refusal>
+    requires within { All (λ column. column < span.now.cols) columns.now }
+    requires below { column < span.now.cols }
+    ensures modulo { Answers None
+        (λ row. IsRowModulo span.now columns.now (unit_row span.now.cols column) row.entries) result }
+    ensures same_field { Answers None (λ row. row.order ≡ span.now.order) result }
+{
+    let mut unit = Row::unit(alloc, *span.field(), span.cols(), column)?;
+    span.reduce(&mut unit);
+    unit.select(alloc, columns)
+}
+
+/// The action of a module modulo the span of rows, over the unit vectors of the columns that are no pivots. All unit
+/// vectors modulo the span are given too.
+fn action_modulo(
+    alloc: Global,
+    module: &Module,
+    rows: &Matrix,
+    columns: &[usize],
+    units: &Matrix,
+) -> Result<Module, Refusal>
+    requires field { rows.now.order ≡ «module».now.order }
+    requires fits { rows.now.cols ≡ «module».now.dim }
+    requires well_formed { IsMatrix rows.now }
+    requires free { AreFreeColumns (rows_to_span rows.now) columns.now }
+    requires columns_fit { length columns.now ≤ most_rows }
+    requires units { HasUnitsModulo (rows_to_span rows.now) columns.now units.now }
+    ensures action { AnswersOr None
+        (λ action. IsInvariantIn «module».now rows.now × IsActionModulo «module».now rows.now action)
+        (action_late «module».now rows.now) result }
+    ensures well_formed { IfOk result IsModule }
+{
+    let mut actions = Vec::new(alloc);
+    for number in 0..module.gens() {
+        let action = generator_modulo(alloc, module.generator(number), rows, columns, units)?;
+        actions.push(action)?;
+    }
+    Module::new(actions)
+}
+
+/// The matrix by which a generator acts modulo the span of rows: its rows at the columns that are no pivots, modulo the
+/// span. Its product with all unit vectors modulo the span has all its rows modulo the span, and the product of the
+/// rows with that product has their images modulo the span: they are zero exactly where the images are in the span,
+/// else the rows are refused as NotInvariant.
 fn generator_modulo(
     alloc: Global,
     generator: &Matrix,
-    span: &Echelon,
+    rows: &Matrix,
     columns: &[usize],
+    units: &Matrix,
 ) -> Result<Matrix, Refusal>
-    requires field { generator.now.order ≡ span.now.order }
-    requires fits { generator.now.cols ≡ span.now.cols }
-    requires square { length generator.now.rows ≡ span.now.cols }
-    requires free { AreFreeColumns span.now columns.now }
-    requires some_column { 1 ≤ length columns.now }
-    ensures { Answers None (HasRowsModulo span.now columns.now generator.now.rows (length columns.now)) result }
+    requires square { length generator.now.rows ≡ generator.now.cols }
+    requires generator_well_formed { IsMatrix generator.now }
+    requires field { rows.now.order ≡ generator.now.order }
+    requires fits { rows.now.cols ≡ generator.now.cols }
+    requires well_formed { IsMatrix rows.now }
+    requires free { AreFreeColumns (rows_to_span rows.now) columns.now }
+    requires columns_fit { length columns.now ≤ most_rows }
+    requires units { HasUnitsModulo (rows_to_span rows.now) columns.now units.now }
+    ensures { AnswersOr None
+        (λ action. HasImagesIn generator.now rows.now.rows rows.now.rows
+        × HasRowsModulo (rows_to_span rows.now) columns.now (row_at generator.now.rows columns.now)
+        (length columns.now) action)
+        (RefusedAs NotInvariant (¬ (HasImagesIn generator.now rows.now.rows rows.now.rows))) result }
 {
-    let mut action = Matrix::empty(alloc, *span.field(), columns.len());
-    for column in columns {
-        let row = row_modulo(alloc, generator.row(*column), span, columns)?;
-        action.append(row)?;
+    let images = generator.mul(alloc, units)?;
+    if !has_zero_product(alloc, rows, &images)? {
+        return Err(Refusal::NotInvariant);
     }
-    Ok(action)
+    rows_at(alloc, &images, columns)
 }
 
-/// The entries at some columns of the one vector of a row's coset modulo a span that is 0 at each pivot.
-fn row_modulo(alloc: Global, row: &Row, span: &Echelon, columns: &[usize]) -> Result<Row, Refusal>
-    requires field { row.now.order ≡ span.now.order }
-    requires fits { length row.now.entries ≡ span.now.cols }
-    requires within { All (λ column. column < span.now.cols) columns.now }
-    ensures modulo { Answers None (λ entries. IsRowModulo span.now columns.now row.now.entries entries.entries) result }
-    ensures same_field { Answers None (λ entries. entries.order ≡ span.now.order) result }
+/// Whether the product of two matrices is zero.
+fn has_zero_product(alloc: Global, first: &Matrix, second: &Matrix) -> Result<bool, Refusal>
+    requires field { first.now.order ≡ second.now.order }
+    requires fits { first.now.cols ≡ length second.now.rows }
+    ensures { Answers None
+        (λ zero. zero ≡ has_only_zeros (matrix_product first.now second.now).rows) result }
 {
-    let mut rest = row.copy(alloc)?;
-    span.reduce(&mut rest);
-    rest.select(alloc, columns)
+    let product = first.mul(alloc, second)?;
+    Ok(has_only_zeros(&product))
+}
+
+/// The matrix of the rows of a matrix with these indices, in their order.
+fn rows_at(alloc: Global, matrix: &Matrix, indices: &[usize]) -> Result<Matrix, Refusal>
+    requires within { All (λ index. index < length matrix.now.rows) indices.now }
+    requires indices_fit { length indices.now ≤ most_rows }
+    ensures { Answers None (HasRowsAt matrix.now indices.now (length indices.now)) result }
+{
+    let mut chosen = Matrix::empty(alloc, *matrix.field(), matrix.cols());
+    for index in indices {
+        let row = matrix.row(*index).copy(alloc)?;
+        chosen.append(row)?;
+    }
+    Ok(chosen)
 }
