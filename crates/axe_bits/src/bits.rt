@@ -302,6 +302,7 @@ impl BitPlane {
     }
 
     /// The index of the first digit other than 0 from an index on, or `None` where every digit from there on is 0.
+    #[inline]
     pub fn next_nonzero(&self, start: usize) -> Option<usize>
         ensures { MatchOption result (AreZerosFrom self.now start) (IsNextNonzero self.now start) }
     {
@@ -310,6 +311,7 @@ impl BitPlane {
 
     /// The index of the first digit other than 0 from an index on, or `None` where every digit from there on and before
     /// an end is 0. The words past that of the end are not looked at, so a digit past the end may be found or not.
+    #[inline]
     pub(crate) fn next_before(&self, start: usize, end: usize) -> Option<usize>
         requires { end ≤ length self.now }
         ensures { MatchOption result (AreZerosBetween self.now start end) (IsNextNonzero self.now start) }

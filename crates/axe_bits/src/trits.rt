@@ -217,7 +217,9 @@ impl TritPlane {
         self.next_nonzero(0)
     }
 
-    /// The index of the first digit other than 0 from an index on, or `None` where every digit from there on is 0.
+    /// The index of the first digit other than 0 from an index on, or `None` where every digit from there on is 0. It
+    /// stands apart so that the search in any plane is short where it is asked most, modulo 2.
+    #[inline(never)]
     pub fn next_nonzero(&self, start: usize) -> Option<usize>
         ensures { MatchOption result (AreZerosFrom self.now start) (IsNextNonzero self.now start) }
     {

@@ -51,7 +51,9 @@ pub fn any_nonzero(words: &[u64]) -> bool
     first_nonzero_word(words).is_some()
 }
 
-/// The least index of a set bit, or `None` where no bit is set. Bit i of the list is bit i mod 64 of word i / 64.
+/// The least index of a set bit, or `None` where no bit is set. Bit i of the list is bit i mod 64 of word i / 64. It
+/// stands apart so that a search that ends in its first word is short.
+#[inline(never)]
 pub fn first_set(words: &[u64]) -> Option<usize>
     requires { 64 * length words.now ≤ 2 ^ 64 }
     ensures { MatchOption result (HasNoSetBit words.now) (IsFirstSetBit words.now) }

@@ -412,6 +412,7 @@ impl Plane {
     }
 
     /// The index of the first digit other than 0 from an index on, or `None` where every digit from there on is 0.
+    #[inline]
     pub fn next_nonzero(&self, start: usize) -> Option<usize>
         ensures { MatchOption result (AreZerosFrom (digits_of self.now) start)
             (IsNextNonzero (digits_of self.now) start) }

@@ -8,6 +8,7 @@ use axe_bits::earlier;
 impl Row {
     /// The index of the first entry other than 0 from an index on, counted from 0, or `None` where every entry from
     /// there on is 0.
+    #[inline]
     pub fn next_nonzero(&self, start: usize) -> Option<usize>
         requires { start ≤ length self.now.entries }
         ensures { MatchOption result (AreZerosFrom self.now.entries start) (IsNextNonzero self.now.entries start) }
@@ -15,6 +16,16 @@ impl Row {
         if self.field.degree() == 1 {
             return self.constant.next_nonzero(start);
         }
+        self.next_by_planes(start)
+    }
+
+    /// The index of the first entry other than 0 from an index on, by the planes. It stands apart so that
+    /// `next_nonzero` is short over prime fields.
+    #[inline(never)]
+    fn next_by_planes(&self, start: usize) -> Option<usize>
+        requires { start ≤ length self.now.entries }
+        ensures { MatchOption result (AreZerosFrom self.now.entries start) (IsNextNonzero self.now.entries start) }
+    {
         let high = earlier(
             self.linear.next_nonzero(start),
             self.quadratic.next_nonzero(start),

@@ -156,6 +156,7 @@ impl Row {
     }
 
     /// Makes an element the entry at an index; all other entries stay.
+    #[inline]
     pub fn set(&mut self, index: usize, element: u8)
         requires index { index < length self.old.entries }
         requires element { IsElement self.old.order element }
@@ -170,7 +171,9 @@ impl Row {
         }
     }
 
-    /// Makes an element the entry at an index by its coefficients; all other entries stay.
+    /// Makes an element the entry at an index by its coefficients; all other entries stay. It stands apart so that `set`
+    /// is short over prime fields.
+    #[inline(never)]
     fn set_by_planes(&mut self, index: usize, element: u8)
         requires index { index < length self.old.entries }
         requires element { IsElement self.old.order element }
