@@ -6,7 +6,7 @@ ghost use Rattle.axe_algebra.specs.Digits.{number_with_digits};
 ghost use Rattle.axe_algebra.specs.Lists.{listed};
 ghost use Rattle.axe_lane.specs.Bytes.{multiple_modulo, sum_of_products};
 ghost use Rattle.axe_lane.specs.Entries.{IsFirstNonzero, AreZerosBetween, AreZerosFrom, IsNextNonzero};
-ghost use Rattle.axe_bits.specs.Bits.{bits, HoldsBits};
+ghost use Rattle.axe_bits.specs.Bits.{bit_of, bits, HoldsBits};
 ghost use Rattle.axe_bits.specs.Digits.{AreDigits, digits_at, digits_with_four, digits_with_multiple};
 ghost use Rattle.axe_bits.specs.Digits.{AreSmallSums, numbers_with_multiple};
 ghost use Rattle.axe_bits.specs.Digits.{number_from, numbers_from};
@@ -87,7 +87,7 @@ impl BitPlane {
         ensures { result ≡ slice_index self.now index }
     {
         if index < self.len {
-            ((self.words[index / WORD] >> (index % WORD)) & 1) as u8
+            bit_in(&self.words, index)
         } else {
             0
         }
@@ -344,6 +344,16 @@ impl BitPlane {
     {
         self.len == other.len && self.words == other.words
     }
+}
+
+/// The bit at an index of a list of words, counted from the lowest bit of the first word.
+#[inline]
+pub(crate) fn bit_in(words: &[u64], index: usize) -> u8
+    requires { index / 64 < length words.now }
+    ensures bit { result ≡ bit_of words.now index }
+    ensures small { result < 2 }
+{
+    ((words[index / WORD] >> (index % WORD)) & 1) as u8
 }
 
 /// Adds the digits modulo 3 that two layers hold to those of two others: each digit becomes the sum modulo 3.

@@ -9,7 +9,7 @@ ghost use Rattle.axe_bits.specs.Trits.{trits, HoldLayers};
 ghost use Rattle.axe_bits.specs.Digits.{AreDigits, digits_with_multiple};
 ghost use Rattle.axe_bits.specs.Digits.{AreSmallSums, numbers_with_multiple, numbers_from};
 
-use crate::bits::add_layers;
+use crate::bits::{add_layers, bit_in};
 use crate::{BitPlane, earlier};
 use axe_lane::dot_trits;
 use std::alloc::{AllocError, Global};
@@ -64,10 +64,15 @@ impl TritPlane {
     }
 
     /// The digit at an index, counted from 0, and 0 from the length on.
+    #[inline]
     pub fn get(&self, index: usize) -> u8
         ensures { result ≡ slice_index self.now index }
     {
-        self.ones.get(index) + 2 * self.twos.get(index)
+        if index >= self.len() {
+            return 0;
+        }
+        let (ones, twos) = self.layers();
+        bit_in(ones, index) + 2 * bit_in(twos, index)
     }
 
     /// Four numbers in a base up to 9, the digits of each being up to four of the plane's, most significant first:

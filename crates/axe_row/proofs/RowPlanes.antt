@@ -1,5 +1,5 @@
 -- Rows as planes of coefficients.
-use Rattle.std.proofs.Common.{◌≡◌, ℕ, ◌+◌, ◌*◌, ◌<◌, Bool, true, false, List, length, get_or, set, replicate, cond, ltb, refl, sym, ap, subst, ◌∙◌, arith, inl, inr, lit<, get_or-set_other, get_or-set_same}
+use Rattle.std.proofs.Common.{◌≡◌, ◌≢◌, ℕ, ◌+◌, ◌*◌, ◌<◌, Bool, true, false, List, length, get_or, set, replicate, cond, ltb, refl, sym, ap, subst, ◌∙◌, arith, inl, inr, lit<, get_or-set_other, get_or-set_same}
 use Rattle.std.proofs.lemmas.Bool.{cases_eq}
 use Rattle.std.proofs.lemmas.List.{ext_get_or, get_or_past, get_or-replicate, length-replicate, length-set}
 use Rattle.axe_algebra.specs.Lists.{entry}
@@ -47,6 +47,17 @@ constant_is_there Five n = refl
 constant_is_there Seven n = refl
 constant_is_there Eight n = refl
 constant_is_there Nine n = refl
+
+-- where the degree is not 3 there are no coefficients of x^2
+pub no_quadratic : (o : Order) (n : ℕ) (q : Plane) → IsPlaneOf (prime_of o) (cond (ltb 2 (degree_of o)) n 0) q →
+    degree_of o ≢ 3 → length (digits_of q) ≡ 0
+no_quadratic Two n q h not_three = h.long
+no_quadratic Three n q h not_three = h.long
+no_quadratic Four n q h not_three = h.long
+no_quadratic Five n q h not_three = h.long
+no_quadratic Seven n q h not_three = h.long
+no_quadratic Eight n q h not_three = absurd (not_three refl)
+no_quadratic Nine n q h not_three = h.long
 
 -- a digit of a plane that may not be there
 coefficient_within : (b : Bool) (p n : ℕ) (digits : List ℕ) (e : ℕ) → length digits ≡ cond b n 0 → 0 < p → AreDigits p digits →

@@ -27,7 +27,7 @@ use axe_bits::earlier;
 use axe_field::Field;
 use axe_plane::Plane;
 pub use combos::{Combos, most_combined};
-use planes::{add_multiples, digits_in_plane, element, plane_of};
+use planes::{add_multiples, digits_in_plane, element, plane_of, quadratic_at};
 pub use refusals::Refusal;
 use scaling::exponent;
 use std::alloc::Global;
@@ -151,7 +151,7 @@ impl Row {
     {
         let constant = self.constant.get(index);
         let linear = self.linear.get(index);
-        let quadratic = self.quadratic.get(index);
+        let quadratic = quadratic_at(&self.field, &self.quadratic, index);
         element(&self.field, constant, linear, quadratic)
     }
 

@@ -1,9 +1,10 @@
 //! The planes of a row: the coefficients of 1, of x and of x^2 of its entries.
-ghost use Rattle.std.specs.Prelude.{◌≡◌, ◌<◌, IfOk, cond, ltb};
+ghost use Rattle.std.specs.Prelude.{◌≡◌, ◌≢◌, ◌<◌, IfOk, cond, length, ltb, slice_index};
 ghost use Rattle.axe_field.specs.Order.{prime_of, degree_of};
 ghost use Rattle.axe_field.specs.Planes.{IsCoefficient, element_of};
+ghost use Rattle.axe_bits.specs.Digits.{AreDigits, digits_with_multiple};
 ghost use Rattle.axe_plane.specs.Planes.{prime_of_plane, digits_of, IsPlane};
-ghost use Rattle.axe_row.specs.Planes.{AreAddable, coefficients_at, digits_with_multiples};
+ghost use Rattle.axe_row.specs.Planes.{AreAddable, IsAddable, coefficients_at, digits_with_multiples};
 
 use axe_field::Field;
 use axe_plane::Plane;
@@ -35,6 +36,19 @@ pub(crate) fn plane_of(
     }
 }
 
+/// The coefficient of x^2 at an index, which is 0 without a look at its plane where the degree of the field is not 3.
+#[inline]
+pub(crate) fn quadratic_at(field: &Field, quadratic: &Plane, index: usize) -> u8
+    requires { degree_of field.now ≢ 3 → length (digits_of quadratic.now) ≡ 0 }
+    ensures { result ≡ slice_index (digits_of quadratic.now) index }
+{
+    if field.degree() == 3 {
+        quadratic.get(index)
+    } else {
+        0
+    }
+}
+
 /// The element with these coefficients of 1, x and x^2.
 pub(crate) fn element(field: &Field, constant: u8, linear: u8, quadratic: u8) -> u8
     requires constant { constant < prime_of field.now }
@@ -61,7 +75,20 @@ pub(crate) fn add_multiples(
         (digits_with_multiples (prime_of_plane plane.old) (digits_of plane.old) factors
         (digits_of constant.now) (digits_of linear.now) (digits_of quadratic.now)) plane.new }
 {
-    plane.add_scaled(factors[0], constant);
-    plane.add_scaled(factors[1], linear);
-    plane.add_scaled(factors[2], quadratic);
+    add_multiple(plane, factors[0], constant);
+    add_multiple(plane, factors[1], linear);
+    add_multiple(plane, factors[2], quadratic);
+}
+
+/// Adds a multiple of a plane to one. Factor 0, which stands wherever a power of x is beyond the degree, costs no call.
+#[inline]
+fn add_multiple(plane: &mut Plane, factor: u8, other: &Plane)
+    requires digits { AreDigits (prime_of_plane plane.old) (digits_of plane.old) }
+    requires addable { IsAddable plane.old factor other.now }
+    ensures { IsPlane (prime_of_plane plane.old)
+        (digits_with_multiple (prime_of_plane plane.old) (digits_of plane.old) factor (digits_of other.now)) plane.new }
+{
+    if factor != 0 {
+        plane.add_scaled(factor, other);
+    }
 }

@@ -1,0 +1,11 @@
+use Rattle.std.proofs.Common.{refl, arith}
+use Rattle.axe_bits.proofs.DigitLaws.{digits_with_multiple-none}
+use Rattle.axe_plane.proofs.PlaneLaws.{prime_of_plane-positive}
+use Rattle.axe_row.proofs.planes.add_multiple.Goals as goal
+
+pub returns-else-factor-ne0 : goal.returns-else-factor-ne0
+returns-else-factor-ne0 c = record {
+  prime = refl;
+  digits_are = digits_with_multiple-none _ _ _ _ (prime_of_plane-positive c.args.plane.now)
+      (omega (arith, c.if-factor-ne0.false)) c.requires.digits;
+}
