@@ -28,6 +28,8 @@ same | 2: 010/100/001 | 2: 010/001/100 | no
 /// - `identity`: the order of a field, how many rows, and the identity;
 /// - `zero`: the order of a field, how many rows and columns, and the matrix of zeros;
 /// - `append`: a matrix, a row, and the matrix with the row below its own;
+/// - `append_matrix`: a matrix, another, and the matrix with the rows of the other below its own;
+/// - `split`: a matrix, how many rows, the matrix of so many first rows, and that of those after them;
 /// - `copy`: a matrix, and its copy;
 /// - `block`: a matrix, rows and columns, and the block of these.
 const MADE: &str = "\
@@ -35,6 +37,11 @@ identity | 2 | 2 | 2: 10/01
 zero | 2 | 2 | 2 | 2: 00/00
 append | 3: 12 | 3: 01 | 3: 12/01
 append | 3: 0x2 | 3: 21 | 3: 21
+append_matrix | 3: 12 | 3: 01/22 | 3: 12/01/22
+append_matrix | 3: 12 | 3: 0x2 | 3: 12
+split | 3: 12/01/22 | 1 | 3: 12 | 3: 01/22
+split | 3: 12/01 | 0 | 3: 0x2 | 3: 12/01
+split | 3: 12/01 | 3 | 3: 12/01 | 3: 0x2
 copy | 2: 10/01 | 2: 10/01
 block | 2: 01/11 | 1..2 | 0..2 | 2: 11
 ";
@@ -128,6 +135,24 @@ fn appends(rt: &impl Abort, alloc: Global, line: &str) -> Result<bool, TableFaul
     is_matrix(alloc, Ok(matrix), wanted)
 }
 
+fn appends_matrix(rt: &impl Abort, alloc: Global, line: &str) -> Result<bool, TableFault> {
+    let (matrix, other, wanted) = three_fields(line)?;
+    let mut matrix = matrix_of(alloc, matrix)?;
+    let other = matrix_of(alloc, other)?;
+    assert!(rt; other.field() == matrix.field());
+    assert!(rt; other.cols() == matrix.cols());
+    assert!(rt; matrix.rows() + other.rows() <= MAX_ROWS);
+    matrix.append_matrix(other)?;
+    is_matrix(alloc, Ok(matrix), wanted)
+}
+
+fn splits(alloc: Global, line: &str) -> Result<bool, TableFault> {
+    let (matrix, count, wanted_first, wanted_after) = four_fields(line)?;
+    let matrix = matrix_of(alloc, matrix)?;
+    let (first, after) = matrix.split(alloc, number_of(count)?)?;
+    Ok(is_matrix(alloc, Ok(first), wanted_first)? && is_matrix(alloc, Ok(after), wanted_after)?)
+}
+
 fn takes_block(rt: &impl Abort, alloc: Global, line: &str) -> Result<bool, TableFault> {
     let (matrix, rows, columns, wanted) = four_fields(line)?;
     let (row, last_row) = range_of(rows)?;
@@ -210,6 +235,8 @@ pub(crate) fn answers(
         "identity" => makes_identity(rt, alloc, line),
         "zero" => makes_zero(alloc, line),
         "append" => appends(rt, alloc, line),
+        "append_matrix" => appends_matrix(rt, alloc, line),
+        "split" => splits(alloc, line),
         "block" => takes_block(rt, alloc, line),
         "copy" | "transpose" => gives_matrix(alloc, call, line),
         "mul" | "add" => combines(alloc, call, line),

@@ -17,3 +17,4 @@ mod FourTerms
 pub mod ProductRows
 mod ScaledFactors
 mod Appending
+mod SplitRows

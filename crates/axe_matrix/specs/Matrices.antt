@@ -1,5 +1,5 @@
 -- Matrices over one of the seven fields.
-use Rattle.std.specs.Prelude.{◌≡◌, ℕ, ◌+◌, ◌<◌, ◌≤◌, ◌==◌, ◌&&◌, not, List, [], ◌++◌, length, take, slice_index_or, All}
+use Rattle.std.specs.Prelude.{◌≡◌, ℕ, ◌+◌, ◌<◌, ◌≤◌, ◌==◌, ◌&&◌, not, List, [], ◌++◌, length, take, drop, slice_index_or, All}
 use Rattle.std.specs.Prelude.{Option, Some, None, if◌then◌else◌}
 use Rattle.axe_algebra.specs.Lists.{entry, listed, table}
 use Rattle.axe_algebra.specs.ListArithmetic.{combination, product, matrix_sum, transpose, identity}
@@ -31,6 +31,11 @@ pub record HasFirstRows (before other after : MatrixValue) : Type 0 where
   pub count : ℕ
   pub not_all : count < length other.rows
   pub rows : after ≡ record before { rows = before.rows ++ take count other.rows }
+
+-- the first `count` rows of a matrix, or all where there are no more, and those after them
+pub record AreSplit (m : MatrixValue) (count : ℕ) (first after : MatrixValue) : Type 0 where
+  pub first_rows : first ≡ record m { rows = take count m.rows }
+  pub rows_after : after ≡ record m { rows = drop count m.rows }
 
 -- row i of a matrix, counted from 0, as a row vector
 abbrev pub row_of : MatrixValue → ℕ → RowValue

@@ -1,9 +1,9 @@
-//! The zero matrix, the identity matrix, copies and blocks.
+//! The zero matrix, the identity matrix, copies, blocks, and rows that move from one matrix to another.
 
-ghost use Rattle.std.specs.Prelude.{◌≡◌, ◌+◌, ◌<◌, ◌≤◌, ◌++◌, length, None, IfOk, OnErr};
+ghost use Rattle.std.specs.Prelude.{◌≡◌, ◌+◌, ◌<◌, ◌≤◌, ◌++◌, length, take, drop, None, IfOk, OnErr};
 ghost use Rattle.axe_row.specs.Refusals.{Answers};
 ghost use Rattle.axe_matrix.specs.Limits.{most_rows, most_columns};
-ghost use Rattle.axe_matrix.specs.Matrices.{IsMatrix, HasFirstRows, zero_matrix, identity_matrix, matrix_block};
+ghost use Rattle.axe_matrix.specs.Matrices.{IsMatrix, AreSplit, HasFirstRows, zero_matrix, identity_matrix, matrix_block};
 
 use super::{Matrix, Refusal, Row};
 use axe_field::Field;
@@ -75,6 +75,42 @@ impl Matrix {
         Ok(())
     }
 
+    /// Moves the rows of another matrix over the same field, with as many columns, to the end. For want of memory the
+    /// matrix is unchanged.
+    pub fn append_matrix(&mut self, other: Matrix) -> Result<(), Refusal>
+        requires field { other.order ≡ self.old.order }
+        requires fits { other.cols ≡ self.old.cols }
+        requires room { length self.old.rows + length other.rows ≤ most_rows }
+        ensures rows { Answers None
+            (λ _. self.new ≡ record self.old { rows = self.old.rows ++ other.rows }) result }
+        ensures unchanged { OnErr result (self.new ≡ self.old) }
+        ensures well_formed { IsMatrix self.new }
+    {
+        let Matrix { mut rows, .. } = other;
+        self.rows.append(&mut rows)?;
+        Ok(())
+    }
+
+    /// The first `count` rows, or all where there are no more, and those after them. The rows move, and none is copied.
+    pub fn split(self, alloc: Global, count: usize) -> Result<(Matrix, Matrix), Refusal>
+        ensures parts { Answers None (λ parts. AreSplit self count parts.0 parts.1) result }
+        ensures well_formed { IfOk result (λ parts. IsMatrix parts.0 × IsMatrix parts.1) }
+    {
+        let Matrix { field, cols, rows } = self;
+        let (first, after) = split_rows(alloc, rows, count)?;
+        let first = Matrix {
+            field,
+            cols,
+            rows: first,
+        };
+        let after = Matrix {
+            field,
+            cols,
+            rows: after,
+        };
+        Ok((first, after))
+    }
+
     /// The block of `rows` rows from row `row` on, and of `cols` columns from column `column` on.
     pub fn block(
         &self,
@@ -97,4 +133,21 @@ impl Matrix {
         }
         Ok(block)
     }
+}
+
+/// The first `count` rows of a list, or all where there are no more, and those after them.
+fn split_rows(alloc: Global, rows: Vec<Row>, count: usize) -> Result<(Vec<Row>, Vec<Row>), Refusal>
+    ensures { Answers None
+        (λ parts. (parts.0.items ≡ take count rows.items) × (parts.1.items ≡ drop count rows.items)) result }
+{
+    let mut first = Vec::new(alloc);
+    let mut after = Vec::new(alloc);
+    for row in rows {
+        if first.len() < count {
+            first.push(row)?;
+        } else {
+            after.push(row)?;
+        }
+    }
+    Ok((first, after))
 }

@@ -1,14 +1,14 @@
 -- Some rows of matrices beside one another, rows after rows, and entries at chosen columns.
-use Rattle.std.proofs.Common.{◌≡◌, ℕ, ◌+◌, ◌<◌, ◌≤◌, List, [], ◌∷◌, ◌++◌, length, get_or, map, refl, sym, ap, ap₂, ◌∙◌, arith, length-append}
+use Rattle.std.proofs.Common.{◌≡◌, ℕ, ◌+◌, ◌-◌, ◌<◌, ◌≤◌, List, [], ◌∷◌, ◌++◌, length, get_or, map, min, take, drop, refl, sym, ap, ap₂, ◌∙◌, arith, length-append}
 use Rattle.std.specs.Prelude.{slice_index}
 use Rattle.std.specs.List.{All}
-use Rattle.std.proofs.lemmas.List.{ext_get_or, get_or-map, length-map, append_assoc, append-nil}
+use Rattle.std.proofs.lemmas.List.{ext_get_or, get_or-drop, get_or-map, get_or-take, length-drop, length-take, length-take-le, length-map, append_assoc, append-nil}
 use Rattle.std.proofs.lemmas.List.FromFn.{map-range_with_len_more}
 use Rattle.axe_algebra.specs.Lists.{entry, listed, table}
 use Rattle.axe_algebra.proofs.ListEntries.{listed_length, listed_at, table_length, table_row}
 use Rattle.axe_field.specs.Order.{Order}
 use Rattle.axe_row.specs.Rows.{RowValue}
-use Rattle.axe_matrix.specs.Matrices.{MatrixValue, IsMatrix, row_of, matrix_block}
+use Rattle.axe_matrix.specs.Matrices.{MatrixValue, IsMatrix, AreSplit, row_of, matrix_block}
 use Rattle.axe_matrix.proofs.MatrixLaws.{same_matrix}
 use Rattle.axe_reduction.specs.Augmented.{AugmentedValue, AreBeside, rows_beside, augmented, some_rows, with_rows, entries_at_columns}
 use Rattle.axe_reduction.proofs.BesideLaws.{HaveLength, length-row, length-rows_beside, row-rows_beside, append_beside, same_augmented, view-count, view-entry}
@@ -63,6 +63,76 @@ blocks_are_rows a b left right v start count m n view_is h within m_is n_is left
     ∙ same_augmented (augmented (matrix_block a start count 0 a.cols) (matrix_block b start count 0 b.cols)) (some_rows (augmented a b) start count) refl refl refl
     (block_beside a.cols b.cols start count a.rows b.rows h.left.row_lengths h.right.row_lengths h.as_many (omega (arith, rows)))
     ∙ ap (λ (x : AugmentedValue). some_rows x start count) view_is
+
+-- the first rows beside one another
+first_beside : (count : ℕ) (a b : List (List ℕ)) → length b ≡ length a → count ≤ length a →
+    rows_beside (take count a) (take count b) ≡ listed count (λ i. get_or (rows_beside a b) (0 + i) [])
+first_beside count a b same within =
+    let f : ℕ → List ℕ = λ i. get_or (rows_beside a b) (0 + i) [] in
+    let all : length (take count a) ≡ count = length-take-le count a within in
+    ext_get_or [] (rows_beside (take count a) (take count b)) (listed count f)
+    (length-rows_beside (take count a) (take count b) ∙ all ∙ sym (listed_length count f)) (λ i below.
+    let inside : i < count = omega (arith, length-rows_beside (take count a) (take count b), all) in
+    row-rows_beside (take count a) (take count b) i (omega (arith, all, inside))
+    ∙ ap₂ (λ (x y : List ℕ). x ++ y) (get_or-take count a i [] inside) (get_or-take count b i [] inside)
+    ∙ sym (listed_at count f i [] inside
+    ∙ ap (λ k. get_or (rows_beside a b) k []) (let at : 0 + i ≡ i = omega arith in at) ∙ row-rows_beside a b i (omega arith)))
+
+-- and those after them
+after_beside : (count : ℕ) (a b : List (List ℕ)) → length b ≡ length a → count ≤ length a →
+    rows_beside (drop count a) (drop count b) ≡ listed (length a - count) (λ i. get_or (rows_beside a b) (count + i) [])
+after_beside count a b same within =
+    let f : ℕ → List ℕ = λ i. get_or (rows_beside a b) (count + i) [] in
+    let all : length (drop count a) ≡ length a - count = length-drop count a in
+    ext_get_or [] (rows_beside (drop count a) (drop count b)) (listed (length a - count) f)
+    (length-rows_beside (drop count a) (drop count b) ∙ all ∙ sym (listed_length (length a - count) f)) (λ i below.
+    let inside : i < length a - count = omega (arith, length-rows_beside (drop count a) (drop count b), all) in
+    row-rows_beside (drop count a) (drop count b) i (omega (arith, all, inside))
+    ∙ ap₂ (λ (x y : List ℕ). x ++ y) (get_or-drop count a i []) (get_or-drop count b i [])
+    ∙ sym (listed_at (length a - count) f i [] inside ∙ row-rows_beside a b (count + i) (omega arith)))
+
+-- two matrices that are split at one row
+pub split-AreBeside : (a b left right left_after right_after : MatrixValue) (count : ℕ) → AreBeside a b →
+    AreSplit a count left left_after → AreSplit b count right right_after → IsMatrix left × IsMatrix left_after →
+    IsMatrix right × IsMatrix right_after → AreBeside left right × AreBeside left_after right_after
+split-AreBeside a b left right left_after right_after count h one two left_fine right_fine = (
+  record {
+    field = ap (λ (x : MatrixValue). x.order) two.first_rows ∙ h.field ∙ sym (ap (λ (x : MatrixValue). x.order) one.first_rows);
+    as_many =
+        ap (λ (x : MatrixValue). length x.rows) two.first_rows ∙ length-take count b.rows ∙ ap (min count) h.as_many
+        ∙ sym (ap (λ (x : MatrixValue). length x.rows) one.first_rows ∙ length-take count a.rows);
+    left = left_fine.0;
+    right = right_fine.0;
+  },
+  record {
+    field = ap (λ (x : MatrixValue). x.order) two.rows_after ∙ h.field ∙ sym (ap (λ (x : MatrixValue). x.order) one.rows_after);
+    as_many =
+        ap (λ (x : MatrixValue). length x.rows) two.rows_after ∙ length-drop count b.rows ∙ ap (λ k. k - count) h.as_many
+        ∙ sym (ap (λ (x : MatrixValue). length x.rows) one.rows_after ∙ length-drop count a.rows);
+    left = left_fine.1;
+    right = right_fine.1;
+  },
+)
+
+-- they are the first rows of the augmented matrix, and those after them
+pub split_rows_first : (a b left right left_after right_after : MatrixValue) (v : AugmentedValue) (count : ℕ) → augmented a b ≡ v → AreBeside a b →
+    count ≤ length v.rows → AreSplit a count left left_after → AreSplit b count right right_after →
+    augmented left right ≡ some_rows v 0 count
+split_rows_first a b left right left_after right_after v count view_is h within one two =
+    ap₂ augmented one.first_rows two.first_rows
+    ∙ same_augmented (augmented (record a { rows = take count a.rows }) (record b { rows = take count b.rows })) (some_rows (augmented a b) 0 count) refl refl refl
+    (first_beside count a.rows b.rows h.as_many (omega (arith, within, view-count a b v view_is)))
+    ∙ ap (λ (x : AugmentedValue). some_rows x 0 count) view_is
+
+pub split_rows_after : (a b left right left_after right_after : MatrixValue) (v : AugmentedValue) (count : ℕ) → augmented a b ≡ v → AreBeside a b →
+    count ≤ length v.rows → AreSplit a count left left_after → AreSplit b count right right_after →
+    augmented left_after right_after ≡ some_rows v count (length v.rows - count)
+split_rows_after a b left right left_after right_after v count view_is h within one two =
+    ap₂ augmented one.rows_after two.rows_after
+    ∙ same_augmented (augmented (record a { rows = drop count a.rows }) (record b { rows = drop count b.rows }))
+    (some_rows (augmented a b) count (length a.rows - count)) refl refl refl
+    (after_beside count a.rows b.rows h.as_many (omega (arith, within, view-count a b v view_is)))
+    ∙ ap₂ (λ (x : AugmentedValue) k. some_rows x count (k - count)) view_is (sym (view-count a b v view_is))
 
 -- ---- matrices that get one row after another
 

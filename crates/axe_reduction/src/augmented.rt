@@ -1,6 +1,6 @@
 //! Augmented matrices.
 
-ghost use Rattle.std.specs.Prelude.{◌≡◌, ◌+◌, ◌<◌, ◌≤◌, None, IfOk, MatchOption, length, All};
+ghost use Rattle.std.specs.Prelude.{◌≡◌, ◌+◌, ◌-◌, ◌<◌, ◌≤◌, None, IfOk, MatchOption, length, All};
 ghost use Rattle.axe_algebra.specs.Lists.{entry};
 ghost use Rattle.axe_field.specs.Order.{IsElement};
 ghost use Rattle.axe_row.specs.Refusals.{Answers};
@@ -113,6 +113,28 @@ impl Augmented {
         Ok(Augmented { left, right })
     }
 
+    /// The first `count` rows, and those after them. The rows move, and none is copied.
+    pub(crate) fn split(
+        self,
+        alloc: Global,
+        count: usize,
+    ) -> Result<(Augmented, Augmented), Refusal>
+        requires { count ≤ length self.rows }
+        ensures first { Answers None (λ parts. parts.0 ≡ some_rows self 0 count) result }
+        ensures after { Answers None (λ parts. parts.1 ≡ some_rows self count (length self.rows - count)) result }
+        ensures well_formed { IfOk result (λ parts. IsAugmented parts.0 × IsAugmented parts.1) }
+    {
+        let Augmented { left, right } = self;
+        let (left, left_after) = left.split(alloc, count)?;
+        let (right, right_after) = right.split(alloc, count)?;
+        let first = Augmented { left, right };
+        let after = Augmented {
+            left: left_after,
+            right: right_after,
+        };
+        Ok((first, after))
+    }
+
     /// A multiple of each row.
     pub(crate) fn scaled(&self, alloc: Global, scalar: u8) -> Result<Augmented, Refusal>
         requires { IsElement self.now.order scalar }
@@ -152,16 +174,16 @@ impl Augmented {
     }
 
     /// These rows and then those of another, whose columns are those here.
-    pub(crate) fn with_rows(self, alloc: Global, other: &Augmented) -> Result<Augmented, Refusal>
-        requires alike { AreAlike self other.now }
-        requires room { length self.rows + length other.now.rows ≤ most_rows }
-        ensures rows { Answers None (λ all. all ≡ with_rows self other.now) result }
+    pub(crate) fn with_rows(self, other: Augmented) -> Result<Augmented, Refusal>
+        requires alike { AreAlike self other }
+        requires room { length self.rows + length other.rows ≤ most_rows }
+        ensures rows { Answers None (λ all. all ≡ with_rows self other) result }
         ensures well_formed { IfOk result IsAugmented }
     {
         let Augmented { left, right } = self;
         let (mut left, mut right) = (left, right);
-        left.append_rows(alloc, &other.left)?;
-        right.append_rows(alloc, &other.right)?;
+        left.append_matrix(other.left)?;
+        right.append_matrix(other.right)?;
         Ok(Augmented { left, right })
     }
 

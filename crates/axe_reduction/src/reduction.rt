@@ -42,13 +42,13 @@ impl Reduction {
     }
 
     /// This reduction and that of further rows, which are 0 at the pivots of this one, as one reduction of them all.
-    fn join(self, alloc: Global, further: &Reduction) -> Result<Reduction, Refusal>
-        requires reduced_alike { AreAlike self.reduced further.now.reduced }
-        requires rest_alike { AreAlike self.rest further.now.rest }
-        requires reduced { AreReducedAt further.now.pivots.items further.now.reduced }
-        requires room { length self.reduced.rows + length further.now.reduced.rows ≤ most_rows }
-        requires rest_room { length self.rest.rows + length further.now.rest.rows ≤ most_rows }
-        ensures { Answers None (IsJoinOf self further.now) result }
+    fn join(self, alloc: Global, further: Reduction) -> Result<Reduction, Refusal>
+        requires reduced_alike { AreAlike self.reduced further.reduced }
+        requires rest_alike { AreAlike self.rest further.rest }
+        requires reduced { AreReducedAt further.pivots.items further.reduced }
+        requires room { length self.reduced.rows + length further.reduced.rows ≤ most_rows }
+        requires rest_room { length self.rest.rows + length further.rest.rows ≤ most_rows }
+        ensures { Answers None (IsJoinOf self further) result }
     {
         let Reduction {
             reduced,
@@ -56,8 +56,8 @@ impl Reduction {
             rest,
         } = self;
         let reduced = further.clear(alloc, reduced)?;
-        let reduced = reduced.with_rows(alloc, &further.reduced)?;
-        let rest = rest.with_rows(alloc, &further.rest)?;
+        let reduced = reduced.with_rows(further.reduced)?;
+        let rest = rest.with_rows(further.rest)?;
         let mut pivots = pivots;
         pivots.extend_from_slice(&further.pivots)?;
         Ok(Reduction {
@@ -78,12 +78,11 @@ pub(crate) fn reduction_of(alloc: Global, rows: Augmented) -> Result<Reduction, 
         return reduction_of_row(alloc, rows);
     }
     let half = rows.rows() / 2;
-    let first = rows.some_rows(alloc, 0, half)?;
+    let (first, second) = rows.split(alloc, half)?;
     let first = reduction_of(alloc, first)?;
-    let second = rows.some_rows(alloc, half, rows.rows() - half)?;
     let second = first.clear(alloc, second)?;
     let second = reduction_of(alloc, second)?;
-    first.join(alloc, &second)
+    first.join(alloc, second)
 }
 
 /// The reduction of a single row.

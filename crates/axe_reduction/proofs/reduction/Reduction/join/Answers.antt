@@ -8,7 +8,7 @@ with_rows-requires-clause-room c =
     omega (
       arith,
       ap (λ (a : AugmentedValue). length a.rows) c.in_ok-reduced.ensures.cleared,
-      length-cleared c.args.further.now.pivots.items c.args.further.now.reduced c.args.self.reduced,
+      length-cleared c.args.further.pivots.items c.args.further.reduced c.args.self.reduced,
       c.requires.room,
     )
 
@@ -16,7 +16,7 @@ pub returns : goal.returns
 returns c = record {
   reduced =
       c.in_ok-reduced-2.ensures.rows
-      ∙ ap (λ (a : AugmentedValue). with_rows a c.args.further.now.reduced) c.in_ok-reduced.ensures.cleared;
+      ∙ ap (λ (a : AugmentedValue). with_rows a c.args.further.reduced) c.in_ok-reduced.ensures.cleared;
   pivots =
       c.in_ok-extend_from_slice.ensures.items
       ∙ ap (λ (l : List ℕ). c.args.self.pivots.items ++ l) c.deref.ensures.value;

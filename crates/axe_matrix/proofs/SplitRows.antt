@@ -1,0 +1,126 @@
+-- Rows that move from one matrix to another: those of a list that is split, and those that are appended.
+use Rattle.std.proofs.Common.{◌≡◌, ℕ, ◌+◌, ◌<◌, ◌≤◌, List, All, [], ◌∷◌, ◌++◌, length, take, drop, subst, inl, inr, refl, sym, ap, ◌∙◌, arith, length-append}
+use Rattle.std.proofs.lemmas.List.{append-nil, append_assoc, length-drop, length-take, take_all, drop_all, take-map, drop-map, map-append}
+use Rattle.std.proofs.lemmas.List.Elements.{All-append, All-take, All-drop}
+use Rattle.std.proofs.lemmas.Bool.{cases_lt}
+use Rattle.std.proofs.Math.Seq.{take-append_seam, drop-append_seam}
+use Rattle.axe_field.specs.Order.{Order, IsElement}
+use Rattle.axe_row.specs.Rows.{RowValue}
+use Rattle.axe_matrix.specs.Limits.{most_rows}
+use Rattle.axe_matrix.specs.Matrices.{MatrixValue, IsMatrix}
+use Rattle.axe_matrix.specs.RowLists.{matrix_from_rows, MakeMatrix}
+
+-- the items so far in two lists, the second of which gets none before the first has `count`
+pub record ArePartsOf {A : Type 0} (items : List A) (count : ℕ) (first after : List A) : Type 0 where
+  pub all : first ++ after ≡ items
+  pub short : length first ≤ count
+  pub in_turn : length first < count → after ≡ []
+
+pub parts_of_none : {A : Type 0} (count : ℕ) → ArePartsOf {A = A} [] count [] []
+parts_of_none count = record { all = refl; short = omega arith; in_turn = λ _. refl }
+
+pub parts_with_first : {A : Type 0} (items : List A) (count : ℕ) (first after : List A) (x : A) → ArePartsOf items count first after →
+    length first < count → ArePartsOf (items ++ x ∷ []) count (first ++ x ∷ []) after
+parts_with_first items count first after x h room = record {
+  all = rw (h.in_turn room) (append-nil (first ++ x ∷ [])) ∙ ap (λ l. l ++ x ∷ [])
+      (sym (append-nil first) ∙ ap (λ l. first ++ l) (sym (h.in_turn room)) ∙ h.all);
+  short = omega (arith, length-append first (x ∷ []));
+  in_turn = λ _. h.in_turn room;
+}
+
+pub parts_with_after : {A : Type 0} (items : List A) (count : ℕ) (first after : List A) (x : A) → ArePartsOf items count first after →
+    count ≤ length first → ArePartsOf (items ++ x ∷ []) count first (after ++ x ∷ [])
+parts_with_after items count first after x h full = record {
+  all = sym (append_assoc first after (x ∷ [])) ∙ ap (λ l. l ++ x ∷ []) h.all;
+  short = h.short;
+  in_turn = λ room. absurd (omega (arith, room, full));
+}
+
+pub first_part : {A : Type 0} (items : List A) (count : ℕ) (first after : List A) → ArePartsOf items count first after → first ≡ take count items
+first_part items count first after h =
+    elim (cases_lt (length first) count) [
+      | inl room ↦
+          let all : first ≡ items = sym (append-nil first) ∙ ap (λ l. first ++ l) (sym (h.in_turn room)) ∙ h.all in
+          all ∙ sym (take_all count items (omega (arith, ap length all, room)))
+      | inr full ↦
+          let is : length first ≡ count = omega (arith, h.short, full) in
+          sym (take-append_seam first after) ∙ ap (λ n. take n (first ++ after)) is ∙ ap (take count) h.all
+    ]
+
+pub part_after : {A : Type 0} (items : List A) (count : ℕ) (first after : List A) → ArePartsOf items count first after → after ≡ drop count items
+part_after items count first after h =
+    elim (cases_lt (length first) count) [
+      | inl room ↦
+          let all : first ≡ items = sym (append-nil first) ∙ ap (λ l. first ++ l) (sym (h.in_turn room)) ∙ h.all in
+          h.in_turn room ∙ sym (drop_all count items (omega (arith, ap length all, room)))
+      | inr full ↦
+          let is : length first ≡ count = omega (arith, h.short, full) in
+          sym (drop-append_seam first after) ∙ ap (λ n. drop n (first ++ after)) is ∙ ap (drop count) h.all
+    ]
+
+-- ---- matrices of some of the rows, and of more
+
+IsMatrix-take : (m : MatrixValue) (count : ℕ) → IsMatrix m → IsMatrix (record m { rows = take count m.rows })
+IsMatrix-take m count h = record {
+  some_column = h.some_column;
+  columns_fit = h.columns_fit;
+  rows_fit = omega (arith, length-take count m.rows, h.rows_fit);
+  row_lengths = All-take (λ row. length row ≡ m.cols) count m.rows h.row_lengths;
+  elements = All-take (All (IsElement m.order)) count m.rows h.elements;
+}
+
+IsMatrix-drop : (m : MatrixValue) (count : ℕ) → IsMatrix m → IsMatrix (record m { rows = drop count m.rows })
+IsMatrix-drop m count h = record {
+  some_column = h.some_column;
+  columns_fit = h.columns_fit;
+  rows_fit = omega (arith, length-drop count m.rows, h.rows_fit);
+  row_lengths = All-drop (λ row. length row ≡ m.cols) count m.rows h.row_lengths;
+  elements = All-drop (All (IsElement m.order)) count m.rows h.elements;
+}
+
+IsMatrix-append : (m : MatrixValue) (rows : List (List ℕ)) → IsMatrix m → IsMatrix (record m { rows = rows }) →
+    length m.rows + length rows ≤ most_rows → IsMatrix (record m { rows = m.rows ++ rows })
+IsMatrix-append m rows h more room = record {
+  some_column = h.some_column;
+  columns_fit = h.columns_fit;
+  rows_fit = omega (arith, length-append m.rows rows, room);
+  row_lengths = All-append (λ row. length row ≡ m.cols) m.rows rows h.row_lengths more.row_lengths;
+  elements = All-append (All (IsElement m.order)) m.rows rows h.elements more.elements;
+}
+
+pub MakeMatrix-take : (o : Order) (n : ℕ) (rows : List RowValue) (count : ℕ) → MakeMatrix o n rows → MakeMatrix o n (take count rows)
+MakeMatrix-take o n rows count h = record {
+  one_field = All-take (λ row. row.order ≡ o) count rows h.one_field;
+  matrix = subst (λ l. IsMatrix (record { order = o; cols = n; rows = l })) (take-map (λ row. row.entries) count rows)
+      (IsMatrix-take (matrix_from_rows o n rows) count h.matrix);
+}
+
+pub MakeMatrix-drop : (o : Order) (n : ℕ) (rows : List RowValue) (count : ℕ) → MakeMatrix o n rows → MakeMatrix o n (drop count rows)
+MakeMatrix-drop o n rows count h = record {
+  one_field = All-drop (λ row. row.order ≡ o) count rows h.one_field;
+  matrix = subst (λ l. IsMatrix (record { order = o; cols = n; rows = l })) (drop-map (λ row. row.entries) count rows)
+      (IsMatrix-drop (matrix_from_rows o n rows) count h.matrix);
+}
+
+pub MakeMatrix-append : (o : Order) (n : ℕ) (rows more : List RowValue) → MakeMatrix o n rows → MakeMatrix o n more →
+    length (matrix_from_rows o n rows).rows + length (matrix_from_rows o n more).rows ≤ most_rows → MakeMatrix o n (rows ++ more)
+MakeMatrix-append o n rows more h further room = record {
+  one_field = All-append (λ row. row.order ≡ o) rows more h.one_field further.one_field;
+  matrix = subst (λ l. IsMatrix (record { order = o; cols = n; rows = l })) (sym (map-append (λ (row : RowValue). row.entries) rows more))
+      (IsMatrix-append (matrix_from_rows o n rows) (matrix_from_rows o n more).rows h.matrix further.matrix room);
+}
+
+-- a matrix of the first rows, and of those after them
+pub first_rows_of : (o : Order) (n : ℕ) (rows part : List RowValue) (m : MatrixValue) (count : ℕ) → matrix_from_rows o n rows ≡ m →
+    part ≡ take count rows → matrix_from_rows o n part ≡ record m { rows = take count m.rows }
+first_rows_of o n rows part m count view_is part_is =
+    ap (matrix_from_rows o n) part_is
+    ∙ ap (λ (l : List (List ℕ)). record { order = o; cols = n; rows = l }) (sym (take-map (λ (row : RowValue). row.entries) count rows))
+    ∙ ap (λ (x : MatrixValue). record x { rows = take count x.rows }) view_is
+
+pub rows_after_of : (o : Order) (n : ℕ) (rows part : List RowValue) (m : MatrixValue) (count : ℕ) → matrix_from_rows o n rows ≡ m →
+    part ≡ drop count rows → matrix_from_rows o n part ≡ record m { rows = drop count m.rows }
+rows_after_of o n rows part m count view_is part_is =
+    ap (matrix_from_rows o n) part_is
+    ∙ ap (λ (l : List (List ℕ)). record { order = o; cols = n; rows = l }) (sym (drop-map (λ (row : RowValue). row.entries) count rows))
+    ∙ ap (λ (x : MatrixValue). record x { rows = drop count x.rows }) view_is
