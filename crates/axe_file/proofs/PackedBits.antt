@@ -1,7 +1,5 @@
 -- Over two elements the marks of bytes are their bits, the most significant first.
-use Rattle.std.proofs.Common.{◌≡◌, ℕ, ◌+◌, ◌-◌, ◌*◌, ◌/◌, ◌%◌, ◌^◌, ◌<◌, ◌≤◌, List, ◌++◌, length, get_or, inl, inr, refl, sym, ap, ap₂, subst, ◌∙◌, arith}
-use Rattle.std.proofs.lemmas.Bool.{cases_lt}
-use Rattle.std.proofs.lemmas.List.{get_or_past, get_or_append_left}
+use Rattle.std.proofs.Common.{◌≡◌, ℕ, ◌+◌, ◌-◌, ◌*◌, ◌/◌, ◌%◌, ◌^◌, ◌<◌, ◌≤◌, List, length, get_or, refl, sym, ap, ap₂, ◌∙◌, arith}
 use Rattle.axe_algebra.specs.Lists.{listed}
 use Rattle.axe_field.specs.Order.{Order, Two, Three, Four, Five, Seven, Eight, Nine, order_number}
 use Rattle.axe_bits.specs.Packed.{packed_bit}
@@ -71,10 +69,3 @@ pub bits_are_row : (o : Order) (columns : ℕ) (bytes row : List ℕ) → order_
 bits_are_row o columns bytes row two long fits same =
     row_of_bits columns bytes row (long ∙ ap (λ r. bytes_per_row r columns) (order_is_two o two)) fits same
     ∙ ap (λ r. packed_row r columns row) (sym (order_is_two o two))
-
--- the bytes at the front of others
-pub front_fits : (a b : List ℕ) → ((i : ℕ) → get_or (a ++ b) i 0 < 256) → (k : ℕ) → get_or a k 0 < 256
-front_fits a b fits k = elim (cases_lt k (length a)) [
-  | inl inside ↦ subst (λ x. x < 256) (get_or_append_left a b 0 k inside) (fits k)
-  | inr past ↦ let none = get_or_past a k 0 past in omega (arith, none)
-]

@@ -1,9 +1,10 @@
 //! Reading the packed form: first all checks, which take no memory, then the matrix.
 
-ghost use Rattle.std.specs.Prelude.{◌≡◌, ◌≢◌, ◌+◌, ◌%◌, ◌<◌, ◌≤◌, [], None, Some, length, slice_get, slice_range, IfOk};
-ghost use Rattle.std.specs.Prelude.{OnOk, IfErr};
+ghost use Rattle.std.specs.Prelude.{◌≡◌, ◌≢◌, ◌+◌, ◌*◌, ◌/◌, ◌%◌, ◌<◌, ◌≤◌, [], None, Some, length, slice_get, slice_index, slice_range};
+ghost use Rattle.std.specs.Prelude.{IfOk, OnOk, IfErr};
 ghost use Rattle.std.specs.List.{flat_map, range_with_len};
 ghost use Rattle.std.specs.Int.{w32, from_le_bytes};
+ghost use Rattle.axe_algebra.specs.Lists.{listed};
 ghost use Rattle.axe_field.specs.Order.{order_number};
 ghost use Rattle.axe_matrix.specs.Matrices.{MatrixValue, IsMatrix};
 ghost use Rattle.axe_matrix.specs.Limits.{most_rows};
@@ -223,23 +224,59 @@ fn row_of(alloc: Global, layout: &Layout, table: &[u8], bytes: &[u8]) -> Result<
     Row::from_elements(alloc, layout.field, &marks).map_err(|_refusal| FileFault::Memory)
 }
 
-/// The marks of the row that some bytes hold.
+/// The marks of the row that some bytes hold, over more than two elements.
 fn marks_of(
     alloc: Global,
     layout: &Layout,
     table: &[u8],
     bytes: &[u8],
 ) -> Result<Vec<u8>, FileFault>
+    requires more { order_number layout.now.field ≢ 2 }
     requires table { table.now ≡ marks_of_bytes layout.now.field }
     requires bytes { length bytes.now ≡ bytes_per_row layout.now.field layout.now.columns }
     ensures value { IfOk result (λ marks. marks.items ≡ row_marks layout.now.field layout.now.columns bytes.now) }
     ensures memory { IfErr result (λ fault. fault ≡ Memory) }
 {
-    let mut marks = Vec::with_capacity(alloc, layout.columns)?;
-    for place in 0..layout.width {
-        let count = layout.marks.min(layout.columns - marks.len());
-        let start = usize::from(bytes[place]) * layout.marks;
-        marks.extend_from_slice(&table[start..start + count])?;
-    }
+    let mut marks = vec![in alloc; 0; layout.columns]?;
+    take_marks(layout.marks, table, bytes, &mut marks);
     Ok(marks)
+}
+
+/// Takes the marks of a row from a table of the marks of all bytes, by the row's bytes, each of which holds so many. Of
+/// the last byte only as many are taken as there is room for.
+fn take_marks(count: usize, table: &[u8], bytes: &[u8], marks: &mut [u8])
+    requires some { 2 ≤ count }
+    requires few { count ≤ 5 }
+    requires table { 256 * count ≤ length table.now }
+    requires bytes { length marks.old ≤ length bytes.now * count }
+    ensures { marks.new ≡ listed (length marks.old)
+        (λ j. slice_index table.now (slice_index bytes.now (j / count) * count + j % count)) }
+{
+    match count {
+        2 => take_many::<2>(table, bytes, marks),
+        3 => take_many::<3>(table, bytes, marks),
+        4 => take_many::<4>(table, bytes, marks),
+        _ => take_many::<5>(table, bytes, marks),
+    }
+}
+
+/// The same where a byte's number of marks is a constant, so that each piece of the table is moved at once.
+fn take_many<const COUNT: usize>(table: &[u8], bytes: &[u8], marks: &mut [u8])
+    requires some { 1 ≤ COUNT }
+    requires table { 256 * COUNT ≤ length table.now }
+    requires bytes { length marks.old ≤ length bytes.now * COUNT }
+    ensures { marks.new ≡ listed (length marks.old)
+        (λ j. slice_index table.now (slice_index bytes.now (j / COUNT) * COUNT + j % COUNT)) }
+{
+    let whole = marks.len() / COUNT;
+    for place in 0..whole {
+        let (start, from) = (place * COUNT, usize::from(bytes[place]) * COUNT);
+        marks[start..start + COUNT].copy_from_slice(&table[from..from + COUNT]);
+    }
+    let start = whole * COUNT;
+    if start < marks.len() {
+        let from = usize::from(bytes[whole]) * COUNT;
+        let left = marks.len() - start;
+        marks[start..].copy_from_slice(&table[from..from + left]);
+    }
 }

@@ -90,13 +90,13 @@ fn next_row(
         (filter is_dark (drop found.1 bytes.now))) }
     ensures memory { IfErr result (λ fault. fault ≡ Memory) }
 {
-    let mut entries = Vec::with_capacity(alloc, columns)?;
+    let mut entries = vec![in alloc; 0; columns]?;
     let mut end = start;
-    for _ in 0..columns {
+    for column in 0..columns {
         let at = skip_space(bytes, end);
         // The digits were counted before: there is one more, so the white space ends before the bytes do.
         prove!(at < bytes.len());
-        entries.push(bytes[at] - b'0')?;
+        entries[column] = bytes[at] - b'0';
         end = at + 1;
     }
     let Ok(row) = Row::from_elements(alloc, field, &entries) else {

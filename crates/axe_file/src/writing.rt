@@ -1,6 +1,6 @@
 //! Writing the packed form.
 
-ghost use Rattle.std.specs.Prelude.{◌≡◌, ◌≤◌, ◌++◌, length, All, IfOk, OnOk, IfErr};
+ghost use Rattle.std.specs.Prelude.{◌≡◌, ◌≤◌, ◌+◌, ◌++◌, length, All, IfOk, OnOk, IfErr};
 ghost use Rattle.axe_field.specs.Order.{IsElement};
 ghost use Rattle.axe_row.specs.Rows.{IsRow};
 ghost use Rattle.axe_matrix.specs.Limits.{most_rows, most_columns};
@@ -21,9 +21,9 @@ pub fn write_packed(alloc: Global, matrix: &Matrix) -> Result<Vec<u8>, FileFault
     let layout = Layout::new(*matrix.field(), matrix.cols());
     let mut bytes = Vec::with_capacity(alloc, HEADER_LENGTH + matrix.rows() * layout.width)?;
     put_header(&mut bytes, &layout, matrix.rows())?;
-    let mut entries = vec![in alloc; 0; matrix.cols()]?;
+    let mut room = vec![in alloc; 0; layout.columns + layout.width]?;
     for index in 0..matrix.rows() {
-        put_row(&mut bytes, &layout, matrix.row(index), &mut entries)?;
+        put_row(&mut bytes, &layout, matrix.row(index), &mut room)?;
     }
     Ok(bytes)
 }
@@ -41,7 +41,7 @@ fn put_header(bytes: &mut Vec<u8>, layout: &Layout, rows: usize) -> Result<(), A
     Ok(())
 }
 
-/// Appends the bytes of a row. The list has room for its entries; over two elements their bits are taken as they stand.
+/// Appends the bytes of a row. A list has room for its entries and, after them, for its bytes.
 fn put_row(
     bytes: &mut Vec<u8>,
     layout: &Layout,
@@ -51,29 +51,43 @@ fn put_row(
     requires field { row.now.order ≡ layout.now.field }
     requires well_formed { IsRow row.now }
     requires columns { length row.now.entries ≡ layout.now.columns }
-    requires room { length room.old ≡ layout.now.columns }
+    requires room { length room.old ≡ layout.now.columns + layout.now.width }
     ensures bytes { OnOk result (bytes.new.items ≡ bytes.old.items
         ++ packed_row layout.now.field layout.now.columns row.now.entries) }
     ensures room { length room.new ≡ length room.old }
 {
-    if layout.field.order() == 2 {
-        let packed = &mut room[..layout.width];
-        row.copy_packed_bits(packed);
-        return bytes.extend_from_slice(packed);
-    }
-    row.copy_to(room);
-    put_marks(bytes, layout, room)
+    let (entries, packed) = room.split_at_mut(layout.columns);
+    pack_row(layout, row, entries, packed);
+    bytes.extend_from_slice(packed)
 }
 
-/// Appends the bytes of a row with these entries.
-fn put_marks(bytes: &mut Vec<u8>, layout: &Layout, row: &[u8]) -> Result<(), AllocError>
+/// Writes the bytes of a row into a list of as many bytes as they take. Another list has room for its entries, which are
+/// taken by that way unless there are two elements: then their bits are taken as they stand.
+fn pack_row(layout: &Layout, row: &Row, entries: &mut [u8], packed: &mut [u8])
+    requires field { row.now.order ≡ layout.now.field }
+    requires well_formed { IsRow row.now }
+    requires columns { length row.now.entries ≡ layout.now.columns }
+    requires room { length entries.old ≡ layout.now.columns }
+    requires bytes { length packed.old ≡ layout.now.width }
+    ensures packed { packed.new ≡ packed_row layout.now.field layout.now.columns row.now.entries }
+    ensures room { length entries.new ≡ length entries.old }
+{
+    if layout.field.order() == 2 {
+        row.copy_packed_bits(packed);
+    } else {
+        row.copy_to(entries);
+        pack(layout, entries, packed);
+    }
+}
+
+/// Writes the bytes of a row with these entries into a list of as many bytes as they take.
+fn pack(layout: &Layout, row: &[u8], bytes: &mut [u8])
     requires elements { All (IsElement layout.now.field) row.now }
     requires columns { length row.now ≡ layout.now.columns }
-    ensures { OnOk result (bytes.new.items ≡ bytes.old.items
-        ++ packed_row layout.now.field layout.now.columns row.now) }
+    requires room { length bytes.old ≡ layout.now.width }
+    ensures { bytes.new ≡ packed_row layout.now.field layout.now.columns row.now }
 {
-    for place in 0..layout.width {
-        bytes.push(layout.byte_of(row, place))?;
+    for place in 0..bytes.len() {
+        bytes[place] = layout.byte_of(row, place);
     }
-    Ok(())
 }

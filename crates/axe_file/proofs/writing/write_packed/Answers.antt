@@ -19,6 +19,12 @@ overflow_add-rows c =
     let fits : c.rows.result * layout.width ≤ 2097152 = rw layout.width_is (data_fits layout.field c.rows.result layout.columns rows layout.columns_fit) in
     omega arith
 
+pub overflow_add-layout : goal.overflow_add-layout
+overflow_add-layout c =
+    let layout = c.new-layout.result in
+    let fits : 1 * layout.width ≤ 2097152 = rw layout.width_is (data_fits layout.field 1 layout.columns (omega arith) layout.columns_fit) in
+    omega (arith, fits, layout.columns_fit)
+
 pub returns-clause-spelling : goal.returns-clause-spelling
 unfolding packed
 returns-clause-spelling c =

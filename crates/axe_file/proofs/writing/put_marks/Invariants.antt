@@ -1,8 +1,0 @@
-use Rattle.std.proofs.Common.{◌≡◌, ◌+◌, ◌*◌, ◌++◌, get_or}
-use Rattle.axe_algebra.specs.Lists.{listed}
-use Rattle.axe_file.specs.Marks.{marks_per_byte, byte_with_marks}
-use Rattle.axe_file.proofs.writing.put_marks.Given as goal
-
-abbrev pub invariant-loop-place : goal.invariant-loop-place
-invariant-loop-place l =
-    l.bytes.items ≡ l.initial.bytes.items ++ listed l.place (λ k. byte_with_marks l.layout.field (λ j. get_or l.row (k * marks_per_byte l.layout.field + j) 0))
