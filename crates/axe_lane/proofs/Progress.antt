@@ -60,6 +60,28 @@ module _ (f : ℕ → ℕ → ℕ) where
   combined_to_block k (suc n) (suc m) (x ∷ xs) (y ∷ ys) s h e =
       ap (λ rest. f x y ∷ rest) (combined_to_block k n m xs ys (omega arith) (omega arith) (omega arith))
 
+  -- the last entry, the last two and the last three, of which two are taken as a block
+  module _ (n : ℕ) (xs ys now : List ℕ) (so_far : now ≡ combined_to n xs ys) (e : length ys ≡ length xs) where
+    pub last_one : length xs ≡ n + 1 → set now n (f (get_or now n 0) (get_or ys n 0)) ≡ zip2 f xs ys
+    last_one h =
+        ap (λ zs. set zs n (f (get_or zs n 0) (get_or ys n 0))) so_far
+        ∙ combined_to_more n xs ys (omega arith) e
+        ∙ combined_to_end (n + 1) xs ys (omega arith) e
+
+    two_more : n + 2 ≤ length xs → put_chunk n now (zip2 f (chunk n 2 now) (chunk n 2 ys)) ≡ combined_to (n + 2) xs ys
+    two_more h =
+        ap (λ zs. put_chunk n zs (zip2 f (chunk n 2 zs) (chunk n 2 ys))) so_far ∙ combined_to_block 2 n (n + 2) xs ys refl h e
+
+    pub last_pair : length xs ≡ n + 2 → put_chunk n now (zip2 f (chunk n 2 now) (chunk n 2 ys)) ≡ zip2 f xs ys
+    last_pair h = two_more (omega arith) ∙ combined_to_end (n + 2) xs ys (omega arith) e
+
+    pub last_three : length xs ≡ n + 3 → (next : List ℕ) → next ≡ put_chunk n now (zip2 f (chunk n 2 now) (chunk n 2 ys)) →
+        set next (n + 2) (f (get_or next (n + 2) 0) (get_or ys (n + 2) 0)) ≡ zip2 f xs ys
+    last_three h next is =
+        ap (λ zs. set zs (n + 2) (f (get_or zs (n + 2) 0) (get_or ys (n + 2) 0))) (is ∙ two_more (omega arith))
+        ∙ combined_to_more (n + 2) xs ys (omega arith) e
+        ∙ combined_to_end (n + 2 + 1) xs ys (omega arith) e
+
   -- a fact of each entry of the first list, and of each value of f on entries, is one of each combined entry
   pub All-combined_to : (P : ℕ → Type 0) → ((x y : ℕ) → P (f x y)) → (n : ℕ) (xs ys : List ℕ) → All P xs → All P (combined_to n xs ys)
   All-combined_to P value zero xs ys all = all

@@ -1,6 +1,6 @@
 //! Kernels on 64-bit words.
 ghost use Rattle.std.specs.Prelude.{◌≡◌, ◌↔◌, ◌+◌, ◌*◌, ◌%◌, ◌^◌, ◌<◌, ◌≤◌, bit_and, bit_xor, length, All, IsTrue};
-ghost use Rattle.std.specs.Prelude.{MatchOption};
+ghost use Rattle.std.specs.Prelude.{MatchOption, slice_index, slice_set};
 ghost use Rattle.std.specs.Simd.Lanes.{chunk, put_chunk, zip2};
 ghost use Rattle.axe_lane.specs.Entries.{AreZerosBefore, HasNonzero, IsFirstNonzero};
 ghost use Rattle.axe_lane.specs.Words.{common_bits, xor_of_words, HasNoSetBit, IsFirstSetBit};
@@ -10,18 +10,29 @@ use std::simd::prelude::*;
 /// How many words a block has: one vector.
 const BLOCK: usize = 8;
 
+/// How many words a block of a sum has. Rows of few words are summed most, and what is left after its blocks is at most
+/// a pair and a word.
+const SUM_BLOCK: usize = 4;
+
 /// Makes each word of `dst` its exclusive or with the word of `src` at the same index: the sum of two rows over the
 /// field of order 2.
 pub fn xor_into(dst: &mut [u64], src: &[u64])
     requires { length src.now ≡ length dst.old }
     ensures { dst.new ≡ xor_of_words dst.old src.now }
 {
-    let whole = dst.len() / BLOCK;
+    let whole = dst.len() / SUM_BLOCK;
     for block in 0..whole {
-        xor_block(dst, src, block * BLOCK);
+        xor_block(dst, src, block * SUM_BLOCK);
     }
-    for at in whole * BLOCK..dst.len() {
-        dst[at] ^= src[at];
+    let rest = whole * SUM_BLOCK;
+    match dst.len() - rest {
+        0 => {}
+        1 => dst[rest] ^= src[rest],
+        2 => xor_pair(dst, src, rest),
+        _ => {
+            xor_pair(dst, src, rest);
+            dst[rest + 2] ^= src[rest + 2];
+        }
     }
 }
 
@@ -34,13 +45,19 @@ pub fn xor4_into(dst: &mut [u64], a: &[u64], b: &[u64], c: &[u64], d: &[u64])
     requires d_fits { length d.now ≡ length dst.old }
     ensures { dst.new ≡ xor_of_words (xor_of_words (xor_of_words (xor_of_words dst.old a.now) b.now) c.now) d.now }
 {
-    let whole = dst.len() / BLOCK;
+    let whole = dst.len() / SUM_BLOCK;
     for block in 0..whole {
-        xor4_block(dst, a, b, c, d, block * BLOCK);
+        xor4_block(dst, a, b, c, d, block * SUM_BLOCK);
     }
-    let rest = whole * BLOCK;
-    for at in rest..dst.len() {
-        dst[at] ^= a[at] ^ b[at] ^ c[at] ^ d[at];
+    let rest = whole * SUM_BLOCK;
+    match dst.len() - rest {
+        0 => {}
+        1 => xor4_word(dst, a, b, c, d, rest),
+        2 => xor4_pair(dst, a, b, c, d, rest),
+        _ => {
+            xor4_pair(dst, a, b, c, d, rest);
+            xor4_word(dst, a, b, c, d, rest + 2);
+        }
     }
 }
 
@@ -85,30 +102,74 @@ pub fn parity_and(a: &[u64], b: &[u64]) -> u8
 /// The block of a sum from an index on.
 #[inline(always)]
 fn xor_block(dst: &mut [u64], src: &[u64], at: usize)
-    requires dst_has_block { at + BLOCK ≤ length dst.old }
-    requires src_has_block { at + BLOCK ≤ length src.now }
-    ensures { dst.new ≡ put_chunk at dst.old (zip2 bit_xor (chunk at BLOCK dst.old) (chunk at BLOCK src.now)) }
+    requires dst_has_block { at + SUM_BLOCK ≤ length dst.old }
+    requires src_has_block { at + SUM_BLOCK ≤ length src.now }
+    ensures { dst.new ≡ put_chunk at dst.old (zip2 bit_xor (chunk at SUM_BLOCK dst.old) (chunk at SUM_BLOCK src.now)) }
 {
-    let sum = u64x8::from_slice(&dst[at..]) ^ u64x8::from_slice(&src[at..]);
+    let sum = u64x4::from_slice(&dst[at..]) ^ u64x4::from_slice(&src[at..]);
+    sum.copy_to_slice(&mut dst[at..]);
+}
+
+/// The pair of words of a sum from an index on.
+#[inline(always)]
+fn xor_pair(dst: &mut [u64], src: &[u64], at: usize)
+    requires dst_has_pair { at + 2 ≤ length dst.old }
+    requires src_has_pair { at + 2 ≤ length src.now }
+    ensures { dst.new ≡ put_chunk at dst.old (zip2 bit_xor (chunk at 2 dst.old) (chunk at 2 src.now)) }
+{
+    let sum = u64x2::from_slice(&dst[at..]) ^ u64x2::from_slice(&src[at..]);
     sum.copy_to_slice(&mut dst[at..]);
 }
 
 /// The block of a sum of five rows from an index on.
 #[inline(always)]
 fn xor4_block(dst: &mut [u64], a: &[u64], b: &[u64], c: &[u64], d: &[u64], at: usize)
-    requires dst_has_block { at + BLOCK ≤ length dst.old }
-    requires a_has_block { at + BLOCK ≤ length a.now }
-    requires b_has_block { at + BLOCK ≤ length b.now }
-    requires c_has_block { at + BLOCK ≤ length c.now }
-    requires d_has_block { at + BLOCK ≤ length d.now }
-    ensures { dst.new ≡ put_chunk at dst.old (zip2 bit_xor (chunk at BLOCK dst.old)
-        (zip2 bit_xor (zip2 bit_xor (zip2 bit_xor (chunk at BLOCK a.now) (chunk at BLOCK b.now))
-        (chunk at BLOCK c.now)) (chunk at BLOCK d.now))) }
+    requires dst_has_block { at + SUM_BLOCK ≤ length dst.old }
+    requires a_has_block { at + SUM_BLOCK ≤ length a.now }
+    requires b_has_block { at + SUM_BLOCK ≤ length b.now }
+    requires c_has_block { at + SUM_BLOCK ≤ length c.now }
+    requires d_has_block { at + SUM_BLOCK ≤ length d.now }
+    ensures { dst.new ≡ put_chunk at dst.old (zip2 bit_xor (chunk at SUM_BLOCK dst.old)
+        (zip2 bit_xor (zip2 bit_xor (zip2 bit_xor (chunk at SUM_BLOCK a.now) (chunk at SUM_BLOCK b.now))
+        (chunk at SUM_BLOCK c.now)) (chunk at SUM_BLOCK d.now))) }
 {
-    let two = u64x8::from_slice(&a[at..]) ^ u64x8::from_slice(&b[at..]);
-    let four = two ^ u64x8::from_slice(&c[at..]) ^ u64x8::from_slice(&d[at..]);
-    let sum = u64x8::from_slice(&dst[at..]) ^ four;
+    let two = u64x4::from_slice(&a[at..]) ^ u64x4::from_slice(&b[at..]);
+    let four = two ^ u64x4::from_slice(&c[at..]) ^ u64x4::from_slice(&d[at..]);
+    let sum = u64x4::from_slice(&dst[at..]) ^ four;
     sum.copy_to_slice(&mut dst[at..]);
+}
+
+/// The pair of words of a sum of five rows from an index on.
+#[inline(always)]
+fn xor4_pair(dst: &mut [u64], a: &[u64], b: &[u64], c: &[u64], d: &[u64], at: usize)
+    requires dst_has_pair { at + 2 ≤ length dst.old }
+    requires a_has_pair { at + 2 ≤ length a.now }
+    requires b_has_pair { at + 2 ≤ length b.now }
+    requires c_has_pair { at + 2 ≤ length c.now }
+    requires d_has_pair { at + 2 ≤ length d.now }
+    ensures { dst.new ≡ put_chunk at dst.old (zip2 bit_xor (chunk at 2 dst.old)
+        (zip2 bit_xor (zip2 bit_xor (zip2 bit_xor (chunk at 2 a.now) (chunk at 2 b.now))
+        (chunk at 2 c.now)) (chunk at 2 d.now))) }
+{
+    let two = u64x2::from_slice(&a[at..]) ^ u64x2::from_slice(&b[at..]);
+    let four = two ^ u64x2::from_slice(&c[at..]) ^ u64x2::from_slice(&d[at..]);
+    let sum = u64x2::from_slice(&dst[at..]) ^ four;
+    sum.copy_to_slice(&mut dst[at..]);
+}
+
+/// The word of a sum of five rows at an index.
+#[inline(always)]
+fn xor4_word(dst: &mut [u64], a: &[u64], b: &[u64], c: &[u64], d: &[u64], at: usize)
+    requires dst_has_word { at < length dst.old }
+    requires a_has_word { at < length a.now }
+    requires b_has_word { at < length b.now }
+    requires c_has_word { at < length c.now }
+    requires d_has_word { at < length d.now }
+    ensures { dst.new ≡ slice_set dst.old at (bit_xor (slice_index dst.old at)
+        (bit_xor (bit_xor (bit_xor (slice_index a.now at) (slice_index b.now at)) (slice_index c.now at))
+        (slice_index d.now at))) }
+{
+    dst[at] ^= a[at] ^ b[at] ^ c[at] ^ d[at];
 }
 
 /// The exclusive or of lanes and of the bits that the block from an index on has in both lists.

@@ -4,7 +4,4 @@ use Rattle.axe_lane.proofs.Progress.{combined_to}
 use Rattle.axe_lane.proofs.words.xor4_into.Given as goal
 
 abbrev pub invariant-loop-block : goal.invariant-loop-block
-invariant-loop-block l = l.dst ≡ combined_to bit_xor (l.block * 8) l.fn.dst (four bit_xor l.a l.b l.c l.d)
-
-abbrev pub invariant-loop-at : goal.invariant-loop-at
-invariant-loop-at l = l.dst ≡ combined_to bit_xor l.at l.fn.dst (four bit_xor l.a l.b l.c l.d)
+invariant-loop-block l = l.dst ≡ combined_to bit_xor (l.block * 4) l.fn.dst (four bit_xor l.a l.b l.c l.d)

@@ -3,7 +3,4 @@ use Rattle.axe_lane.proofs.Progress.{combined_to}
 use Rattle.axe_lane.proofs.words.xor_into.Given as goal
 
 abbrev pub invariant-loop-block : goal.invariant-loop-block
-invariant-loop-block l = l.dst ≡ combined_to bit_xor (l.block * 8) l.fn.dst l.src
-
-abbrev pub invariant-loop-at : goal.invariant-loop-at
-invariant-loop-at l = l.dst ≡ combined_to bit_xor l.at l.fn.dst l.src
+invariant-loop-block l = l.dst ≡ combined_to bit_xor (l.block * 4) l.fn.dst l.src
