@@ -21,3 +21,5 @@ pub mod TritTables
 pub mod TritWords
 pub mod TritDots
 pub mod TritEntries
+pub mod WordWrites
+pub mod BlockBits

@@ -4,3 +4,4 @@ pub mod FlatTables
 pub mod Packed
 pub mod Trits
 pub mod Earlier
+pub mod Words

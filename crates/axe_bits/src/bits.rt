@@ -19,6 +19,8 @@ use axe_lane::{add_trits, any_nonzero, bits_of_bytes, first_set, parity_and, xor
 use std::alloc::{AllocError, Global};
 use std::marker::Model;
 
+mod words;
+
 /// A list of digits modulo 2, one in each bit: digit e is bit e mod 64 of word e / 64. The bits from its length on are
 /// 0.
 #[derive(Drop)]

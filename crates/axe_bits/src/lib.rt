@@ -4,6 +4,7 @@
 
 mod bit_table;
 mod bits;
+mod blocks;
 mod packed;
 mod parts;
 mod pieces;
@@ -13,6 +14,7 @@ mod trits;
 
 pub use bit_table::BitTable;
 pub use bits::BitPlane;
+pub use blocks::transposed_block;
 pub use pieces::start_of;
 pub use places::earlier;
 pub use trit_table::TritTable;
