@@ -1,5 +1,5 @@
 -- The bytes that 64 words have at an index, one after another.
-use Rattle.std.proofs.Common.{◌≡◌, ℕ, ◌+◌, ◌*◌, ◌^◌, ◌/◌, ◌<◌, List, length, get_or, set, bit_and, arith, ap, sym, ◌∙◌, inl, inr, get_or-set_same, get_or-set_other}
+use Rattle.std.proofs.Common.{◌≡◌, ◌≢◌, ℕ, ◌%◌, ◌+◌, ◌*◌, ◌^◌, ◌/◌, ◌<◌, List, length, get_or, set, bit_and, arith, ap, sym, ◌∙◌, inl, inr, get_or-set_same, get_or-set_other}
 use Rattle.std.specs.Int.{bit_at}
 use Rattle.std.proofs.lemmas.Bool.{cases_eq}
 use Rattle.std.proofs.lemmas.List.{length-set}
@@ -29,3 +29,21 @@ HaveBytes-next words at n bytes h below = record {
   where
     byte : ℕ
     byte = bit_and (get_or words n 0 / 2 ^ (at * 8)) 255
+
+-- bit j of the words before an index is bit i of word j of a block, i being the word's index
+abbrev pub AreTransposedBelow : List ℕ → ℕ → List ℕ → Type 0
+AreTransposedBelow block until words =
+    (i j : ℕ) → i < until → j < 64 → bit_at (get_or words i 0) j ≡ bit_at (get_or block j 0) i
+
+-- eight words more, made of the bytes at an index
+pub AreTransposedBelow-more : (block : List ℕ) (at : ℕ) (words bytes next : List ℕ) → AreTransposedBelow block (at * 8) words →
+    ((i k : ℕ) → i < 64 → k < 8 → bit_at (get_or bytes i 0) k ≡ bit_at (get_or block i 0) (at * 8 + k)) →
+    ((k i : ℕ) → k < 8 → i < 64 → bit_at (get_or next (at * 8 + k) 0) i ≡ bit_at (get_or bytes i 0) k) →
+    ((j : ℕ) → j / 8 ≢ at → get_or next j 0 ≡ get_or words j 0) → AreTransposedBelow block ((at + 1) * 8) next
+AreTransposedBelow-more block at words bytes next before made written kept i j below low = elim (cases_eq (i / 8) at) [
+  | inl same ↦
+      let whole : i ≡ at * 8 + i % 8 = omega arith in
+      let small : i % 8 < 8 = omega arith in
+      ap (λ e. bit_at (get_or next e 0) j) whole ∙ written (i % 8) j small low ∙ made j (i % 8) low small ∙ ap (bit_at (get_or block j 0)) (sym whole)
+  | inr other ↦ ap (λ w. bit_at w j) (kept i other) ∙ before i j (omega arith) low
+]

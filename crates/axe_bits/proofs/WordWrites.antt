@@ -3,9 +3,11 @@ use Rattle.std.proofs.Common.{◌≡◌, ◌≢◌, ℕ, ◌+◌, ◌-◌, ◌*�
 use Rattle.std.specs.Int.{bit_at}
 use Rattle.std.proofs.lemmas.Bool.{cases_eq, eq-eqb, ne_eqb}
 use Rattle.std.proofs.lemmas.List.{ext_get_or, get_or_past, length-set}
+use Rattle.std.proofs.lemmas.Nat.Bits.{bit_at-lt}
 use native.Mathlib.Decide.{dec_lt}
 use Rattle.axe_algebra.proofs.ListEntries.{listed_length, listed_at}
 use Rattle.axe_bits.specs.Bits.{bit_of, bits, HoldsBits}
+use Rattle.axe_bits.specs.Digits.{AreDigits}
 use Rattle.axe_bits.specs.Words.{digits_with_word}
 use Rattle.axe_bits.proofs.BitLaws.{length-bits, get_or-bits, bit_of-word}
 
@@ -107,4 +109,12 @@ bits-cut n words self k word cut h is =
       | inr other ↦
           bit_of-kept words k cut e other ∙ sym (get_or-bits n words e small) ∙ ap (λ (x : List ℕ). get_or x e 0) is
           ∙ sym (get_or-digits_with_word_other self k word e 0 (omega (arith, long)) other)
+    ]
+
+pub AreDigits-digits_with_word : (digits : List ℕ) (k word : ℕ) → AreDigits 2 digits → AreDigits 2 (digits_with_word digits k word)
+AreDigits-digits_with_word digits k word all e d inside =
+    let below : e < length digits = omega (arith, length-digits_with_word digits k word) in
+    elim (cases_eq (e / 64) k) [
+      | inl same ↦ subst (λ x. x < 2) (sym (get_or-digits_with_word_same digits k word e d below same)) (bit_at-lt word (e % 64))
+      | inr other ↦ subst (λ x. x < 2) (sym (get_or-digits_with_word_other digits k word e d below other)) (all e 0 below)
     ]

@@ -25,6 +25,7 @@ mod byte_table;
 mod bytes;
 mod primes;
 mod tables;
+mod words;
 
 /// A list of digits modulo 2, 3, 5 or 7.
 #[derive(Drop)]

@@ -20,3 +20,4 @@ pub mod MultiplesByX
 pub mod TakenEntries
 pub mod EntrySums
 pub mod NegativeEntries
+pub mod RowWords

@@ -43,7 +43,7 @@ packed_entries o n bytes c l q two hc hl hq =
     one_plane o _ c l q (one_degree o two) (packed_planes o n bytes c l q two hc hl hq) ∙ hc.digits_are
 
 -- the plane of the entries of a row over two elements
-order_of_row : (o : Order) (c l q : Plane) (self : RowValue) → record { order = o; entries = entries_of o c l q } ≡ self →
+pub order_of_row : (o : Order) (c l q : Plane) (self : RowValue) → record { order = o; entries = entries_of o c l q } ≡ self →
     order_number self.order ≡ 2 → o ≡ Two
 order_of_row o c l q self view_is two = order_is_two o self.order (ap (λ (r : RowValue). r.order) view_is) two
 

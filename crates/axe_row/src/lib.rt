@@ -22,6 +22,7 @@ mod planes;
 mod refusals;
 mod scaling;
 mod sums;
+mod words;
 
 use axe_bits::earlier;
 use axe_field::Field;
