@@ -18,3 +18,5 @@ pub mod ProductRows
 mod ScaledFactors
 mod Appending
 mod SplitRows
+mod EntryWrites
+mod TransposedBlocks

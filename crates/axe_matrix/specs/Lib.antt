@@ -6,3 +6,4 @@ pub mod Columns
 pub mod Products
 pub mod VectorTerms
 pub mod PieceTables
+pub mod Transposes

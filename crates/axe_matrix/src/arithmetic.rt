@@ -41,6 +41,10 @@ impl Matrix {
             return Err(Refusal::NoRows);
         }
         let mut transpose = Matrix::zero(alloc, *self.field(), self.cols(), self.rows())?;
+        if self.field().order() == 2 {
+            transpose.put_transpose(self);
+            return Ok(transpose);
+        }
         for index in 0..self.rows() {
             transpose.put_column(index, self.row(index));
         }

@@ -13,6 +13,7 @@ mod arithmetic;
 mod multiples;
 mod parts;
 mod products;
+mod transposes;
 mod vectors;
 
 use axe_field::Field;
