@@ -37,6 +37,7 @@ use Rattle.axe_word.specs.PointsOfMatrix.{PointsLeft, point_count, points_of, Gi
 use Rattle.axe_word.proofs.DrawingLaws.{drawn_word-over}
 use Rattle.axe_iso.specs.Forms.{FormValue, HasNullity, IsNullSpaceOf, IsFormOver, IsForm}
 use Rattle.axe_iso.specs.Matches.{HasStandardMatrices, point_row}
+use Rattle.axe_iso.specs.Following.{AreFormMatrices}
 use native.Mathlib.Decide.{ℕ_discrete}
 
 -- ---- null spaces
@@ -247,3 +248,16 @@ module _ (form : FormValue) (m : ModuleValue) (is_form : IsForm form) (is_module
         space.rows facts.over facts.basis.back
         (subst (λ (ps : List (List ℕ)). (j : ℕ) → j < length ps → ¬ (AreStandardMatrices F N (vector_of K' (get_or ps j [])) A))
         (points_in_module m the_word space facts) none))
+
+-- ---- matrices that are followed
+
+-- the form's matrices, for a module of their dimension
+pub form_matrices : (form : FormValue) (m : ModuleValue) → IsForm form → m.order ≡ form.matrices.order → length m.generators ≡ length form.matrices.generators →
+    m.dim ≡ form.matrices.dim → AreFormMatrices m form.matrices
+form_matrices form m is_form field count dimension = record {
+  well_formed = is_form.well_formed;
+  field = sym field;
+  dimension = sym dimension;
+  count = sym count;
+  own = is_form.over.standard;
+}

@@ -1,4 +1,6 @@
-pub mod ActionRows
+pub mod StillToCome
+pub mod Followed
+pub mod FollowLaws
 pub mod MatchLaws
 pub mod FormLaws
 pub mod Forming

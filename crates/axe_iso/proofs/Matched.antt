@@ -5,23 +5,20 @@ use Rattle.axe_algebra.specs.Lists.{IsMatrixOver}
 use Rattle.axe_algebra.specs.ModulesOfLists.{IsIsomorphism, IsStandardBasis}
 use Rattle.axe_algebra.specs.PointTheorems.{IsNonzeroSpanned}
 use Rattle.axe_algebra.proofs.ListEntries.{vector_length}
-use Rattle.axe_echelon.proofs.EliminationLaws.{vector_of_zero_row}
 use Rattle.axe_echelon.proofs.InverseLaws.{matrix_over}
 use Rattle.axe_field.specs.Order.{order_number}
 use Rattle.axe_field.specs.NumberFields.{number_field}
 use Rattle.axe_row.specs.Rows.{RowValue}
-use Rattle.axe_row.specs.Operations.{IsZeroVector}
 use Rattle.axe_row.specs.declared.refusals.Refusal.{Refusal}
-use Rattle.axe_matrix.specs.Matrices.{MatrixValue, IsMatrix}
+use Rattle.axe_matrix.specs.Matrices.{MatrixValue}
 use Rattle.axe_spin.specs.Modules.{ModuleValue, IsModule}
-use Rattle.axe_spin.specs.Spinning.{IsStandardMatrix}
 use Rattle.axe_word.specs.Drawing.{drawn_word}
 use Rattle.axe_word.specs.PointsOfMatrix.{PointsLeft, points_of, GivesNext}
 use Rattle.axe_iso.specs.Forms.{FormValue, IsNullSpaceOf}
-use Rattle.axe_iso.specs.Rows.{IsSquareAction}
 use Rattle.axe_iso.specs.Matches.{HasStandardMatrices, IsFirstMatch}
+use Rattle.axe_iso.specs.Following.{IsBasisWithMatrices}
 use Rattle.axe_iso.proofs.FormLaws.{IsSpaceOfWord, space_of_word, point_in_module, AreTried, AreTriedOfWord, tried_inside, tried_point, tried_more}
-use Rattle.axe_iso.proofs.MatchLaws.{standard_matrices_of_action, rows_of_standard_matrices, action_of_standard_matrices, isomorphism_of_action}
+use Rattle.axe_iso.proofs.MatchLaws.{rows_of_standard_matrices, action_of_standard_matrices, isomorphism_of_action}
 
 module _ (form : FormValue) (m : ModuleValue) (space : MatrixValue) (is_module : IsModule m) (is_space : IsNullSpaceOf m form.seed form.word space)
     (field : m.order ≡ form.matrices.order) (dimension : m.dim ≡ form.matrices.dim)
@@ -46,53 +43,44 @@ module _ (form : FormValue) (m : ModuleValue) (space : MatrixValue) (is_module :
   pub point_fits : length point.entries ≡ m.dim
   point_fits = nonzero_spanned.over.length_is
 
-  pub point-nonzero : ¬ (IsZeroVector point.entries)
-  point-nonzero zeros = nonzero_spanned.nonzero (vector_of_zero_row K point.entries zeros)
+  module _ (basis : MatrixValue) (is_basis : IsBasisWithMatrices m point form.matrices basis) where
+    standard : IsStandardBasis K m.dim m.generators point.entries basis.rows
+    standard = is_basis.standard.standard
 
-  module _ (basis : MatrixValue) (standard : IsStandardMatrix m point basis) (well : IsMatrix basis) where
     over : IsMatrixOver K m.dim basis.rows
-    over = subst (λ o. IsMatrixOver (number_field o) m.dim basis.rows) standard.field
-        (subst (λ n. IsMatrixOver (number_field basis.order) n basis.rows) standard.columns (matrix_over basis well))
+    over = subst (λ o. IsMatrixOver (number_field o) m.dim basis.rows) is_basis.standard.field
+        (subst (λ n. IsMatrixOver (number_field basis.order) n basis.rows) is_basis.standard.columns (matrix_over basis is_basis.well_formed))
 
-    pub unmatched : ¬ (IsSquareAction m basis form.matrices) → ¬ (HasStandardMatrices m point.entries form.matrices)
-    unmatched fails has = fails (record {
-      square = rows_of_standard_matrices K m.dim m.generators point.entries basis.rows form.matrices.dim form.matrices.generators (sym dimension) standard.standard has;
-      acts = action_of_standard_matrices K m.dim m.generators point.entries basis.rows form.matrices.dim form.matrices.generators (sym dimension) standard.standard has;
-    })
+    isomorphism : IsIsomorphism K m.dim form.matrices.generators m.generators basis.rows
+    isomorphism = isomorphism_of_action K m.dim m.generators point.entries basis.rows form.matrices.dim form.matrices.generators (sym dimension)
+        standard is_module.over.square (vector_length K m.dim point.entries point_fits) over
+        (rows_of_standard_matrices K m.dim m.generators point.entries basis.rows form.matrices.dim form.matrices.generators (sym dimension) standard is_basis.matches)
+        (action_of_standard_matrices K m.dim m.generators point.entries basis.rows form.matrices.dim form.matrices.generators (sym dimension) standard is_basis.matches)
 
-    module _ (action : IsSquareAction m basis form.matrices) where
-      here : HasStandardMatrices m point.entries form.matrices
-      here = standard_matrices_of_action K m.dim m.generators point.entries basis.rows form.matrices.dim form.matrices.generators (sym dimension)
-          standard.standard action.square action.acts
-
-      isomorphism : IsIsomorphism K m.dim form.matrices.generators m.generators basis.rows
-      isomorphism = isomorphism_of_action K m.dim m.generators point.entries basis.rows form.matrices.dim form.matrices.generators (sym dimension)
-          standard.standard is_module.over.square (vector_length K m.dim point.entries point_fits) over action.square action.acts
-
-      pub matched : IsFirstMatch form m basis
-      matched = record {
-        well_formed = well;
-        isomorphism = record {
-          one_field = field;
-          one_dimension = dimension;
-          field = standard.field ∙ field;
-          columns = standard.columns ∙ dimension;
-          isomorphism =
-              subst (λ o. IsIsomorphism (number_field o) form.matrices.dim form.matrices.generators m.generators basis.rows) field
-              (subst (λ n. IsIsomorphism K n form.matrices.generators m.generators basis.rows) dimension isomorphism);
-        };
-        space = space;
-        is_space = is_space;
-        place = before.place;
-        inside = tried_inside form m space s t point before gives;
-        standard = record {
-          field = standard.field;
-          columns = standard.columns;
-          standard = subst (λ (v : List ℕ). IsStandardBasis K m.dim m.generators v basis.rows) (sym entries) standard.standard;
-        };
-        matches = subst (λ (v : List ℕ). HasStandardMatrices m v form.matrices) (sym entries) here;
-        first = before.tried;
-      }
+    pub matched : IsFirstMatch form m basis
+    matched = record {
+      well_formed = is_basis.well_formed;
+      isomorphism = record {
+        one_field = field;
+        one_dimension = dimension;
+        field = is_basis.standard.field ∙ field;
+        columns = is_basis.standard.columns ∙ dimension;
+        isomorphism =
+            subst (λ o. IsIsomorphism (number_field o) form.matrices.dim form.matrices.generators m.generators basis.rows) field
+            (subst (λ n. IsIsomorphism K n form.matrices.generators m.generators basis.rows) dimension isomorphism);
+      };
+      space = space;
+      is_space = is_space;
+      place = before.place;
+      inside = tried_inside form m space s t point before gives;
+      standard = record {
+        field = is_basis.standard.field;
+        columns = is_basis.standard.columns;
+        standard = subst (λ (v : List ℕ). IsStandardBasis K m.dim m.generators v basis.rows) (sym entries) standard;
+      };
+      matches = subst (λ (v : List ℕ). HasStandardMatrices m v form.matrices) (sym entries) is_basis.matches;
+      first = before.tried;
+    }
 
 -- the same of an item that was read
 module _ (form : FormValue) (m : ModuleValue) (is_module : IsModule m) (field : m.order ≡ form.matrices.order) (dimension : m.dim ≡ form.matrices.dim)
@@ -107,17 +95,12 @@ module _ (form : FormValue) (m : ModuleValue) (is_module : IsModule m) (field : 
   pub item_fits : length point.entries ≡ m.dim
   item_fits = point_fits form m before.space is_module before.is_space field dimension s t point before.tried given
 
-  pub item-nonzero : ¬ (IsZeroVector point.entries)
-  item-nonzero = point-nonzero form m before.space is_module before.is_space field dimension s t point before.tried given
+  pub item_unmatched : ¬ (HasStandardMatrices m point.entries form.matrices) → AreTriedOfWord form m t
+  item_unmatched fails = record {
+    space = before.space;
+    is_space = before.is_space;
+    tried = tried_more form m before.space s t point before.tried given fails;
+  }
 
-  module _ (basis : MatrixValue) (standard : IsStandardMatrix m point basis) (well : IsMatrix basis) where
-    pub item_unmatched : ¬ (IsSquareAction m basis form.matrices) → AreTriedOfWord form m t
-    item_unmatched fails = record {
-      space = before.space;
-      is_space = before.is_space;
-      tried = tried_more form m before.space s t point before.tried given
-          (unmatched form m before.space is_module before.is_space field dimension s t point before.tried given basis standard well fails);
-    }
-
-    pub item_matched : IsSquareAction m basis form.matrices → IsFirstMatch form m basis
-    item_matched = matched form m before.space is_module before.is_space field dimension s t point before.tried given basis standard well
+  pub item_matched : (basis : MatrixValue) → IsBasisWithMatrices m point form.matrices basis → IsFirstMatch form m basis
+  item_matched = matched form m before.space is_module before.is_space field dimension s t point before.tried given

@@ -280,12 +280,8 @@ module _ (form : FormValue) (m : ModuleValue) (is_form : IsForm form) (is_module
         of_basis (basis, (standard, well)) = (
           basis,
           matched form m space is_module is_space field dimension (left_from j) (left_from (suc j)) (point_row space j)
-              (record { field = refl; place = j; rest = refl; tried = before }) gives basis standard well (record {
-                square = rows_of_standard_matrices K m.dim m.generators (point_row space j).entries basis.rows form.matrices.dim form.matrices.generators (sym dimension)
-                    standard.standard here;
-                acts = action_of_standard_matrices K m.dim m.generators (point_row space j).entries basis.rows form.matrices.dim form.matrices.generators (sym dimension)
-                    standard.standard here;
-              }),
+              (record { field = refl; place = j; rest = refl; tried = before }) gives basis
+              (record { standard = standard; matches = here; well_formed = well }),
         )
 
     match_of_space : (answer : Option MatrixValue) × IsMatch form m answer

@@ -1,3 +1,3 @@
 pub mod Forms
-pub mod Rows
 pub mod Matches
+pub mod Following

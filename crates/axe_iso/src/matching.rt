@@ -1,15 +1,17 @@
 //! Modules that are matched with forms.
 
-ghost use Rattle.std.specs.Prelude.{◌≡◌, ◌≢◌, ◌↔◌, length, IsTrue, None, Ok};
+ghost use Rattle.std.specs.Prelude.{◌≡◌, ◌≢◌, ◌+◌, ◌<◌, ◌≤◌, [], length, get_or, MatchOption, None, Ok};
 ghost use Rattle.axe_row.specs.Refusals.{Answers};
+ghost use Rattle.axe_matrix.specs.Limits.{most_rows};
 ghost use Rattle.axe_matrix.specs.Matrices.{IsMatrix};
-ghost use Rattle.axe_iso.specs.Matches.{IsMatch};
-ghost use Rattle.axe_iso.specs.Rows.{MatrixActs, IsSquareAction};
+ghost use Rattle.axe_iso.specs.Following.{AreFormMatrices, FollowsImage, FollowsRow, IsBasisWithMatrices, IsFollowedBasis};
+ghost use Rattle.axe_iso.specs.Matches.{HasStandardMatrices, IsMatch};
 
 use crate::form::Form;
 use crate::null_space::null_space_of;
-use axe_matrix::{Matrix, Refusal};
-use axe_spin::{Module, standard_basis};
+use axe_echelon::span_of;
+use axe_matrix::{Matrix, Refusal, Row};
+use axe_spin::Module;
 use axe_word::Points;
 use std::alloc::Global;
 
@@ -17,7 +19,8 @@ use std::alloc::Global;
 /// generator g' of the module and of the form's matrices g. It is the standard basis of the first point, of the null
 /// space of the value of the form's word in the module, whose standard matrices are the form's. `None` where the module
 /// is not isomorphic to the form's matrices; for another dimension at once. The module is over the form's field and has
-/// as many generators. The comparison with the form's matrices goes row by row and stops at the first row that differs,
+/// as many generators. The form's matrices tell which images of rows are the next rows of a point's standard basis, and
+/// which combinations of earlier rows the others are; a point is given up at its first image that is another vector,
 /// and no point is tried past the one that matches: that is so by the code alone, and no clause says it.
 pub fn matches(alloc: Global, form: &Form, module: &Module) -> Result<Option<Matrix>, Refusal>
     requires field { «module».now.order ≡ form.now.matrices.order }
@@ -33,65 +36,88 @@ pub fn matches(alloc: Global, form: &Form, module: &Module) -> Result<Option<Mat
         return Ok(None);
     }
     for point in Points::new(alloc, &space) {
-        let basis = standard_basis(alloc, module, &point?)?;
-        if is_action(alloc, module, &basis, form.matrices())? {
+        if let Some(basis) = followed_basis(alloc, form.matrices(), module, point?)? {
             return Ok(Some(basis));
         }
     }
     Ok(None)
 }
 
-/// Whether matrices are the action of a module on the rows of a basis, and there are as many of these as the
-/// dimension. It stops at the first row that differs: that is so by the code alone.
-fn is_action(
+/// The standard basis of a point in a module where its standard matrices are a form's, and else `None`.
+fn followed_basis(
     alloc: Global,
-    module: &Module,
-    basis: &Matrix,
     matrices: &Module,
-) -> Result<bool, Refusal>
-    requires field { basis.now.order ≡ «module».now.order }
-    requires columns { basis.now.cols ≡ «module».now.dim }
-    requires matrices_field { matrices.now.order ≡ «module».now.order }
-    requires dimension { matrices.now.dim ≡ «module».now.dim }
-    requires generators { length matrices.now.generators ≡ length «module».now.generators }
-    ensures { Answers None (λ acts. IsTrue acts ↔ IsSquareAction «module».now basis.now matrices.now) result }
+    module: &Module,
+    point: Row,
+) -> Result<Option<Matrix>, Refusal>
+    requires matrices { AreFormMatrices «module».now matrices.now }
+    requires field { point.order ≡ «module».now.order }
+    requires fits { length point.entries ≡ «module».now.dim }
+    ensures { Answers None (λ basis. MatchOption basis (¬ (HasStandardMatrices «module».now point.entries matrices.now))
+        (IsBasisWithMatrices «module».now point matrices.now)) result }
 {
-    if basis.rows() != module.dim() {
-        return Ok(false);
+    let mut basis = Matrix::empty(alloc, *module.field(), module.dim());
+    basis.append(point)?;
+    for source in 0..module.dim() {
+        if !follow_row(alloc, matrices, module, &mut basis, source)? {
+            return Ok(None);
+        }
     }
-    for index in 0..matrices.gens() {
-        if !acts_by(
-            alloc,
-            module.generator(index),
-            basis,
-            matrices.generator(index),
-        )? {
+    // The images are as the matrices tell, but rows that are dependent are no basis.
+    if span_of(alloc, &basis)?.rank() != module.dim() {
+        return Ok(None);
+    }
+    Ok(Some(basis))
+}
+
+/// Takes the images of one row under the generators in order, and answers whether they are as a form's matrices tell:
+/// `false` at the first that is not.
+fn follow_row(
+    alloc: Global,
+    matrices: &Module,
+    module: &Module,
+    basis: &mut Matrix,
+    source: usize,
+) -> Result<bool, Refusal>
+    requires matrices { AreFormMatrices «module».now matrices.now }
+    requires source { source < «module».now.dim }
+    requires basis { IsFollowedBasis «module».now matrices.now (get_or basis.old.rows 0 []) basis.old source 0 }
+    ensures { Answers None
+        (FollowsRow «module».now matrices.now (get_or basis.old.rows 0 []) basis.new (source + 1)) result }
+{
+    for number in 0..module.gens() {
+        let image = module.generator(number).vec_mul(alloc, basis.row(source))?;
+        let coefficients = matrices.generator(number).row(source);
+        if !follow_image(alloc, coefficients, image, basis)? {
             return Ok(false);
         }
     }
     Ok(true)
 }
 
-/// Whether each row of a basis times a generator is the combination of the basis with the same row of a matrix.
-fn acts_by(
+/// Appends an image to the rows of a basis where its coefficients go past them: it is the next row then. Else the rows
+/// stay. The answer is whether the image is as its coefficients tell: the next row, or the combination of the rows.
+fn follow_image(
     alloc: Global,
-    generator: &Matrix,
-    basis: &Matrix,
-    matrix: &Matrix,
+    coefficients: &Row,
+    image: Row,
+    basis: &mut Matrix,
 ) -> Result<bool, Refusal>
-    requires field { basis.now.order ≡ generator.now.order }
-    requires matrix_field { matrix.now.order ≡ generator.now.order }
-    requires columns { basis.now.cols ≡ length generator.now.rows }
-    requires matrix_rows { length matrix.now.rows ≡ length basis.now.rows }
-    requires matrix_columns { matrix.now.cols ≡ length basis.now.rows }
-    ensures { Answers None (λ acts. IsTrue acts ↔ MatrixActs generator.now basis.now matrix.now) result }
+    requires well_formed { IsMatrix basis.old }
+    requires coefficients_field { coefficients.now.order ≡ basis.old.order }
+    requires enough { length basis.old.rows ≤ length coefficients.now.entries }
+    requires room { length coefficients.now.entries ≤ most_rows }
+    requires image_field { image.order ≡ basis.old.order }
+    requires fits { length image.entries ≡ basis.old.cols }
+    ensures follows { Answers None
+        (FollowsImage coefficients.now.entries image.entries basis.old basis.new) result }
+    ensures well_formed { Answers None (λ _. IsMatrix basis.new) result }
 {
-    for index in 0..basis.rows() {
-        let image = generator.vec_mul(alloc, basis.row(index))?;
-        let combination = basis.vec_mul(alloc, matrix.row(index))?;
-        if !image.same(&combination) {
-            return Ok(false);
-        }
+    if coefficients.next_nonzero(basis.rows()).is_some() {
+        basis.append(image)?;
+        return Ok(true);
     }
-    Ok(true)
+    let first = coefficients.part(alloc, 0, basis.rows())?;
+    let combination = basis.vec_mul(alloc, &first)?;
+    Ok(image.same(&combination))
 }
