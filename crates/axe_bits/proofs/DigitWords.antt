@@ -13,7 +13,7 @@ use native.Mathlib.Decide.{dec_lt}
 use Rattle.axe_algebra.specs.Lists.{listed}
 use Rattle.axe_algebra.proofs.ListEntries.{listed_length, listed_at}
 use Rattle.axe_bits.specs.Bits.{bit_of, bits, HoldsBits}
-use Rattle.axe_bits.proofs.BitLaws.{plane_long, length-bits, get_or-bits, bit_at-shifted, bit_of-further, bit_of-word, bit_of-below, bit_of-past, zeros, get_or-zeros}
+use Rattle.axe_bits.proofs.BitLaws.{plane_long, length-bits, get_or-bits, bit_at-shifted, bit_of-further, bit_of-word, bit_of-below, bit_of-past}
 
 -- words whose bits below an index are these digits
 pub record HaveDigits (digits : List ℕ) (until : ℕ) (words : List ℕ) : Type 0 where
@@ -21,9 +21,10 @@ pub record HaveDigits (digits : List ℕ) (until : ℕ) (words : List ℕ) : Typ
   pub long : length words ≡ (length digits + 63) / 64
   pub bits : (e : ℕ) → e < until → bit_of words e ≡ get_or digits e 0
 
-pub have_no_digits : (digits : List ℕ) (k until : ℕ) → length (zeros k) ≡ (length digits + 63) / 64 → until ≡ 0 → HaveDigits digits until (zeros k)
-have_no_digits digits k until long none = record {
-  fits = λ i. let nothing = get_or-zeros k i in omega (arith, nothing);
+pub have_no_digits : (digits : List ℕ) (until : ℕ) (words : List ℕ) → ((k : ℕ) → get_or words k 0 < 2 ^ 64) →
+    length words ≡ (length digits + 63) / 64 → until ≡ 0 → HaveDigits digits until words
+have_no_digits digits until words fits long none = record {
+  fits = fits;
   long = long;
   bits = λ e below. absurd (omega arith);
 }
@@ -237,22 +238,30 @@ lowest_cleared word count i past =
     least x = omega arith
 
 -- the word of some of the digits from an index on
-pub part_word : (n : ℕ) (words self : List ℕ) (start len before i word whole : ℕ) → bits n words ≡ self → start + len ≤ length self → i < 64 →
+pub part_word : (words : List ℕ) (start len before i word whole : ℕ) → i < 64 →
     (i < 64 → bit_at whole i ≡ bit_of words (start + before + i)) →
     (i < 64 → i < len - before → bit_at word i ≡ bit_at whole i) → (i < 64 → len - before ≤ i → bit_at word i ≡ 0) →
-    bit_at word i ≡ get_or (listed len (λ j. get_or self (start + j) 0)) (before + i) 0
-part_word n words self start len before i word whole is within low from kept cleared = elim (dec_lt i (len - before)) [
+    bit_at word i ≡ get_or (listed len (λ j. bit_of words (start + j))) (before + i) 0
+part_word words start len before i word whole low from kept cleared = elim (dec_lt i (len - before)) [
   | yes inside ↦
       let small : before + i < len = omega arith in
       let there : start + before + i ≡ start + (before + i) = omega arith in
-      let here : start + (before + i) < n = omega (arith, ap length is, length-bits n words) in
-      kept low inside ∙ from low ∙ ap (bit_of words) there ∙ sym (get_or-bits n words (start + (before + i)) here)
-      ∙ ap (λ (x : List ℕ). get_or x (start + (before + i)) 0) is
-      ∙ sym (listed_at len (λ j. get_or self (start + j) 0) (before + i) 0 small)
+      kept low inside ∙ from low ∙ ap (bit_of words) there
+      ∙ sym (listed_at len (λ j. bit_of words (start + j)) (before + i) 0 small)
   | no outside ↦
-      cleared low (omega arith) ∙ sym (get_or_past (listed len (λ j. get_or self (start + j) 0)) (before + i) 0
-      (omega (arith, listed_length len (λ j. get_or self (start + j) 0))))
+      cleared low (omega arith) ∙ sym (get_or_past (listed len (λ j. bit_of words (start + j))) (before + i) 0
+      (omega (arith, listed_length len (λ j. bit_of words (start + j)))))
 ]
+
+-- the digits of a layer from an index on
+pub digits_of_part : (n : ℕ) (words : List ℕ) (start len : ℕ) → start + len ≤ n →
+    listed len (λ j. bit_of words (start + j)) ≡ listed len (λ j. get_or (bits n words) (start + j) 0)
+digits_of_part n words start len within =
+    let f : ℕ → ℕ = λ j. bit_of words (start + j) in
+    let g : ℕ → ℕ = λ j. get_or (bits n words) (start + j) 0 in
+    ext_get_or 0 (listed len f) (listed len g) (listed_length len f ∙ sym (listed_length len g)) (λ e inside.
+    let here : e < len = omega (arith, listed_length len f) in
+    listed_at len f e 0 here ∙ sym (get_or-bits n words (start + e) (omega arith)) ∙ sym (listed_at len g e 0 here))
 
 -- ---- digits that are written
 

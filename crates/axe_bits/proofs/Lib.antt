@@ -20,6 +20,7 @@ pub mod TritZeros
 pub mod TritTables
 pub mod TritWords
 pub mod TritDots
+pub mod TritHalves
 pub mod TritEntries
 pub mod WordWrites
 pub mod BlockBits

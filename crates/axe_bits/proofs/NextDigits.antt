@@ -40,6 +40,24 @@ from_place words start word j is after below =
     ap (λ w. bit_at (w / 2 ^ (start % 64)) (j - start)) (sym is)
     ∙ bit_of-further words start (j - start) below ∙ ap (bit_of words) there
 
+-- the lowest bit that is left of a word stands in it
+pub within_word : (word start : ℕ) → word < 2 ^ 64 → word / 2 ^ (start % 64) ≢ 0 →
+    start % 64 + trailing_zeros w64 (word / 2 ^ (start % 64)) < 64
+within_word word start fits nonzero = elim (dec_lt (start % 64 + low) 64) [
+  | yes inside ↦ inside
+  | no outside ↦
+      absurd (omega (arith, bit.1, sym (bit_at-shifted word (start % 64) low), bit_at_above word 64 (start % 64 + low) fits (omega arith)))
+]
+  where
+    rest : ℕ
+    rest = word / 2 ^ (start % 64)
+
+    low : ℕ
+    low = trailing_zeros w64 rest
+
+    bit : (low < 64) × (bit_at rest low ≡ 1) × ((i : ℕ) → i < low → bit_at rest i ≡ 0)
+    bit = bit_at-trailing_zeros w64 rest (omega arith) (omega (arith, fits, div-le_self word (2 ^ (start % 64))))
+
 -- the lowest bit that is left of a word
 pub next_in_word : (n : ℕ) (words : List ℕ) (start word : ℕ) → HoldsBits n words → get_or words (start / 64) 0 ≡ word →
     word / 2 ^ (start % 64) ≢ 0 → IsNextNonzero (bits n words) start (start + trailing_zeros w64 (word / 2 ^ (start % 64)))
@@ -64,11 +82,7 @@ next_in_word n words start word held is nonzero =
     back = omega arith
 
     place : start % 64 + low < 64
-    place = elim (dec_lt (start % 64 + low) 64) [
-      | yes inside ↦ inside
-      | no outside ↦
-          absurd (omega (arith, bit.1, sym (bit_at-shifted word (start % 64) low), bit_at_above word 64 (start % 64 + low) fits (omega arith)))
-    ]
+    place = within_word word start fits nonzero
 
 -- nothing is left of a word
 none_in_word : (words : List ℕ) (start word : ℕ) → get_or words (start / 64) 0 ≡ word → word / 2 ^ (start % 64) ≡ 0 → (j : ℕ) →

@@ -9,7 +9,7 @@ use Rattle.std.proofs.lemmas.Nat.Bits.{bit_at-zero}
 use native.Mathlib.Decide.{dec_lt}
 use Rattle.axe_bits.specs.Bits.{bit_of, bits, HoldsBits}
 use Rattle.axe_bits.specs.Digits.{AreDigits, digits_at}
-use Rattle.axe_bits.proofs.BitLaws.{length-bits, get_or-bits, bit_of-word, bit_of-past, zeros, get_or-zeros}
+use Rattle.axe_bits.proofs.BitLaws.{length-bits, get_or-bits, bit_of-word, bit_of-past}
 
 -- words whose bits below an index are those of numbers at a place
 pub record HaveBits (numbers : List ℕ) (place until : ℕ) (words : List ℕ) : Type 0 where
@@ -17,9 +17,10 @@ pub record HaveBits (numbers : List ℕ) (place until : ℕ) (words : List ℕ) 
   pub long : length words ≡ (length numbers + 63) / 64
   pub bits : (e : ℕ) → e < until → bit_of words e ≡ bit_at (get_or numbers e 0) place
 
-pub have_no_bits : (numbers : List ℕ) (place k until : ℕ) → length (zeros k) ≡ (length numbers + 63) / 64 → until ≡ 0 → HaveBits numbers place until (zeros k)
-have_no_bits numbers place k until long none = record {
-  fits = λ i. let nothing = get_or-zeros k i in omega (arith, nothing);
+pub have_no_bits : (numbers : List ℕ) (place until : ℕ) (words : List ℕ) → ((k : ℕ) → get_or words k 0 < 2 ^ 64) →
+    length words ≡ (length numbers + 63) / 64 → until ≡ 0 → HaveBits numbers place until words
+have_no_bits numbers place until words fits long none = record {
+  fits = fits;
   long = long;
   bits = λ e below. absurd (omega arith);
 }

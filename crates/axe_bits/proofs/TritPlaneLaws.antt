@@ -1,7 +1,7 @@
--- Lists of digits modulo 3 that are made of two layers: zeros, digits of numbers, selected ones, parts and sums.
-use Rattle.std.proofs.Common.{◌≡◌, ℕ, ◌+◌, ◌*◌, ◌/◌, ◌%◌, ◌^◌, ◌<◌, ◌≤◌, List, length, get_or, set, map, replicate, refl, sym, ap, ◌∙◌, arith, inl, inr, get_or-set_same, get_or-set_other}
+-- Lists of digits modulo 3 that are made of two layers: digits of numbers, selected ones, parts and sums.
+use Rattle.std.proofs.Common.{◌≡◌, ℕ, ◌+◌, ◌*◌, ◌/◌, ◌%◌, ◌^◌, ◌<◌, ◌≤◌, List, length, get_or, set, map, sym, ap, ◌∙◌, arith, inl, inr, get_or-set_same, get_or-set_other}
 use Rattle.std.proofs.lemmas.Bool.{cases_eq}
-use Rattle.std.proofs.lemmas.List.{ext_get_or, get_or_past, get_or-map, get_or-replicate, length-map, length-replicate, length-set}
+use Rattle.std.proofs.lemmas.List.{ext_get_or, get_or_past, get_or-map, length-map, length-set}
 use Rattle.std.proofs.lemmas.List.Elements.{All-from_get_or}
 use native.Mathlib.Decide.{dec_lt}
 use Rattle.axe_algebra.specs.Lists.{listed}
@@ -48,19 +48,6 @@ pub trits_are : (a b x : List ℕ) → HoldTrits a b → length x ≡ length a �
 trits_are a b x h long same =
     ext_get_or 0 (trits a b) x (length-trits a b ∙ sym long) (λ e inside.
     get_or-trits a b h e ∙ same e (omega (arith, length-trits a b)))
-
--- ---- zeros
-
-pub layers_zero : (n : ℕ) → HoldTrits (replicate n 0) (replicate n 0)
-layers_zero n =
-    let long = length-replicate {A = ℕ} n 0 in
-    layers n _ _ long long (λ e inside. omega (arith, get_or-replicate {A = ℕ} n e 0 0 inside))
-
-pub trits_zero : (n : ℕ) (a b : List ℕ) → a ≡ replicate n 0 → b ≡ replicate n 0 → trits a b ≡ replicate n 0
-trits_zero n a b left right =
-    rw (left, right) (trits_are (replicate n 0) (replicate n 0) (replicate n 0) (layers_zero n) refl (λ e inside.
-    let small : e < n = omega (arith, length-replicate {A = ℕ} n 0) in
-    omega (arith, get_or-replicate {A = ℕ} n e 0 0 small)))
 
 -- ---- the digits of numbers
 
@@ -114,7 +101,7 @@ changed a b i d e h small inside = elim (cases_eq e i) [
       omega (arith, one, two, h.apart e)
 ]
 
-layers_set : (a b : List ℕ) (i d : ℕ) → HoldTrits a b → d < 3 → HoldTrits (set a i (d % 2)) (set b i (d / 2))
+pub layers_set : (a b : List ℕ) (i d : ℕ) → HoldTrits a b → d < 3 → HoldTrits (set a i (d % 2)) (set b i (d / 2))
 layers_set a b i d h small =
     layers (length a) _ _ (length-set a i (d % 2)) (length-set b i (d / 2) ∙ h.as_long)
     (λ e inside. changed a b i d e h small inside)

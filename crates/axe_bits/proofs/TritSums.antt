@@ -17,6 +17,10 @@ sum_of_layers a b x ones both h is left right =
     ap (λ (v : List ℕ). get_or v e 0) sum ∙ get_or-numbers_with_multiple a 2 b e (omega (arith, long))
     ∙ sym (trits_at a b x h is e))
 
+-- the second layer can be added with factor 2 to the first
+pub layers_small : (a b ones : List ℕ) → HoldTrits a b → ones ≡ a → AreSmallSums ones 2 b
+layers_small a b ones h left e inside = omega (arith, ap (λ (v : List ℕ). get_or v e 0) left, h.apart e)
+
 -- a multiple of a digit is that of its one, and twice that of its two
 multiple_of_digit : (m one two digit : ℕ) → digit ≡ one + 2 * two → m * digit ≡ m * one + m * two + m * two
 multiple_of_digit m one two digit is =

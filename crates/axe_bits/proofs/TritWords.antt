@@ -1,5 +1,5 @@
 -- Two layers of words as digits modulo 3: what a sum of such rows is, and their dot products.
-use Rattle.std.proofs.Common.{◌≡◌, ℕ, ◌+◌, ◌*◌, ◌%◌, ◌<◌, ◌≤◌, List, length, ◌++◌, take, drop, get_or, refl, sym, ap, ap₂, subst, ◌∙◌, arith, inl, inr}
+use Rattle.std.proofs.Common.{◌≡◌, ℕ, ◌+◌, ◌*◌, ◌%◌, ◌<◌, ◌≤◌, List, length, get_or, refl, sym, ap, ap₂, subst, ◌∙◌, arith, inl, inr}
 use Rattle.std.proofs.lemmas.Bool.{cases_lt}
 use Rattle.std.proofs.lemmas.List.{ext_get_or, get_or_past}
 use Rattle.axe_algebra.proofs.ListEntries.{listed_length, listed_at}
@@ -8,7 +8,7 @@ use Rattle.axe_lane.specs.Trits.{AreTrits, FitAt, IsTritSum}
 use Rattle.axe_bits.specs.Bits.{bit_of, bits, HoldsBits}
 use Rattle.axe_bits.specs.Digits.{digits_with_multiple}
 use Rattle.axe_bits.specs.Trits.{trits, HoldLayers, HoldTrits}
-use Rattle.axe_bits.proofs.BitLaws.{length-bits, get_or-bits, plane_long, written, AreDigits-bits}
+use Rattle.axe_bits.proofs.BitLaws.{length-bits, get_or-bits, plane_long, AreDigits-bits}
 use Rattle.axe_bits.proofs.DigitLaws.{length-digits_with_multiple, get_or-digits_with_multiple}
 
 -- the bit of a word, in the words of both crates
@@ -102,9 +102,8 @@ module _ (n : ℕ) (o t a b p q : List ℕ) (row : HoldLayers n o t) (more : Hol
       get_or-layers n p q e below ∙ digit e
       ∙ sym (get_or-digits_with_multiple 3 _ 1 _ e here ∙ ap₂ (λ x y. (x + y) % 3) (get_or-layers n o t e below) one))
 
--- ---- two planes, to which two layers are added
+-- ---- the layers of two planes that go together
 
--- the layers of two planes that go together
 pub layers_of_planes : (n m : ℕ) (o t x y : List ℕ) → HoldsBits n o → HoldsBits m t → bits n o ≡ x → bits m t ≡ y → HoldTrits x y →
     HoldLayers n o t
 layers_of_planes n m o t x y ho ht ox ty held = record {
@@ -116,58 +115,6 @@ layers_of_planes n m o t x y ho ht ox ty held = record {
   where
     same : m ≡ n
     same = sym (plane_long m t y ty) ∙ held.as_long ∙ plane_long n o x ox
-
--- the words p and q of both planes after the sum, where the planes had x and y
-pub record AreAdded (n m : ℕ) (p q x y a b : List ℕ) : Type 0 where
-  pub ones_held : HoldsBits n p
-  pub twos_held : HoldsBits m q
-  pub together : HoldTrits (bits n p) (bits m q)
-  pub digits : trits (bits n p) (bits m q) ≡ digits_with_multiple 3 (trits x y) 1 (trits (bits (length x) a) (bits (length x) b))
-
-pub added : (n m k l : ℕ) (o t x y a b v w p q : List ℕ) → HoldsBits n o → HoldsBits m t → bits n o ≡ x → bits m t ≡ y → HoldTrits x y →
-    HoldLayers (length x) a b → v ≡ o → w ≡ t → IsTritSum v w a b p q →
-    k ≡ length o → l ≡ length t → AreAdded n m (take k (p ++ drop (length p) o)) (take l (q ++ drop (length q) t)) x y a b
-added n m k l o t x y a b v w p q ho ht ox ty held more vo wt sum all_ones all_twos =
-    subst (λ (z : List ℕ). AreAdded n m z (take l (q ++ drop (length q) t)) x y a b) (sym ones)
-    (subst (λ (z : List ℕ). AreAdded n m p z x y a b) (sym twos) (record {
-      ones_held = whole.ones_held;
-      twos_held = subst (λ j. HoldsBits j q) (sym same) whole.twos_held;
-      together = subst (λ j. HoldTrits (bits n p) (bits j q)) (sym same) whole.together;
-      digits =
-          ap (λ j. trits (bits n p) (bits j q)) same ∙ digits_of_sum n o t a b p q row other total
-          ∙ ap₂ (λ (i j : List ℕ). digits_with_multiple 3 (trits i j) 1 (trits (bits n a) (bits n b))) ox (ap (λ j. bits j t) (sym same) ∙ ty)
-          ∙ ap (λ j. digits_with_multiple 3 (trits x y) 1 (trits (bits j a) (bits j b))) (sym long);
-    }))
-  where
-    long : length x ≡ n
-    long = plane_long n o x ox
-
-    same : m ≡ n
-    same = sym (plane_long m t y ty) ∙ held.as_long ∙ long
-
-    row : HoldLayers n o t
-    row = layers_of_planes n m o t x y ho ht ox ty held
-
-    other : HoldLayers n a b
-    other = subst (λ j. HoldLayers j a b) long more
-
-    total : IsTritSum o t a b p q
-    total = subst (λ (z : List ℕ). IsTritSum o z a b p q) wt (subst (λ (z : List ℕ). IsTritSum z w a b p q) vo sum)
-
-    whole : HoldLayers n p q
-    whole = layers_of_sum n o t a b p q row other total
-
-    ones : take k (p ++ drop (length p) o) ≡ p
-    ones = written k p o all_ones total.long
-
-    twos : take l (q ++ drop (length q) t) ≡ q
-    twos = written l q t all_twos (total.are_trits.as_long ∙ total.long ∙ sym (row.twos_held.long ∙ sym row.ones_held.long))
-
--- the kernel may be called
-pub addable : (n m : ℕ) (o t x y v w : List ℕ) → HoldsBits n o → HoldsBits m t → bits n o ≡ x → bits m t ≡ y → HoldTrits x y →
-    v ≡ o → w ≡ t → AreTrits v w
-addable n m o t x y v w ho ht ox ty held vo wt =
-    subst (AreTrits v) (sym wt) (subst (λ (z : List ℕ). AreTrits z t) (sym vo) (layers_are_trits n o t (layers_of_planes n m o t x y ho ht ox ty held)))
 
 -- ---- twice the digits
 

@@ -1,12 +1,12 @@
 -- Digits modulo 3 in two layers of bits: zeros, the first digit other than 0, multiples, and that digits fix layers.
-use Rattle.std.proofs.Common.{◌≡◌, ◌≢◌, ℕ, ◌+◌, ◌*◌, ◌%◌, ◌<◌, ◌≤◌, Option, Some, None, min, List, length, get_or, refl, sym, ap, ap₂, subst, ◌∙◌, arith, MatchOption, lit<}
+use Rattle.std.proofs.Common.{◌≡◌, ◌≢◌, ℕ, ◌+◌, ◌*◌, ◌%◌, ◌<◌, ◌≤◌, Option, Some, None, min, List, length, get_or, refl, sym, ap, subst, ◌∙◌, arith, MatchOption, lit<}
 use Rattle.std.specs.List.{All}
 use Rattle.std.proofs.lemmas.List.{ext_get_or, get_or_past, get_or-map, length-map}
 use Rattle.std.proofs.lemmas.List.Elements.{All-get_or, All-from_get_or}
 use native.Mathlib.Decide.{dec_lt}
 use Rattle.axe_algebra.proofs.ListEntries.{listed_at}
 use Rattle.axe_lane.specs.Bytes.{multiple_modulo}
-use Rattle.axe_lane.proofs.ByteLaws.{multiple_by_zero, multiple_by_one}
+use Rattle.axe_lane.proofs.ByteLaws.{multiple_by_one}
 use Rattle.axe_lane.specs.Entries.{AreZerosBetween, AreZerosFrom, IsNextNonzero}
 use Rattle.std.specs.Option.{unwrap_or}
 use Rattle.axe_bits.specs.Earlier.{earlier_of}
@@ -23,7 +23,7 @@ abbrev IsNext : List ℕ → ℕ → Option ℕ → Type 0
 IsNext x start place = MatchOption place (AreZerosFrom x start) (IsNextNonzero x start)
 
 -- the same from an index on and before another
-abbrev IsNextBefore : List ℕ → ℕ → ℕ → Option ℕ → Type 0
+abbrev pub IsNextBefore : List ℕ → ℕ → ℕ → Option ℕ → Type 0
 IsNextBefore x start end place = MatchOption place (AreZerosBetween x start end) (IsNextNonzero x start)
 
 -- ---- the digits that are zero
@@ -109,6 +109,11 @@ module _ (a b x : List ℕ) (h : HoldTrits a b) (is : trits a b ≡ x) where
         (in_twos start j (λ k from before. ones.zeros_between k from (omega arith)) twos)
   ]
 
+-- a number other than 0 stands before the end of a list
+pub end_within : (x : List ℕ) (start n : ℕ) (r : Option ℕ) → length x ≡ n → IsNextBefore x start n r → unwrap_or r n ≤ n
+end_within x start n None long next = omega arith
+end_within x start n (Some i) long next = omega (arith, next.within)
+
 -- ---- the digits fix the layers
 
 module _ (a b c d : List ℕ) (h : HoldTrits a b) (k : HoldTrits c d) (same : trits a b ≡ trits c d) where
@@ -151,21 +156,6 @@ HoldTrits-exchanged a b h = record {
 }
 
 module _ (a b x : List ℕ) (h : HoldTrits a b) (is : trits a b ≡ x) where
-  no_ones : multiple_modulo 2 0 a ≡ zeros (length a)
-  no_ones = sym (multiple_by_zero 2 0 refl (lit< tt) a)
-
-  no_twos : multiple_modulo 2 0 b ≡ zeros (length a)
-  no_twos = sym (multiple_by_zero 2 0 refl (lit< tt) b) ∙ ap zeros h.as_long
-
-  pub HoldTrits-none : HoldTrits (multiple_modulo 2 0 a) (multiple_modulo 2 0 b)
-  HoldTrits-none = rw (no_ones, no_twos) (HoldTrits-zeros (length a))
-
-  -- the multiple by 0 has no bits
-  pub trits_by_zero : (m : ℕ) → m ≡ 0 → trits (multiple_modulo 2 0 a) (multiple_modulo 2 0 b) ≡ multiple_modulo 3 m x
-  trits_by_zero m zero =
-      ap₂ trits no_ones no_twos ∙ trits-zeros (length a) ∙ ap zeros (sym (trits_long a b x h is))
-      ∙ multiple_by_zero 3 m zero (lit< tt) x
-
   -- the multiple by 1 is the same
   pub trits_by_one : (m : ℕ) → m ≡ 1 → x ≡ multiple_modulo 3 m x
   trits_by_one m one =

@@ -41,7 +41,7 @@ first_of_bits None n words held none = no_digit n words none
 first_of_bits (Some index) n words held h = first_digit n words index held h
 
 -- where all digits are zero, so are all words
-zero_word : (n : ℕ) (words : List ℕ) (k : ℕ) → HoldsBits n words → All IsZero (bits n words) → get_or words k 0 ≡ 0
+pub zero_word : (n : ℕ) (words : List ℕ) (k : ℕ) → HoldsBits n words → All IsZero (bits n words) → get_or words k 0 ≡ 0
 zero_word n words k held zeros =
     same_from_bits_below 64 (get_or words k 0) 0 (held.fits k) (lit< tt) (λ i below.
     let word : (k * 64 + i) / 64 ≡ k = omega arith in
@@ -55,30 +55,37 @@ zero_word n words k held zeros =
       | no outside ↦ held.unused e (omega arith)
     ]
 
-no_word : (n : ℕ) (words : List ℕ) → HoldsBits n words → All IsZero (bits n words) → HasNonzero words → 0 ≡ suc 0
-no_word n words held zeros some =
-    absurd (some.4 (sym some.3 ∙ get_or_default words some.0 some.1 0 some.2 ∙ zero_word n words some.0 held zeros))
+no_word : (words : List ℕ) → ((k : ℕ) → get_or words k 0 ≡ 0) → HasNonzero words → 0 ≡ suc 0
+no_word words zero some =
+    absurd (some.4 (sym some.3 ∙ get_or_default words some.0 some.1 0 some.2 ∙ zero some.0))
 
-no_bit : (n : ℕ) (words : List ℕ) → HoldsBits n words → (HasNonzero words → 0 ≡ suc 0) → All IsZero (bits n words)
-no_bit n words held none =
+no_other : (words : List ℕ) → (HasNonzero words → 0 ≡ suc 0) → (k : ℕ) → get_or words k 0 ≡ 0
+no_other words none k = elim (cases_eq (get_or words k 0) 0) [
+  | inl e ↦ e
+  | inr nonzero ↦
+      let within : k < length words = elim (dec_lt k (length words)) [
+        | yes inside ↦ inside
+        | no outside ↦ absurd (nonzero (get_or_past words k 0 (omega arith)))
+      ] in
+      absurd (omega (arith, none (k, get_or words k 0, within, get_or_default words k (get_or words k 0) 0 within, nonzero)))
+]
+
+pub no_bit : (n : ℕ) (words : List ℕ) → ((k : ℕ) → get_or words k 0 ≡ 0) → All IsZero (bits n words)
+no_bit n words zero =
     All-from_get_or IsZero (bits n words) 0 (λ e inside.
-    get_or-bits n words e (omega (arith, length-bits n words)) ∙ bit_of-word words e ∙ ap (λ w. bit_at w (e % 64)) (word (e / 64)) ∙ bit_at-zero (e % 64))
-  where
-    word : (k : ℕ) → get_or words k 0 ≡ 0
-    word k = elim (cases_eq (get_or words k 0) 0) [
-      | inl e ↦ e
-      | inr nonzero ↦
-          let within : k < length words = elim (dec_lt k (length words)) [
-            | yes inside ↦ inside
-            | no outside ↦ absurd (nonzero (get_or_past words k 0 (omega arith)))
-          ] in
-          absurd (omega (arith, none (k, get_or words k 0, within, get_or_default words k (get_or words k 0) 0 within, nonzero)))
-    ]
+    get_or-bits n words e (omega (arith, length-bits n words)) ∙ bit_of-word words e ∙ ap (λ w. bit_at w (e % 64)) (zero (e / 64)) ∙ bit_at-zero (e % 64))
 
 not_true : false ≡ true → 0 ≡ suc 0
 not_true bad = cc
 
--- no word has a set bit exactly where all digits are zero
+-- no word is other than zero exactly where each is zero
+pub zero_words : (some : Bool) (words : List ℕ) → IsTrue some ↔ HasNonzero words → IsTrue (not some) ↔ ((k : ℕ) → get_or words k 0 ≡ 0)
+zero_words true words h = (λ bad. absurd (omega (arith, not_true bad)), λ zero. absurd (omega (arith, no_word words zero (h.0 refl))))
+zero_words false words h = (λ _. no_other words (λ some. absurd (omega (arith, not_true (h.1 some)))), λ _. refl)
+
+-- no word is other than zero exactly where all digits are zero
 pub zero_bits : (some : Bool) (n : ℕ) (words : List ℕ) → HoldsBits n words → IsTrue some ↔ HasNonzero words → IsTrue (not some) ↔ All IsZero (bits n words)
-zero_bits true n words held h = (λ bad. absurd (omega (arith, not_true bad)), λ zeros. absurd (omega (arith, no_word n words held zeros (h.0 refl))))
-zero_bits false n words held h = (λ _. no_bit n words held (λ some. absurd (omega (arith, not_true (h.1 some)))), λ _. refl)
+zero_bits some n words held h = (
+  λ none. no_bit n words ((zero_words some words h).0 none),
+  λ zeros. (zero_words some words h).1 (λ k. zero_word n words k held zeros),
+)

@@ -1,5 +1,5 @@
 -- Digits modulo 3 in two layers of bits: a digit is 1 where the first layer has a bit, and 2 where the second has one.
-use Rattle.std.specs.Prelude.{◌≡◌, ℕ, ◌+◌, ◌*◌, ◌<◌, ◌≤◌, List, [], length, slice_index, slice_index_or}
+use Rattle.std.specs.Prelude.{◌≡◌, ℕ, ◌+◌, ◌*◌, ◌/◌, ◌<◌, ◌≤◌, List, [], length, slice_index, slice_index_or, take, drop}
 use Rattle.axe_algebra.specs.Lists.{listed}
 use Rattle.axe_bits.specs.Bits.{bits, HoldsBits}
 use Rattle.axe_bits.specs.Digits.{AreDigits}
@@ -20,6 +20,13 @@ pub record HoldLayers (n : ℕ) (ones twos : List ℕ) : Type 0 where
   pub ones_held : HoldsBits n ones
   pub twos_held : HoldsBits n twos
   pub together : HoldTrits (bits n ones) (bits n twos)
+
+-- the first half of a list of words, and the rest of it: those of two layers, one after another in one list
+abbrev pub first_half : List ℕ → List ℕ
+first_half words = take (length words / 2) words
+
+abbrev pub second_half : List ℕ → List ℕ
+second_half words = drop (length words / 2) words
 
 -- the entries of two tables of layers, each a list of digits modulo 3
 unfoldable pub trit_entries : List (List ℕ) → List (List ℕ) → List (List ℕ)

@@ -1,21 +1,23 @@
 //! Planes of digits modulo 2.
 ghost use Rattle.std.specs.Int.{bit_at};
-ghost use Rattle.std.specs.Prelude.{ℕ, ◌≡◌, ◌≢◌, ◌+◌, ◌*◌, ◌/◌, ◌^◌, ◌%◌, ◌<◌, ◌≤◌, ◌↔◌, IsTrue, IfOk, length, map};
+ghost use Rattle.std.specs.Prelude.{ℕ, ◌≡◌, ◌+◌, ◌*◌, ◌/◌, ◌^◌, ◌%◌, ◌<◌, ◌≤◌, ◌↔◌, IsTrue, IfOk, length, map};
 ghost use Rattle.std.specs.Prelude.{replicate, slice_index, slice_set, All, MatchOption};
-ghost use Rattle.axe_algebra.specs.Digits.{number_with_digits};
 ghost use Rattle.axe_algebra.specs.Lists.{listed};
 ghost use Rattle.axe_lane.specs.Bytes.{multiple_modulo, sum_of_products};
-ghost use Rattle.axe_lane.specs.Entries.{IsFirstNonzero, AreZerosBetween, AreZerosFrom, IsNextNonzero};
-ghost use Rattle.axe_bits.specs.Bits.{bit_of, bits, HoldsBits};
+ghost use Rattle.axe_lane.specs.Entries.{IsFirstNonzero, AreZerosFrom, IsNextNonzero};
+ghost use Rattle.axe_bits.specs.Bits.{bits, HoldsBits};
 ghost use Rattle.axe_bits.specs.Digits.{AreDigits, digits_at, digits_with_four, digits_with_multiple};
 ghost use Rattle.axe_bits.specs.Digits.{AreSmallSums, numbers_with_multiple};
 ghost use Rattle.axe_bits.specs.Digits.{number_from, numbers_from};
 ghost use Rattle.axe_bits.specs.Packed.{packed_bit};
-ghost use Rattle.axe_bits.specs.Trits.{trits, HoldLayers, HoldTrits};
 
+use crate::layer::{
+    add_digits, bit_in, copy_digits, fill_with_bits, fill_with_part, fill_with_selected, next_in,
+    number_in, numbers_in, set_bit,
+};
 use crate::packed::{WORD_BYTES, packed_word, word_of_packed};
-use crate::parts::{WORD, add_spread, gathered, lowest, spread, word_from};
-use axe_lane::{add_trits, any_nonzero, bits_of_bytes, first_set, parity_and, xor_into, xor4_into};
+use crate::parts::{WORD, lowest};
+use axe_lane::{any_nonzero, first_set, parity_and, xor_into, xor4_into};
 use std::alloc::{AllocError, Global};
 use std::marker::Model;
 
@@ -56,9 +58,7 @@ impl BitPlane {
     {
         let len = numbers.len();
         let mut words = vec![in alloc; 0; len.div_ceil(WORD)]?;
-        for at in 0..words.len() {
-            words[at] = word_of(numbers, at * WORD, place);
-        }
+        fill_with_bits(&mut words, numbers, place);
         Ok(BitPlane { len, words })
     }
 
@@ -117,11 +117,7 @@ impl BitPlane {
         ensures value { result ≡ number_from base size at self.now }
         ensures small { result < 6561 }
     {
-        if at >= self.len {
-            return 0;
-        }
-        let count = size.min(self.len - at);
-        number_of_bits(word_from(&self.words, at), base, count)
+        number_in(&self.words, self.len, base, size, at)
     }
 
     /// Four numbers in a base up to 9, the digits of each being up to four of the plane's, most significant first:
@@ -134,21 +130,7 @@ impl BitPlane {
         ensures value { result ≡ numbers_from base size at self.now }
         ensures small { (i : ℕ) → slice_index result i < 6561 }
     {
-        if at >= self.len || self.len - at < 4 * size {
-            return [
-                self.number_from(base, size, at),
-                self.number_from(base, size, at + size),
-                self.number_from(base, size, at + 2 * size),
-                self.number_from(base, size, at + 3 * size),
-            ];
-        }
-        let word = word_from(&self.words, at);
-        [
-            number_of_bits(word, base, size),
-            number_of_bits(word >> size, base, size),
-            number_of_bits(word >> (2 * size), base, size),
-            number_of_bits(word >> (3 * size), base, size),
-        ]
+        numbers_in(&self.words, self.len, base, size, at)
     }
 
     /// Makes a digit the one at an index; all others stay. From the length on there is none to be changed.
@@ -157,8 +139,7 @@ impl BitPlane {
         ensures { self.new ≡ slice_set self.old index digit }
     {
         if index < self.len {
-            let word = index / WORD;
-            self.words[word] = with_bit(self.words[word], index % WORD, digit);
+            set_bit(&mut self.words, index, digit);
         }
     }
 
@@ -180,9 +161,7 @@ impl BitPlane {
     {
         let len = indices.len();
         let mut words = vec![in alloc; 0; len.div_ceil(WORD)]?;
-        for at in 0..words.len() {
-            words[at] = gathered(&self.words, indices, at * WORD);
-        }
+        fill_with_selected(&mut words, &self.words, indices);
         Ok(BitPlane { len, words })
     }
 
@@ -192,10 +171,7 @@ impl BitPlane {
         ensures { IfOk result (λ plane. plane ≡ listed len (λ j. slice_index self.now (start + j))) }
     {
         let mut words = vec![in alloc; 0; len.div_ceil(WORD)]?;
-        for at in 0..words.len() {
-            let before = at * WORD;
-            words[at] = lowest(word_from(&self.words, start + before), len - before);
-        }
+        fill_with_part(&mut words, &self.words, start, len);
         Ok(BitPlane { len, words })
     }
 
@@ -204,11 +180,7 @@ impl BitPlane {
         requires { length numbers.old ≡ length self.now }
         ensures { numbers.new ≡ self.now }
     {
-        for at in 0..self.words.len() {
-            let from = at * WORD;
-            let count = WORD.min(self.len - from);
-            spread(self.words[at], &mut numbers[from..from + count]);
-        }
+        copy_digits(&self.words, numbers);
     }
 
     /// Writes the digits into the bytes that they take, eight to a byte, the first of a byte being its most significant
@@ -232,11 +204,7 @@ impl BitPlane {
         requires small { AreSmallSums numbers.old factor self.now }
         ensures { numbers.new ≡ numbers_with_multiple numbers.old factor self.now }
     {
-        for at in 0..self.words.len() {
-            let from = at * WORD;
-            let count = WORD.min(self.len - from);
-            add_spread(self.words[at], factor, &mut numbers[from..from + count]);
-        }
+        add_digits(&self.words, self.len, factor, numbers);
     }
 
     /// Adds another plane of the same length: each digit becomes its sum with the other's modulo 2.
@@ -308,29 +276,7 @@ impl BitPlane {
     pub fn next_nonzero(&self, start: usize) -> Option<usize>
         ensures { MatchOption result (AreZerosFrom self.now start) (IsNextNonzero self.now start) }
     {
-        self.next_before(start, self.len)
-    }
-
-    /// The index of the first digit other than 0 from an index on, or `None` where every digit from there on and before
-    /// an end is 0. The words past that of the end are not looked at, so a digit past the end may be found or not.
-    #[inline]
-    pub(crate) fn next_before(&self, start: usize, end: usize) -> Option<usize>
-        requires { end ≤ length self.now }
-        ensures { MatchOption result (AreZerosBetween self.now start end) (IsNextNonzero self.now start) }
-    {
-        if start >= end {
-            return None;
-        }
-        let (word, place) = (start / WORD, start % WORD);
-        let rest = self.words[word] >> place;
-        if rest != 0 {
-            return Some(start + rest.trailing_zeros() as usize);
-        }
-        let after = word + 1;
-        match first_set(&self.words[after..end.div_ceil(WORD)]) {
-            Some(index) => Some(after * WORD + index),
-            None => None,
-        }
+        next_in(&self.words, start, self.len)
     }
 
     /// Whether every digit is 0.
@@ -346,85 +292,4 @@ impl BitPlane {
     {
         self.len == other.len && self.words == other.words
     }
-}
-
-/// The bit at an index of a list of words, counted from the lowest bit of the first word.
-#[inline]
-pub(crate) fn bit_in(words: &[u64], index: usize) -> u8
-    requires { index / 64 < length words.now }
-    ensures bit { result ≡ bit_of words.now index }
-    ensures small { result < 2 }
-{
-    ((words[index / WORD] >> (index % WORD)) & 1) as u8
-}
-
-/// Adds the digits modulo 3 that two layers hold to those of two others: each digit becomes the sum modulo 3.
-#[inline]
-pub(crate) fn add_layers(
-    ones: &mut BitPlane,
-    twos: &mut BitPlane,
-    more_ones: &[u64],
-    more_twos: &[u64],
-)
-    requires row { HoldTrits ones.old twos.old }
-    requires more { HoldLayers (length ones.old) more_ones.now more_twos.now }
-    ensures holds { HoldTrits ones.new twos.new }
-    ensures digits { trits ones.new twos.new ≡ digits_with_multiple 3 (trits ones.old twos.old) 1
-        (trits (bits (length ones.old) more_ones.now) (bits (length ones.old) more_twos.now)) }
-{
-    add_trits(&mut ones.words, &mut twos.words, more_ones, more_twos);
-}
-
-/// The number whose digits in a base up to 9, most significant first, are up to four of the bits of a word, from the
-/// lowest on.
-#[inline]
-fn number_of_bits(word: u64, base: usize, count: usize) -> usize
-    requires base { base ≤ 9 }
-    requires short { count ≤ 4 }
-    ensures value { result ≡ number_with_digits base (listed count (bit_at word)) }
-    ensures small { result < 6561 }
-{
-    let first = (word & 1) as usize;
-    let second = (word >> 1 & 1) as usize;
-    let third = (word >> 2 & 1) as usize;
-    let fourth = (word >> 3 & 1) as usize;
-    match count {
-        0 => 0,
-        1 => first,
-        2 => first * base + second,
-        3 => (first * base + second) * base + third,
-        _ => ((first * base + second) * base + third) * base + fourth,
-    }
-}
-
-/// A word with another bit at a place, counted from the lowest.
-fn with_bit(word: u64, place: usize, bit: u8) -> u64
-    requires place { place < 64 }
-    requires bit { bit < 2 }
-    ensures fits { result < 2 ^ 64 }
-    ensures changed { bit_at result place ≡ bit }
-    ensures kept { (i : ℕ) → i < 64 → i ≢ place → bit_at result i ≡ bit_at word i }
-{
-    if bit == 0 {
-        word & !(1 << place)
-    } else {
-        word | 1 << place
-    }
-}
-
-/// The word of the bits at a place of the numbers from an index on, as many as a word holds; where there is no number,
-/// the bit is 0.
-fn word_of(numbers: &[u8], from: usize, place: u8) -> u64
-    requires from { from ≤ length numbers.now }
-    requires place { place < 8 }
-    ensures { (i : ℕ) → i < 64 → bit_at result i ≡ bit_at (slice_index numbers.now (from + i)) place }
-{
-    if numbers.len() - from >= WORD {
-        return bits_of_bytes(numbers, from, place);
-    }
-    let mut word = 0;
-    for at in from..numbers.len() {
-        word = with_bit(word, at - from, numbers[at] >> place & 1);
-    }
-    word
 }

@@ -5,6 +5,7 @@
 mod bit_table;
 mod bits;
 mod blocks;
+mod layer;
 mod packed;
 mod parts;
 mod pieces;

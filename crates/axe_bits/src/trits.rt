@@ -5,34 +5,40 @@ ghost use Rattle.axe_algebra.specs.Lists.{listed};
 ghost use Rattle.axe_lane.specs.Bytes.{multiple_modulo, sum_of_products};
 ghost use Rattle.axe_lane.specs.Entries.{IsFirstNonzero, AreZerosFrom, IsNextNonzero};
 ghost use Rattle.axe_bits.specs.Bits.{bits};
-ghost use Rattle.axe_bits.specs.Trits.{trits, HoldLayers};
+ghost use Rattle.axe_lane.specs.Trits.{AreTrits, IsTritSum};
+ghost use Rattle.axe_bits.specs.Trits.{trits, first_half, second_half, HoldLayers};
 ghost use Rattle.axe_bits.specs.Digits.{AreDigits, digits_with_multiple};
 ghost use Rattle.axe_bits.specs.Digits.{AreSmallSums, numbers_with_multiple, numbers_from};
 
-use crate::bits::{add_layers, bit_in};
-use crate::{BitPlane, earlier};
-use axe_lane::dot_trits;
+use crate::earlier;
+use crate::layer::{
+    add_digits, bit_in, copy_digits, fill_with_bits, fill_with_part, fill_with_selected, next_in,
+    numbers_in, set_bit,
+};
+use crate::parts::WORD;
+use axe_lane::{add_trits, any_nonzero, dot_trits};
 use std::alloc::{AllocError, Global};
 use std::marker::Model;
-use std::mem::swap;
 
-/// A list of digits modulo 3: digit e is 1 where the plane of ones has a bit at e, 2 where the plane of twos has one,
-/// and else 0. No place has a bit in both.
+/// A list of digits modulo 3, in two layers of as many bits: digit e is 1 where the layer of ones has a bit at e, 2
+/// where the layer of twos has one, and else 0. No place has a bit in both. The words of the ones come first, and after
+/// them as many of the twos; the bits from the length on are 0.
 #[derive(Drop)]
 pub struct TritPlane {
-    ones: BitPlane,
-    twos: BitPlane,
+    len: usize,
+    words: Vec<u64>,
 }
 
 impl Model for TritPlane {
     ghost use Rattle.std.specs.Prelude.{ℕ, List};
-    ghost use Rattle.axe_bits.specs.Trits.{trits, HoldTrits};
+    ghost use Rattle.axe_bits.specs.Bits.{bits};
+    ghost use Rattle.axe_bits.specs.Trits.{trits, first_half, second_half, HoldLayers};
 
     ghost Value = { List ℕ };
 
-    ghost view = { λ a. trits a.ones a.twos };
+    ghost view = { λ a. trits (bits a.len (first_half a.words.items)) (bits a.len (second_half a.words.items)) };
 
-    ghost invariant = { λ a. HoldTrits a.ones a.twos };
+    ghost invariant = { λ a. HoldLayers a.len (first_half a.words.items) (second_half a.words.items) };
 }
 
 impl TritPlane {
@@ -40,9 +46,8 @@ impl TritPlane {
     pub fn zero(alloc: Global, len: usize) -> Result<TritPlane, AllocError>
         ensures { IfOk result (λ plane. plane ≡ replicate len 0) }
     {
-        let ones = BitPlane::zero(alloc, len)?;
-        let twos = BitPlane::zero(alloc, len)?;
-        Ok(TritPlane { ones, twos })
+        let words = vec![in alloc; 0; 2 * len.div_ceil(WORD)]?;
+        Ok(TritPlane { len, words })
     }
 
     /// The plane of these digits.
@@ -50,9 +55,13 @@ impl TritPlane {
         requires { AreDigits 3 digits.now }
         ensures { IfOk result (λ plane. plane ≡ digits.now) }
     {
-        let ones = BitPlane::of_numbers(alloc, digits, 0)?;
-        let twos = BitPlane::of_numbers(alloc, digits, 1)?;
-        Ok(TritPlane { ones, twos })
+        let len = digits.len();
+        let width = len.div_ceil(WORD);
+        let mut words = vec![in alloc; 0; 2 * width]?;
+        let (ones, twos) = words.split_at_mut(width);
+        fill_with_bits(ones, digits, 0);
+        fill_with_bits(twos, digits, 1);
+        Ok(TritPlane { len, words })
     }
 
     /// How many digits the plane has.
@@ -60,7 +69,7 @@ impl TritPlane {
         ensures count { result ≡ length self.now }
         ensures digits { AreDigits 3 self.now }
     {
-        self.ones.len()
+        self.len
     }
 
     /// The digit at an index, counted from 0, and 0 from the length on.
@@ -68,7 +77,7 @@ impl TritPlane {
     pub fn get(&self, index: usize) -> u8
         ensures { result ≡ slice_index self.now index }
     {
-        if index >= self.len() {
+        if index >= self.len {
             return 0;
         }
         let (ones, twos) = self.layers();
@@ -85,8 +94,9 @@ impl TritPlane {
         ensures value { result ≡ numbers_from base size at self.now }
         ensures small { (i : ℕ) → slice_index result i < 6561 }
     {
-        let ones = self.ones.numbers_from(base, size, at);
-        let twos = self.twos.numbers_from(base, size, at);
+        let (ones, twos) = self.layers();
+        let ones = numbers_in(ones, self.len, base, size, at);
+        let twos = numbers_in(twos, self.len, base, size, at);
         [
             ones[0] + 2 * twos[0],
             ones[1] + 2 * twos[1],
@@ -100,17 +110,23 @@ impl TritPlane {
         requires { digit < 3 }
         ensures { self.new ≡ slice_set self.old index digit }
     {
-        self.ones.set(index, digit % 2);
-        self.twos.set(index, digit / 2);
+        if index < self.len {
+            let width = self.words.len() / 2;
+            let (ones, twos) = self.words.split_at_mut(width);
+            set_bit(ones, index, digit % 2);
+            set_bit(twos, index, digit / 2);
+        }
     }
 
     /// The same plane a second time.
     pub fn copy(&self, alloc: Global) -> Result<TritPlane, AllocError>
         ensures { IfOk result (λ plane. plane ≡ self.now) }
     {
-        let ones = self.ones.copy(alloc)?;
-        let twos = self.twos.copy(alloc)?;
-        Ok(TritPlane { ones, twos })
+        let words = Vec::from_slice(alloc, &self.words)?;
+        Ok(TritPlane {
+            len: self.len,
+            words,
+        })
     }
 
     /// The plane of the digits at these indices, in their order.
@@ -118,9 +134,14 @@ impl TritPlane {
         requires { All (λ index. index < length self.now) indices.now }
         ensures { IfOk result (λ plane. plane ≡ map (slice_index self.now) indices.now) }
     {
-        let ones = self.ones.select(alloc, indices)?;
-        let twos = self.twos.select(alloc, indices)?;
-        Ok(TritPlane { ones, twos })
+        let len = indices.len();
+        let width = len.div_ceil(WORD);
+        let mut words = vec![in alloc; 0; 2 * width]?;
+        let (own_ones, own_twos) = self.layers();
+        let (ones, twos) = words.split_at_mut(width);
+        fill_with_selected(ones, own_ones, indices);
+        fill_with_selected(twos, own_twos, indices);
+        Ok(TritPlane { len, words })
     }
 
     /// The plane of the `len` digits from an index on.
@@ -128,9 +149,13 @@ impl TritPlane {
         requires { start + len ≤ length self.now }
         ensures { IfOk result (λ plane. plane ≡ listed len (λ j. slice_index self.now (start + j))) }
     {
-        let ones = self.ones.part(alloc, start, len)?;
-        let twos = self.twos.part(alloc, start, len)?;
-        Ok(TritPlane { ones, twos })
+        let width = len.div_ceil(WORD);
+        let mut words = vec![in alloc; 0; 2 * width]?;
+        let (own_ones, own_twos) = self.layers();
+        let (ones, twos) = words.split_at_mut(width);
+        fill_with_part(ones, own_ones, start, len);
+        fill_with_part(twos, own_twos, start, len);
+        Ok(TritPlane { len, words })
     }
 
     /// Writes the digits into a list of the plane's length.
@@ -138,8 +163,9 @@ impl TritPlane {
         requires { length numbers.old ≡ length self.now }
         ensures { numbers.new ≡ self.now }
     {
-        self.ones.copy_to(numbers);
-        self.twos.add_to(2, numbers);
+        let (ones, twos) = self.layers();
+        copy_digits(ones, numbers);
+        add_digits(twos, self.len, 2, numbers);
     }
 
     /// Adds a multiple of each digit to the number at its index.
@@ -148,9 +174,10 @@ impl TritPlane {
         requires small { AreSmallSums numbers.old factor self.now }
         ensures { numbers.new ≡ numbers_with_multiple numbers.old factor self.now }
     {
-        self.ones.add_to(factor, numbers);
-        self.twos.add_to(factor, numbers);
-        self.twos.add_to(factor, numbers);
+        let (ones, twos) = self.layers();
+        add_digits(ones, self.len, factor, numbers);
+        add_digits(twos, self.len, factor, numbers);
+        add_digits(twos, self.len, factor, numbers);
     }
 
     /// Adds a multiple of another plane of the same length: each digit d becomes d + m s modulo 3, where s is the
@@ -176,8 +203,8 @@ impl TritPlane {
     {
         match factor {
             0 => {}
-            1 => add_layers(&mut self.ones, &mut self.twos, ones, twos),
-            _ => add_layers(&mut self.ones, &mut self.twos, twos, ones),
+            1 => add_to_halves(&mut self.words, ones, twos),
+            _ => add_to_halves(&mut self.words, twos, ones),
         }
     }
 
@@ -187,7 +214,7 @@ impl TritPlane {
         ensures holds { HoldLayers (length self.now) result.0.now result.1.now }
         ensures digits { trits (bits (length self.now) result.0.now) (bits (length self.now) result.1.now) ≡ self.now }
     {
-        (self.ones.words(), self.twos.words())
+        self.words.split_at(self.words.len() / 2)
     }
 
     /// Multiplies each digit by a factor modulo 3.
@@ -196,12 +223,13 @@ impl TritPlane {
         ensures { self.new ≡ multiple_modulo 3 factor self.old }
     {
         match factor {
-            0 => {
-                self.ones.scale(0);
-                self.twos.scale(0);
-            }
+            0 => self.words.fill(0),
             1 => {}
-            _ => swap(&mut self.ones, &mut self.twos),
+            _ => {
+                let width = self.words.len() / 2;
+                let (ones, twos) = self.words.split_at_mut(width);
+                ones.swap_with_slice(twos);
+            }
         }
     }
 
@@ -228,22 +256,39 @@ impl TritPlane {
     pub fn next_nonzero(&self, start: usize) -> Option<usize>
         ensures { MatchOption result (AreZerosFrom self.now start) (IsNextNonzero self.now start) }
     {
-        let one = self.ones.next_nonzero(start);
-        let end = one.unwrap_or(self.twos.len());
-        earlier(one, self.twos.next_before(start, end))
+        let (ones, twos) = self.layers();
+        let one = next_in(ones, start, self.len);
+        let end = one.unwrap_or(self.len);
+        earlier(one, next_in(twos, start, end))
     }
 
     /// Whether every digit is 0.
     pub fn is_zero(&self) -> bool
         ensures { IsTrue result ↔ All (λ digit. digit ≡ 0) self.now }
     {
-        self.ones.is_zero() && self.twos.is_zero()
+        !any_nonzero(&self.words)
     }
 
     /// Whether two planes are equal.
     pub fn same(&self, other: &TritPlane) -> bool
         ensures { IsTrue result ↔ (self.now ≡ other.now) }
     {
-        self.ones.same(&other.ones) && self.twos.same(&other.twos)
+        self.len == other.len && self.words == other.words
     }
+}
+
+/// Adds the digits modulo 3 that two layers hold to those of the two halves of a list of words: each digit becomes the
+/// sum modulo 3.
+#[inline]
+fn add_to_halves(words: &mut [u64], ones: &[u64], twos: &[u64])
+    requires fits { 2 * length ones.now ≡ length words.old }
+    requires row { AreTrits (first_half words.old) (second_half words.old) }
+    requires more { AreTrits ones.now twos.now }
+    ensures long { length words.new ≡ length words.old }
+    ensures sum { IsTritSum (first_half words.old) (second_half words.old) ones.now twos.now
+        (first_half words.new) (second_half words.new) }
+{
+    let width = words.len() / 2;
+    let (own_ones, own_twos) = words.split_at_mut(width);
+    add_trits(own_ones, own_twos, ones, twos);
 }

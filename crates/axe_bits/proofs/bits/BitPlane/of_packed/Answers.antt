@@ -2,6 +2,7 @@ use Rattle.std.proofs.Common.{◌*◌, ◌<◌, ◌≤◌, length, refl, arith, 
 use Rattle.std.proofs.lemmas.List.{length-replicate}
 use Rattle.axe_algebra.proofs.ListEntries.{listed_length}
 use Rattle.axe_bits.specs.Packed.{packed_bit}
+use Rattle.axe_bits.proofs.BitLaws.{zeros, get_or-zeros}
 use Rattle.axe_bits.proofs.DigitWords.{HaveDigits, have_no_digits, have_next_word, HoldsBits-digits, bits-digits}
 use Rattle.axe_bits.proofs.PackedWords.{packed_part_word}
 use Rattle.axe_bits.proofs.bits.BitPlane.of_packed.Goals as goal
@@ -11,7 +12,7 @@ loop-at-init c =
     let k = c.div_ceil.result in
     let made = c.in_ok-words.ensures.items_if_clones_equal (λ y e. e) in
     subst (HaveDigits _ 0) (sym made)
-    (have_no_digits _ k 0 (omega (arith, c.div_ceil.ensures, length-replicate {A = ℕ} k 0, listed_length c.args.len (packed_bit c.args.bytes.now))) refl)
+    (have_no_digits _ 0 (zeros k) (λ i. omega (arith, get_or-zeros k i)) (omega (arith, c.div_ceil.ensures, length-replicate {A = ℕ} k 0, listed_length c.args.len (packed_bit c.args.bytes.now))) refl)
 
 pub loop-at-preserved : goal.loop-at-preserved
 loop-at-preserved c =

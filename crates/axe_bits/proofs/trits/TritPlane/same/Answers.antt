@@ -1,19 +1,26 @@
-use Rattle.std.proofs.Common.{sym, ap₂, ◌∙◌}
-use Rattle.axe_bits.specs.Trits.{trits}
-use Rattle.axe_bits.proofs.TritZeros.{same_ones, same_twos}
+use Rattle.std.proofs.Common.{◌≡◌, length, sym, ap, subst, ◌∙◌}
+use Rattle.std.proofs.lemmas.Slice.Eq.{slice_eq-Decides}
+use Rattle.std.proofs.lemmas.Bool.{eqb-true}
+use Rattle.std.proofs.lemmas.Bool.Decides.{Decides-eqb}
+use Rattle.axe_bits.proofs.TritHalves.{HalvesHold, half_trits, half_trits-injective, halves_long}
 use Rattle.axe_bits.proofs.trits.TritPlane.same.Goals as goal
 
-pub returns-then-same : goal.returns-then-same
-returns-then-same c = (
-  λ yes. sym c.self.view_is ∙ ap₂ trits (c.same.ensures.0 c.if-same.true) (c.same-then-same.ensures.0 yes)
-      ∙ c.other.view_is,
-  λ same. c.same-then-same.ensures.1
-      (same_twos _ _ _ _ c.self.invariant c.other.invariant (c.self.view_is ∙ same ∙ sym c.other.view_is)),
-)
+pub returns-then-self-other : goal.returns-then-self-other
+returns-then-self-other c =
+    let decides = slice_eq-Decides Decides-eqb c.self.inside.words.items c.other.inside.words.items c.eq.result c.eq.ensures in
+    let held : HalvesHold c.self.inside.len c.other.inside.words.items =
+    subst (λ n. HalvesHold n c.other.inside.words.items) (sym c.if-self-other.true) c.other.invariant in
+    let along : half_trits c.self.inside.len c.other.inside.words.items ≡ half_trits c.other.inside.len c.other.inside.words.items =
+    ap (λ n. half_trits n c.other.inside.words.items) c.if-self-other.true in (
+      λ yes. sym c.self.view_is ∙ ap (half_trits c.self.inside.len) (decides.0 yes) ∙ along ∙ c.other.view_is,
+      λ same. (decides.1
+          (half_trits-injective _ _ _ c.self.invariant held (c.self.view_is ∙ same ∙ sym c.other.view_is ∙ sym along))),
+    )
 
-pub returns-else-same : goal.returns-else-same
-returns-else-same c = (
-  λ yes. absurd (cc (yes, c.if-same.false)),
-  λ same. c.same.ensures.1
-      (same_ones _ _ _ _ c.self.invariant c.other.invariant (c.self.view_is ∙ same ∙ sym c.other.view_is)),
-)
+pub returns-else-self-other : goal.returns-else-self-other
+returns-else-self-other c =
+    let lengths : c.args.self.now ≡ c.args.other.now → c.self.inside.len ≡ c.other.inside.len = λ same.
+    sym (halves_long _ _ _ c.self.view_is) ∙ ap length same ∙ halves_long _ _ _ c.other.view_is in (
+      λ yes. absurd (c.if-self-other.false (eqb-true c.self.inside.len c.other.inside.len yes)),
+      λ same. absurd (c.if-self-other.false (lengths same)),
+    )

@@ -1,6 +1,6 @@
 use Rattle.std.proofs.Common.{arith, refl}
 use Rattle.axe_bits.proofs.PieceBits.{number_of_bits_is, one_bit, two_bits, three_bits, four_bits, four_bits_small}
-use Rattle.axe_bits.proofs.bits.number_of_bits.Goals as goal
+use Rattle.axe_bits.proofs.layer.number_of_bits.Goals as goal
 
 pub returns-in-0-clause-value : goal.returns-in-0-clause-value
 returns-in-0-clause-value c = number_of_bits_is _ _ 0 _ _ refl c.in-0.is

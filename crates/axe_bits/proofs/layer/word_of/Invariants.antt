@@ -1,6 +1,6 @@
 use Rattle.std.proofs.Common.{◌≡◌, ℕ, ◌+◌, ◌<◌, ◌≤◌, get_or}
 use Rattle.std.specs.Int.{bit_at}
-use Rattle.axe_bits.proofs.bits.word_of.Given as goal
+use Rattle.axe_bits.proofs.layer.word_of.Given as goal
 
 abbrev pub invariant-loop-at : goal.invariant-loop-at
 invariant-loop-at l = record {

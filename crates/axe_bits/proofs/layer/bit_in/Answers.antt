@@ -1,7 +1,7 @@
 use Rattle.std.proofs.Common.{◌/◌, ◌%◌, get_or, sym, ◌∙◌}
 use Rattle.std.proofs.lemmas.Nat.Bits.{shr_and_one}
 use Rattle.axe_bits.proofs.BitLaws.{bit_of-word}
-use Rattle.axe_bits.proofs.bits.bit_in.Goals as goal
+use Rattle.axe_bits.proofs.layer.bit_in.Goals as goal
 
 pub returns-clause-bit : goal.returns-clause-bit
 returns-clause-bit c =
