@@ -69,21 +69,15 @@ word_made n o t a b x y inside inside' ex ey = record {
 }
 
 -- a block more: an entry of a list into which a block was written that was made entry by entry
-module _ (n : ℕ) (old new : List ℕ) (eight : length new ≡ 8) (room : n + 8 ≤ length old) where
-  pub block_made : (k : ℕ) → n ≤ k → k < n + 8 → get_or (put_chunk n old new) k 0 ≡ get_or new (k - n) 0
+module _ (w n : ℕ) (old new : List ℕ) (long : length new ≡ w) (room : n + w ≤ length old) where
+  pub block_made : (k : ℕ) → n ≤ k → k < n + w → get_or (put_chunk n old new) k 0 ≡ get_or new (k - n) 0
   block_made k from to =
       let place : k ≡ n + (k - n) = omega arith in
       ap (λ j. get_or (put_chunk n old new) j 0) place ∙ get_or-put_chunk_at n old new (k - n) 0 (omega arith) (omega arith)
 
-  pub block_kept : (k : ℕ) → (k < n) ⊎ (n + 8 ≤ k) → get_or (put_chunk n old new) k 0 ≡ get_or old k 0
+  pub block_kept : (k : ℕ) → (k < n) ⊎ (n + w ≤ k) → get_or (put_chunk n old new) k 0 ≡ get_or old k 0
   block_kept k (inl below) = get_or-put_chunk_below n old new k 0 below
   block_kept k (inr past) = get_or-put_chunk_above n old new k 0 (omega arith)
-
--- an entry of a block, by the list's
-pub block_entry : (n k : ℕ) (xs : List ℕ) → n ≤ k → k < n + 8 → get_or (chunk n 8 xs) (k - n) 0 ≡ get_or xs k 0
-block_entry n k xs from to =
-    let place : n + (k - n) ≡ k = omega arith in
-    get_or-chunk n 8 xs (k - n) 0 (omega arith) ∙ ap (λ j. get_or xs j 0) place
 
 -- ---- bits
 
@@ -97,60 +91,60 @@ apart_bits o t a b ho ht ha hb apart more = omega arith
 
 -- ---- the block of a sum
 
--- a list of eight words made of two such lists
-record AreEight (f : ℕ → ℕ) (xs : List ℕ) : Type 0 where
-  pub eight : length xs ≡ 8
-  pub entry : (j : ℕ) → j < 8 → get_or xs j 0 ≡ f j
+-- a list of so many words, each by its index
+record AreWords (w : ℕ) (f : ℕ → ℕ) (xs : List ℕ) : Type 0 where
+  pub long : length xs ≡ w
+  pub entry : (j : ℕ) → j < w → get_or xs j 0 ≡ f j
 
-both_eight : (h : ℕ → ℕ → ℕ) (f g : ℕ → ℕ) (xs ys : List ℕ) → AreEight f xs → AreEight g ys → AreEight (λ j. h (f j) (g j)) (zip2 h xs ys)
-both_eight h f g xs ys left right = record {
-  eight = length-zip2_of h xs ys 8 left.eight right.eight;
+both_words : (w : ℕ) (h : ℕ → ℕ → ℕ) (f g : ℕ → ℕ) (xs ys : List ℕ) → AreWords w f xs → AreWords w g ys → AreWords w (λ j. h (f j) (g j)) (zip2 h xs ys)
+both_words w h f g xs ys left right = record {
+  long = length-zip2_of h xs ys w left.long right.long;
   entry = λ j below.
-      get_or-zip2 h xs ys j 0 0 0 (omega (arith, left.eight)) (omega (arith, right.eight))
+      get_or-zip2 h xs ys j 0 0 0 (omega (arith, left.long)) (omega (arith, right.long))
       ∙ ap₂ h (left.entry j below) (right.entry j below);
 }
 
-chunk_eight : (n : ℕ) (xs : List ℕ) → n + 8 ≤ length xs → AreEight (λ j. get_or xs (n + j) 0) (chunk n 8 xs)
-chunk_eight n xs room = record { eight = length-chunk n 8 xs room; entry = λ j below. get_or-chunk n 8 xs j 0 below }
+chunk_words : (w n : ℕ) (xs : List ℕ) → n + w ≤ length xs → AreWords w (λ j. get_or xs (n + j) 0) (chunk n w xs)
+chunk_words w n xs room = record { long = length-chunk n w xs room; entry = λ j below. get_or-chunk n w xs j 0 below }
 
-module _ (n : ℕ) (o t a b : List ℕ) (o_room : n + 8 ≤ length o) (t_room : n + 8 ≤ length t) (a_room : n + 8 ≤ length a) (b_room : n + 8 ≤ length b) where
+module _ (w n : ℕ) (o t a b : List ℕ) (o_room : n + w ≤ length o) (t_room : n + w ≤ length t) (a_room : n + w ≤ length a) (b_room : n + w ≤ length b) where
   abbrev turned_block : List ℕ
-  turned_block = zip2 bit_xor (zip2 bit_or (chunk n 8 o) (chunk n 8 b)) (zip2 bit_or (chunk n 8 t) (chunk n 8 a))
+  turned_block = zip2 bit_xor (zip2 bit_or (chunk n w o) (chunk n w b)) (zip2 bit_or (chunk n w t) (chunk n w a))
 
   abbrev ones_block : List ℕ
-  ones_block = zip2 bit_xor turned_block (zip2 bit_or (chunk n 8 t) (chunk n 8 b))
+  ones_block = zip2 bit_xor turned_block (zip2 bit_or (chunk n w t) (chunk n w b))
 
   abbrev twos_block : List ℕ
-  twos_block = zip2 bit_xor turned_block (zip2 bit_or (chunk n 8 o) (chunk n 8 a))
+  twos_block = zip2 bit_xor turned_block (zip2 bit_or (chunk n w o) (chunk n w a))
 
-  or_eight : (x y : List ℕ) → n + 8 ≤ length x → n + 8 ≤ length y →
-      AreEight (λ j. bit_or (get_or x (n + j) 0) (get_or y (n + j) 0)) (zip2 bit_or (chunk n 8 x) (chunk n 8 y))
-  or_eight x y hx hy = both_eight bit_or _ _ _ _ (chunk_eight n x hx) (chunk_eight n y hy)
+  or_words : (x y : List ℕ) → n + w ≤ length x → n + w ≤ length y →
+      AreWords w (λ j. bit_or (get_or x (n + j) 0) (get_or y (n + j) 0)) (zip2 bit_or (chunk n w x) (chunk n w y))
+  or_words x y hx hy = both_words w bit_or _ _ _ _ (chunk_words w n x hx) (chunk_words w n y hy)
 
-  turned_eight : AreEight (λ j. turned_bits (get_or o (n + j) 0) (get_or t (n + j) 0) (get_or a (n + j) 0) (get_or b (n + j) 0)) turned_block
-  turned_eight = both_eight bit_xor _ _ _ _ (or_eight o b o_room b_room) (or_eight t a t_room a_room)
+  turned_words : AreWords w (λ j. turned_bits (get_or o (n + j) 0) (get_or t (n + j) 0) (get_or a (n + j) 0) (get_or b (n + j) 0)) turned_block
+  turned_words = both_words w bit_xor _ _ _ _ (or_words o b o_room b_room) (or_words t a t_room a_room)
 
-  ones_eight : AreEight (λ j. ones_of_sum (get_or o (n + j) 0) (get_or t (n + j) 0) (get_or a (n + j) 0) (get_or b (n + j) 0)) ones_block
-  ones_eight = both_eight bit_xor _ _ _ _ turned_eight (or_eight t b t_room b_room)
+  ones_words : AreWords w (λ j. ones_of_sum (get_or o (n + j) 0) (get_or t (n + j) 0) (get_or a (n + j) 0) (get_or b (n + j) 0)) ones_block
+  ones_words = both_words w bit_xor _ _ _ _ turned_words (or_words t b t_room b_room)
 
-  twos_eight : AreEight (λ j. twos_of_sum (get_or o (n + j) 0) (get_or t (n + j) 0) (get_or a (n + j) 0) (get_or b (n + j) 0)) twos_block
-  twos_eight = both_eight bit_xor _ _ _ _ turned_eight (or_eight o a o_room a_room)
+  twos_words : AreWords w (λ j. twos_of_sum (get_or o (n + j) 0) (get_or t (n + j) 0) (get_or a (n + j) 0) (get_or b (n + j) 0)) twos_block
+  twos_words = both_words w bit_xor _ _ _ _ turned_words (or_words o a o_room a_room)
 
-  -- the words of a list from n on into which eight were written
-  put_eight : (f : ℕ → ℕ) (old new : List ℕ) → AreEight (λ j. f (n + j)) new → n + 8 ≤ length old → (k : ℕ) → n ≤ k → k < n + 8 →
+  -- the words of a list from n on into which a block was written
+  put_words : (f : ℕ → ℕ) (old new : List ℕ) → AreWords w (λ j. f (n + j)) new → n + w ≤ length old → (k : ℕ) → n ≤ k → k < n + w →
       get_or (put_chunk n old new) k 0 ≡ f k
-  put_eight f old new h room k from to =
+  put_words f old new h room k from to =
       let place : n + (k - n) ≡ k = omega arith in
-      block_made n old new h.eight room k from to ∙ h.entry (k - n) (omega arith) ∙ ap f place
+      block_made w n old new h.long room k from to ∙ h.entry (k - n) (omega arith) ∙ ap f place
 
-  pub block_of_sum : HasSumBetween n (n + 8) o t a b (put_chunk n o ones_block) (put_chunk n t twos_block)
+  pub block_of_sum : HasSumBetween n (n + w) o t a b (put_chunk n o ones_block) (put_chunk n t twos_block)
   block_of_sum = record {
     ones_long = length-put_chunk n o ones_block;
     twos_long = length-put_chunk n t twos_block;
-    ones_made = put_eight (λ k. ones_of_sum (get_or o k 0) (get_or t k 0) (get_or a k 0) (get_or b k 0)) o ones_block ones_eight o_room;
-    twos_made = put_eight (λ k. twos_of_sum (get_or o k 0) (get_or t k 0) (get_or a k 0) (get_or b k 0)) t twos_block twos_eight t_room;
-    ones_kept = block_kept n o ones_block ones_eight.eight o_room;
-    twos_kept = block_kept n t twos_block twos_eight.eight t_room;
+    ones_made = put_words (λ k. ones_of_sum (get_or o k 0) (get_or t k 0) (get_or a k 0) (get_or b k 0)) o ones_block ones_words o_room;
+    twos_made = put_words (λ k. twos_of_sum (get_or o k 0) (get_or t k 0) (get_or a k 0) (get_or b k 0)) t twos_block twos_words t_room;
+    ones_kept = block_kept w n o ones_block ones_words.long o_room;
+    twos_kept = block_kept w n t twos_block twos_words.long t_room;
   }
 
 -- ---- the entries of the sum

@@ -1,0 +1,7 @@
+use Rattle.axe_lane.proofs.TritSums.{block_of_sum}
+use Rattle.axe_lane.proofs.trits.add_pair.Goals as goal
+
+pub returns : goal.returns
+returns c =
+    block_of_sum 2 c.args.at c.args.ones.now c.args.twos.now c.args.more_ones.now c.args.more_twos.now c.requires.ones_has_pair
+    c.requires.twos_has_pair c.requires.more_ones_has_pair c.requires.more_twos_has_pair
