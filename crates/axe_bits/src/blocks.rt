@@ -22,7 +22,8 @@ pub fn transposed_block(block: &[u64; WORD]) -> [u64; WORD]
 #[inline]
 fn bytes_of_words(words: &[u64; WORD], at: usize) -> [u8; WORD]
     requires { at < 8 }
-    ensures { (i k : ℕ) → i < 64 → k < 8 → bit_at (slice_index result i) k ≡ bit_at (slice_index words.now i) (at * 8 + k) }
+    ensures { (i k : ℕ) → i < 64 → k < 8 →
+        bit_at (slice_index result i) k ≡ bit_at (slice_index words.now i) (at * 8 + k) }
 {
     let mut bytes = [0; WORD];
     for index in 0..WORD {

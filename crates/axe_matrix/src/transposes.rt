@@ -44,8 +44,9 @@ impl Matrix {
         }
     }
 
-    /// Writes the entries of the transpose of a matrix over two elements into a block, which holds zeros so far: that of
-    /// the rows and columns from 64 times an index of each on. All other entries stay. Zeros are not written.
+    /// Writes the entries of the transpose of a matrix over two elements into a block, which holds zeros so far: that
+    /// of the rows and columns from 64 times an index of each on. All other entries stay. Where all are 0, nothing is
+    /// written.
     fn put_block(&mut self, row_block: usize, column_block: usize, matrix: &Matrix)
         requires even { order_number matrix.now.order ≡ 2 }
         requires shape { IsShapedAsTranspose matrix.now self.old }

@@ -4,7 +4,7 @@ use Rattle.axe_field.specs.Order.{Order, order_number, prime_of, degree_of}
 use Rattle.axe_bits.specs.Digits.{AreDigits}
 use Rattle.axe_bits.specs.Words.{digits_with_word}
 use Rattle.axe_bits.proofs.WordWrites.{length-digits_with_word, AreDigits-digits_with_word}
-use Rattle.axe_plane.specs.Planes.{prime_of_plane, digits_of, IsPlane}
+use Rattle.axe_plane.specs.Planes.{digits_of, IsPlane}
 use Rattle.axe_plane.specs.declared.Plane.{Plane}
 use Rattle.axe_row.specs.Planes.{ArePlanes}
 use Rattle.axe_row.specs.Rows.{RowValue}

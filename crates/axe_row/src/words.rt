@@ -8,8 +8,8 @@ ghost use Rattle.axe_row.specs.Rows.{IsRow};
 use crate::Row;
 
 impl Row {
-    /// The word at an index of a row over two elements, counted from 0: its bit i, counted from the lowest, is the entry
-    /// 64 times the index plus i, and 0 where there is no entry.
+    /// The word at an index of a row over two elements, counted from 0: its bit i, counted from the lowest, is the
+    /// entry 64 times the index plus i, and 0 where there is no entry.
     #[inline]
     pub fn word(&self, at: usize) -> u64
         requires { order_number self.now.order ≡ 2 }
