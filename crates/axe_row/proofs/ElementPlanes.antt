@@ -13,6 +13,7 @@ use Rattle.axe_plane.specs.Planes.{digits_of, IsPlane, IsPlaneOf}
 use Rattle.axe_plane.specs.declared.Plane.{Plane}
 use Rattle.axe_row.specs.Planes.{ArePlanes, coefficients_at}
 use Rattle.axe_row.specs.Rows.{RowValue}
+use Rattle.axe_row.proofs.PrimeRows.{coefficient_is}
 use Rattle.axe_row.proofs.RowPlanes.{entries_of, length-entries, entries-at, constant_is_there}
 
 -- the coefficients of an element are the digits of its number
@@ -121,6 +122,21 @@ pub row_of_elements : (o : Order) (elements : List ℕ) (c l q : Plane) → All 
     ◌≡◌ {A = RowValue} (record { order = o; entries = entries_of o c l q }) (record { order = o; entries = elements })
 row_of_elements o elements c l q all hc hl hq =
     ap (λ (x : List ℕ). record { order = o; entries = x }) (entries_of_elements o elements c l q all hc hl hq)
+
+-- over a prime field the elements are the digits of one plane
+pub prime_elements : (o : Order) (elements : List ℕ) → degree_of o ≡ 1 → All (IsElement o) elements → coefficients_at o 0 elements ≡ elements
+prime_elements o elements one all =
+    let long : length (coefficients_at o 0 elements) ≡ length elements =
+    long_in (ltb 0 (degree_of o)) (λ a. coefficient o a 0) elements ∙ constant_is_there o (length elements) in
+    ext_get_or 0 (coefficients_at o 0 elements) elements long (λ e inside.
+    let here : e < length elements = omega (arith, long) in
+    coefficient_of o 0 e elements (lit< tt) here all ∙ coefficient_is o (get_or elements e 0) one (all e 0 here))
+
+pub prime_plane_of_elements : (o : Order) (elements : List ℕ) (plane : Plane) → All (IsElement o) elements →
+    IsPlane (prime_of o) (coefficients_at o 0 elements) plane → IsPlaneOf (prime_of o) (length (digits_of plane)) plane
+prime_plane_of_elements o elements plane all h =
+    let whole = plane_of_elements o 0 elements plane (lit< tt) all h in
+    record { prime = whole.prime; long = refl; digits = whole.digits }
 
 -- a plane of the digits of elements
 made_of_numbers : (o : Order) (p d j : ℕ) (elements : List ℕ) (plane : Plane) → p ≡ prime_of o → d ≡ degree_of o → j < d →

@@ -2,6 +2,7 @@ pub mod RowLaws
 pub mod OperationLaws
 pub mod UnitRows
 pub mod RowPlanes
+pub mod KeptPlanes
 pub mod PlaneSums
 pub mod PrimeRows
 pub mod FirstEntries

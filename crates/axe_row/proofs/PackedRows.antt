@@ -1,18 +1,17 @@
 -- Rows over two elements as packed bytes.
-use Rattle.std.proofs.Common.{◌≡◌, ℕ, ◌<◌, List, [], length, get_or, refl, sym, ap, subst, ◌∙◌, arith}
-use Rattle.std.proofs.lemmas.List.Elements.{All-nil}
+use Rattle.std.proofs.Common.{◌≡◌, ℕ, ◌<◌, List, length, get_or, refl, sym, ap, subst, ◌∙◌, arith}
 use Rattle.axe_algebra.specs.Lists.{listed}
 use Rattle.axe_algebra.proofs.ListEntries.{listed_length, listed_at}
 use Rattle.axe_field.specs.Order.{Order, Two, order_number, prime_of, degree_of}
 use Rattle.axe_bits.specs.Digits.{AreDigits}
 use Rattle.axe_bits.specs.Packed.{packed_bit}
 use Rattle.axe_bits.proofs.PackedWords.{packed_bit_below}
-use Rattle.axe_plane.specs.Planes.{prime_of_plane, digits_of, IsPlane}
+use Rattle.axe_plane.specs.Planes.{prime_of_plane, digits_of, IsPlane, IsPlaneOf}
 use Rattle.axe_plane.specs.declared.Plane.{Plane}
 use Rattle.axe_row.specs.Planes.{ArePlanes}
 use Rattle.axe_row.specs.Rows.{RowValue}
 use Rattle.axe_row.proofs.PieceNumbers.{order_is_two}
-use Rattle.axe_row.proofs.PrimeRows.{one_plane, one_plane_at}
+use Rattle.axe_row.proofs.PrimeRows.{one_plane_at}
 use Rattle.axe_row.proofs.RowPlanes.{entries_of}
 
 AreDigits-packed : (n : ℕ) (bytes : List ℕ) → AreDigits 2 (listed n (packed_bit bytes))
@@ -20,27 +19,19 @@ AreDigits-packed n bytes e d inside =
     let small : e < n = omega (arith, listed_length n (packed_bit bytes)) in
     subst (λ x. x < 2) (sym (listed_at n (packed_bit bytes) e d small)) (packed_bit_below bytes e)
 
-two_planes : (digits : List ℕ) (c l q : Plane) → AreDigits 2 digits → IsPlane 2 digits c → IsPlane 2 [] l → IsPlane 2 [] q →
-    ArePlanes Two (length (digits_of c)) c l q
-two_planes digits c l q all hc hl hq = record {
-  constant = record { prime = hc.prime; long = refl; digits = subst (AreDigits 2) (sym hc.digits_are) all };
-  linear = record { prime = hl.prime; long = ap length hl.digits_are; digits = subst (AreDigits 2) (sym hl.digits_are) (All-nil (λ x. x < 2)) };
-  quadratic = record { prime = hq.prime; long = ap length hq.digits_are; digits = subst (AreDigits 2) (sym hq.digits_are) (All-nil (λ x. x < 2)) };
+-- the plane of a row over two elements that is made of bits
+pub packed_plane : (o : Order) (n : ℕ) (bytes : List ℕ) (c : Plane) → order_number o ≡ 2 → IsPlane 2 (listed n (packed_bit bytes)) c →
+    IsPlaneOf (prime_of o) (length (digits_of c)) c
+packed_plane o n bytes c two h = record {
+  prime = h.prime ∙ sym (ap prime_of (order_is_two o o refl two));
+  long = refl;
+  digits =
+      subst (λ p. AreDigits p (digits_of c)) (sym (ap prime_of (order_is_two o o refl two)))
+      (subst (AreDigits 2) (sym h.digits_are) (AreDigits-packed n bytes));
 }
 
--- the planes of a row over two elements that is made of bits
-pub packed_planes : (o : Order) (n : ℕ) (bytes : List ℕ) (c l q : Plane) → order_number o ≡ 2 →
-    IsPlane 2 (listed n (packed_bit bytes)) c → IsPlane 2 [] l → IsPlane 2 [] q → ArePlanes o (length (digits_of c)) c l q
-packed_planes o n bytes c l q two hc hl hq =
-    subst (λ r. ArePlanes r (length (digits_of c)) c l q) (sym (order_is_two o o refl two)) (two_planes _ c l q (AreDigits-packed n bytes) hc hl hq)
-
-one_degree : (o : Order) → order_number o ≡ 2 → degree_of o ≡ 1
+pub one_degree : (o : Order) → order_number o ≡ 2 → degree_of o ≡ 1
 one_degree o two = ap degree_of (order_is_two o o refl two)
-
-pub packed_entries : (o : Order) (n : ℕ) (bytes : List ℕ) (c l q : Plane) → order_number o ≡ 2 →
-    IsPlane 2 (listed n (packed_bit bytes)) c → IsPlane 2 [] l → IsPlane 2 [] q → entries_of o c l q ≡ listed n (packed_bit bytes)
-packed_entries o n bytes c l q two hc hl hq =
-    one_plane o _ c l q (one_degree o two) (packed_planes o n bytes c l q two hc hl hq) ∙ hc.digits_are
 
 -- the plane of the entries of a row over two elements
 pub order_of_row : (o : Order) (c l q : Plane) (self : RowValue) → record { order = o; entries = entries_of o c l q } ≡ self →

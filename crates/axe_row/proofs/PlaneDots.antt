@@ -17,11 +17,13 @@ use Rattle.axe_plane.specs.Planes.{prime_of_plane, digits_of, IsPlaneOf}
 use Rattle.axe_plane.specs.declared.Plane.{Plane}
 use Rattle.axe_bits.proofs.DigitLaws.{digit-below}
 use Rattle.axe_bits.proofs.DotLaws.{sum_below, dot_by_entries}
+use Rattle.axe_plane.proofs.PlaneLaws.{prime_of_plane-positive}
 use Rattle.axe_row.specs.Operations.{dot_product}
 use Rattle.axe_row.specs.Planes.{ArePlanes}
 use Rattle.axe_row.specs.Rows.{RowValue, IsRow}
 use Rattle.axe_row.proofs.RowLaws.{zero-IsElement}
 use Rattle.axe_row.proofs.OperationLaws.{sum_of_products, sum_of_products-none, sum_of_products-more, sum_of_products-all}
+use Rattle.axe_row.proofs.PrimeRows.{constant_alone}
 use Rattle.axe_row.proofs.RowPlanes.{entries_of, length-entries, entries-at, linear_within, quadratic_within, prime-positive, element_of-zeros, length_of_row, IsRow-of_planes}
 
 -- ---- elements by their coefficients
@@ -475,6 +477,22 @@ dot-element : (o : Order) (u b : List ℕ) → AreDigits (prime_of o) u → All 
 dot-element o u b hu hb =
     subst (IsElement o) (sum_of_products-all (number_field o) u b (length u) refl)
     (sum-element o u b (length u) (λ e. digit-element o _ (digit-below (prime_of o) u e (prime-positive o) hu)) (λ e. entry_element o b e hb))
+
+-- where there are no digits the sum of products is 0
+no_products : (p : ℕ) (u v : List ℕ) → 0 < p → length v ≡ 0 → 0 ≡ lane.sum_of_products u v % p
+no_products p [] v positive none = sym (no_rest p positive)
+no_products p (d ∷ u) [] positive none = sym (no_rest p positive)
+no_products p (d ∷ u) (f ∷ v) positive none = absurd (omega (arith, none))
+
+-- over a prime field the product with the one plane is the whole
+pub digits_by_plane : (o : Order) (m r : ℕ) (u c l q : Plane) (self : RowValue) → AreFactors o m u c l q self → length (digits_of l) ≡ 0 →
+    length (digits_of q) ≡ 0 → r ≡ lane.sum_of_products (digits_of u) (digits_of c) % prime_of_plane u →
+    r ≡ dot_product (number_field self.order) (digits_of u) self.entries
+digits_by_plane o m r u c l q self h linear quadratic is =
+    let positive = prime_of_plane-positive u in
+    sym (constant_alone o r)
+    ∙ digits_by_row o m r 0 0 u c l q self h is (no_products _ (digits_of u) (digits_of l) positive linear)
+    (no_products _ (digits_of u) (digits_of q) positive quadratic)
 
 pub digits_element : (o : Order) (m r : ℕ) (u c l q : Plane) (self : RowValue) → AreFactors o m u c l q self →
     r ≡ dot_product (number_field self.order) (digits_of u) self.entries → IsElement self.order r

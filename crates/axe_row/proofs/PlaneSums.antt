@@ -282,7 +282,7 @@ row_after o r k c l q c' l' q' after self other self_is other_is same e =
     (ap (λ w. entries_of w c' l' q') (sym same) ∙ ap (λ (t : RowValue). t.entries) other_is)
 
 -- the column j of a matrix of three rows
-abbrev column : List (List ℕ) → ℕ → List ℕ
+abbrev pub column : List (List ℕ) → ℕ → List ℕ
 column m j = entry m 0 j ∷ entry m 1 j ∷ entry m 2 j ∷ []
 
 column_is : (o : Order) (k j : ℕ) (m : List (List ℕ)) → m ≡ matrix_of_multiplication o k → IsColumn o k j (column m j)

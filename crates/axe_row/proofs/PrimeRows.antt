@@ -44,7 +44,7 @@ digit_is_element o a e h = subst (λ q. a < q) (sym (order_is_prime o e)) h
 pub element_is_digit : (o : Order) (a : ℕ) → degree_of o ≡ 1 → IsElement o a → a < prime_of o
 element_is_digit o a e h = subst (λ q. a < q) (order_is_prime o e) h
 
-constant_alone : (o : Order) (d : ℕ) → element_of o d 0 0 ≡ d
+pub constant_alone : (o : Order) (d : ℕ) → element_of o d 0 0 ≡ d
 constant_alone o d = element_value o d 0 0 ∙ omega arith
 
 no_higher : (o : Order) (a j : ℕ) → degree_of o ≡ 1 → IsElement o a → 1 < j + 1 → j < 3 → coefficient o a j ≡ 0
@@ -61,7 +61,7 @@ no_higher o a j e ha some hj =
         omega arith
 
 -- an element is its one coefficient
-coefficient_is : (o : Order) (a : ℕ) → degree_of o ≡ 1 → IsElement o a → coefficient o a 0 ≡ a
+pub coefficient_is : (o : Order) (a : ℕ) → degree_of o ≡ 1 → IsElement o a → coefficient o a 0 ≡ a
 coefficient_is o a e ha =
     sym (constant_alone o (coefficient o a 0))
     ∙ sym (ap₂ (λ x y. element_of o (coefficient o a 0) x y) (no_higher o a 1 e ha (lit< tt) (lit< tt)) (no_higher o a 2 e ha (lit< tt) (lit< tt)))
@@ -250,7 +250,7 @@ pub other_length : (o r : Order) (c l q c' l' q' : Plane) (self other : RowValue
 other_length o r c l q c' l' q' self other self_is other_is lengths =
     sym (length_of_row r c' l' q' other other_is) ∙ lengths ∙ length_of_row o c l q self self_is
 
-other_order : (o r : Order) (c l q c' l' q' : Plane) (self other : RowValue) →
+pub other_order : (o r : Order) (c l q c' l' q' : Plane) (self other : RowValue) →
     record { order = o; entries = entries_of o c l q } ≡ self → record { order = r; entries = entries_of r c' l' q' } ≡ other →
     other.order ≡ self.order → r ≡ o
 other_order o r c l q c' l' q' self other self_is other_is orders =
@@ -330,7 +330,7 @@ one_plane_element o d j x c l q self is ed one h self_is =
 -- ---- the first entries other than zero are those of the one plane
 
 -- the entries are its digits
-one_plane_entries : (o : Order) (d : ℕ) (c l q : Plane) (self : RowValue) → d ≡ degree_of o → d ≡ 1 →
+pub one_plane_entries : (o : Order) (d : ℕ) (c l q : Plane) (self : RowValue) → d ≡ degree_of o → d ≡ 1 →
     ArePlanes o (length (digits_of c)) c l q → record { order = o; entries = entries_of o c l q } ≡ self → digits_of c ≡ self.entries
 one_plane_entries o d c l q self ed one h self_is =
     sym (one_plane o _ c l q (sym ed ∙ one) h) ∙ ap (λ (r : RowValue). r.entries) self_is

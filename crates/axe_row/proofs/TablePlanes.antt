@@ -1,10 +1,10 @@
 -- Tables of planes, what they are after an entry was written, and the rows that they stand for.
-use Rattle.std.proofs.Common.{◌≡◌, ℕ, ◌^◌, ◌<◌, ◌≤◌, List, [], ◌∷◌, length, get_or, set, replicate, cond, ltb, sym, refl, ap, subst, ◌∙◌, arith, inl, inr, lit<, lit≤, get_or-set_other, get_or-set_same}
+use Rattle.std.proofs.Common.{◌≡◌, ℕ, ◌+◌, ◌*◌, ◌%◌, ◌^◌, ◌<◌, ◌≤◌, List, [], ◌∷◌, length, get_or, set, replicate, cond, ltb, sym, refl, ap, subst, ◌∙◌, arith, inl, inr, lit<, lit≤, get_or-set_other, get_or-set_same}
 use Rattle.std.specs.List.{All}
-use Rattle.std.proofs.Math.Nat.{le_trans, pow-le-pow_right}
+use Rattle.std.proofs.Math.Nat.{le_trans, mod-eq_of_lt, pow-le-pow_right}
 use Rattle.std.proofs.Math.Seq.{set-set}
 use Rattle.std.proofs.lemmas.Bool.{cases_eq}
-use Rattle.std.proofs.lemmas.List.{ext_get_or, get_or_default, get_or-replicate, length-replicate, length-set}
+use Rattle.std.proofs.lemmas.List.{ext_get_or, get_or_default, get_or_past, get_or-replicate, length-replicate, length-set}
 use Rattle.std.proofs.lemmas.List.Elements.{All-replicate, All-set}
 use Rattle.axe_algebra.specs.Lists.{entry}
 use Rattle.axe_algebra.proofs.Digits.{pow-positive}
@@ -17,7 +17,7 @@ use Rattle.axe_plane.specs.Tables.{prime_of_table, entries_of_table, plane_at, I
 use Rattle.axe_plane.specs.declared.Plane.{Plane}
 use Rattle.axe_plane.specs.declared.tables.PlaneTable.{PlaneTable}
 use Rattle.axe_plane.specs.declared.tables.PlaneTable.TheVariants.{Bits, Trits, Bytes}
-use Rattle.axe_bits.proofs.DigitLaws.{AreDigits-zeros}
+use Rattle.axe_bits.proofs.DigitLaws.{AreDigits-zeros, AreDigits-sum, digit-below, length-digits_with_multiple, get_or-digits_with_multiple}
 use Rattle.axe_row.specs.Combinations.{CombosValue, IsTableOfRows, most_combined}
 use Rattle.axe_row.specs.Operations.{sum_with_multiple}
 use Rattle.axe_row.specs.Planes.{ArePlanes, digits_with_multiples, entries_of_digits}
@@ -130,6 +130,68 @@ IsPut table to from f c l q after =
     IsTable (prime_of_table table)
     (set (entries_of_table table) to
     (digits_with_multiples (prime_of_table table) (digits_of (plane_at table from)) f (digits_of c) (digits_of l) (digits_of q))) after
+
+-- ---- over a prime field the tables of x and x^2 have no digits
+
+same_empty : (xs ys : List ℕ) → length xs ≡ 0 → length ys ≡ 0 → xs ≡ ys
+same_empty xs ys none none' = ext_get_or 0 xs ys (none ∙ sym none') (λ e inside. absurd (omega (arith, none)))
+
+pub empty_put : (p count n to from : ℕ) (table : PlaneTable) (f : List ℕ) (c l q : Plane) → IsPlaneTable p count n table → n ≡ 0 → from < to →
+    to < count → IsPut table to from f c l q table
+unfolding digits_with_multiples
+empty_put p count n to from table f c l q h none earlier within =
+    let inside : to < length (entries_of_table table) = entry_within p count n to table h within in
+    let before : length (digits_of (plane_at table from)) ≡ 0 =
+    (plane_of_entry p count n from table h (omega (arith, earlier, within))).long ∙ none in
+    let there : length (get_or (entries_of_table table) to []) ≡ 0 = h.long to [] inside ∙ none in
+    let after : List ℕ = digits_with_multiples (prime_of_table table) (digits_of (plane_at table from)) f (digits_of c) (digits_of l) (digits_of q) in
+    let long : length after ≡ 0 =
+    length-digits_with_multiple _ _ _ (digits_of q) ∙ length-digits_with_multiple _ _ _ (digits_of l)
+    ∙ length-digits_with_multiple _ (digits_of (plane_at table from)) _ (digits_of c) ∙ before in
+    record {
+      prime = refl;
+      entries_are =
+          ext_get_or [] (entries_of_table table) (set (entries_of_table table) to after) (sym (length-set (entries_of_table table) to after)) (λ x below.
+          elim (cases_eq x to) [
+            | inl same ↦
+                subst (λ y. get_or (entries_of_table table) y [] ≡ get_or (set (entries_of_table table) to after) y []) (sym same)
+                (same_empty _ after there long ∙ sym (get_or-set_same (entries_of_table table) to after [] inside))
+            | inr other ↦ sym (get_or-set_other (entries_of_table table) to x after [] other)
+          ]);
+    }
+
+-- nothing is added by planes of no digits
+sum_with_none : (p : ℕ) (a : List ℕ) (f : ℕ) (b : List ℕ) → 0 < p → AreDigits p a → length b ≡ 0 → digits_with_multiple p a f b ≡ a
+sum_with_none p a f b positive all none =
+    ext_get_or 0 (digits_with_multiple p a f b) a (length-digits_with_multiple p a f b) (λ e inside.
+    let here : e < length a = omega (arith, length-digits_with_multiple p a f b) in
+    let zero : get_or b e 0 ≡ 0 = get_or_past b e 0 (omega (arith, none)) in
+    let kept : get_or a e 0 + f * 0 ≡ get_or a e 0 = omega arith in
+    get_or-digits_with_multiple p a f b e here ∙ ap (λ x. (get_or a e 0 + f * x) % p) zero ∙ ap (λ x. x % p) kept
+    ∙ mod-eq_of_lt (digit-below p a e positive all))
+
+sums_of_one : (p : ℕ) (a : List ℕ) (k : ℕ) (factors u v w : List ℕ) → 0 < p → get_or factors 0 0 ≡ k → length v ≡ 0 → length w ≡ 0 →
+    digits_with_multiple p a k u ≡ digits_with_multiples p a factors u v w
+unfolding digits_with_multiples
+sums_of_one p a k factors u v w positive first none none' =
+    let f0 = get_or factors 0 0 in
+    let f1 = get_or factors 1 0 in
+    let f2 = get_or factors 2 0 in
+    let one : List ℕ = digits_with_multiple p a f0 u in
+    let digits : AreDigits p one = AreDigits-sum p a f0 u positive in
+    ap (λ x. digits_with_multiple p a x u) (sym first)
+    ∙ sym (ap (λ (x : List ℕ). digits_with_multiple p x f2 w) (sum_with_none p one f1 v positive digits none)
+    ∙ sum_with_none p one f2 w positive digits none')
+
+-- what is put there by the one plane
+pub put_alone : (p to from k : ℕ) (table : PlaneTable) (factors : List ℕ) (c l q : Plane) (after : PlaneTable) → p ≡ prime_of_table table → 0 < p →
+    get_or factors 0 0 ≡ k → length (digits_of l) ≡ 0 → length (digits_of q) ≡ 0 →
+    IsTable (prime_of_table table)
+    (set (entries_of_table table) to (digits_with_multiple (prime_of_table table) (digits_of (plane_at table from)) k (digits_of c))) after →
+    IsPut table to from factors c l q after
+put_alone p to from k table factors c l q after is positive first none none' h =
+    subst (λ (d : List ℕ). IsTable (prime_of_table table) (set (entries_of_table table) to d) after)
+    (sums_of_one (prime_of_table table) _ k factors (digits_of c) (digits_of l) (digits_of q) (subst (λ r. 0 < r) is positive) first none none') h
 
 -- that entry is the sum
 pub summed_entry : (p count n to from : ℕ) (table : PlaneTable) (f : List ℕ) (c l q : Plane) (after : PlaneTable) →

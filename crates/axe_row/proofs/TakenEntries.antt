@@ -1,5 +1,5 @@
 -- Rows that are made of entries of another row, plane by plane.
-use Rattle.std.proofs.Common.{◌≡◌, ℕ, ◌+◌, ◌<◌, ◌≤◌, Bool, true, false, List, length, get_or, map, take, cond, ltb, refl, sym, ap, ap₂, subst, ◌∙◌, arith}
+use Rattle.std.proofs.Common.{◌≡◌, ◌≢◌, ℕ, ◌+◌, ◌<◌, ◌≤◌, Bool, true, false, List, length, get_or, map, take, cond, ltb, refl, sym, ap, ap₂, subst, ◌∙◌, arith}
 use Rattle.std.specs.List.{All}
 use Rattle.std.proofs.lemmas.List.{ext_get_or, get_or_past, get_or-map, get_or-take, length-map, length-take}
 use Rattle.std.proofs.Math.Seq.{take-length}
@@ -13,6 +13,7 @@ use Rattle.axe_plane.specs.declared.Plane.{Plane}
 use Rattle.axe_bits.proofs.DigitLaws.{digit-below}
 use Rattle.axe_row.specs.Planes.{ArePlanes}
 use Rattle.axe_row.specs.Rows.{RowValue, part_of}
+use Rattle.axe_row.proofs.KeptPlanes.{linear_is_there}
 use Rattle.axe_row.proofs.RowPlanes.{entries_of, length-entries, entries-at, prime-positive, length_of_row}
 
 -- a plane of m digits, or of none where it is not there: digit e is digit `at e` of another plane
@@ -48,6 +49,13 @@ taken_planes o n m at c l q c' l' q' h taken = record {
   linear = taken_plane (ltb 1 (degree_of o)) (prime_of o) n m at l l' (prime-positive o) h.linear taken.linear;
   quadratic = taken_plane (ltb 2 (degree_of o)) (prime_of o) n m at q q' (prime-positive o) h.quadratic taken.quadratic;
 }
+
+-- one plane that is taken from another
+taken_alone : (p n m : ℕ) (at : ℕ → ℕ) (plane after : Plane) → 0 < p → IsPlaneOf p n plane → IsTaken true m at plane after →
+    IsPlaneOf p (length (digits_of after)) after
+taken_alone p n m at plane after positive h taken =
+    let whole = taken_plane true p n m at plane after positive h taken in
+    record { prime = whole.prime; long = refl; digits = whole.digits }
 
 taken_entries : (o : Order) (m : ℕ) (at : ℕ → ℕ) (c l q c' l' q' : Plane) (entries : List ℕ) → AreTaken o m at c l q c' l' q' →
     ((e : ℕ) → e < m → at e < length (digits_of c)) → length entries ≡ m →
@@ -116,6 +124,19 @@ selected_whole p n columns plane after h made =
     selected_plane true p n (length columns) columns plane after h refl
     (subst (λ (x : List ℕ). IsPlane (prime_of_plane plane) (map (λ column. get_or (digits_of plane) column 0) x) after) (sym (take-length columns)) made)
 
+-- the coefficients of x, where they are there
+pub columns_in_linear : (o : Order) (n : ℕ) (plane : Plane) (columns : List ℕ) → IsPlaneOf (prime_of o) (cond (ltb 1 (degree_of o)) n 0) plane →
+    degree_of o ≢ 1 → All (λ column. column < n) columns → All (λ column. column < length (digits_of plane)) columns
+columns_in_linear o n plane columns h degree all =
+    λ e d inside. omega (arith, all e d inside, h.long ∙ linear_is_there o n degree)
+
+pub selected_all : (o : Order) (p n : ℕ) (columns : List ℕ) (plane after : Plane) → IsPlaneOf p (cond (ltb 1 (degree_of o)) n 0) plane →
+    degree_of o ≢ 1 → IsPlane (prime_of_plane plane) (map (λ column. get_or (digits_of plane) column 0) columns) after →
+    IsTaken (ltb 1 (degree_of o)) (length columns) (λ e. get_or columns e 0) plane after
+selected_all o p n columns plane after h degree made =
+    selected_plane (ltb 1 (degree_of o)) p n (length columns) columns plane after h (sym (linear_is_there o (length columns) degree))
+    (subst (λ (x : List ℕ). IsPlane (prime_of_plane plane) (map (λ column. get_or (digits_of plane) column 0) x) after) (sym (take-length columns)) made)
+
 pub selected_row : (o : Order) (c l q c' l' q' : Plane) (self : RowValue) (columns : List ℕ) →
     AreTaken o (length columns) (λ e. get_or columns e 0) c l q c' l' q' → record { order = o; entries = entries_of o c l q } ≡ self →
     All (λ column. column < length self.entries) columns →
@@ -125,6 +146,14 @@ selected_row o c l q c' l' q' self columns taken self_is all =
     let f : ℕ → ℕ = λ column. get_or self.entries column 0 in
     taken_row o (length columns) (λ e. get_or columns e 0) c l q c' l' q' self (map f columns) taken self_is
     (λ e small. all e 0 small) (length-map columns f) (λ e small. get_or-map f columns e 0 0 small)
+
+-- over a prime field
+pub selected_alone : (o : Order) (n : ℕ) (columns : List ℕ) (plane after : Plane) → IsPlaneOf (prime_of o) n plane →
+    IsPlane (prime_of_plane plane) (map (λ column. get_or (digits_of plane) column 0) columns) after →
+    IsPlaneOf (prime_of o) (length (digits_of after)) after
+selected_alone o n columns plane after h made =
+    taken_alone (prime_of o) n (length columns) (λ e. get_or columns e 0) plane after (prime-positive o) h
+    (selected_whole (prime_of o) n columns plane after h made)
 
 -- ---- from an index on
 
@@ -162,3 +191,11 @@ part_row o start len c l q c' l' q' self taken self_is room =
     let f : ℕ → ℕ = λ j. get_or self.entries (start + j) 0 in
     taken_row o len (λ e. start + e) c l q c' l' q' self (listed len f) taken self_is
     (λ e small. omega (arith, room)) (listed_length len f) (λ e small. listed_at len f e 0 small)
+
+-- over a prime field
+pub part_alone : (o : Order) (n start len : ℕ) (plane after : Plane) → IsPlaneOf (prime_of o) n plane →
+    IsPlane (prime_of_plane plane) (listed len (λ j. get_or (digits_of plane) (start + j) 0)) after →
+    IsPlaneOf (prime_of o) (length (digits_of after)) after
+part_alone o n start len plane after h made =
+    taken_alone (prime_of o) n len (λ e. start + e) plane after (prime-positive o) h
+    (part_plane true (prime_of o) n start len start len plane after h refl refl made)

@@ -13,6 +13,7 @@ ghost use Rattle.axe_row.specs.Planes.{digits_with_multiples, AreAddable};
 ghost use Rattle.axe_row.specs.Refusals.{Answers};
 ghost use Rattle.axe_row.specs.Rows.{IsRow};
 
+use crate::higher::Higher;
 use crate::planes::digits_in_plane;
 use crate::{Refusal, Row};
 use axe_field::Field;
@@ -186,8 +187,14 @@ impl Combos {
             self.new ≡ record self.old { rows = slice_set self.old.rows to sum } }
         ensures well_formed { IsTableOfRows self.new }
     {
+        let constant = &row.constant;
+        let Some(higher) = &row.higher else {
+            self.constant.copy_entry(to, from);
+            self.constant.add_to_entry(to, scalar, constant);
+            return;
+        };
+        let (linear, quadratic) = (&higher.linear, &higher.quadratic);
         let m = self.field.plane_matrix(scalar);
-        let (constant, linear, quadratic) = (&row.constant, &row.linear, &row.quadratic);
         put_multiples(
             &mut self.constant,
             to,
@@ -233,17 +240,18 @@ impl Row {
         ensures well_formed { IsRow self.new }
     {
         self.constant.add_four_entries(indices, &a.constant, &b.constant, &c.constant, &d.constant);
-        if self.field.degree() > 1 {
-            self.linear
-                .add_four_entries(indices, &a.linear, &b.linear, &c.linear, &d.linear);
-            self.quadratic.add_four_entries(
-                indices,
-                &a.quadratic,
-                &b.quadratic,
-                &c.quadratic,
-                &d.quadratic,
-            );
-        }
+        let Some(higher) = &mut self.higher else {
+            return;
+        };
+        let Higher { linear, quadratic } = &mut **higher;
+        linear.add_four_entries(indices, &a.linear, &b.linear, &c.linear, &d.linear);
+        quadratic.add_four_entries(
+            indices,
+            &a.quadratic,
+            &b.quadratic,
+            &c.quadratic,
+            &d.quadratic,
+        );
     }
 
     /// Adds a multiple of a row of a table.
@@ -263,9 +271,13 @@ impl Row {
             &table.linear,
             &table.quadratic,
         );
+        let Some(higher) = &mut self.higher else {
+            return;
+        };
+        let Higher { linear, quadratic } = &mut **higher;
         let to_linear = [m[0][1], m[1][1], m[2][1]];
         add_entries(
-            &mut self.linear,
+            linear,
             to_linear,
             index,
             &table.constant,
@@ -274,7 +286,7 @@ impl Row {
         );
         let to_quadratic = [m[0][2], m[1][2], m[2][2]];
         add_entries(
-            &mut self.quadratic,
+            quadratic,
             to_quadratic,
             index,
             &table.constant,

@@ -24,8 +24,11 @@ impl Row {
         let field = other.field();
         let x = field.prime();
         let constant = other.dot_with_digits(&self.constant);
-        let linear = other.dot_with_digits(&self.linear);
-        let quadratic = other.dot_with_digits(&self.quadratic);
+        let Some(higher) = &self.higher else {
+            return constant;
+        };
+        let linear = other.dot_with_digits(&higher.linear);
+        let quadratic = other.dot_with_digits(&higher.quadratic);
         let high = field.add(linear, field.mul(x, quadratic));
         field.add(constant, field.mul(x, high))
     }
@@ -38,8 +41,11 @@ impl Row {
         ensures element { IsElement self.now.order result }
     {
         let constant = dot_or_zero(digits, &self.constant);
-        let linear = dot_or_zero(digits, &self.linear);
-        let quadratic = dot_or_zero(digits, &self.quadratic);
+        let Some(higher) = &self.higher else {
+            return constant;
+        };
+        let linear = dot_or_zero(digits, &higher.linear);
+        let quadratic = dot_or_zero(digits, &higher.quadratic);
         element(&self.field, constant, linear, quadratic)
     }
 }

@@ -26,10 +26,14 @@ impl Row {
         requires { start ≤ length self.now.entries }
         ensures { MatchOption result (AreZerosFrom self.now.entries start) (IsNextNonzero self.now.entries start) }
     {
+        let constant = self.constant.next_nonzero(start);
+        let Some(higher) = &self.higher else {
+            return constant;
+        };
         let high = earlier(
-            self.linear.next_nonzero(start),
-            self.quadratic.next_nonzero(start),
+            higher.linear.next_nonzero(start),
+            higher.quadratic.next_nonzero(start),
         );
-        earlier(self.constant.next_nonzero(start), high)
+        earlier(constant, high)
     }
 }

@@ -1,13 +1,15 @@
 //! Row vectors over a small finite field, and why an operation on rows or matrices is refused.
 #![tactic(auto)]
 
-ghost use Rattle.std.specs.Prelude.{◌≡◌, ◌<◌, ◌↔◌, None, IsTrue, length, replicate, slice_index, slice_set, All};
+ghost use Rattle.std.specs.Prelude.{◌≡◌, ◌≢◌, ◌<◌, ◌↔◌, None, IsTrue, length, replicate, slice_index, slice_set, All};
 ghost use Rattle.std.specs.Prelude.{MatchOption};
 ghost use Rattle.axe_algebra.specs.Lists.{unit_row};
 ghost use Rattle.axe_field.specs.NumberFields.{number_field};
-ghost use Rattle.axe_field.specs.Order.{IsElement};
+ghost use Rattle.axe_field.specs.Order.{IsElement, prime_of, degree_of};
 ghost use Rattle.axe_lane.specs.Entries.{IsFirstNonzero};
 ghost use Rattle.axe_row.specs.Operations.{dot_product, row_with_multiple, multiple_row, IsZeroVector};
+ghost use Rattle.axe_plane.specs.Planes.{digits_of, IsPlaneOf};
+ghost use Rattle.axe_row.specs.Planes.{entries_of_digits, ArePlanes};
 ghost use Rattle.axe_row.specs.Rows.{RowValue, IsRow};
 ghost use Rattle.axe_row.specs.Refusals.{Answers};
 
@@ -15,6 +17,7 @@ mod cancelling;
 mod combos;
 mod dots;
 mod entries;
+mod higher;
 mod packed;
 mod parts;
 mod pieces;
@@ -28,6 +31,7 @@ use axe_bits::earlier;
 use axe_field::Field;
 use axe_plane::Plane;
 pub use combos::{Combos, most_combined};
+use higher::Higher;
 use planes::{add_multiples, digits_in_plane, element, plane_of, quadratic_at};
 pub use refusals::Refusal;
 use scaling::exponent;
@@ -35,30 +39,31 @@ use std::alloc::Global;
 use std::marker::Model;
 
 /// A row vector over one of the seven fields. It may have no entries. An entry is a polynomial modulo a prime, and a
-/// row keeps the coefficients of 1, of x and of x^2 of its entries, each as a plane. The planes from the degree of the
-/// field on have no digits.
+/// row keeps the coefficients of 1, of x and of x^2 of its entries, each as a plane. Over a prime field an entry is its
+/// coefficient of 1, and the row keeps one plane alone.
 #[derive(Drop)]
 pub struct Row {
     field: Field,
     constant: Plane,
-    linear: Plane,
-    quadratic: Plane,
+    higher: Option<Box<Higher>>,
 }
 
 impl Model for Row {
     ghost use Rattle.std.specs.Prelude.{length};
     ghost use Rattle.axe_plane.specs.Planes.{digits_of};
-    ghost use Rattle.axe_row.specs.Planes.{entries_of_digits, ArePlanes};
+    ghost use Rattle.axe_row.specs.HigherPlanes.{linear_of, quadratic_of, AreKept};
+    ghost use Rattle.axe_row.specs.Planes.{entries_of_digits};
     ghost use Rattle.axe_row.specs.Rows.{RowValue};
 
     ghost Value = { RowValue };
 
     ghost view = { λ a. record {
       order = a.field;
-      entries = entries_of_digits a.field (digits_of a.constant) (digits_of a.linear) (digits_of a.quadratic);
+      entries = entries_of_digits a.field (digits_of a.constant) (digits_of (linear_of a.field a.higher))
+          (digits_of (quadratic_of a.field a.higher));
     } };
 
-    ghost invariant = { λ a. ArePlanes a.field (length (digits_of a.constant)) a.constant a.linear a.quadratic };
+    ghost invariant = { λ a. AreKept a.field (length (digits_of a.constant)) a.constant a.higher };
 }
 
 impl Row {
@@ -69,14 +74,12 @@ impl Row {
     {
         let prime = field.prime();
         let constant = Plane::zero(alloc, prime, len)?;
-        let linear = Plane::zero(alloc, prime, digits_in_plane(&field, 1, len))?;
+        if field.degree() == 1 {
+            return Ok(Row::of_plane(field, constant));
+        }
+        let linear = Plane::zero(alloc, prime, len)?;
         let quadratic = Plane::zero(alloc, prime, digits_in_plane(&field, 2, len))?;
-        Ok(Row {
-            field,
-            constant,
-            linear,
-            quadratic,
-        })
+        Row::of_planes(alloc, field, constant, linear, quadratic)
     }
 
     /// The unit vector of a length: 1 at an index, counted from 0, and 0 elsewhere.
@@ -97,14 +100,12 @@ impl Row {
         ensures well_formed { Answers None IsRow result }
     {
         let constant = plane_of(alloc, &field, elements, 0)?;
+        if field.degree() == 1 {
+            return Ok(Row::of_plane(field, constant));
+        }
         let linear = plane_of(alloc, &field, elements, 1)?;
         let quadratic = plane_of(alloc, &field, elements, 2)?;
-        Ok(Row {
-            field,
-            constant,
-            linear,
-            quadratic,
-        })
+        Row::of_planes(alloc, field, constant, linear, quadratic)
     }
 
     /// The field of the entries.
@@ -151,8 +152,11 @@ impl Row {
         ensures well_formed { IsRow self.now }
     {
         let constant = self.constant.get(index);
-        let linear = self.linear.get(index);
-        let quadratic = quadratic_at(&self.field, &self.quadratic, index);
+        let Some(higher) = &self.higher else {
+            return constant;
+        };
+        let linear = higher.linear.get(index);
+        let quadratic = quadratic_at(&self.field, &higher.quadratic, index);
         element(&self.field, constant, linear, quadratic)
     }
 
@@ -184,8 +188,12 @@ impl Row {
     {
         let matrix = self.field.plane_matrix(element);
         self.constant.set(index, matrix[0][0]);
-        self.linear.set(index, matrix[0][1]);
-        self.quadratic.set(index, matrix[0][2]);
+        let Some(higher) = &mut self.higher else {
+            return;
+        };
+        let Higher { linear, quadratic } = &mut **higher;
+        linear.set(index, matrix[0][1]);
+        quadratic.set(index, matrix[0][2]);
     }
 
     /// The same row a second time.
@@ -194,14 +202,12 @@ impl Row {
         ensures well_formed { Answers None IsRow result }
     {
         let constant = self.constant.copy(alloc)?;
-        let linear = self.linear.copy(alloc)?;
-        let quadratic = self.quadratic.copy(alloc)?;
-        Ok(Row {
-            field: self.field,
-            constant,
-            linear,
-            quadratic,
-        })
+        let Some(higher) = &self.higher else {
+            return Ok(Row::of_plane(self.field, constant));
+        };
+        let linear = higher.linear.copy(alloc)?;
+        let quadratic = higher.quadratic.copy(alloc)?;
+        Row::of_planes(alloc, self.field, constant, linear, quadratic)
     }
 
     /// Adds a multiple of another row over the same field and of the same length: each entry d becomes d + c s, where c
@@ -257,11 +263,15 @@ impl Row {
     pub fn first_nonzero(&self) -> Option<usize>
         ensures { MatchOption result (IsZeroVector self.now.entries) (IsFirstNonzero self.now.entries) }
     {
-        if self.field.degree() == 1 {
-            return self.constant.first_nonzero();
-        }
-        let high = earlier(self.linear.first_nonzero(), self.quadratic.first_nonzero());
-        earlier(self.constant.first_nonzero(), high)
+        let constant = self.constant.first_nonzero();
+        let Some(higher) = &self.higher else {
+            return constant;
+        };
+        let high = earlier(
+            higher.linear.first_nonzero(),
+            higher.quadratic.first_nonzero(),
+        );
+        earlier(constant, high)
     }
 
     /// Whether every entry is 0.
@@ -271,10 +281,13 @@ impl Row {
         if !self.constant.is_zero() {
             return false;
         }
-        if !self.linear.is_zero() {
+        let Some(higher) = &self.higher else {
+            return true;
+        };
+        if !higher.linear.is_zero() {
             return false;
         }
-        self.quadratic.is_zero()
+        higher.quadratic.is_zero()
     }
 
     /// Whether two rows are equal: one field, one length, and the same entries.
@@ -287,14 +300,58 @@ impl Row {
         if !self.constant.same(&other.constant) {
             return false;
         }
-        if !self.linear.same(&other.linear) {
+        let Some(higher) = &self.higher else {
+            return true;
+        };
+        let Some(others) = &other.higher else {
+            return true;
+        };
+        if !higher.linear.same(&others.linear) {
             return false;
         }
-        self.quadratic.same(&other.quadratic)
+        higher.quadratic.same(&others.quadratic)
     }
 }
 
 impl Row {
+    /// The row over a prime field with this plane of entries.
+    fn of_plane(field: Field, constant: Plane) -> Row
+        requires prime { degree_of field ≡ 1 }
+        requires plane { IsPlaneOf (prime_of field) (length (digits_of constant)) constant }
+        ensures entries { result ≡ record { order = field; entries = digits_of constant } }
+        ensures well_formed { IsRow result }
+    {
+        Row {
+            field,
+            constant,
+            higher: None,
+        }
+    }
+
+    /// The row over a field that is not prime with these planes of coefficients.
+    fn of_planes(
+        alloc: Global,
+        field: Field,
+        constant: Plane,
+        linear: Plane,
+        quadratic: Plane,
+    ) -> Result<Row, Refusal>
+        requires degree { degree_of field ≢ 1 }
+        requires planes { ArePlanes field (length (digits_of constant)) constant linear quadratic }
+        ensures entries { Answers None (λ row. row ≡ record {
+          order = field;
+          entries = entries_of_digits field (digits_of constant) (digits_of linear) (digits_of quadratic);
+        }) result }
+        ensures well_formed { Answers None IsRow result }
+    {
+        let higher = Box::new(alloc, Higher { linear, quadratic })?;
+        Ok(Row {
+            field,
+            constant,
+            higher: Some(higher),
+        })
+    }
+
     /// Adds a multiple of another row, plane by plane.
     fn add_by_planes(&mut self, scalar: u8, other: &Row)
         requires field { other.now.order ≡ self.old.order }
@@ -303,19 +360,18 @@ impl Row {
         ensures sum { self.new ≡ row_with_multiple self.old scalar other.now }
         ensures well_formed { IsRow self.new }
     {
+        let Some(others) = &other.higher else {
+            self.constant.add_scaled(scalar, &other.constant);
+            return;
+        };
+        let (c, l, q) = (&other.constant, &others.linear, &others.quadratic);
         let m = self.field.plane_matrix(scalar);
-        let (constant, linear, quadratic) = (&other.constant, &other.linear, &other.quadratic);
-        let to_constant = [m[0][0], m[1][0], m[2][0]];
-        add_multiples(&mut self.constant, to_constant, constant, linear, quadratic);
-        let to_linear = [m[0][1], m[1][1], m[2][1]];
-        add_multiples(&mut self.linear, to_linear, constant, linear, quadratic);
-        let to_quadratic = [m[0][2], m[1][2], m[2][2]];
-        add_multiples(
-            &mut self.quadratic,
-            to_quadratic,
-            constant,
-            linear,
-            quadratic,
-        );
+        add_multiples(&mut self.constant, [m[0][0], m[1][0], m[2][0]], c, l, q);
+        let Some(higher) = &mut self.higher else {
+            return;
+        };
+        let Higher { linear, quadratic } = &mut **higher;
+        add_multiples(linear, [m[0][1], m[1][1], m[2][1]], c, l, q);
+        add_multiples(quadratic, [m[0][2], m[1][2], m[2][2]], c, l, q);
     }
 }

@@ -30,14 +30,7 @@ impl Row {
         ensures well_formed { Answers None IsRow result }
     {
         let bits = BitPlane::of_packed(alloc, bytes, len)?;
-        let linear = Plane::zero(alloc, 2, 0)?;
-        let quadratic = Plane::zero(alloc, 2, 0)?;
-        Ok(Row {
-            field,
-            constant: Plane::Bits(bits),
-            linear,
-            quadratic,
-        })
+        Ok(Row::of_plane(field, Plane::Bits(bits)))
     }
 
     /// Writes the entries of a row over two elements into the bytes that they take, eight to a byte, the first of a

@@ -15,18 +15,14 @@ impl Row {
         ensures well_formed { Answers None IsRow result }
     {
         let constant = self.constant.part(alloc, start, len)?;
-        let at = digits_in_plane(&self.field, 1, start);
-        let count = digits_in_plane(&self.field, 1, len);
-        let linear = self.linear.part(alloc, at, count)?;
+        let Some(higher) = &self.higher else {
+            return Ok(Row::of_plane(self.field, constant));
+        };
+        let linear = higher.linear.part(alloc, start, len)?;
         let at = digits_in_plane(&self.field, 2, start);
         let count = digits_in_plane(&self.field, 2, len);
-        let quadratic = self.quadratic.part(alloc, at, count)?;
-        Ok(Row {
-            field: self.field,
-            constant,
-            linear,
-            quadratic,
-        })
+        let quadratic = higher.quadratic.part(alloc, at, count)?;
+        Row::of_planes(alloc, self.field, constant, linear, quadratic)
     }
 
     /// The row of the entries at these columns, in their order; a column may stand more than once.
@@ -39,16 +35,13 @@ impl Row {
         ensures well_formed { Answers None IsRow result }
     {
         let constant = self.constant.select(alloc, columns)?;
-        let in_linear = &columns[..digits_in_plane(&self.field, 1, columns.len())];
-        let linear = self.linear.select(alloc, in_linear)?;
+        let Some(higher) = &self.higher else {
+            return Ok(Row::of_plane(self.field, constant));
+        };
+        let linear = higher.linear.select(alloc, columns)?;
         let in_quadratic = &columns[..digits_in_plane(&self.field, 2, columns.len())];
-        let quadratic = self.quadratic.select(alloc, in_quadratic)?;
-        Ok(Row {
-            field: self.field,
-            constant,
-            linear,
-            quadratic,
-        })
+        let quadratic = higher.quadratic.select(alloc, in_quadratic)?;
+        Row::of_planes(alloc, self.field, constant, linear, quadratic)
     }
 
     /// Writes the numbers of all entries into a list of the row's length.
@@ -56,9 +49,12 @@ impl Row {
         requires { length entries.old ≡ length self.now.entries }
         ensures { entries.new ≡ self.now.entries }
     {
-        let prime = self.field.prime();
         self.constant.copy_to(entries);
-        self.linear.add_to(prime, entries);
-        self.quadratic.add_to(prime * prime, entries);
+        let Some(higher) = &self.higher else {
+            return;
+        };
+        let prime = self.field.prime();
+        higher.linear.add_to(prime, entries);
+        higher.quadratic.add_to(prime * prime, entries);
     }
 }

@@ -75,12 +75,12 @@ impl Row {
     {
         let order = usize::from(self.field.order());
         let constant = self.constant.numbers_from(order, size, at);
-        if self.field.degree() == 1 {
+        let Some(higher) = &self.higher else {
             return constant;
-        }
+        };
         let prime = self.field.prime();
-        let linear = self.linear.numbers_from(order, size, at);
-        let quadratic = self.quadratic.numbers_from(order, size, at);
+        let linear = higher.linear.numbers_from(order, size, at);
+        let quadratic = higher.quadratic.numbers_from(order, size, at);
         [
             number_of_parts(prime, constant[0], linear[0], quadratic[0]),
             number_of_parts(prime, constant[1], linear[1], quadratic[1]),

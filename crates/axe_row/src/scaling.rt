@@ -8,6 +8,7 @@ ghost use Rattle.axe_row.specs.Planes.{AreRotated};
 ghost use Rattle.axe_row.specs.Rows.{IsRow};
 
 use crate::Row;
+use crate::higher::Higher;
 use axe_field::Field;
 use axe_plane::Plane;
 use std::mem;
@@ -46,17 +47,16 @@ impl Row {
         ensures multiple { self.new ≡ multiple_row (prime_of self.old.order) self.old }
         ensures well_formed { IsRow self.new }
     {
+        let Some(higher) = &mut self.higher else {
+            return;
+        };
         let degree = self.field.degree();
         let matrix = self.field.plane_matrix(self.field.prime());
         let factors = matrix[usize::from(degree) - 1];
-        rotate(
-            degree,
-            &mut self.constant,
-            &mut self.linear,
-            &mut self.quadratic,
-        );
-        self.linear.add_scaled(factors[1], &self.constant);
-        self.quadratic.add_scaled(factors[2], &self.constant);
+        let Higher { linear, quadratic } = &mut **higher;
+        rotate(degree, &mut self.constant, linear, quadratic);
+        linear.add_scaled(factors[1], &self.constant);
+        quadratic.add_scaled(factors[2], &self.constant);
         self.constant.scale(factors[0]);
     }
 
@@ -78,7 +78,11 @@ impl Row {
         ensures well_formed { IsRow self.new }
     {
         self.constant.scale(0);
-        self.linear.scale(0);
-        self.quadratic.scale(0);
+        let Some(higher) = &mut self.higher else {
+            return;
+        };
+        let Higher { linear, quadratic } = &mut **higher;
+        linear.scale(0);
+        quadratic.scale(0);
     }
 }

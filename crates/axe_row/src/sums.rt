@@ -6,6 +6,7 @@ ghost use Rattle.axe_row.specs.Combinations.{row_with_four};
 ghost use Rattle.axe_row.specs.Rows.{IsRow};
 
 use crate::Row;
+use crate::higher::Higher;
 
 impl Row {
     /// Adds four other rows over the same field and of the same length: in one pass, except over the fields of order 3
@@ -21,11 +22,15 @@ impl Row {
     {
         self.constant
             .add_four(&a.constant, &b.constant, &c.constant, &d.constant);
-        if self.field.degree() > 1 {
-            self.linear
-                .add_four(&a.linear, &b.linear, &c.linear, &d.linear);
-            self.quadratic
-                .add_four(&a.quadratic, &b.quadratic, &c.quadratic, &d.quadratic);
-        }
+        let Some(higher) = &mut self.higher else {
+            return;
+        };
+        let (Some(a), Some(b), Some(c), Some(d)) = (&a.higher, &b.higher, &c.higher, &d.higher)
+        else {
+            return;
+        };
+        let Higher { linear, quadratic } = &mut **higher;
+        linear.add_four(&a.linear, &b.linear, &c.linear, &d.linear);
+        quadratic.add_four(&a.quadratic, &b.quadratic, &c.quadratic, &d.quadratic);
     }
 }

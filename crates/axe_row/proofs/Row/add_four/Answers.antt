@@ -1,108 +1,112 @@
-use Rattle.std.proofs.Common.{length, slice_index, refl, arith}
+use Rattle.std.proofs.Common.{◌≡◌, length, slice_index, refl, arith}
+use Rattle.axe_field.specs.Order.{degree_of}
 use Rattle.axe_plane.specs.Planes.{digits_of}
+use Rattle.axe_row.specs.HigherPlanes.{linear_of, quadratic_of}
 use Rattle.axe_row.specs.Combinations.{combination_at, row_with_four}
+use Rattle.axe_row.proofs.KeptPlanes.{alone_is_prime, kept_planes, kept_view, kept_not_prime}
 use Rattle.axe_row.proofs.RowPlanes.{IsRow-of_planes, with_length}
 use Rattle.axe_row.proofs.TableSums.{IsRowOf, row_of, entries_for, constant_entry, linear_entry, quadratic_entry, plus_four, plus_four_constant, as_long_as}
 use Rattle.axe_row.proofs.Row.add_four.Goals as goal
 
 pub add_four_entries-requires-clause-a : goal.add_four_entries-requires-clause-a
 add_four_entries-requires-clause-a c =
-    constant_entry c.self.invariant (entries_for (row_of c.self.invariant c.self.view_is) c.a.invariant c.a.view_is c.requires.a)
+    constant_entry c.self.invariant.planes (entries_for (row_of c.self.invariant.planes c.self.view_is) c.a.invariant c.a.view_is c.requires.a)
 
 pub add_four_entries-requires-clause-b : goal.add_four_entries-requires-clause-b
 add_four_entries-requires-clause-b c =
-    constant_entry c.self.invariant (entries_for (row_of c.self.invariant c.self.view_is) c.b.invariant c.b.view_is c.requires.b)
+    constant_entry c.self.invariant.planes (entries_for (row_of c.self.invariant.planes c.self.view_is) c.b.invariant c.b.view_is c.requires.b)
 
 pub add_four_entries-requires-clause-c : goal.add_four_entries-requires-clause-c
 add_four_entries-requires-clause-c c =
-    constant_entry c.self.invariant (entries_for (row_of c.self.invariant c.self.view_is) c.c.invariant c.c.view_is c.requires.c)
+    constant_entry c.self.invariant.planes (entries_for (row_of c.self.invariant.planes c.self.view_is) c.c.invariant c.c.view_is c.requires.c)
 
 pub add_four_entries-requires-clause-d : goal.add_four_entries-requires-clause-d
 add_four_entries-requires-clause-d c =
-    constant_entry c.self.invariant (entries_for (row_of c.self.invariant c.self.view_is) c.d.invariant c.d.view_is c.requires.d)
+    constant_entry c.self.invariant.planes (entries_for (row_of c.self.invariant.planes c.self.view_is) c.d.invariant c.d.view_is c.requires.d)
 
-pub add_four_entries-requires-then-degree-gt1-clause-a : goal.add_four_entries-requires-then-degree-gt1-clause-a
-add_four_entries-requires-then-degree-gt1-clause-a c =
-    linear_entry c.self.invariant (entries_for (row_of c.self.invariant c.self.view_is) c.a.invariant c.a.view_is c.requires.a)
+pub add_four_entries-requires-2-clause-a : goal.add_four_entries-requires-2-clause-a
+add_four_entries-requires-2-clause-a c =
+    linear_entry (kept_planes _ _ _ _ c.self.invariant _ _ _ c.in-Some.is c.deref_mut.ensures.value c.deref_mut.ensures.value) (entries_for (row_of (kept_planes _ _ _ _ c.self.invariant _ _ _ c.in-Some.is c.deref_mut.ensures.value c.deref_mut.ensures.value) (kept_view _ c.self.inside.constant _ _ _ _ _ c.self.view_is c.in-Some.is c.deref_mut.ensures.value c.deref_mut.ensures.value)) c.a.invariant c.a.view_is c.requires.a)
 
-pub add_four_entries-requires-then-degree-gt1-clause-b : goal.add_four_entries-requires-then-degree-gt1-clause-b
-add_four_entries-requires-then-degree-gt1-clause-b c =
-    linear_entry c.self.invariant (entries_for (row_of c.self.invariant c.self.view_is) c.b.invariant c.b.view_is c.requires.b)
+pub add_four_entries-requires-2-clause-b : goal.add_four_entries-requires-2-clause-b
+add_four_entries-requires-2-clause-b c =
+    linear_entry (kept_planes _ _ _ _ c.self.invariant _ _ _ c.in-Some.is c.deref_mut.ensures.value c.deref_mut.ensures.value) (entries_for (row_of (kept_planes _ _ _ _ c.self.invariant _ _ _ c.in-Some.is c.deref_mut.ensures.value c.deref_mut.ensures.value) (kept_view _ c.self.inside.constant _ _ _ _ _ c.self.view_is c.in-Some.is c.deref_mut.ensures.value c.deref_mut.ensures.value)) c.b.invariant c.b.view_is c.requires.b)
 
-pub add_four_entries-requires-then-degree-gt1-clause-c : goal.add_four_entries-requires-then-degree-gt1-clause-c
-add_four_entries-requires-then-degree-gt1-clause-c c =
-    linear_entry c.self.invariant (entries_for (row_of c.self.invariant c.self.view_is) c.c.invariant c.c.view_is c.requires.c)
+pub add_four_entries-requires-2-clause-c : goal.add_four_entries-requires-2-clause-c
+add_four_entries-requires-2-clause-c c =
+    linear_entry (kept_planes _ _ _ _ c.self.invariant _ _ _ c.in-Some.is c.deref_mut.ensures.value c.deref_mut.ensures.value) (entries_for (row_of (kept_planes _ _ _ _ c.self.invariant _ _ _ c.in-Some.is c.deref_mut.ensures.value c.deref_mut.ensures.value) (kept_view _ c.self.inside.constant _ _ _ _ _ c.self.view_is c.in-Some.is c.deref_mut.ensures.value c.deref_mut.ensures.value)) c.c.invariant c.c.view_is c.requires.c)
 
-pub add_four_entries-requires-then-degree-gt1-clause-d : goal.add_four_entries-requires-then-degree-gt1-clause-d
-add_four_entries-requires-then-degree-gt1-clause-d c =
-    linear_entry c.self.invariant (entries_for (row_of c.self.invariant c.self.view_is) c.d.invariant c.d.view_is c.requires.d)
+pub add_four_entries-requires-2-clause-d : goal.add_four_entries-requires-2-clause-d
+add_four_entries-requires-2-clause-d c =
+    linear_entry (kept_planes _ _ _ _ c.self.invariant _ _ _ c.in-Some.is c.deref_mut.ensures.value c.deref_mut.ensures.value) (entries_for (row_of (kept_planes _ _ _ _ c.self.invariant _ _ _ c.in-Some.is c.deref_mut.ensures.value c.deref_mut.ensures.value) (kept_view _ c.self.inside.constant _ _ _ _ _ c.self.view_is c.in-Some.is c.deref_mut.ensures.value c.deref_mut.ensures.value)) c.d.invariant c.d.view_is c.requires.d)
 
-pub add_four_entries-requires-then-degree-gt1-2-clause-a : goal.add_four_entries-requires-then-degree-gt1-2-clause-a
-add_four_entries-requires-then-degree-gt1-2-clause-a c =
-    quadratic_entry c.self.invariant (entries_for (row_of c.self.invariant c.self.view_is) c.a.invariant c.a.view_is c.requires.a)
+pub add_four_entries-requires-3-clause-a : goal.add_four_entries-requires-3-clause-a
+add_four_entries-requires-3-clause-a c =
+    quadratic_entry (kept_planes _ _ _ _ c.self.invariant _ _ _ c.in-Some.is c.deref_mut.ensures.value c.deref_mut.ensures.value) (entries_for (row_of (kept_planes _ _ _ _ c.self.invariant _ _ _ c.in-Some.is c.deref_mut.ensures.value c.deref_mut.ensures.value) (kept_view _ c.self.inside.constant _ _ _ _ _ c.self.view_is c.in-Some.is c.deref_mut.ensures.value c.deref_mut.ensures.value)) c.a.invariant c.a.view_is c.requires.a)
 
-pub add_four_entries-requires-then-degree-gt1-2-clause-b : goal.add_four_entries-requires-then-degree-gt1-2-clause-b
-add_four_entries-requires-then-degree-gt1-2-clause-b c =
-    quadratic_entry c.self.invariant (entries_for (row_of c.self.invariant c.self.view_is) c.b.invariant c.b.view_is c.requires.b)
+pub add_four_entries-requires-3-clause-b : goal.add_four_entries-requires-3-clause-b
+add_four_entries-requires-3-clause-b c =
+    quadratic_entry (kept_planes _ _ _ _ c.self.invariant _ _ _ c.in-Some.is c.deref_mut.ensures.value c.deref_mut.ensures.value) (entries_for (row_of (kept_planes _ _ _ _ c.self.invariant _ _ _ c.in-Some.is c.deref_mut.ensures.value c.deref_mut.ensures.value) (kept_view _ c.self.inside.constant _ _ _ _ _ c.self.view_is c.in-Some.is c.deref_mut.ensures.value c.deref_mut.ensures.value)) c.b.invariant c.b.view_is c.requires.b)
 
-pub add_four_entries-requires-then-degree-gt1-2-clause-c : goal.add_four_entries-requires-then-degree-gt1-2-clause-c
-add_four_entries-requires-then-degree-gt1-2-clause-c c =
-    quadratic_entry c.self.invariant (entries_for (row_of c.self.invariant c.self.view_is) c.c.invariant c.c.view_is c.requires.c)
+pub add_four_entries-requires-3-clause-c : goal.add_four_entries-requires-3-clause-c
+add_four_entries-requires-3-clause-c c =
+    quadratic_entry (kept_planes _ _ _ _ c.self.invariant _ _ _ c.in-Some.is c.deref_mut.ensures.value c.deref_mut.ensures.value) (entries_for (row_of (kept_planes _ _ _ _ c.self.invariant _ _ _ c.in-Some.is c.deref_mut.ensures.value c.deref_mut.ensures.value) (kept_view _ c.self.inside.constant _ _ _ _ _ c.self.view_is c.in-Some.is c.deref_mut.ensures.value c.deref_mut.ensures.value)) c.c.invariant c.c.view_is c.requires.c)
 
-pub add_four_entries-requires-then-degree-gt1-2-clause-d : goal.add_four_entries-requires-then-degree-gt1-2-clause-d
-add_four_entries-requires-then-degree-gt1-2-clause-d c =
-    quadratic_entry c.self.invariant (entries_for (row_of c.self.invariant c.self.view_is) c.d.invariant c.d.view_is c.requires.d)
+pub add_four_entries-requires-3-clause-d : goal.add_four_entries-requires-3-clause-d
+add_four_entries-requires-3-clause-d c =
+    quadratic_entry (kept_planes _ _ _ _ c.self.invariant _ _ _ c.in-Some.is c.deref_mut.ensures.value c.deref_mut.ensures.value) (entries_for (row_of (kept_planes _ _ _ _ c.self.invariant _ _ _ c.in-Some.is c.deref_mut.ensures.value c.deref_mut.ensures.value) (kept_view _ c.self.inside.constant _ _ _ _ _ c.self.view_is c.in-Some.is c.deref_mut.ensures.value c.deref_mut.ensures.value)) c.d.invariant c.d.view_is c.requires.d)
 
 -- the row after, by all its planes
-by_planes : (c : goal.After-add_four_entries-then-degree-gt1-2) → IsRowOf c.self.inside.field (length (digits_of c.self.inside.constant))
-    c.add_four_entries.new.self c.add_four_entries-then-degree-gt1.new.self c.add_four_entries-then-degree-gt1-2.new.self
+by_planes : (c : goal.After-self-2-1) → IsRowOf c.self.inside.field (length (digits_of c.self.inside.constant))
+    c.add_four_entries.new.self c.add_four_entries-2.new.self c.add_four_entries-3.new.self
     (row_with_four c.args.self.now
     (combination_at c.args.a.now (slice_index c.args.indices 0)) (combination_at c.args.b.now (slice_index c.args.indices 1))
     (combination_at c.args.c.now (slice_index c.args.indices 2)) (combination_at c.args.d.now (slice_index c.args.indices 3)))
 by_planes c =
-    plus_four (row_of c.self.invariant c.self.view_is)
-    (entries_for (row_of c.self.invariant c.self.view_is) c.a.invariant c.a.view_is c.requires.a).is_row
-    (entries_for (row_of c.self.invariant c.self.view_is) c.b.invariant c.b.view_is c.requires.b).is_row
-    (entries_for (row_of c.self.invariant c.self.view_is) c.c.invariant c.c.view_is c.requires.c).is_row
-    (entries_for (row_of c.self.invariant c.self.view_is) c.d.invariant c.d.view_is c.requires.d).is_row
-    c.add_four_entries.ensures c.add_four_entries-then-degree-gt1.ensures c.add_four_entries-then-degree-gt1-2.ensures
+    plus_four (row_of (kept_planes _ _ _ _ c.self.invariant _ _ _ c.in-Some.is c.deref_mut.ensures.value c.deref_mut.ensures.value) (kept_view _ c.self.inside.constant _ _ _ _ _ c.self.view_is c.in-Some.is c.deref_mut.ensures.value c.deref_mut.ensures.value))
+    (entries_for (row_of (kept_planes _ _ _ _ c.self.invariant _ _ _ c.in-Some.is c.deref_mut.ensures.value c.deref_mut.ensures.value) (kept_view _ c.self.inside.constant _ _ _ _ _ c.self.view_is c.in-Some.is c.deref_mut.ensures.value c.deref_mut.ensures.value)) c.a.invariant c.a.view_is c.requires.a).is_row
+    (entries_for (row_of (kept_planes _ _ _ _ c.self.invariant _ _ _ c.in-Some.is c.deref_mut.ensures.value c.deref_mut.ensures.value) (kept_view _ c.self.inside.constant _ _ _ _ _ c.self.view_is c.in-Some.is c.deref_mut.ensures.value c.deref_mut.ensures.value)) c.b.invariant c.b.view_is c.requires.b).is_row
+    (entries_for (row_of (kept_planes _ _ _ _ c.self.invariant _ _ _ c.in-Some.is c.deref_mut.ensures.value c.deref_mut.ensures.value) (kept_view _ c.self.inside.constant _ _ _ _ _ c.self.view_is c.in-Some.is c.deref_mut.ensures.value c.deref_mut.ensures.value)) c.c.invariant c.c.view_is c.requires.c).is_row
+    (entries_for (row_of (kept_planes _ _ _ _ c.self.invariant _ _ _ c.in-Some.is c.deref_mut.ensures.value c.deref_mut.ensures.value) (kept_view _ c.self.inside.constant _ _ _ _ _ c.self.view_is c.in-Some.is c.deref_mut.ensures.value c.deref_mut.ensures.value)) c.d.invariant c.d.view_is c.requires.d).is_row
+    c.add_four_entries.ensures c.add_four_entries-2.ensures c.add_four_entries-3.ensures
 
-pub invariant_of-self : goal.invariant_of-self
-invariant_of-self c = with_length _ _ _ _ _ (by_planes c).planes
+pub invariant_of-self-2 : goal.invariant_of-self-2
+invariant_of-self-2 c = record { planes = with_length _ _ _ _ _ (by_planes c).planes; needed = kept_not_prime _ _ _ _ c.self.invariant _ c.in-Some.is }
 
-pub returns-then-degree-gt1-clause-sum : goal.returns-then-degree-gt1-clause-sum
-returns-then-degree-gt1-clause-sum c = (by_planes c).is
+pub returns-clause-sum : goal.returns-clause-sum
+returns-clause-sum c = (by_planes c).is
 
-pub returns-then-degree-gt1-clause-as_long : goal.returns-then-degree-gt1-clause-as_long
-returns-then-degree-gt1-clause-as_long c =
-    as_long_as (row_of c.self.invariant c.self.view_is) (row_of (by_planes c).planes refl)
+pub returns-clause-as_long : goal.returns-clause-as_long
+returns-clause-as_long c =
+    as_long_as (row_of (kept_planes _ _ _ _ c.self.invariant _ _ _ c.in-Some.is c.deref_mut.ensures.value c.deref_mut.ensures.value) (kept_view _ c.self.inside.constant _ _ _ _ _ c.self.view_is c.in-Some.is c.deref_mut.ensures.value c.deref_mut.ensures.value)) (row_of (by_planes c).planes refl)
 
-pub returns-then-degree-gt1-clause-well_formed : goal.returns-then-degree-gt1-clause-well_formed
-returns-then-degree-gt1-clause-well_formed c = IsRow-of_planes _ _ _ _ _ (invariant_of-self c)
+pub returns-clause-well_formed : goal.returns-clause-well_formed
+returns-clause-well_formed c = IsRow-of_planes _ _ _ _ _ (invariant_of-self-2 c).planes
 
 -- the row after, by its one plane that has digits
-by_one_plane : (c : goal.Else-degree-gt1) → IsRowOf c.self.inside.field (length (digits_of c.self.inside.constant))
-    c.add_four_entries.new.self c.self.inside.linear c.self.inside.quadratic
+by_one_plane : (c : goal.In_default) → IsRowOf c.self.inside.field (length (digits_of c.self.inside.constant))
+    c.add_four_entries.new.self (linear_of c.self.inside.field c.self.inside.higher) (quadratic_of c.self.inside.field c.self.inside.higher)
     (row_with_four c.args.self.now
     (combination_at c.args.a.now (slice_index c.args.indices 0)) (combination_at c.args.b.now (slice_index c.args.indices 1))
     (combination_at c.args.c.now (slice_index c.args.indices 2)) (combination_at c.args.d.now (slice_index c.args.indices 3)))
 by_one_plane c =
-    plus_four_constant c.degree.ensures (omega arith) (row_of c.self.invariant c.self.view_is)
-    (entries_for (row_of c.self.invariant c.self.view_is) c.a.invariant c.a.view_is c.requires.a).is_row
-    (entries_for (row_of c.self.invariant c.self.view_is) c.b.invariant c.b.view_is c.requires.b).is_row
-    (entries_for (row_of c.self.invariant c.self.view_is) c.c.invariant c.c.view_is c.requires.c).is_row
-    (entries_for (row_of c.self.invariant c.self.view_is) c.d.invariant c.d.view_is c.requires.d).is_row
+    let one : degree_of c.self.inside.field ≡ 1 = alone_is_prime _ _ _ _ c.self.invariant c.in_default.is in
+    plus_four_constant refl (omega (arith, one)) (row_of c.self.invariant.planes c.self.view_is)
+    (entries_for (row_of c.self.invariant.planes c.self.view_is) c.a.invariant c.a.view_is c.requires.a).is_row
+    (entries_for (row_of c.self.invariant.planes c.self.view_is) c.b.invariant c.b.view_is c.requires.b).is_row
+    (entries_for (row_of c.self.invariant.planes c.self.view_is) c.c.invariant c.c.view_is c.requires.c).is_row
+    (entries_for (row_of c.self.invariant.planes c.self.view_is) c.d.invariant c.d.view_is c.requires.d).is_row
     c.add_four_entries.ensures
 
-pub invariant_of-self-else-degree-gt1 : goal.invariant_of-self-else-degree-gt1
-invariant_of-self-else-degree-gt1 c = with_length _ _ _ _ _ (by_one_plane c).planes
+pub invariant_of-self : goal.invariant_of-self
+invariant_of-self c = record { planes = with_length _ _ _ _ _ (by_one_plane c).planes; needed = c.self.invariant.needed }
 
-pub returns-else-degree-gt1-clause-sum : goal.returns-else-degree-gt1-clause-sum
-returns-else-degree-gt1-clause-sum c = (by_one_plane c).is
+pub returns-in_default-clause-sum : goal.returns-in_default-clause-sum
+returns-in_default-clause-sum c = (by_one_plane c).is
 
-pub returns-else-degree-gt1-clause-as_long : goal.returns-else-degree-gt1-clause-as_long
-returns-else-degree-gt1-clause-as_long c =
-    as_long_as (row_of c.self.invariant c.self.view_is) (row_of (by_one_plane c).planes refl)
+pub returns-in_default-clause-as_long : goal.returns-in_default-clause-as_long
+returns-in_default-clause-as_long c =
+    as_long_as (row_of c.self.invariant.planes c.self.view_is) (row_of (by_one_plane c).planes refl)
 
-pub returns-else-degree-gt1-clause-well_formed : goal.returns-else-degree-gt1-clause-well_formed
-returns-else-degree-gt1-clause-well_formed c = IsRow-of_planes _ _ _ _ _ (invariant_of-self-else-degree-gt1 c)
+pub returns-in_default-clause-well_formed : goal.returns-in_default-clause-well_formed
+returns-in_default-clause-well_formed c = IsRow-of_planes _ _ _ _ _ (invariant_of-self c).planes

@@ -1,7 +1,11 @@
-use Rattle.axe_row.proofs.RowPlanes.{IsRow-of_planes, copied_planes}
+use Rattle.std.proofs.Common.{ap, ◌∙◌}
+use Rattle.axe_plane.specs.Planes.{digits_of}
+use Rattle.axe_plane.specs.declared.Plane.{Plane}
+use Rattle.axe_row.proofs.KeptPlanes.{alone_row}
 use Rattle.axe_row.proofs.Row.copy.Goals as goal
 
-pub returns-clause-well_formed : goal.returns-clause-well_formed
-returns-clause-well_formed c =
-    IsRow-of_planes _ _ _ _ _
-    (copied_planes _ _ _ _ _ _ _ c.in_ok-constant.ensures c.in_ok-linear.ensures c.in_ok-quadratic.ensures c.self.invariant)
+pub returns-in_default-clause-copied : goal.returns-in_default-clause-copied
+returns-in_default-clause-copied c =
+    c.of_plane.ensures.entries
+    ∙ ap (λ (x : Plane). record { order = c.self.inside.field; entries = digits_of x }) c.in_ok-constant.ensures
+    ∙ alone_row _ _ _ _ c.self.invariant c.self.view_is c.in_default.is

@@ -4,4 +4,4 @@ use Rattle.axe_row.proofs.RowPlanes.{IsRow-of_planes}
 use Rattle.axe_row.proofs.Row.field.Goals as goal
 
 pub returns-clause-well_formed : goal.returns-clause-well_formed
-returns-clause-well_formed c = subst IsRow c.self.view_is (IsRow-of_planes _ _ _ _ _ c.self.invariant)
+returns-clause-well_formed c = subst IsRow c.self.view_is (IsRow-of_planes _ _ _ _ _ c.self.invariant.planes)

@@ -1,7 +1,8 @@
+use Rattle.axe_row.specs.HigherPlanes.{linear_of, quadratic_of}
 use Rattle.axe_row.proofs.PrimeRows.{next_of_one_plane}
 use Rattle.axe_row.proofs.Row.next_nonzero.Goals as goal
 
 pub returns-then-degree-eq1 : goal.returns-then-degree-eq1
 returns-then-degree-eq1 c =
-    next_of_one_plane _ _ _ _ _ c.self.inside.linear c.self.inside.quadratic _ c.degree.ensures c.if-degree-eq1.true c.self.invariant
+    next_of_one_plane _ _ _ _ _ (linear_of c.self.inside.field c.self.inside.higher) (quadratic_of c.self.inside.field c.self.inside.higher) _ c.degree.ensures c.if-degree-eq1.true c.self.invariant.planes
     c.self.view_is c.next_nonzero.ensures

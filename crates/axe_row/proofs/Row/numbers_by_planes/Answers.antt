@@ -1,18 +1,21 @@
-use Rattle.std.proofs.Common.{◌≡◌, ◌+◌, ◌*◌, ℕ, List, get_or, ap, ◌∙◌}
-use Rattle.axe_field.specs.Order.{order_number}
+use Rattle.std.proofs.Common.{◌≡◌, ◌+◌, ◌*◌, ℕ, List, get_or, refl, ap, ◌∙◌}
+use Rattle.axe_field.specs.Order.{order_number, degree_of}
 use Rattle.axe_bits.proofs.PieceDigits.{same_four}
+use Rattle.axe_row.specs.HigherPlanes.{linear_of, quadratic_of}
+use Rattle.axe_row.proofs.KeptPlanes.{alone_is_prime, kept_planes, kept_view}
 use Rattle.axe_row.proofs.PlaneNumbers.{number_of_plane, number_of_planes, number_is}
 use Rattle.axe_row.proofs.Row.numbers_by_planes.Goals as goal
 
-pub returns-then-degree-eq1 : goal.returns-then-degree-eq1
-returns-then-degree-eq1 c =
+pub returns-in_default : goal.returns-in_default
+returns-in_default c =
     let base : c.from-order.result ≡ order_number c.self.inside.field = c.from-order.ensures ∙ c.order.ensures.value in
+    let one : degree_of c.self.inside.field ≡ 1 = alone_is_prime _ _ _ _ c.self.invariant c.in_default.is in
     c.numbers_from-constant.ensures.value
     ∙ same_four _ _ _ _ _ _ _ _
-    (number_of_plane _ _ _ _ _ _ c.self.inside.linear c.self.inside.quadratic _ c.self.invariant c.self.view_is base c.degree.ensures c.if-degree-eq1.true)
-    (number_of_plane _ _ _ _ _ _ c.self.inside.linear c.self.inside.quadratic _ c.self.invariant c.self.view_is base c.degree.ensures c.if-degree-eq1.true)
-    (number_of_plane _ _ _ _ _ _ c.self.inside.linear c.self.inside.quadratic _ c.self.invariant c.self.view_is base c.degree.ensures c.if-degree-eq1.true)
-    (number_of_plane _ _ _ _ _ _ c.self.inside.linear c.self.inside.quadratic _ c.self.invariant c.self.view_is base c.degree.ensures c.if-degree-eq1.true)
+    (number_of_plane _ _ _ _ _ _ (linear_of c.self.inside.field c.self.inside.higher) (quadratic_of c.self.inside.field c.self.inside.higher) _ c.self.invariant.planes c.self.view_is base refl one)
+    (number_of_plane _ _ _ _ _ _ (linear_of c.self.inside.field c.self.inside.higher) (quadratic_of c.self.inside.field c.self.inside.higher) _ c.self.invariant.planes c.self.view_is base refl one)
+    (number_of_plane _ _ _ _ _ _ (linear_of c.self.inside.field c.self.inside.higher) (quadratic_of c.self.inside.field c.self.inside.higher) _ c.self.invariant.planes c.self.view_is base refl one)
+    (number_of_plane _ _ _ _ _ _ (linear_of c.self.inside.field c.self.inside.higher) (quadratic_of c.self.inside.field c.self.inside.higher) _ c.self.invariant.planes c.self.view_is base refl one)
 
 pub returns : goal.returns
 returns c =
@@ -20,19 +23,21 @@ returns c =
     let size = c.args.size in
     let at = c.args.at in
     let base : q ≡ order_number c.self.inside.field = c.from-order.ensures ∙ c.order.ensures.value in
+    let planes = (kept_planes _ _ _ _ c.self.invariant _ _ _ c.in-Some.is c.deref.ensures c.deref-2.ensures) in
+    let view_is = (kept_view _ c.self.inside.constant _ _ _ _ _ c.self.view_is c.in-Some.is c.deref.ensures c.deref-2.ensures) in
     let constant = c.numbers_from-constant.ensures.value in
     let linear = c.numbers_from-linear.ensures.value in
     let quadratic = c.numbers_from-quadratic.ensures.value in
     same_four _ _ _ _ _ _ _ _
     (c.number_of_parts.ensures
     ∙ number_is _ _ _ _ _ _ _ _ _ (ap (λ (l : List ℕ). get_or l 0 0) constant) (ap (λ (l : List ℕ). get_or l 0 0) linear) (ap (λ (l : List ℕ). get_or l 0 0) quadratic) c.prime-prime.ensures
-    (number_of_planes _ q size at _ _ _ _ c.self.invariant c.self.view_is base))
+    (number_of_planes _ q size at _ _ _ _ planes view_is base))
     (c.number_of_parts-2.ensures
     ∙ number_is _ _ _ _ _ _ _ _ _ (ap (λ (l : List ℕ). get_or l 1 0) constant) (ap (λ (l : List ℕ). get_or l 1 0) linear) (ap (λ (l : List ℕ). get_or l 1 0) quadratic) c.prime-prime.ensures
-    (number_of_planes _ q size (at + size) _ _ _ _ c.self.invariant c.self.view_is base))
+    (number_of_planes _ q size (at + size) _ _ _ _ planes view_is base))
     (c.number_of_parts-3.ensures
     ∙ number_is _ _ _ _ _ _ _ _ _ (ap (λ (l : List ℕ). get_or l 2 0) constant) (ap (λ (l : List ℕ). get_or l 2 0) linear) (ap (λ (l : List ℕ). get_or l 2 0) quadratic) c.prime-prime.ensures
-    (number_of_planes _ q size (at + 2 * size) _ _ _ _ c.self.invariant c.self.view_is base))
+    (number_of_planes _ q size (at + 2 * size) _ _ _ _ planes view_is base))
     (c.number_of_parts-4.ensures
     ∙ number_is _ _ _ _ _ _ _ _ _ (ap (λ (l : List ℕ). get_or l 3 0) constant) (ap (λ (l : List ℕ). get_or l 3 0) linear) (ap (λ (l : List ℕ). get_or l 3 0) quadratic) c.prime-prime.ensures
-    (number_of_planes _ q size (at + 3 * size) _ _ _ _ c.self.invariant c.self.view_is base))
+    (number_of_planes _ q size (at + 3 * size) _ _ _ _ planes view_is base))

@@ -1,6 +1,7 @@
 use Rattle.std.proofs.Common.{◌≡◌, ◌+◌, length, ap, sym, refl, ◌∙◌, arith, lit≤}
 use native.Mathlib.Nat.{div-one}
 use Rattle.axe_plane.specs.Planes.{digits_of}
+use Rattle.axe_row.specs.HigherPlanes.{linear_of, quadratic_of}
 use Rattle.axe_row.specs.Combinations.{piece_number}
 use Rattle.axe_row.specs.Rows.{RowValue}
 use Rattle.axe_row.proofs.PieceNumbers.{HasBitsOf, bits_of_row, number_of_bits-is, same_four}
@@ -13,7 +14,7 @@ sixteen_from-bits-requires-clause-inside c =
       arith,
       c.requires.inside,
       ap (λ (r : RowValue). length r.entries) c.self.view_is,
-      length-entries c.self.inside.field (digits_of c.self.inside.constant) (digits_of c.self.inside.linear) (digits_of c.self.inside.quadratic),
+      length-entries c.self.inside.field (digits_of c.self.inside.constant) (digits_of (linear_of c.self.inside.field c.self.inside.higher)) (digits_of (quadratic_of c.self.inside.field c.self.inside.higher)),
     )
 
 pub returns : goal.returns
@@ -22,7 +23,7 @@ returns c =
     let at = c.args.at in
     let word = c.sixteen_from-bits.result in
     let has : HasBitsOf row at word =
-    bits_of_row _ _ c.self.inside.linear c.self.inside.quadratic _ _ _ c.self.invariant c.self.view_is c.requires.even c.requires.inside c.sixteen_from-bits.ensures in
+    bits_of_row _ _ (linear_of c.self.inside.field c.self.inside.higher) (quadratic_of c.self.inside.field c.self.inside.higher) _ _ _ c.self.invariant.planes c.self.view_is c.requires.even c.requires.inside c.sixteen_from-bits.ensures in
     let here : at + 0 ≡ at = omega arith in
     same_four _ _ _ _ _ _ _ _
     (number_of_bits-is row at word 0 word _ has (lit≤ tt) (sym (div-one word)) c.number_of_bits.ensures ∙ ap (piece_number row 1 4) here)

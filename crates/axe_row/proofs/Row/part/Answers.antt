@@ -1,38 +1,62 @@
-use Rattle.std.proofs.Common.{◌+◌, length, refl, arith, true}
+use Rattle.std.proofs.Common.{List, ℕ, length, refl, sym, ap, ◌∙◌, arith, true}
 use Rattle.axe_plane.specs.Planes.{digits_of}
-use Rattle.axe_row.proofs.RowPlanes.{IsRow-of_planes, with_length, length_of_row}
-use Rattle.axe_row.proofs.TakenEntries.{AreTaken, taken_planes, part_within, part_plane, part_row}
+use Rattle.axe_row.specs.HigherPlanes.{linear_of, quadratic_of}
+use Rattle.axe_row.specs.Rows.{RowValue, part_of}
+use Rattle.axe_row.proofs.KeptPlanes.{alone_row, kept_planes, kept_view, kept_not_prime, linear_is_there, same_answer}
+use Rattle.axe_row.proofs.RowPlanes.{with_length, length_of_row}
+use Rattle.axe_row.proofs.TakenEntries.{taken_planes, part_within, part_plane, part_row, part_alone}
 use Rattle.axe_row.proofs.Row.part.Goals as goal
 
 pub part-requires : goal.part-requires
 part-requires c =
-    omega (arith, c.requires, length_of_row _ c.self.inside.constant c.self.inside.linear c.self.inside.quadratic _ c.self.view_is)
+    let l = linear_of c.self.inside.field c.self.inside.higher in
+    let q = quadratic_of c.self.inside.field c.self.inside.higher in
+    omega (arith, c.requires, length_of_row _ c.self.inside.constant l q _ c.self.view_is)
 
+-- over a prime field
+pub of_plane-requires-clause-plane : goal.of_plane-requires-clause-plane
+of_plane-requires-clause-plane c = part_alone _ _ _ _ _ _ c.self.invariant.planes.constant c.in_ok-constant.ensures
+
+pub returns-in_default-clause-part : goal.returns-in_default-clause-part
+returns-in_default-clause-part c =
+    c.of_plane.ensures.entries
+    ∙ ap (λ (x : List ℕ). record { order = c.self.inside.field; entries = x }) c.in_ok-constant.ensures.digits_are
+    ∙ ap (λ (r : RowValue). part_of r c.args.start c.args.len) (alone_row _ _ _ _ c.self.invariant c.self.view_is c.in_default.is)
+
+-- over the others
 pub part-requires-2 : goal.part-requires-2
 part-requires-2 c =
-    let long = length_of_row _ c.self.inside.constant c.self.inside.linear c.self.inside.quadratic _ c.self.view_is in
-    part_within _ (length (digits_of c.self.inside.constant)) _ _ _ _ _ c.self.invariant.linear.long (omega (arith, c.requires, long))
-    c.digits_in_plane-at.ensures c.digits_in_plane-count.ensures
+    let l = linear_of c.self.inside.field c.self.inside.higher in
+    let q = quadratic_of c.self.inside.field c.self.inside.higher in
+    let long = length_of_row _ c.self.inside.constant l q _ c.self.view_is in
+    part_within _ (length (digits_of c.self.inside.constant)) _ _ _ _ _ (kept_planes _ _ _ _ c.self.invariant _ _ _ c.in-Some.is c.deref.ensures c.deref.ensures).linear.long
+    (omega (arith, c.requires, long)) (sym (linear_is_there _ _ (kept_not_prime _ _ _ _ c.self.invariant _ c.in-Some.is))) (sym (linear_is_there _ _ (kept_not_prime _ _ _ _ c.self.invariant _ c.in-Some.is)))
 
 pub part-requires-3 : goal.part-requires-3
 part-requires-3 c =
-    let long = length_of_row _ c.self.inside.constant c.self.inside.linear c.self.inside.quadratic _ c.self.view_is in
-    part_within _ (length (digits_of c.self.inside.constant)) _ _ _ _ _ c.self.invariant.quadratic.long (omega (arith, c.requires, long))
-    c.digits_in_plane-at-2.ensures c.digits_in_plane-count-2.ensures
+    let l = linear_of c.self.inside.field c.self.inside.higher in
+    let q = quadratic_of c.self.inside.field c.self.inside.higher in
+    let long = length_of_row _ c.self.inside.constant l q _ c.self.view_is in
+    part_within _ (length (digits_of c.self.inside.constant)) _ _ _ _ _ (kept_planes _ _ _ _ c.self.invariant _ _ _ c.in-Some.is c.deref.ensures c.deref-2.ensures).quadratic.long
+    (omega (arith, c.requires, long)) c.digits_in_plane-at.ensures c.digits_in_plane-count.ensures
 
-taken : (c : goal.After-result-1) → AreTaken c.self.inside.field c.args.len (λ e. c.args.start + e)
-    c.self.inside.constant c.self.inside.linear c.self.inside.quadratic c.in_ok-constant.constant c.in_ok-linear.linear c.in_ok-quadratic.quadratic
-taken c = record {
-  constant = part_plane true _ _ _ _ _ _ _ _ c.self.invariant.constant refl refl c.in_ok-constant.ensures;
-  linear = part_plane _ _ _ _ _ _ _ _ _ c.self.invariant.linear c.digits_in_plane-at.ensures c.digits_in_plane-count.ensures c.in_ok-linear.ensures;
-  quadratic = part_plane _ _ _ _ _ _ _ _ _ c.self.invariant.quadratic c.digits_in_plane-at-2.ensures c.digits_in_plane-count-2.ensures c.in_ok-quadratic.ensures;
-}
-
-pub invariant_of-result : goal.invariant_of-result
-invariant_of-result c = with_length _ _ _ _ _ (taken_planes _ _ _ _ _ _ _ _ _ _ c.self.invariant (taken c))
+pub of_planes-requires-clause-planes : goal.of_planes-requires-clause-planes
+of_planes-requires-clause-planes c =
+    with_length _ _ _ _ _ (taken_planes _ _ _ _ _ _ _ _ _ _ (kept_planes _ _ _ _ c.self.invariant _ _ _ c.in-Some.is c.deref.ensures c.deref-2.ensures)
+    (record {
+      constant = part_plane true _ _ _ _ _ _ _ _ (kept_planes _ _ _ _ c.self.invariant _ _ _ c.in-Some.is c.deref.ensures c.deref-2.ensures).constant refl refl c.in_ok-constant.ensures;
+      linear = part_plane _ _ _ _ _ _ _ _ _ (kept_planes _ _ _ _ c.self.invariant _ _ _ c.in-Some.is c.deref.ensures c.deref-2.ensures).linear (sym (linear_is_there _ _ (kept_not_prime _ _ _ _ c.self.invariant _ c.in-Some.is))) (sym (linear_is_there _ _ (kept_not_prime _ _ _ _ c.self.invariant _ c.in-Some.is))) c.in_ok-linear.ensures;
+      quadratic = part_plane _ _ _ _ _ _ _ _ _ (kept_planes _ _ _ _ c.self.invariant _ _ _ c.in-Some.is c.deref.ensures c.deref-2.ensures).quadratic c.digits_in_plane-at.ensures c.digits_in_plane-count.ensures c.in_ok-quadratic.ensures;
+    }))
 
 pub returns-clause-part : goal.returns-clause-part
-returns-clause-part c = part_row _ _ _ _ _ _ _ _ _ _ (taken c) c.self.view_is c.requires
-
-pub returns-clause-well_formed : goal.returns-clause-well_formed
-returns-clause-well_formed c = IsRow-of_planes _ _ _ _ _ (invariant_of-result c)
+returns-clause-part c =
+    same_answer _ _ _
+    (part_row _ _ _ _ _ _ _ _ _ _
+    (record {
+      constant = part_plane true _ _ _ _ _ _ _ _ (kept_planes _ _ _ _ c.self.invariant _ _ _ c.in-Some.is c.deref.ensures c.deref-2.ensures).constant refl refl c.in_ok-constant.ensures;
+      linear = part_plane _ _ _ _ _ _ _ _ _ (kept_planes _ _ _ _ c.self.invariant _ _ _ c.in-Some.is c.deref.ensures c.deref-2.ensures).linear (sym (linear_is_there _ _ (kept_not_prime _ _ _ _ c.self.invariant _ c.in-Some.is))) (sym (linear_is_there _ _ (kept_not_prime _ _ _ _ c.self.invariant _ c.in-Some.is))) c.in_ok-linear.ensures;
+      quadratic = part_plane _ _ _ _ _ _ _ _ _ (kept_planes _ _ _ _ c.self.invariant _ _ _ c.in-Some.is c.deref.ensures c.deref-2.ensures).quadratic c.digits_in_plane-at.ensures c.digits_in_plane-count.ensures c.in_ok-quadratic.ensures;
+    })
+    (kept_view _ c.self.inside.constant _ _ _ _ _ c.self.view_is c.in-Some.is c.deref.ensures c.deref-2.ensures) c.requires)
+    c.of_planes.ensures.entries

@@ -7,28 +7,31 @@ use Rattle.axe_row.proofs.Row.scale.Goals as goal
 
 pub scale-requires : goal.scale-requires
 scale-requires c =
-    scalar_is_digit _ _ _ _ _ _ _ c.degree.ensures c.if-degree-eq1.true c.self.invariant.constant c.self.view_is c.requires
+    scalar_is_digit _ _ _ _ _ _ _ c.degree.ensures c.if-degree-eq1.true c.self.invariant.planes.constant c.self.view_is c.requires
 
 pub invariant_of-self : goal.invariant_of-self
-invariant_of-self c =
-    with_length _ _ _ _ _
-    (prime_planes_multiple _ _ _ _ _ _ _ (sym c.degree.ensures ∙ c.if-degree-eq1.true) c.self.invariant c.scale.ensures)
+invariant_of-self c = record {
+  planes =
+      with_length _ _ _ _ _
+      (prime_planes_multiple _ _ _ _ _ _ _ (sym c.degree.ensures ∙ c.if-degree-eq1.true) c.self.invariant.planes c.scale.ensures);
+  needed = c.self.invariant.needed;
+}
 
 pub returns-then-degree-eq1-clause-multiple : goal.returns-then-degree-eq1-clause-multiple
 returns-then-degree-eq1-clause-multiple c =
-    prime_row_multiple _ _ _ _ _ _ _ _ c.degree.ensures c.if-degree-eq1.true c.self.invariant c.self.view_is c.requires c.scale.ensures
+    prime_row_multiple _ _ _ _ _ _ _ _ c.degree.ensures c.if-degree-eq1.true c.self.invariant.planes c.self.view_is c.requires c.scale.ensures
 
 pub returns-then-degree-eq1-clause-as_long : goal.returns-then-degree-eq1-clause-as_long
 returns-then-degree-eq1-clause-as_long c = ap (λ (r : RowValue). length r.entries) (returns-then-degree-eq1-clause-multiple c) ∙ length-multiple _ _ _
 
 pub returns-then-degree-eq1-clause-well_formed : goal.returns-then-degree-eq1-clause-well_formed
-returns-then-degree-eq1-clause-well_formed c = IsRow-of_planes _ _ _ _ _ (invariant_of-self c)
+returns-then-degree-eq1-clause-well_formed c = IsRow-of_planes _ _ _ _ _ (invariant_of-self c).planes
 
 pub returns-then-scalar-eq0-clause-as_long : goal.returns-then-scalar-eq0-clause-as_long
 returns-then-scalar-eq0-clause-as_long c = ap (λ (r : RowValue). length r.entries) c.make_zero.ensures.multiple ∙ length-multiple _ _ _
 
 pub multiply_by_power-requires-clause-well_formed : goal.multiply_by_power-requires-clause-well_formed
-multiply_by_power-requires-clause-well_formed c = subst IsRow c.self.view_is (IsRow-of_planes _ _ _ _ _ c.self.invariant)
+multiply_by_power-requires-clause-well_formed c = subst IsRow c.self.view_is (IsRow-of_planes _ _ _ _ _ c.self.invariant.planes)
 
 pub returns-else-scalar-eq0-clause-as_long : goal.returns-else-scalar-eq0-clause-as_long
 returns-else-scalar-eq0-clause-as_long c =

@@ -1,34 +1,59 @@
-use Rattle.std.proofs.Common.{length, get_or}
-use Rattle.axe_row.proofs.RowPlanes.{IsRow-of_planes, with_length}
-use Rattle.axe_row.proofs.TakenEntries.{AreTaken, taken_planes, entries_within, columns_within, selected_plane, selected_whole, selected_row}
+use Rattle.std.proofs.Common.{List, ℕ, map, get_or, ap, ◌∙◌}
+use Rattle.axe_row.specs.HigherPlanes.{linear_of, quadratic_of}
+use Rattle.axe_row.specs.Rows.{RowValue}
+use Rattle.axe_row.proofs.KeptPlanes.{alone_row, kept_planes, kept_view, kept_not_prime, same_answer}
+use Rattle.axe_row.proofs.RowPlanes.{with_length}
+use Rattle.axe_row.proofs.TakenEntries.{taken_planes, entries_within, columns_within, columns_in_linear, selected_plane, selected_whole, selected_all, selected_row, selected_alone}
 use Rattle.axe_row.proofs.Row.select.Goals as goal
 
 pub select-requires : goal.select-requires
-select-requires c = entries_within _ c.self.inside.constant c.self.inside.linear c.self.inside.quadratic _ _ c.self.view_is c.requires
+select-requires c =
+    let l = linear_of c.self.inside.field c.self.inside.higher in
+    let q = quadratic_of c.self.inside.field c.self.inside.higher in
+    entries_within _ c.self.inside.constant l q _ _ c.self.view_is c.requires
 
+-- over a prime field
+pub of_plane-requires-clause-plane : goal.of_plane-requires-clause-plane
+of_plane-requires-clause-plane c = selected_alone _ _ _ _ _ c.self.invariant.planes.constant c.in_ok-constant.ensures
+
+pub returns-in_default-clause-selected : goal.returns-in_default-clause-selected
+returns-in_default-clause-selected c =
+    c.of_plane.ensures.entries
+    ∙ ap (λ (x : List ℕ). record { order = c.self.inside.field; entries = x }) c.in_ok-constant.ensures.digits_are
+    ∙ ap (λ (r : RowValue). record { order = r.order; entries = map (λ column. get_or r.entries column 0) c.args.columns.now }) (alone_row _ _ _ _ c.self.invariant c.self.view_is c.in_default.is)
+
+-- over the others
 pub select-requires-2 : goal.select-requires-2
 select-requires-2 c =
-    columns_within _ _ _ _ _ c.self.invariant.linear.long c.digits_in_plane.ensures
-    (entries_within _ c.self.inside.constant c.self.inside.linear c.self.inside.quadratic _ _ c.self.view_is c.requires)
+    let l = linear_of c.self.inside.field c.self.inside.higher in
+    let q = quadratic_of c.self.inside.field c.self.inside.higher in
+    columns_in_linear _ _ _ _ (kept_planes _ _ _ _ c.self.invariant _ _ _ c.in-Some.is c.deref.ensures c.deref.ensures).linear (kept_not_prime _ _ _ _ c.self.invariant _ c.in-Some.is)
+    (entries_within _ c.self.inside.constant l q _ _ c.self.view_is c.requires)
 
 pub select-requires-3 : goal.select-requires-3
 select-requires-3 c =
-    columns_within _ _ _ _ _ c.self.invariant.quadratic.long c.digits_in_plane-2.ensures
-    (entries_within _ c.self.inside.constant c.self.inside.linear c.self.inside.quadratic _ _ c.self.view_is c.requires)
+    let l = linear_of c.self.inside.field c.self.inside.higher in
+    let q = quadratic_of c.self.inside.field c.self.inside.higher in
+    columns_within _ _ _ _ _ (kept_planes _ _ _ _ c.self.invariant _ _ _ c.in-Some.is c.deref.ensures c.deref-2.ensures).quadratic.long c.digits_in_plane.ensures
+    (entries_within _ c.self.inside.constant l q _ _ c.self.view_is c.requires)
 
-taken : (c : goal.After-result-1) → AreTaken c.self.inside.field (length c.args.columns.now) (λ e. get_or c.args.columns.now e 0)
-    c.self.inside.constant c.self.inside.linear c.self.inside.quadratic c.in_ok-constant.constant c.in_ok-linear.linear c.in_ok-quadratic.quadratic
-taken c = record {
-  constant = selected_whole _ _ _ _ _ c.self.invariant.constant c.in_ok-constant.ensures;
-  linear = selected_plane _ _ _ _ _ _ _ c.self.invariant.linear c.digits_in_plane.ensures c.in_ok-linear.ensures;
-  quadratic = selected_plane _ _ _ _ _ _ _ c.self.invariant.quadratic c.digits_in_plane-2.ensures c.in_ok-quadratic.ensures;
-}
-
-pub invariant_of-result : goal.invariant_of-result
-invariant_of-result c = with_length _ _ _ _ _ (taken_planes _ _ _ _ _ _ _ _ _ _ c.self.invariant (taken c))
+pub of_planes-requires-clause-planes : goal.of_planes-requires-clause-planes
+of_planes-requires-clause-planes c =
+    with_length _ _ _ _ _ (taken_planes _ _ _ _ _ _ _ _ _ _ (kept_planes _ _ _ _ c.self.invariant _ _ _ c.in-Some.is c.deref.ensures c.deref-2.ensures)
+    (record {
+      constant = selected_whole _ _ _ _ _ (kept_planes _ _ _ _ c.self.invariant _ _ _ c.in-Some.is c.deref.ensures c.deref-2.ensures).constant c.in_ok-constant.ensures;
+      linear = selected_all _ _ _ _ _ _ (kept_planes _ _ _ _ c.self.invariant _ _ _ c.in-Some.is c.deref.ensures c.deref-2.ensures).linear (kept_not_prime _ _ _ _ c.self.invariant _ c.in-Some.is) c.in_ok-linear.ensures;
+      quadratic = selected_plane _ _ _ _ _ _ _ (kept_planes _ _ _ _ c.self.invariant _ _ _ c.in-Some.is c.deref.ensures c.deref-2.ensures).quadratic c.digits_in_plane.ensures c.in_ok-quadratic.ensures;
+    }))
 
 pub returns-clause-selected : goal.returns-clause-selected
-returns-clause-selected c = selected_row _ _ _ _ _ _ _ _ _ (taken c) c.self.view_is c.requires
-
-pub returns-clause-well_formed : goal.returns-clause-well_formed
-returns-clause-well_formed c = IsRow-of_planes _ _ _ _ _ (invariant_of-result c)
+returns-clause-selected c =
+    same_answer _ _ _
+    (selected_row _ _ _ _ _ _ _ _ _
+    (record {
+      constant = selected_whole _ _ _ _ _ (kept_planes _ _ _ _ c.self.invariant _ _ _ c.in-Some.is c.deref.ensures c.deref-2.ensures).constant c.in_ok-constant.ensures;
+      linear = selected_all _ _ _ _ _ _ (kept_planes _ _ _ _ c.self.invariant _ _ _ c.in-Some.is c.deref.ensures c.deref-2.ensures).linear (kept_not_prime _ _ _ _ c.self.invariant _ c.in-Some.is) c.in_ok-linear.ensures;
+      quadratic = selected_plane _ _ _ _ _ _ _ (kept_planes _ _ _ _ c.self.invariant _ _ _ c.in-Some.is c.deref.ensures c.deref-2.ensures).quadratic c.digits_in_plane.ensures c.in_ok-quadratic.ensures;
+    })
+    (kept_view _ c.self.inside.constant _ _ _ _ _ c.self.view_is c.in-Some.is c.deref.ensures c.deref-2.ensures) c.requires)
+    c.of_planes.ensures.entries

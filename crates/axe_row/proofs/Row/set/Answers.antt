@@ -4,20 +4,23 @@ use Rattle.axe_row.proofs.Row.set.Goals as goal
 
 pub set-requires : goal.set-requires
 set-requires c =
-    scalar_is_digit _ _ _ _ _ _ _ c.degree.ensures c.if-degree-eq1.true c.self.invariant.constant c.self.view_is c.requires.element
+    scalar_is_digit _ _ _ _ _ _ _ c.degree.ensures c.if-degree-eq1.true c.self.invariant.planes.constant c.self.view_is c.requires.element
 
 pub invariant_of-self : goal.invariant_of-self
-invariant_of-self c =
-    with_length _ _ _ _ _
-    (prime_planes_set _ _ _ _ _ _ _ _ c.self.invariant
-    (scalar_is_digit _ _ _ _ _ _ _ c.degree.ensures c.if-degree-eq1.true c.self.invariant.constant c.self.view_is c.requires.element)
-    c.set.ensures)
+invariant_of-self c = record {
+  planes =
+      with_length _ _ _ _ _
+      (prime_planes_set _ _ _ _ _ _ _ _ c.self.invariant.planes
+      (scalar_is_digit _ _ _ _ _ _ _ c.degree.ensures c.if-degree-eq1.true c.self.invariant.planes.constant c.self.view_is c.requires.element)
+      c.set.ensures);
+  needed = c.self.invariant.needed;
+}
 
 pub returns-then-degree-eq1-clause-replaced : goal.returns-then-degree-eq1-clause-replaced
 returns-then-degree-eq1-clause-replaced c =
-    prime_row_set _ _ _ _ _ _ _ _ _ c.degree.ensures c.if-degree-eq1.true c.self.invariant c.self.view_is
-    (scalar_is_digit _ _ _ _ _ _ _ c.degree.ensures c.if-degree-eq1.true c.self.invariant.constant c.self.view_is c.requires.element)
+    prime_row_set _ _ _ _ _ _ _ _ _ c.degree.ensures c.if-degree-eq1.true c.self.invariant.planes c.self.view_is
+    (scalar_is_digit _ _ _ _ _ _ _ c.degree.ensures c.if-degree-eq1.true c.self.invariant.planes.constant c.self.view_is c.requires.element)
     c.set.ensures
 
 pub returns-then-degree-eq1-clause-well_formed : goal.returns-then-degree-eq1-clause-well_formed
-returns-then-degree-eq1-clause-well_formed c = IsRow-of_planes _ _ _ _ _ (invariant_of-self c)
+returns-then-degree-eq1-clause-well_formed c = IsRow-of_planes _ _ _ _ _ (invariant_of-self c).planes

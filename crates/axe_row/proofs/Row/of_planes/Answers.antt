@@ -1,0 +1,11 @@
+use Rattle.axe_row.proofs.RowPlanes.{IsRow-of_planes}
+use Rattle.axe_row.proofs.Row.of_planes.Goals as goal
+
+pub invariant_of-result : goal.invariant_of-result
+invariant_of-result c = record {
+  planes = rw c.in_ok-higher.ensures.ok c.requires.planes;
+  needed = c.requires.degree;
+}
+
+pub returns-clause-well_formed : goal.returns-clause-well_formed
+returns-clause-well_formed c = IsRow-of_planes _ _ _ _ _ (invariant_of-result c).planes
