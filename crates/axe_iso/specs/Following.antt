@@ -41,7 +41,8 @@ pub record IsOtherImage (coefficients image : List ℕ) (old : MatrixValue) : Ty
 
 -- the answer tells whether an image is as its coefficients tell
 abbrev pub FollowsImage : List ℕ → List ℕ → MatrixValue → MatrixValue → Bool → Type 0
-FollowsImage coefficients image old new true = IsNextRow coefficients image old new ⊎ IsKnownImage coefficients image old new
+FollowsImage coefficients image old new true =
+    IsNextRow coefficients image old new ⊎ IsKnownImage coefficients image old new
 FollowsImage coefficients image old new false = IsOtherImage coefficients image old
 
 -- ---- rows so far
@@ -53,7 +54,8 @@ BeginsWith F k b c = (t : ℕ) → t < k → c t ≡ b t
 -- whatever rows come after the first k rows of b: the image of row s under generator j of M is the combination of all
 -- rows with row s of generator j of A as coefficients
 abbrev pub IsAsTold : (F : Field) → Module F → Module F → ℕ → Matrix F → ℕ → ℕ → Type 0
-IsAsTold F M A k b s j = (c : Matrix F) → BeginsWith F k b c → image F M (c s) j ≡ times F A.dimension (A.generator j s) c
+IsAsTold F M A k b s j =
+    (c : Matrix F) → BeginsWith F k b c → image F M (c s) j ≡ times F A.dimension (A.generator j s) c
 
 -- A's generators are the standard matrices of its first unit vector (Parker 1984)
 abbrev pub AreOfUnitVector : (F : Field) → Module F → Type 0

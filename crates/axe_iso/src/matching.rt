@@ -4,7 +4,8 @@ ghost use Rattle.std.specs.Prelude.{◌≡◌, ◌≢◌, ◌+◌, ◌<◌, ◌�
 ghost use Rattle.axe_row.specs.Refusals.{Answers};
 ghost use Rattle.axe_matrix.specs.Limits.{most_rows};
 ghost use Rattle.axe_matrix.specs.Matrices.{IsMatrix};
-ghost use Rattle.axe_iso.specs.Following.{AreFormMatrices, FollowsImage, FollowsRow, IsBasisWithMatrices, IsFollowedBasis};
+ghost use Rattle.axe_iso.specs.Following.{AreFormMatrices, FollowsImage, FollowsRow};
+ghost use Rattle.axe_iso.specs.Following.{IsBasisWithMatrices, IsFollowedBasis};
 ghost use Rattle.axe_iso.specs.Matches.{HasStandardMatrices, IsMatch};
 
 use crate::form::Form;
@@ -43,7 +44,9 @@ pub fn matches(alloc: Global, form: &Form, module: &Module) -> Result<Option<Mat
     Ok(None)
 }
 
-/// The standard basis of a point in a module where its standard matrices are a form's, and else `None`.
+/// The standard basis of a point in a module where its standard matrices are a form's, and else `None`. The form's are
+/// the standard matrices of their own first unit vector: so where a row of them goes past the rows so far, it is the
+/// unit vector of the next row.
 fn followed_basis(
     alloc: Global,
     matrices: &Module,
