@@ -29,7 +29,8 @@ use Rattle.axe_matrix.specs.Matrices.{MatrixValue, IsMatrix, row_of, vector_prod
 use Rattle.axe_spin.specs.Modules.{ModuleValue, IsModule, generator_of}
 use Rattle.axe_spin.specs.Spun.{image_of_row}
 use Rattle.axe_iso.specs.Matches.{HasStandardMatrices}
-use Rattle.axe_iso.specs.Following.{AreZerosFrom, IsNextRow, IsKnownImage, IsOtherImage, FollowsImage, AreOfUnitVector, AreFollowedUpTo, AreFormMatrices, IsFollowedBasis, IsBasisWithMatrices}
+use Rattle.axe_lane.specs.Entries.{AreZerosFrom}
+use Rattle.axe_iso.specs.Following.{IsNextRow, IsKnownImage, IsOtherImage, FollowsImage, AreOfUnitVector, AreFollowedUpTo, AreFormMatrices, IsFollowedBasis, IsBasisWithMatrices}
 use Rattle.axe_iso.proofs.Followed.{followed_first, followed_next, followed_known, followed_no_more, followed_row, followed_row_is_there, no_standard_matrices, followed_all, followed_independent, followed_matrices, followed_basis}
 use mathlib.Core.Path.{ap₂, fun_ext}
 

@@ -8,6 +8,7 @@ use Rattle.axe_algebra.specs.Standard.{Precedes, AreStandardMatrices}
 use Rattle.axe_algebra.specs.Bridge.{matrix_of, module_of}
 use Rattle.axe_algebra.specs.ListArithmetic.{combination}
 use Rattle.axe_field.specs.NumberFields.{number_field, gf}
+use Rattle.axe_lane.specs.Entries.{AreZerosFrom}
 use Rattle.axe_row.specs.Rows.{RowValue}
 use Rattle.axe_matrix.specs.Matrices.{MatrixValue, IsMatrix}
 use Rattle.axe_spin.specs.Modules.{ModuleValue, IsModule}
@@ -15,10 +16,6 @@ use Rattle.axe_spin.specs.Spinning.{IsStandardMatrix}
 use Rattle.axe_iso.specs.Matches.{HasStandardMatrices}
 
 -- ---- one image
-
--- the coefficients from an index on are 0
-abbrev pub AreZerosFrom : List ℕ → ℕ → Type 0
-AreZerosFrom coefficients start = (t : ℕ) → start ≤ t → get_or coefficients t 0 ≡ 0
 
 -- the image became the next row, since its coefficients go past the rows
 pub record IsNextRow (coefficients image : List ℕ) (old new : MatrixValue) : Type 0 where

@@ -1,5 +1,5 @@
 use Rattle.std.proofs.Common.{subst}
-use Rattle.axe_iso.specs.Following.{AreZerosFrom}
+use Rattle.axe_lane.specs.Entries.{AreZerosFrom}
 use Rattle.axe_iso.proofs.FollowLaws.{none_past, first_length, compared}
 use Rattle.axe_iso.proofs.matching.follow_image.Goals as goal
 
