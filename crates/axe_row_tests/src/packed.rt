@@ -2,13 +2,16 @@
 use crate::tables::{Topic, each_call};
 use axe_row::Row;
 use axe_test_values::{
-    TableFault, bytes_of_hex, field_of, is_row_answer, number_of, row_of, three_fields, two_fields,
+    TableFault, bytes_of_hex, field_of, four_fields, is_row, is_row_answer, number_of, row_of,
+    three_fields, two_fields,
 };
 use std::alloc::Global;
 use std::process::Abort;
 
 /// - `of_packed_bits`: bytes, a length, and the row of so many of their bits;
-/// - `copy_packed_bits`: a row, and the bytes that it is written into, in which all bits were ones.
+/// - `copy_packed_bits`: a row, and the bytes that it is written into, in which all bits were ones;
+/// - `word`: a row, an index, and the word there;
+/// - `set_word`: a row, an index, a word, and the row with the word there.
 const PACKED: &str = "\
 of_packed_bits | 80 | 1 | 2: 1
 of_packed_bits | d0 | 7 | 2: 1101000
@@ -32,6 +35,15 @@ copy_packed_bits | 2: 0000001100111111100101101101010011001010100111000111100000
 copy_packed_bits | 2: 0010101110010101101100011011001000000000001110001101010111110011 | 2b 95 b1 b2 00 38 d5 f3
 copy_packed_bits | 2: 00111110000110000001011110001110110001101000100011010111101100001 | 3e 18 17 8e c6 88 d7 b0 80
 copy_packed_bits | 2: 1110111100101110111101000011100110010010011110100110101011011000010111110110000010010100001100000110011100011010110111101011011101 | ef 2e f4 39 92 7a 6a d8 5f 60 94 30 67 1a de b7 40
+word | 2: 1011 | 0 | 13
+word | 2: 1011 | 1 | 0
+word | 2: 000000000000000000000000000000000000000000000000000000000000000011 | 1 | 3
+set_word | 2: 0000 | 0 | 13 | 2: 1011
+set_word | 2: 101 | 1 | 7 | 2: 101
+set_word | 2: 00000000000000000000000000000000000000000000000000000000000000000 | 1 | 1 | 2: 00000000000000000000000000000000000000000000000000000000000000001
+# Bits that have no entry are dropped.
+set_word | 2: 1111 | 0 | 242 | 2: 0100
+set_word | 2: 000000000000000000000000000000000000000000000000000000000000000000 | 1 | 14 | 2: 000000000000000000000000000000000000000000000000000000000000000001
 ";
 
 fn makes_of_bits(rt: &impl Abort, alloc: Global, line: &str) -> Result<bool, TableFault> {
@@ -55,6 +67,23 @@ fn copies_bits(rt: &impl Abort, alloc: Global, line: &str) -> Result<bool, Table
     Ok(bytes == wanted)
 }
 
+fn reads_word(rt: &impl Abort, alloc: Global, line: &str) -> Result<bool, TableFault> {
+    let (row, index, wanted) = three_fields(line)?;
+    let row = row_of(alloc, row)?;
+    let (index, wanted) = (number_of(index)?, number_of(wanted)?);
+    assert!(rt; row.field().order() == 2);
+    Ok(row.word(index) == wanted as u64)
+}
+
+fn sets_word(rt: &impl Abort, alloc: Global, line: &str) -> Result<bool, TableFault> {
+    let (row, index, word, wanted) = four_fields(line)?;
+    let mut row = row_of(alloc, row)?;
+    let (index, word) = (number_of(index)?, number_of(word)?);
+    assert!(rt; row.field().order() == 2);
+    row.set_word(index, word as u64);
+    is_row(alloc, &row, wanted)
+}
+
 /// Whether a call answers what its line says.
 pub(crate) fn answers(
     rt: &impl Abort,
@@ -65,6 +94,8 @@ pub(crate) fn answers(
     match call {
         "of_packed_bits" => makes_of_bits(rt, alloc, line),
         "copy_packed_bits" => copies_bits(rt, alloc, line),
+        "word" => reads_word(rt, alloc, line),
+        "set_word" => sets_word(rt, alloc, line),
         _ => Err(TableFault::NotWritten),
     }
 }
