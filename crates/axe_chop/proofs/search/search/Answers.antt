@@ -1,7 +1,7 @@
 use Rattle.std.proofs.Common.{sym}
 use Rattle.axe_chop.proofs.Stepping.{popped, popped_none, decided_as, true_as, reached_first, reached_end, forms_like_first, first_rows_like, rest_rows_like, room_left, room_first, answered_open, reached_cut, less_after_cut, reached_placed, less_after_place}
 use Rattle.axe_chop.proofs.search.search.Goals as goal
-use Rattle.axe_chop.proofs.search.search.Goals.{in-Irreducible+in_ok-place-in-Irreducible+in-Bits-1, in-Irreducible+in_ok-place-in-Irreducible+in-Trits-1, in-Irreducible+in_ok-place-in-Irreducible+in-Bytes-1, in-Reducible+in_ok-put_parts-in-Reducible}
+use Rattle.axe_chop.proofs.search.search.Goals.{in-Irreducible+in_ok-place-in-Irreducible+in-None-1, in-Irreducible+in_ok-place-in-Irreducible+in-Some-1, in-Reducible+in_ok-put_parts-in-Reducible}
 
 pub loop-section-init : goal.loop-section-init
 loop-section-init c =
@@ -76,21 +76,14 @@ returns-in-Undecided c =
 pub loop-section-preserved : goal.loop-section-preserved
 loop-section-preserved c =
     elim c.match-branch-3.branch [
-      | in-Irreducible+in_ok-place-in-Irreducible+in-Bits-1 w ↦
+      | in-Irreducible+in_ok-place-in-Irreducible+in-None-1 w ↦
           rw (w.found-is, w.sections-is) (reached_placed c.args.module.now c.args.seed c.args.words c.loop-section.found c.loop-section.sections.items c.loop-section.invariant
           c.in-Some.section c.pop_front.new.self.items
           (popped _ _ c.pop_front.result c.in-Some.section c.in-Some.is c.pop_front.ensures.items)
           _ _ (decided_as c.action.result.now _ c.args.seed c.args.words _ _ c.action.ensures.value w.in-Irreducible.is c.in_ok-word.ensures.decides)
           w.place.new.self w.in_ok-place-in-Irreducible.ensures.placed w.in_ok-place-in-Irreducible.ensures.basis
           (w.in_ok-place-in-Irreducible.ensures.well_formed c.loop-section.invariant.formed))
-      | in-Irreducible+in_ok-place-in-Irreducible+in-Trits-1 w ↦
-          rw (w.found-is, w.sections-is) (reached_placed c.args.module.now c.args.seed c.args.words c.loop-section.found c.loop-section.sections.items c.loop-section.invariant
-          c.in-Some.section c.pop_front.new.self.items
-          (popped _ _ c.pop_front.result c.in-Some.section c.in-Some.is c.pop_front.ensures.items)
-          _ _ (decided_as c.action.result.now _ c.args.seed c.args.words _ _ c.action.ensures.value w.in-Irreducible.is c.in_ok-word.ensures.decides)
-          w.place.new.self w.in_ok-place-in-Irreducible.ensures.placed w.in_ok-place-in-Irreducible.ensures.basis
-          (w.in_ok-place-in-Irreducible.ensures.well_formed c.loop-section.invariant.formed))
-      | in-Irreducible+in_ok-place-in-Irreducible+in-Bytes-1 w ↦
+      | in-Irreducible+in_ok-place-in-Irreducible+in-Some-1 w ↦
           rw (w.found-is, w.sections-is) (reached_placed c.args.module.now c.args.seed c.args.words c.loop-section.found c.loop-section.sections.items c.loop-section.invariant
           c.in-Some.section c.pop_front.new.self.items
           (popped _ _ c.pop_front.result c.in-Some.section c.in-Some.is c.pop_front.ensures.items)
@@ -111,15 +104,11 @@ loop-section-preserved c =
 pub loop-section-smaller : goal.loop-section-smaller
 loop-section-smaller c =
     elim c.match-branch-3.branch [
-      | in-Irreducible+in_ok-place-in-Irreducible+in-Bits-1 w ↦
+      | in-Irreducible+in_ok-place-in-Irreducible+in-None-1 w ↦
           rw w.sections-is (less_after_place c.args.module.now c.args.seed c.args.words c.loop-section.found c.loop-section.sections.items c.loop-section.invariant
           c.in-Some.section c.pop_front.new.self.items
           (popped _ _ c.pop_front.result c.in-Some.section c.in-Some.is c.pop_front.ensures.items))
-      | in-Irreducible+in_ok-place-in-Irreducible+in-Trits-1 w ↦
-          rw w.sections-is (less_after_place c.args.module.now c.args.seed c.args.words c.loop-section.found c.loop-section.sections.items c.loop-section.invariant
-          c.in-Some.section c.pop_front.new.self.items
-          (popped _ _ c.pop_front.result c.in-Some.section c.in-Some.is c.pop_front.ensures.items))
-      | in-Irreducible+in_ok-place-in-Irreducible+in-Bytes-1 w ↦
+      | in-Irreducible+in_ok-place-in-Irreducible+in-Some-1 w ↦
           rw w.sections-is (less_after_place c.args.module.now c.args.seed c.args.words c.loop-section.found c.loop-section.sections.items c.loop-section.invariant
           c.in-Some.section c.pop_front.new.self.items
           (popped _ _ c.pop_front.result c.in-Some.section c.in-Some.is c.pop_front.ensures.items))
