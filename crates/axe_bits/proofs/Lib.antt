@@ -24,3 +24,4 @@ pub mod TritHalves
 pub mod TritEntries
 pub mod WordWrites
 pub mod BlockBits
+pub mod SupportLaws

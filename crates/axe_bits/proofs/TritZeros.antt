@@ -1,5 +1,5 @@
--- Digits modulo 3 in two layers of bits: zeros, the first digit other than 0, multiples, and that digits fix layers.
-use Rattle.std.proofs.Common.{◌≡◌, ◌≢◌, ℕ, ◌+◌, ◌*◌, ◌%◌, ◌<◌, ◌≤◌, Option, Some, None, min, List, length, get_or, refl, sym, ap, subst, ◌∙◌, arith, MatchOption, lit<}
+-- Digits modulo 3 in two layers of bits: zeros, multiples, and that digits fix layers.
+use Rattle.std.proofs.Common.{◌≡◌, ℕ, ◌+◌, ◌*◌, ◌%◌, ◌<◌, List, length, get_or, refl, sym, ap, ◌∙◌, arith, lit<}
 use Rattle.std.specs.List.{All}
 use Rattle.std.proofs.lemmas.List.{ext_get_or, get_or_past, get_or-map, length-map}
 use Rattle.std.proofs.lemmas.List.Elements.{All-get_or, All-from_get_or}
@@ -7,9 +7,6 @@ use native.Mathlib.Decide.{dec_lt}
 use Rattle.axe_algebra.proofs.ListEntries.{listed_at}
 use Rattle.axe_lane.specs.Bytes.{multiple_modulo}
 use Rattle.axe_lane.proofs.ByteLaws.{multiple_by_one}
-use Rattle.axe_lane.specs.Entries.{AreZerosBetween, AreZerosFrom, IsNextNonzero}
-use Rattle.std.specs.Option.{unwrap_or}
-use Rattle.axe_bits.specs.Earlier.{earlier_of}
 use Rattle.axe_bits.specs.Trits.{trits, HoldTrits}
 use Rattle.axe_bits.proofs.BitLaws.{zeros, get_or-zeros}
 use Rattle.axe_bits.proofs.DigitLaws.{AreDigits-zeros}
@@ -17,14 +14,6 @@ use Rattle.axe_bits.proofs.TritLaws.{length-trits}
 
 abbrev IsZero : ℕ → Type 0
 IsZero digit = digit ≡ 0
-
--- the place of the first number other than 0 from an index on, or none where there is none
-abbrev IsNext : List ℕ → ℕ → Option ℕ → Type 0
-IsNext x start place = MatchOption place (AreZerosFrom x start) (IsNextNonzero x start)
-
--- the same from an index on and before another
-abbrev pub IsNextBefore : List ℕ → ℕ → ℕ → Option ℕ → Type 0
-IsNextBefore x start end place = MatchOption place (AreZerosBetween x start end) (IsNextNonzero x start)
 
 -- ---- the digits that are zero
 
@@ -66,53 +55,6 @@ module _ (a b x : List ℕ) (h : HoldTrits a b) (is : trits a b ≡ x) where
 
   pub zero_twos : All IsZero x → All IsZero b
   zero_twos all = zeros_from b (λ e. omega (arith, trit_of e, zero_at x all e))
-
-  -- ---- the first digit from an index on that is not zero
-
-  -- where no layer has a bit before, and one of them has one
-  next_trit : (start index : ℕ) → index < length a → start ≤ index → get_or a index 0 + get_or b index 0 ≢ 0 →
-      AreZerosBetween a start index → AreZerosBetween b start index → IsNextNonzero x start index
-  next_trit start index inside after some first second = record {
-    within = omega (arith, trits_long);
-    not_before = after;
-    nonzero = λ none. some (omega (arith, none, trit_of index));
-    zeros_between = λ j from before. omega (arith, trit_of j, first j from before, second j from before);
-  }
-
-  in_ones : (start i : ℕ) → IsNextNonzero a start i → AreZerosBetween b start i → IsNextNonzero x start i
-  in_ones start i ones zeros =
-      next_trit start i ones.within ones.not_before
-      (λ none. ones.nonzero (omega (arith, none))) ones.zeros_between zeros
-
-  in_twos : (start j : ℕ) → AreZerosBetween a start j → IsNextNonzero b start j → IsNextNonzero x start j
-  in_twos start j zeros twos =
-      next_trit start j (omega (arith, twos.within, h.as_long)) twos.not_before
-      (λ none. twos.nonzero (omega (arith, none))) zeros twos.zeros_between
-
-  -- the second layer is asked for a digit before the one of the first layer
-  pub next_of_trits : (start end : ℕ) (r s : Option ℕ) → IsNext a start r → end ≡ unwrap_or r (length b) →
-      IsNextBefore b start end s → IsNext x start (earlier_of r s)
-  next_of_trits start end None None ones is_end twos = λ j from. elim (dec_lt j end) [
-    | yes inside ↦ omega (arith, trit_of j, ones j from, twos j from inside)
-    | no outside ↦ omega (arith, trit_of j, ones j from, get_or_past b j 0 (omega (arith, is_end)))
-  ]
-  next_of_trits start end None (Some j) ones is_end twos = in_twos start j (λ k from _. ones k from) twos
-  next_of_trits start end (Some i) None ones is_end twos = in_ones start i ones (λ k from before. twos k from (omega (arith, is_end)))
-  next_of_trits start end (Some i) (Some j) ones is_end twos = elim (dec_lt i j) [
-    | yes earlier ↦
-        let lesser : i ≡ min i j = omega arith in
-        subst (IsNextNonzero x start) lesser
-        (in_ones start i ones (λ k from before. twos.zeros_between k from (omega arith)))
-    | no later ↦
-        let lesser : j ≡ min i j = omega arith in
-        subst (IsNextNonzero x start) lesser
-        (in_twos start j (λ k from before. ones.zeros_between k from (omega arith)) twos)
-  ]
-
--- a number other than 0 stands before the end of a list
-pub end_within : (x : List ℕ) (start n : ℕ) (r : Option ℕ) → length x ≡ n → IsNextBefore x start n r → unwrap_or r n ≤ n
-end_within x start n None long next = omega arith
-end_within x start n (Some i) long next = omega (arith, next.within)
 
 -- ---- the digits fix the layers
 

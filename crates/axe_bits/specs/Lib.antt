@@ -5,3 +5,4 @@ pub mod Packed
 pub mod Trits
 pub mod Earlier
 pub mod Words
+pub mod Supports

@@ -10,6 +10,7 @@ mod packed;
 mod parts;
 mod pieces;
 mod places;
+mod supports;
 mod trit_table;
 mod trits;
 
@@ -18,5 +19,6 @@ pub use bits::BitPlane;
 pub use blocks::transposed_block;
 pub use pieces::start_of;
 pub use places::earlier;
+pub use supports::next_in_word;
 pub use trit_table::TritTable;
 pub use trits::TritPlane;

@@ -10,11 +10,11 @@ ghost use Rattle.axe_bits.specs.Trits.{trits, first_half, second_half, HoldLayer
 ghost use Rattle.axe_bits.specs.Digits.{AreDigits, digits_with_multiple};
 ghost use Rattle.axe_bits.specs.Digits.{AreSmallSums, numbers_with_multiple, numbers_from};
 
-use crate::earlier;
 use crate::layer::{
-    add_digits, bit_in, copy_digits, fill_with_bits, fill_with_part, fill_with_selected, next_in,
+    add_digits, bit_in, copy_digits, fill_with_bits, fill_with_part, fill_with_selected,
     numbers_in, set_bit,
 };
+use crate::next_in_word;
 use crate::parts::WORD;
 use axe_lane::{add_trits, any_nonzero, dot_trits};
 use std::alloc::{AllocError, Global};
@@ -256,10 +256,13 @@ impl TritPlane {
     pub fn next_nonzero(&self, start: usize) -> Option<usize>
         ensures { MatchOption result (AreZerosFrom self.now start) (IsNextNonzero self.now start) }
     {
-        let (ones, twos) = self.layers();
-        let one = next_in(ones, start, self.len);
-        let end = one.unwrap_or(self.len);
-        earlier(one, next_in(twos, start, end))
+        for at in start / WORD..self.len.div_ceil(WORD) {
+            let word = self.support_word(at);
+            if let Some(index) = next_in_word(word, start.max(at * WORD)) {
+                return Some(index);
+            }
+        }
+        None
     }
 
     /// Whether every digit is 0.

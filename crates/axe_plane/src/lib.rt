@@ -24,6 +24,7 @@ pub use tables::PlaneTable;
 mod byte_table;
 mod bytes;
 mod primes;
+mod supports;
 mod tables;
 mod words;
 

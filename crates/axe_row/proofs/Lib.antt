@@ -6,7 +6,7 @@ pub mod KeptPlanes
 pub mod PlaneSums
 pub mod PrimeRows
 pub mod FirstEntries
-pub mod NextEntries
+pub mod RowSupports
 pub mod PlaneDots
 pub mod ElementPlanes
 pub mod TableRows

@@ -1,9 +1,13 @@
 //! The entries of a row other than 0, one after another.
-ghost use Rattle.std.specs.Prelude.{◌≤◌, length, MatchOption};
+ghost use Rattle.std.specs.Prelude.{◌≡◌, ◌≤◌, length, MatchOption};
 ghost use Rattle.axe_lane.specs.Entries.{AreZerosFrom, IsNextNonzero};
+ghost use Rattle.axe_bits.specs.Supports.{restricted, IsSupportWord};
 
 use crate::Row;
-use axe_bits::earlier;
+use axe_bits::{BitPlane, next_in_word};
+
+/// How many places a word of a support has.
+const WORD: usize = 64;
 
 impl Row {
     /// The index of the first entry other than 0 from an index on, counted from 0, or `None` where every entry from
@@ -16,24 +20,54 @@ impl Row {
         if self.field.degree() == 1 {
             return self.constant.next_nonzero(start);
         }
-        self.next_by_planes(start)
+        self.next_by_words(start)
     }
 
-    /// The index of the first entry other than 0 from an index on, by the planes. It stands apart so that
-    /// `next_nonzero` is short over prime fields.
+    /// The index of the first entry other than 0 from an index on, among the places where a list of as many digits
+    /// modulo 2 has a 1; `None` where there is none.
     #[inline(never)]
-    fn next_by_planes(&self, start: usize) -> Option<usize>
+    pub fn next_nonzero_within(&self, start: usize, places: &BitPlane) -> Option<usize>
+        requires start { start ≤ length self.now.entries }
+        requires fits { length places.now ≡ length self.now.entries }
+        ensures { MatchOption result (AreZerosFrom (restricted places.now self.now.entries) start)
+            (IsNextNonzero (restricted places.now self.now.entries) start) }
+    {
+        for at in start / WORD..self.len().div_ceil(WORD) {
+            let word = self.support_word(at) & places.word(at);
+            if let Some(index) = next_in_word(word, start.max(at * WORD)) {
+                return Some(index);
+            }
+        }
+        None
+    }
+
+    /// The index of the first entry other than 0 from an index on, by the words of the row's support. It stands apart
+    /// so that `next_nonzero` is short over prime fields.
+    #[inline(never)]
+    fn next_by_words(&self, start: usize) -> Option<usize>
         requires { start ≤ length self.now.entries }
         ensures { MatchOption result (AreZerosFrom self.now.entries start) (IsNextNonzero self.now.entries start) }
     {
-        let constant = self.constant.next_nonzero(start);
+        for at in start / WORD..self.len().div_ceil(WORD) {
+            let word = self.support_word(at);
+            if let Some(index) = next_in_word(word, start.max(at * WORD)) {
+                return Some(index);
+            }
+        }
+        None
+    }
+
+    /// The word at an index of the row's support, counted from 0: its bit i, counted from the lowest, is 0 exactly
+    /// where the entry 64 times the index plus i is 0 or missing.
+    #[inline]
+    fn support_word(&self, at: usize) -> u64
+        ensures { IsSupportWord self.now.entries at result }
+    {
+        let constant = self.constant.support_word(at);
         let Some(higher) = &self.higher else {
             return constant;
         };
-        let high = earlier(
-            higher.linear.next_nonzero(start),
-            higher.quadratic.next_nonzero(start),
-        );
-        earlier(constant, high)
+        let linear = higher.linear.support_word(at);
+        constant | linear | higher.quadratic.support_word(at)
     }
 }

@@ -1,4 +1,4 @@
-use Rattle.std.proofs.Common.{lit<, ap, ◌∙◌, ◌-◌, ◌%◌, refl, ◌≡◌}
+use Rattle.std.proofs.Common.{lit<, ap, ◌-◌, ◌%◌}
 use Rattle.axe_bits.proofs.DigitLaws.{digits_with_multiple-none}
 use Rattle.axe_plane.proofs.cancel_trits.Goals as goal
 

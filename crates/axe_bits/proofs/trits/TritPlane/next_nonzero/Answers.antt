@@ -1,32 +1,19 @@
-use Rattle.std.proofs.Common.{MatchOption, sym, ap, subst, ◌∙◌, arith}
-use Rattle.std.specs.Option.{unwrap_or}
-use Rattle.axe_lane.specs.Entries.{AreZerosFrom, IsNextNonzero}
-use Rattle.axe_bits.proofs.BitLaws.{length-bits}
-use Rattle.axe_bits.proofs.NextDigits.{next_of_all}
-use Rattle.axe_bits.proofs.TritHalves.{HoldLayers-len, trits-len}
-use Rattle.axe_bits.proofs.TritZeros.{end_within, next_of_trits}
+use Rattle.std.proofs.Common.{◌≡◌, ◌*◌, max, subst, sym, arith}
+use Rattle.axe_bits.specs.Supports.{IsSupportWord}
+use Rattle.axe_bits.proofs.SupportLaws.{found_in_word, none_in_all, stands_in_word}
+use Rattle.axe_bits.proofs.TritHalves.{halves_long}
 use Rattle.axe_bits.proofs.trits.TritPlane.next_nonzero.Goals as goal
 
-pub next_in-one-requires-clause-within : goal.next_in-one-requires-clause-within
-next_in-one-requires-clause-within c =
-    omega (arith, (HoldLayers-len _ _ _ _ _ c.self.view_is c.layers.ensures.holds).ones_held.long)
-
-pub next_in-requires-clause-within : goal.next_in-requires-clause-within
-next_in-requires-clause-within c =
-    let n = c.self.inside.len in
-    let held = HoldLayers-len _ _ _ _ _ c.self.view_is c.layers.ensures.holds in
-    let first = c.next_in-one.ensures n held.ones_held in
-    omega (arith, c.unwrap_or-end.ensures, end_within _ _ n _ (length-bits n c.layers.result.0.now) first, held.twos_held.long)
+pub returns-in-Some : goal.returns-in-Some
+returns-in-Some c =
+    let x = c.args.self.now in
+    let at = c.loop-at.at in
+    let from : c.max.result ≡ max c.args.start (at * 64) = c.max.ensures in
+    let stands = stands_in_word x c.args.start at c.max.result from c.loop-at.invariant.begun in
+    found_in_word x c.args.start at c.max.result from c.loop-at.invariant.begun c.in-Some.index c.loop-at.invariant.none
+    (c.in-Some.ensures x (subst (λ k. IsSupportWord x k c.support_word-word.result) (sym stands) c.support_word-word.ensures))
 
 pub returns : goal.returns
 returns c =
-    let n = c.self.inside.len in
-    let x = c.args.self.now in
-    let start = c.args.start in
-    let held = HoldLayers-len _ _ _ _ _ c.self.view_is c.layers.ensures.holds in
-    let digits = trits-len _ _ _ _ _ c.self.view_is c.layers.ensures.digits in
-    let first = c.next_in-one.ensures n held.ones_held in
-    subst (λ r. MatchOption r (AreZerosFrom x start) (IsNextNonzero x start)) (sym c.earlier.ensures)
-    (next_of_trits _ _ _ held.together digits start _ _ _ (next_of_all _ start _ _ (length-bits n c.layers.result.0.now) first)
-    (c.unwrap_or-end.ensures ∙ ap (unwrap_or c.next_in-one.result) (sym (length-bits n c.layers.result.1.now)))
-    (c.next_in.ensures n held.twos_held))
+    none_in_all c.args.self.now c.args.start c.loop-at.at c.loop-at.invariant.none
+    (omega (arith, halves_long _ _ _ c.self.view_is, c.div_ceil-at-end.ensures, c.loop-at-test.false))

@@ -1,0 +1,37 @@
+//! The supports of planes, a word at a time: the places of digits other than 0.
+ghost use Rattle.std.specs.Prelude.{ℕ, List, ◌≡◌, ◌+◌, ◌*◌, ◌/◌, MatchOption};
+ghost use Rattle.axe_lane.specs.Entries.{AreZerosBetween, IsNextNonzero};
+ghost use Rattle.axe_bits.specs.Supports.{IsSupportWord};
+
+use crate::TritPlane;
+use crate::parts::WORD;
+
+impl TritPlane {
+    /// The word at an index of the plane's support, counted from 0: its bit i, counted from the lowest, is 0 exactly
+    /// where the digit 64 times the index plus i is 0 or missing.
+    #[inline]
+    pub fn support_word(&self, at: usize) -> u64
+        ensures { IsSupportWord self.now at result }
+    {
+        let (ones, twos) = self.layers();
+        if at < ones.len() {
+            ones[at] | twos[at]
+        } else {
+            0
+        }
+    }
+}
+
+/// The index of the first place from an index on that a word of a support has, where the index stands in that word;
+/// `None` where the word has no such place.
+#[inline]
+pub fn next_in_word(word: u64, start: usize) -> Option<usize>
+    ensures { (numbers : List ℕ) → IsSupportWord numbers (start / 64) word →
+        MatchOption result (AreZerosBetween numbers start ((start / 64 + 1) * 64)) (IsNextNonzero numbers start) }
+{
+    let rest = word >> (start % WORD);
+    if rest == 0 {
+        return None;
+    }
+    Some(start + rest.trailing_zeros() as usize)
+}

@@ -1,0 +1,31 @@
+use Rattle.std.proofs.Common.{◌≡◌, ◌*◌, max, subst, sym, arith}
+use Rattle.axe_bits.specs.Supports.{IsSupportWord}
+use Rattle.axe_bits.proofs.SupportLaws.{found_in_word, none_in_all, none_in_word, stands_in_word}
+use Rattle.axe_row.proofs.Row.next_by_words.Goals as goal
+
+pub returns-in-Some : goal.returns-in-Some
+returns-in-Some c =
+    let x = c.args.self.now.entries in
+    let at = c.loop-at.at in
+    let from : c.max.result ≡ max c.args.start (at * 64) = c.max.ensures in
+    let stands = stands_in_word x c.args.start at c.max.result from c.loop-at.invariant.begun in
+    found_in_word x c.args.start at c.max.result from c.loop-at.invariant.begun c.in-Some.index c.loop-at.invariant.none
+    (c.in-Some.ensures x (subst (λ k. IsSupportWord x k c.support_word-word.result) (sym stands) c.support_word-word.ensures))
+
+pub loop-at-preserved : goal.loop-at-preserved
+loop-at-preserved c =
+    let x = c.args.self.now.entries in
+    let at = c.loop-at.at in
+    let from : c.max.result ≡ max c.args.start (at * 64) = c.max.ensures in
+    let stands = stands_in_word x c.args.start at c.max.result from c.loop-at.invariant.begun in
+    record {
+      begun = omega (arith, c.loop-at.invariant.begun);
+      none =
+          none_in_word x c.args.start at c.max.result from c.loop-at.invariant.begun c.loop-at.invariant.none
+          (c.in_default.ensures x (subst (λ k. IsSupportWord x k c.support_word-word.result) (sym stands) c.support_word-word.ensures));
+    }
+
+pub returns : goal.returns
+returns c =
+    none_in_all c.args.self.now.entries c.args.start c.loop-at.at c.loop-at.invariant.none
+    (omega (arith, c.len.ensures.count, c.div_ceil-at-end.ensures, c.loop-at-test.false))
