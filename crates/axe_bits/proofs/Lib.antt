@@ -23,5 +23,6 @@ pub mod TritDots
 pub mod TritHalves
 pub mod TritEntries
 pub mod WordWrites
+pub mod TritWordWrites
 pub mod BlockBits
 pub mod SupportLaws

@@ -3,7 +3,6 @@ use Rattle.std.proofs.Common.{◌≡◌, ◌≢◌, ℕ, ◌+◌, ◌-◌, ◌*�
 use Rattle.std.specs.Int.{bit_at}
 use Rattle.std.proofs.lemmas.Bool.{cases_eq, eq-eqb, ne_eqb}
 use Rattle.std.proofs.lemmas.List.{ext_get_or, get_or_past, length-set}
-use Rattle.std.proofs.lemmas.Nat.Bits.{bit_at-lt}
 use native.Mathlib.Decide.{dec_lt}
 use Rattle.axe_algebra.proofs.ListEntries.{listed_length, listed_at}
 use Rattle.axe_bits.specs.Bits.{bit_of, bits, HoldsBits}
@@ -11,30 +10,30 @@ use Rattle.axe_bits.specs.Digits.{AreDigits}
 use Rattle.axe_bits.specs.Words.{digits_with_word}
 use Rattle.axe_bits.proofs.BitLaws.{length-bits, get_or-bits, bit_of-word}
 
-pub length-digits_with_word : (digits : List ℕ) (k word : ℕ) → length (digits_with_word digits k word) ≡ length digits
+pub length-digits_with_word : (digits : List ℕ) (k : ℕ) (word : ℕ → ℕ) → length (digits_with_word digits k word) ≡ length digits
 unfolding digits_with_word
-length-digits_with_word digits k word = listed_length (length digits) (λ e. cond (eqb (e / 64) k) (bit_at word (e % 64)) (get_or digits e 0))
+length-digits_with_word digits k word = listed_length (length digits) (λ e. cond (eqb (e / 64) k) (word (e % 64)) (get_or digits e 0))
 
 -- digit e of the list
-abbrev digit_with_word : List ℕ → ℕ → ℕ → ℕ → ℕ
-digit_with_word digits k word e = cond (eqb (e / 64) k) (bit_at word (e % 64)) (get_or digits e 0)
+abbrev digit_with_word : List ℕ → ℕ → (ℕ → ℕ) → ℕ → ℕ
+digit_with_word digits k word e = cond (eqb (e / 64) k) (word (e % 64)) (get_or digits e 0)
 
-at-digits_with_word : (digits : List ℕ) (k word e d : ℕ) → e < length digits → get_or (digits_with_word digits k word) e d ≡ digit_with_word digits k word e
+at-digits_with_word : (digits : List ℕ) (k : ℕ) (word : ℕ → ℕ) (e d : ℕ) → e < length digits → get_or (digits_with_word digits k word) e d ≡ digit_with_word digits k word e
 unfolding digits_with_word
 at-digits_with_word digits k word e d below = listed_at (length digits) (digit_with_word digits k word) e d below
 
 -- a digit of the word that is replaced
-pub get_or-digits_with_word_same : (digits : List ℕ) (k word e d : ℕ) → e < length digits → e / 64 ≡ k → get_or (digits_with_word digits k word) e d ≡ bit_at word (e % 64)
+pub get_or-digits_with_word_same : (digits : List ℕ) (k : ℕ) (word : ℕ → ℕ) (e d : ℕ) → e < length digits → e / 64 ≡ k → get_or (digits_with_word digits k word) e d ≡ word (e % 64)
 get_or-digits_with_word_same digits k word e d below same =
-    at-digits_with_word digits k word e d below ∙ ap (λ b. cond b (bit_at word (e % 64)) (get_or digits e 0)) (eq-eqb (e / 64) k same)
+    at-digits_with_word digits k word e d below ∙ ap (λ b. cond b (word (e % 64)) (get_or digits e 0)) (eq-eqb (e / 64) k same)
 
 -- a digit of another word
-pub get_or-digits_with_word_other : (digits : List ℕ) (k word e d : ℕ) → e < length digits → e / 64 ≢ k → get_or (digits_with_word digits k word) e d ≡ get_or digits e 0
+pub get_or-digits_with_word_other : (digits : List ℕ) (k : ℕ) (word : ℕ → ℕ) (e d : ℕ) → e < length digits → e / 64 ≢ k → get_or (digits_with_word digits k word) e d ≡ get_or digits e 0
 get_or-digits_with_word_other digits k word e d below other =
-    at-digits_with_word digits k word e d below ∙ ap (λ b. cond b (bit_at word (e % 64)) (get_or digits e 0)) (ne_eqb (e / 64) k other)
+    at-digits_with_word digits k word e d below ∙ ap (λ b. cond b (word (e % 64)) (get_or digits e 0)) (ne_eqb (e / 64) k other)
 
 -- no digit stands in the word that is replaced
-pub digits_with_word-past : (digits : List ℕ) (k word : ℕ) → length digits ≤ k * 64 → digits ≡ digits_with_word digits k word
+pub digits_with_word-past : (digits : List ℕ) (k : ℕ) (word : ℕ → ℕ) → length digits ≤ k * 64 → digits ≡ digits_with_word digits k word
 digits_with_word-past digits k word past =
     ext_get_or 0 digits (digits_with_word digits k word) (sym (length-digits_with_word digits k word)) (λ e below.
     let other : e / 64 ≢ k = omega arith in
@@ -91,9 +90,9 @@ HoldsBits-cut n words k word cut h held = record {
 }
 
 pub bits-cut : (n : ℕ) (words self : List ℕ) (k word cut : ℕ) → IsCutWord n words k word cut → bits n words ≡ self →
-    bits n (set words k cut) ≡ digits_with_word self k word
+    bits n (set words k cut) ≡ digits_with_word self k (bit_at word)
 bits-cut n words self k word cut h is =
-    ext_get_or 0 (bits n (set words k cut)) (digits_with_word self k word) (length-bits n (set words k cut) ∙ sym (length-digits_with_word self k word ∙ long))
+    ext_get_or 0 (bits n (set words k cut)) (digits_with_word self k (bit_at word)) (length-bits n (set words k cut) ∙ sym (length-digits_with_word self k (bit_at word) ∙ long))
     (λ e inside.
     let small : e < n = omega (arith, length-bits n (set words k cut)) in
     get_or-bits n (set words k cut) e small ∙ at e small)
@@ -101,20 +100,36 @@ bits-cut n words self k word cut h is =
     long : length self ≡ n
     long = sym (ap length is) ∙ length-bits n words
 
-    at : (e : ℕ) → e < n → bit_of (set words k cut) e ≡ get_or (digits_with_word self k word) e 0
+    at : (e : ℕ) → e < n → bit_of (set words k cut) e ≡ get_or (digits_with_word self k (bit_at word)) e 0
     at e small = elim (cases_eq (e / 64) k) [
       | inl same ↦
           bit_of-cut words k cut e h.within same ∙ h.kept (e % 64) (omega arith) (omega (arith, same))
-          ∙ sym (get_or-digits_with_word_same self k word e 0 (omega (arith, long)) same)
+          ∙ sym (get_or-digits_with_word_same self k (bit_at word) e 0 (omega (arith, long)) same)
       | inr other ↦
           bit_of-kept words k cut e other ∙ sym (get_or-bits n words e small) ∙ ap (λ (x : List ℕ). get_or x e 0) is
-          ∙ sym (get_or-digits_with_word_other self k word e 0 (omega (arith, long)) other)
+          ∙ sym (get_or-digits_with_word_other self k (bit_at word) e 0 (omega (arith, long)) other)
     ]
 
-pub AreDigits-digits_with_word : (digits : List ℕ) (k word : ℕ) → AreDigits 2 digits → AreDigits 2 (digits_with_word digits k word)
-AreDigits-digits_with_word digits k word all e d inside =
+pub AreDigits-digits_with_word : (p : ℕ) (digits : List ℕ) (k : ℕ) (word : ℕ → ℕ) → AreDigits p digits → ((i : ℕ) → i < 64 → word i < p) →
+    AreDigits p (digits_with_word digits k word)
+AreDigits-digits_with_word p digits k word all small e d inside =
     let below : e < length digits = omega (arith, length-digits_with_word digits k word) in
     elim (cases_eq (e / 64) k) [
-      | inl same ↦ subst (λ x. x < 2) (sym (get_or-digits_with_word_same digits k word e d below same)) (bit_at-lt word (e % 64))
-      | inr other ↦ subst (λ x. x < 2) (sym (get_or-digits_with_word_other digits k word e d below other)) (all e 0 below)
+      | inl same ↦ subst (λ x. x < p) (sym (get_or-digits_with_word_same digits k word e d below same)) (small (e % 64) (omega arith))
+      | inr other ↦ subst (λ x. x < p) (sym (get_or-digits_with_word_other digits k word e d below other)) (all e 0 below)
     ]
+
+-- the same list by the digits of a word in other words
+pub digits_with_word-as : (digits : List ℕ) (k : ℕ) (f g : ℕ → ℕ) → ((i : ℕ) → i < 64 → f i ≡ g i) →
+    digits_with_word digits k f ≡ digits_with_word digits k g
+digits_with_word-as digits k f g same =
+    ext_get_or 0 (digits_with_word digits k f) (digits_with_word digits k g)
+    (length-digits_with_word digits k f ∙ sym (length-digits_with_word digits k g)) (λ e inside.
+    let below : e < length digits = omega (arith, length-digits_with_word digits k f) in
+    elim (cases_eq (e / 64) k) [
+      | inl here ↦
+          get_or-digits_with_word_same digits k f e 0 below here ∙ same (e % 64) (omega arith)
+          ∙ sym (get_or-digits_with_word_same digits k g e 0 below here)
+      | inr other ↦
+          get_or-digits_with_word_other digits k f e 0 below other ∙ sym (get_or-digits_with_word_other digits k g e 0 below other)
+    ])

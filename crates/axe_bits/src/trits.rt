@@ -20,6 +20,8 @@ use axe_lane::{add_trits, any_nonzero, dot_trits};
 use std::alloc::{AllocError, Global};
 use std::marker::Model;
 
+mod words;
+
 /// A list of digits modulo 3, in two layers of as many bits: digit e is 1 where the layer of ones has a bit at e, 2
 /// where the layer of twos has one, and else 0. No place has a bit in both. The words of the ones come first, and after
 /// them as many of the twos; the bits from the length on are 0.

@@ -24,7 +24,7 @@ impl BitPlane {
     /// dropped.
     #[inline]
     pub fn set_word(&mut self, at: usize, word: u64)
-        ensures { self.new ≡ digits_with_word self.old at word }
+        ensures { self.new ≡ digits_with_word self.old at (bit_at word) }
     {
         if at < self.words.len() {
             self.words[at] = lowest(word, self.len - at * WORD);
