@@ -1,2 +1,3 @@
 pub mod PlaneLaws
 pub mod TableLaws
+pub mod PlaneWords
