@@ -6,3 +6,4 @@ pub mod Planes
 pub mod HigherPlanes
 pub mod Combinations
 pub mod PlaneTables
+pub mod Words
