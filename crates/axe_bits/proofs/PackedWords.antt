@@ -1,10 +1,9 @@
 -- Words of digits in bytes whose first digit is the most significant bit.
-use Rattle.std.proofs.Common.{◌≡◌, ℕ, zero, suc, ◌+◌, ◌-◌, ◌*◌, ◌/◌, ◌%◌, ◌^◌, ◌<◌, ◌≤◌, List, length, ◌++◌, take, drop, get_or, min, refl, sym, ap, ap₂, ◌∙◌, arith}
-use Rattle.std.specs.Int.{bit_at, w64, byte_at, bytes_low_first, to_le_bytes, from_le_bytes}
+use Rattle.std.proofs.Common.{◌≡◌, ℕ, ◌+◌, ◌-◌, ◌*◌, ◌/◌, ◌%◌, ◌<◌, ◌≤◌, List, length, ◌++◌, take, drop, get_or, min, refl, sym, ap, ap₂, ◌∙◌, arith}
+use Rattle.std.specs.Int.{bit_at, w64, to_le_bytes, from_le_bytes}
 use Rattle.std.proofs.lemmas.List.{get_or_past, get_or-drop, length-drop, take_all}
-use Rattle.std.proofs.Math.Nat.{pow-suc}
-use Rattle.std.proofs.lemmas.Nat.{le_bytes_8, pow-add}
-use Rattle.std.proofs.lemmas.Nat.Bits.{bit_at-lt, bit_at-zero, bit_at_cat_low}
+use Rattle.std.proofs.lemmas.Nat.{le_bytes_8}
+use Rattle.std.proofs.lemmas.Nat.Bits.{bit_at-lt, bit_at-zero}
 use Rattle.std.proofs.lemmas.Simd.{length-put_chunk, put_chunk_is, get_or-put_chunk_below, get_or-put_chunk_at}
 use Rattle.std.specs.Simd.Lanes.{put_chunk}
 use native.Mathlib.Decide.{dec_lt}
@@ -13,36 +12,10 @@ use Rattle.axe_algebra.proofs.ListEntries.{listed_length, listed_at}
 use Rattle.axe_bits.specs.Bits.{bits, HoldsBits}
 use Rattle.axe_bits.specs.Packed.{packed_bit}
 use Rattle.axe_bits.proofs.TurnedBytes.{opposite}
-use Rattle.axe_bits.proofs.BitLaws.{plane_long, get_or-bits, bit_at-shifted, bit_of-word}
+use Rattle.axe_lane.proofs.ByteBits.{byte_from_low, bit_of_byte}
+use Rattle.axe_bits.proofs.BitLaws.{plane_long, get_or-bits, bit_of-word}
 
 -- ---- the bytes of a number, lowest first
-
-byte_from_low : (i k n j d : ℕ) → j < k → get_or (bytes_low_first i k n) j d ≡ byte_at (i + j) n
-byte_from_low i zero n j d below = absurd (omega arith)
-byte_from_low i (suc k) n zero d below =
-    let same : i ≡ i + 0 = omega arith in
-    ap (λ b. byte_at b n) same
-byte_from_low i (suc k) n (suc j) d below =
-    let same : suc i + j ≡ i + suc j = omega arith in
-    byte_from_low (suc i) k n j d (omega arith) ∙ ap (λ b. byte_at b n) same
-
-low_bit : (m j : ℕ) → j < 8 → bit_at (m % 256) j ≡ bit_at m j
-low_bit m j low =
-    let whole : m / 256 * 2 ^ 8 + m % 256 ≡ m = omega arith in
-    sym (bit_at_cat_low (m / 256) 8 (m % 256) j low) ∙ ap (λ x. bit_at x j) whole
-
-byte_power : (k : ℕ) → 256 ^ k ≡ 2 ^ (8 * k)
-byte_power zero = refl
-byte_power (suc k) =
-    let next : 8 * k + 8 ≡ 8 * suc k = omega arith in
-    pow-suc 256 k ∙ ap (λ p. p * 256) (byte_power k) ∙ sym (pow-add 2 (8 * k) 8) ∙ ap (λ j. 2 ^ j) next
-
-bit_of_byte : (k n j : ℕ) → j < 8 → bit_at (byte_at k n) j ≡ bit_at n (8 * k + j)
-bit_of_byte zero n j low =
-    let same : j ≡ 8 * 0 + j = omega arith in
-    low_bit n j low ∙ ap (bit_at n) same
-bit_of_byte (suc k) n j low =
-    low_bit (n / 256 ^ suc k) j low ∙ ap (λ p. bit_at (n / p) j) (byte_power (suc k)) ∙ bit_at-shifted n (8 * suc k) j
 
 packed_number : (n e : ℕ) → e < 64 → packed_bit (to_le_bytes w64 n) e ≡ bit_at n (opposite e)
 unfolding packed_bit

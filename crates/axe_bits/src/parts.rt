@@ -3,6 +3,8 @@ ghost use Rattle.std.specs.Int.{bit_at};
 ghost use Rattle.std.specs.Prelude.{ℕ, ◌≡◌, ◌+◌, ◌*◌, ◌/◌, ◌^◌, ◌<◌, ◌≤◌, length, map, slice_index, All};
 ghost use Rattle.axe_bits.specs.Bits.{bit_of};
 
+use axe_lane::add_bits;
+
 /// How many digits a word has.
 pub(crate) const WORD: usize = 64;
 
@@ -55,9 +57,8 @@ pub(crate) fn spread(word: u64, numbers: &mut [u8])
     ensures long { length numbers.new ≡ length numbers.old }
     ensures digits { (i : ℕ) → i < length numbers.old → slice_index numbers.new i ≡ bit_at word i }
 {
-    for at in 0..numbers.len() {
-        numbers[at] = (word >> at & 1) as u8;
-    }
+    numbers.fill(0);
+    add_spread(word, 1, numbers);
 }
 
 /// Adds a multiple of the lowest digits of a word to the numbers of a list, each digit to the number at its place.
@@ -68,6 +69,10 @@ pub(crate) fn add_spread(word: u64, factor: u8, numbers: &mut [u8])
     ensures sums { (i : ℕ) → i < length numbers.old →
         slice_index numbers.new i ≡ slice_index numbers.old i + factor * bit_at word i }
 {
+    if numbers.len() == WORD {
+        add_bits(numbers, word, factor);
+        return;
+    }
     for at in 0..numbers.len() {
         numbers[at] += factor * (word >> at & 1) as u8;
     }

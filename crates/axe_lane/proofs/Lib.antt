@@ -8,3 +8,6 @@ pub mod FiveRows
 pub mod TritSums
 pub mod TritDots
 pub mod MaskLaws
+pub mod RunLaws
+pub mod ByteBits
+pub mod SpreadLaws

@@ -11,7 +11,7 @@ use Rattle.std.proofs.lemmas.Nat.Bits.{and_pow, bit_at-lt}
 use Rattle.std.proofs.lemmas.Simd.{bit_mask_l, bitmask_splat, map-map, zip2_splat}
 
 -- a byte of which one bit is left, against that bit alone
-bit_tested : (x place d : ℕ) → bit_at x place ≡ d → d < 2 → cond (eqb (bit_and x (2 ^ place)) (2 ^ place)) 1 0 ≡ d
+pub bit_tested : (x place d : ℕ) → bit_at x place ≡ d → d < 2 → cond (eqb (bit_and x (2 ^ place)) (2 ^ place)) 1 0 ≡ d
 bit_tested x place zero is below =
     let none : bit_and x (2 ^ place) ≡ 0 = and_pow x place ∙ ap (λ b. b * 2 ^ place) is ∙ omega arith in
     let other : eqb (bit_and x (2 ^ place)) (2 ^ place) ≡ false =

@@ -2,3 +2,4 @@ pub mod Words
 pub mod Bytes
 pub mod Entries
 pub mod Trits
+pub mod Runs
