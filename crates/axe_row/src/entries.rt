@@ -3,8 +3,8 @@ ghost use Rattle.std.specs.Prelude.{◌≡◌, ◌≤◌, length, MatchOption};
 ghost use Rattle.axe_lane.specs.Entries.{AreZerosFrom, IsNextNonzero};
 ghost use Rattle.axe_bits.specs.Supports.{restricted, IsSupportWord};
 
-use crate::Row;
-use axe_bits::{BitPlane, next_in_word};
+use crate::{BitPlane, Row};
+use axe_bits::next_in_word;
 
 /// How many places a word of a support has.
 const WORD: usize = 64;

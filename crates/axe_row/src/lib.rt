@@ -27,6 +27,7 @@ mod scaling;
 mod sums;
 mod words;
 
+pub use axe_bits::BitPlane;
 use axe_bits::earlier;
 use axe_field::Field;
 use axe_plane::Plane;

@@ -16,6 +16,8 @@ mod lanes;
 #[cfg(test)]
 mod packed;
 #[cfg(test)]
+mod places;
+#[cfg(test)]
 mod row_sweep;
 #[cfg(test)]
 mod rows;

@@ -3,7 +3,7 @@
 //! A further case of a call is a line. A further call is an arm in `answers` of its module, and a function that makes
 //! it where none is given the same values. A table without a call fails its test.
 
-use crate::{combos, fields, packed, rows};
+use crate::{combos, fields, packed, places, rows};
 use axe_test_values::{TableFault, first_field, is_remark};
 use std::alloc::Global;
 use std::process::Abort;
@@ -14,6 +14,7 @@ pub(crate) enum Topic {
     Combos,
     Fields,
     Packed,
+    Places,
     Rows,
 }
 
@@ -24,6 +25,7 @@ fn answers(rt: &impl Abort, alloc: Global, topic: Topic, line: &str) -> Result<b
         Topic::Combos => combos::answers(rt, alloc, call, line),
         Topic::Fields => fields::answers(rt, call, line),
         Topic::Packed => packed::answers(rt, alloc, call, line),
+        Topic::Places => places::answers(rt, alloc, call, line),
         Topic::Rows => rows::answers(rt, alloc, call, line),
     }
 }
