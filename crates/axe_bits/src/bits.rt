@@ -85,6 +85,7 @@ impl BitPlane {
     }
 
     /// The digit at an index, counted from 0, and 0 from the length on.
+    #[inline]
     pub fn get(&self, index: usize) -> u8
         ensures { result ≡ slice_index self.now index }
     {

@@ -23,6 +23,7 @@ pub use tables::PlaneTable;
 
 mod byte_table;
 mod bytes;
+mod digits;
 mod primes;
 mod supports;
 mod tables;
@@ -96,21 +97,7 @@ impl Plane {
     {
         match self {
             Plane::Bits(plane) => plane.get(index),
-            _ => self.get_odd(index),
-        }
-    }
-
-    /// The digit at an index of a plane modulo an odd prime. It stands apart so that `get` is short where it is asked
-    /// most, modulo 2.
-    #[inline(never)]
-    fn get_odd(&self, index: usize) -> u8
-        requires { prime_of_plane self.now ≢ 2 }
-        ensures { result ≡ slice_index (digits_of self.now) index }
-    {
-        match self {
-            Plane::Bits(_) => 0,
-            Plane::Trits(plane) => plane.get(index),
-            Plane::Bytes(plane) => plane.get(index),
+            _ => self.digit_by_call(index),
         }
     }
 

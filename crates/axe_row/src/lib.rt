@@ -145,18 +145,20 @@ impl Row {
         self.get_by_planes(index)
     }
 
-    /// The entry at an index, put together from its coefficients.
+    /// The entry at an index, put together from its coefficients. It stands apart so that `get` is short over prime
+    /// fields.
+    #[inline(never)]
     fn get_by_planes(&self, index: usize) -> u8
         requires { index < length self.now.entries }
         ensures entry { result ≡ slice_index self.now.entries index }
         ensures element { IsElement self.now.order result }
         ensures well_formed { IsRow self.now }
     {
-        let constant = self.constant.get(index);
+        let constant = self.constant.digit(index);
         let Some(higher) = &self.higher else {
             return constant;
         };
-        let linear = higher.linear.get(index);
+        let linear = higher.linear.digit(index);
         let quadratic = quadratic_at(&self.field, &higher.quadratic, index);
         element(&self.field, constant, linear, quadratic)
     }

@@ -43,13 +43,14 @@ pub(crate) fn quadratic_at(field: &Field, quadratic: &Plane, index: usize) -> u8
     ensures { result ≡ slice_index (digits_of quadratic.now) index }
 {
     if field.degree() == 3 {
-        quadratic.get(index)
+        quadratic.digit(index)
     } else {
         0
     }
 }
 
 /// The element with these coefficients of 1, x and x^2.
+#[inline]
 pub(crate) fn element(field: &Field, constant: u8, linear: u8, quadratic: u8) -> u8
     requires constant { constant < prime_of field.now }
     requires linear { IsCoefficient field.now 1 linear }

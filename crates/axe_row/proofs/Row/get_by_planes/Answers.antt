@@ -9,7 +9,7 @@ use Rattle.axe_row.proofs.Row.get_by_planes.Goals as goal
 
 pub returns-in_default-clause-entry : goal.returns-in_default-clause-entry
 returns-in_default-clause-entry c =
-    c.get-constant.ensures
+    c.digit-constant.ensures
     ∙ ap (λ (x : List ℕ). get_or x c.args.index 0) (alone_entries _ _ _ _ c.self.invariant c.self.view_is c.in_default.is)
 
 pub returns-in_default-clause-well_formed : goal.returns-in_default-clause-well_formed
@@ -27,8 +27,8 @@ returns-clause-entry c =
     let q = digits_of c.deref-2.result.now.quadratic in
     let view_is = kept_view _ c.self.inside.constant _ _ _ _ _ c.self.view_is c.in-Some.is c.deref.ensures c.deref-2.ensures in
     let here : c.args.index < length k = omega (arith, c.requires, length-entries o k l q, ap (λ (r : RowValue). length r.entries) view_is) in
-    c.element.ensures ∙ ap (λ x. element_of o x c.get-linear.result c.quadratic_at-quadratic.result) c.get-constant.ensures
-    ∙ ap (λ x. element_of o (get_or k c.args.index 0) x c.quadratic_at-quadratic.result) c.get-linear.ensures
+    c.element.ensures ∙ ap (λ x. element_of o x c.digit-linear.result c.quadratic_at-quadratic.result) c.digit-constant.ensures
+    ∙ ap (λ x. element_of o (get_or k c.args.index 0) x c.quadratic_at-quadratic.result) c.digit-linear.ensures
     ∙ ap (element_of o (get_or k c.args.index 0) (get_or l c.args.index 0)) c.quadratic_at-quadratic.ensures
     ∙ sym (entries-at o k l q c.args.index 0 here) ∙ ap (λ (r : RowValue). get_or r.entries c.args.index 0) view_is
 
