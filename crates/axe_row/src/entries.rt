@@ -1,5 +1,5 @@
 //! The entries of a row other than 0, one after another.
-ghost use Rattle.std.specs.Prelude.{◌≡◌, ◌≤◌, length, MatchOption};
+ghost use Rattle.std.specs.Prelude.{◌≡◌, ◌*◌, ◌≤◌, length, MatchOption};
 ghost use Rattle.axe_lane.specs.Entries.{AreZerosFrom, IsNextNonzero};
 ghost use Rattle.axe_bits.specs.Supports.{restricted, IsSupportWord};
 
@@ -25,20 +25,43 @@ impl Row {
 
     /// The index of the first entry other than 0 from an index on, among the places where a list of as many digits
     /// modulo 2 has a 1; `None` where there is none.
-    #[inline(never)]
+    #[inline]
     pub fn next_nonzero_within(&self, start: usize, places: &BitPlane) -> Option<usize>
         requires start { start ≤ length self.now.entries }
         requires fits { length places.now ≡ length self.now.entries }
         ensures { MatchOption result (AreZerosFrom (restricted places.now self.now.entries) start)
             (IsNextNonzero (restricted places.now self.now.entries) start) }
     {
-        for at in start / WORD..self.len().div_ceil(WORD) {
-            let word = self.support_word(at) & places.word(at);
-            if let Some(index) = next_in_word(word, start.max(at * WORD)) {
+        let at = start / WORD;
+        if let Some(index) = next_in_word(self.support_within(at, places), start) {
+            return Some(index);
+        }
+        self.next_within_from(at + 1, places)
+    }
+
+    /// The index of the first entry other than 0 from the word at an index on, among the places where a list of as
+    /// many digits modulo 2 has a 1. It stands apart so that a search that ends in its first word is short.
+    #[inline(never)]
+    fn next_within_from(&self, first: usize, places: &BitPlane) -> Option<usize>
+        requires { length places.now ≡ length self.now.entries }
+        ensures { MatchOption result (AreZerosFrom (restricted places.now self.now.entries) (first * 64))
+            (IsNextNonzero (restricted places.now self.now.entries) (first * 64)) }
+    {
+        for at in first..self.len().div_ceil(WORD) {
+            if let Some(index) = next_in_word(self.support_within(at, places), at * WORD) {
                 return Some(index);
             }
         }
         None
+    }
+
+    /// The word at an index of the row's support, of which those places stay where a list of as many digits modulo 2
+    /// has a 1.
+    #[inline]
+    fn support_within(&self, at: usize, places: &BitPlane) -> u64
+        ensures { IsSupportWord (restricted places.now self.now.entries) at result }
+    {
+        self.support_word(at) & places.word(at)
     }
 
     /// The index of the first entry other than 0 from an index on, by the words of the row's support. It stands apart
