@@ -146,3 +146,14 @@ HasEntries-right f top bottom left n a m h all = record {
   written = λ i j row column t b l r. h.written i j row column t b l (omega (arith, r, all));
   kept = λ i j row column out. h.kept i j row column (λ t b l r. out t b l column);
 }
+
+-- nor rows beyond the last one where all are written
+pub HasEntries-all_rows : (f : ℕ → ℕ → ℕ) (top n left right : ℕ) (a m : MatrixValue) → HasEntries f top n left right a m → length a.rows ≤ n →
+    HasEntries f top (length a.rows) left right a m
+HasEntries-all_rows f top n left right a m h all = record {
+  order = h.order;
+  cols = h.cols;
+  count = h.count;
+  written = λ i j row column t b l r. h.written i j row column t (omega (arith, b, all)) l r;
+  kept = λ i j row column out. h.kept i j row column (λ t b l r. out t row l r);
+}

@@ -19,4 +19,5 @@ mod ScaledFactors
 mod Appending
 mod SplitRows
 mod EntryWrites
+mod CoefficientWrites
 mod TransposedBlocks

@@ -41,7 +41,8 @@ impl Matrix {
             return Err(Refusal::NoRows);
         }
         let mut transpose = Matrix::zero(alloc, *self.field(), self.cols(), self.rows())?;
-        if self.field().order() == 2 {
+        // The coefficients of entries stand in layers of bits there, which go by blocks.
+        if self.field().prime() <= 3 {
             transpose.put_transpose(self);
             return Ok(transpose);
         }

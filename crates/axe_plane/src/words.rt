@@ -8,7 +8,7 @@ use crate::Plane;
 impl Plane {
     /// The two words at an index of a plane modulo 2 or 3, counted from 0: digit i of these is the plane's digit 64
     /// times the index plus i, and 0 where there is no digit. Modulo 2 the second word is 0.
-    #[inline]
+    #[inline(always)]
     pub fn digit_words(&self, at: usize) -> [u64; 2]
         requires { prime_of_plane self.now ≤ 3 }
         ensures { (i : ℕ) → i < 64 → digit_of_words result i ≡ slice_index (digits_of self.now) (at * 64 + i) }
@@ -22,7 +22,7 @@ impl Plane {
 
     /// Makes the digits of two words those of the words at an index of a plane modulo 2 or 3; all others stay. Digits
     /// past the end are dropped.
-    #[inline]
+    #[inline(always)]
     pub fn set_digit_words(&mut self, at: usize, words: [u64; 2])
         requires prime { prime_of_plane self.old ≤ 3 }
         requires digits { (i : ℕ) → i < 64 → digit_of_words words i < prime_of_plane self.old }

@@ -9,8 +9,9 @@ use crate::parts::{WORD, lowest};
 
 impl TritPlane {
     /// The words of the ones and of the twos at an index, counted from 0: digit i of these two is the plane's digit 64
-    /// times the index plus i, and 0 where there is no digit.
-    #[inline]
+    /// times the index plus i, and 0 where there is no digit. It stands apart so that the words of any plane are read
+    /// in few steps modulo 2.
+    #[inline(never)]
     pub fn digit_words(&self, at: usize) -> [u64; 2]
         ensures { (i : ℕ) → i < 64 → digit_of_words result i ≡ slice_index self.now (at * 64 + i) }
     {
@@ -23,7 +24,8 @@ impl TritPlane {
     }
 
     /// Makes the digits of two words those of the words at an index; all others stay. Digits past the end are dropped.
-    #[inline]
+    /// It stands apart as `digit_words` does.
+    #[inline(never)]
     pub fn set_digit_words(&mut self, at: usize, words: [u64; 2])
         requires { (i : ℕ) → i < 64 → digit_of_words words i < 3 }
         ensures { self.new ≡ digits_with_word self.old at (digit_of_words words) }

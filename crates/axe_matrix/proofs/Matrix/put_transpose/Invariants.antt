@@ -1,10 +1,5 @@
-use Rattle.std.proofs.Common.{◌*◌}
-use Rattle.axe_matrix.specs.Matrices.{IsMatrix}
-use Rattle.axe_matrix.specs.Transposes.{HasTransposed}
+use Rattle.axe_matrix.proofs.TransposedBlocks.{IsTransposedBelow}
 use Rattle.axe_matrix.proofs.Matrix.put_transpose.Given as goal
 
-abbrev pub invariant-loop-row_block : goal.invariant-loop-row_block
-invariant-loop-row_block l = record {
-  part : HasTransposed l.matrix 0 (l.row_block * 64) 0 l.fn.self.cols l.fn.self l.self;
-  well_formed : IsMatrix l.self;
-}
+abbrev pub invariant-loop-power : goal.invariant-loop-power
+invariant-loop-power l = IsTransposedBelow l.power l.matrix l.self
