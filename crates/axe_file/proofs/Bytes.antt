@@ -118,6 +118,11 @@ byte_of_column o c j lt =
           omega arith
     ]
 
+-- the bytes whose marks are all those of columns are all bytes of the row, or all but the last
+pub whole_bytes : (o : Order) (c n m : ℕ) → n ≡ c → m ≡ marks_per_byte o → (n / m ≤ bytes_per_row o c) × (bytes_per_row o c ≤ n / m + 1)
+unfolding bytes_per_row
+whole_bytes o c n m en em = rw (en, em) (omega arith, omega arith)
+
 -- a row takes at most half as many bytes as it has columns, and one half more
 pub row_is_short : (o : Order) (c : ℕ) → 2 * bytes_per_row o c ≤ c + 1
 unfolding bytes_per_row

@@ -1,8 +1,8 @@
 -- Which fault is the first, when some rules hold and the next one is broken.
-use Rattle.std.proofs.Common.{◌≡◌, ℕ, zero, suc, ◌+◌, ◌<◌, ◌≤◌, true, false, not, ◌||◌, eqb, ltb, leb, List, [], ◌∷◌, ◌++◌, length, get_or, Option, Some, None, Result, Ok, Err, refl, sym, ap, ◌∙◌, inl, inr, arith}
+use Rattle.std.proofs.Common.{◌≡◌, ℕ, zero, suc, ◌+◌, ◌<◌, ◌≤◌, true, false, not, ◌||◌, eqb, ltb, leb, List, [], ◌∷◌, ◌++◌, length, get_or, Option, Some, None, Result, Ok, Err, refl, sym, ap, ◌∙◌, arith}
 use Rattle.std.specs.Prelude.{slice_get, IfOk, IfErr}
 use Rattle.std.specs.List.{flat_map, find, range_with_len}
-use Rattle.std.proofs.lemmas.Bool.{cases_eq, lt-ltb, le-ltb, le-leb, lt-leb, ne_eqb, eq-eqb, or_left, or_right, not_from_false}
+use Rattle.std.proofs.lemmas.Bool.{lt-ltb, le-ltb, le-leb, lt-leb, ne_eqb, eq-eqb, or_left, or_right, not_from_false}
 use Rattle.axe_field.specs.Order.{Order, Two, Three, Four, Five, Seven, Eight, Nine, order_number}
 use Rattle.axe_matrix.specs.Limits.{most_rows, most_columns}
 use Rattle.axe_matrix.specs.Matrices.{MatrixValue, IsMatrix}
@@ -14,7 +14,7 @@ use Rattle.axe_file.specs.Answers.{AnswersFile}
 use Rattle.axe_file.proofs.Headers.{order_of_number}
 use Rattle.axe_file.proofs.Unpacking.{unpacked_packed}
 use Rattle.axe_file.proofs.Spellings.{packed_faultless}
-use Rattle.axe_file.proofs.Ranges.{both_nil, no_faults, no_faults_at}
+use Rattle.axe_file.proofs.Ranges.{both_nil}
 
 -- ---- the header
 
@@ -177,13 +177,18 @@ first_fault_at faults fault a (suc n) (suc k) j e lt before here =
     let parts = both_nil (faults a) (flat_map faults (range_with_len (a + 1) k)) before in
     rw parts.0 (first_fault_at faults fault (a + 1) n k j (omega arith) (omega arith) parts.1 here)
 
-pub no_fault_more : (faults : ℕ → List FileFault) (n : ℕ) → flat_map faults (range_with_len 0 n) ≡ [] → faults n ≡ [] → flat_map faults (range_with_len 0 (n + 1)) ≡ []
-no_fault_more faults n before here =
-    no_faults faults 0 (n + 1) (λ j low high.
-    elim (cases_eq j n) [
-      | inl same ↦ ap faults same ∙ here
-      | inr other ↦ no_faults_at faults 0 n before j low (omega arith)
-    ])
+-- a longer range has the same first fault
+first_before : (xs ys zs : List FileFault) (fault : FileFault) → (First ys fault → First zs fault) → First (xs ++ ys) fault → First (xs ++ zs) fault
+first_before [] ys zs fault rest e = rest e
+first_before (x ∷ xs) ys zs fault rest e = e
+
+pub first_in_part : (faults : ℕ → List FileFault) (fault : FileFault) (a n m : ℕ) → n ≤ m → First (flat_map faults (range_with_len a n)) fault
+    → First (flat_map faults (range_with_len a m)) fault
+first_in_part faults fault a zero m le e = absurd cc
+first_in_part faults fault a (suc n) zero le e = absurd (omega arith)
+first_in_part faults fault a (suc n) (suc m) le e =
+    first_before (faults a) (flat_map faults (range_with_len (a + 1) n)) (flat_map faults (range_with_len (a + 1) m)) fault
+    (first_in_part faults fault (a + 1) n m (omega arith)) e
 
 -- ---- what a reader answers
 

@@ -29,3 +29,4 @@ pub mod TextScans
 pub mod TextHeads
 pub mod TextLines
 pub mod TextAnswers
+pub mod TextRuns

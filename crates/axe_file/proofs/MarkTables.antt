@@ -1,9 +1,8 @@
 -- The marks of a row, taken byte by byte from a table.
 use Rattle.std.proofs.Common.{◌≡◌, ◌≢◌, ℕ, ◌+◌, ◌-◌, ◌*◌, ◌/◌, ◌%◌, ◌<◌, ◌≤◌, List, ◌++◌, length, take, drop, get_or, inl, inr, refl, sym, ap, ap₂, ◌∙◌, lit≤, arith}
 use Rattle.std.specs.Prelude.{slice_range}
-use Rattle.std.proofs.Math.Nat.{mul-mod_left}
 use Rattle.std.proofs.lemmas.Bool.{cases_lt}
-use Rattle.std.proofs.lemmas.Nat.{div-add-mod', div-mul-add, mod-mul-add, mod_below, mul-le}
+use Rattle.std.proofs.lemmas.Nat.{div-mul-add, mod-mul-add, mod_below, mul-le}
 use Rattle.std.proofs.lemmas.Slice.{take-put_mid}
 use Rattle.std.proofs.lemmas.Grind.{div_ceil_times}
 use Rattle.std.proofs.lemmas.List.{length-append, length-take, length-drop, get_or-take, get_or-drop, get_or_append_left, get_or-append_right}
@@ -45,20 +44,6 @@ byte_begins_inside o c k m em lt =
     let before : (k + 1) * m ≤ bytes_per_row o c * m = mul-le (k + 1) m (bytes_per_row o c) m (omega arith) (omega arith) in
     let spread : (k + 1) * m ≡ k * m + m = omega arith in
     omega arith
-
--- the place in its row of the byte after a byte: 0 in the next row, or one more
-pub row_ends : (p w r : ℕ) → r ≡ p % w → r + 1 ≡ w → (p + 1) % w ≡ 0
-row_ends p w r er last =
-    let whole : p / w * w + p % w ≡ p = div-add-mod' p w in
-    let spread : (p / w + 1) * w ≡ p / w * w + w = omega arith in
-    let next : p + 1 ≡ (p / w + 1) * w = omega arith in
-    rw next (mul-mod_left (p / w + 1) w)
-
-pub row_goes_on : (p w r : ℕ) → r ≡ p % w → r + 1 < w → (p + 1) % w ≡ r + 1
-row_goes_on p w r er more =
-    let whole : p / w * w + p % w ≡ p = div-add-mod' p w in
-    let next : p + 1 ≡ p / w * w + (r + 1) = omega arith in
-    rw next (mod-mul-add (p / w) w (r + 1) more)
 
 -- a byte before the last of its row has no unused mark
 pub marks_before_last : (o : Order) (c k m j : ℕ) → m ≡ marks_per_byte o → k + 1 < bytes_per_row o c → j < m → c ≤ k * m + j → ⊥

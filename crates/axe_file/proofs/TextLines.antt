@@ -1,24 +1,16 @@
 -- The loops that write a text.
-use Rattle.std.proofs.Common.{◌≡◌, ℕ, zero, suc, ◌+◌, ◌-◌, ◌≤◌, min, List, [], ◌∷◌, ◌++◌, length, take, drop, get_or, refl, sym, ap, ◌∙◌, inl, inr, append_assoc, append-nil, length-drop, take_all, arith}
+use Rattle.std.proofs.Common.{◌≡◌, ℕ, zero, suc, ◌+◌, ◌-◌, ◌≤◌, min, List, [], ◌∷◌, ◌++◌, length, take, drop, sym, ap, ◌∙◌, inl, inr, append_assoc, append-nil, length-drop, take_all, arith}
 use Rattle.std.specs.List.{flat_map, range_with_len}
 use Rattle.std.proofs.lemmas.Bool.{cases_lt}
 use Rattle.std.proofs.lemmas.List.{drop_all, flat_map_more}
 use Rattle.std.specs.Fmt.{decimal}
 use Rattle.std.specs.Prelude.{codes}
 use Rattle.axe_field.specs.Order.{order_number}
-use Rattle.axe_bits.proofs.NumberDigits.{mapped_to}
 use Rattle.axe_matrix.specs.Matrices.{MatrixValue}
-use Rattle.axe_file.specs.TextGrammar.{digit_code}
 use Rattle.axe_file.specs.TextWriting.{text_header}
 
 header_shape : (a b c : List ℕ) → codes "matrix field=" ++ (a ++ (codes " rows=" ++ (b ++ (codes " cols=" ++ (c ++ 10 ∷ []))))) ≡ codes "matrix field=" ++ a ++ codes " rows=" ++ b ++ codes " cols=" ++ c ++ 10 ∷ []
 header_shape a b c = simp append_assoc
-
--- an entry of a row whose first n entries are spelled, from place n on
-pub left_to_spell : (n : ℕ) (row : List ℕ) → get_or (mapped_to digit_code n row) n 0 ≡ get_or row n 0
-left_to_spell zero row = refl
-left_to_spell (suc n) [] = refl
-left_to_spell (suc n) (x ∷ row) = left_to_spell n row
 
 -- a list that is written over whole
 pub written_over : (len : ℕ) (old new : List ℕ) → length new ≡ length old → len ≡ length old → take len (new ++ drop (length new) old) ≡ new

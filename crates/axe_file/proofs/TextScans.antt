@@ -5,7 +5,7 @@ use Rattle.std.specs.List.{filter, prefix_len}
 use Rattle.std.proofs.lemmas.Bool.{cases_Bool, cases_lt, and_parts}
 use Rattle.std.proofs.lemmas.Grind.{pow_more}
 use Rattle.std.proofs.lemmas.List.{drop_more, drop_all, drop-drop, length-map, length_push}
-use Rattle.std.proofs.lemmas.List.Elements.{All-head, All-tail, All-push}
+use Rattle.std.proofs.lemmas.List.Elements.{All-head, All-tail}
 use Rattle.std.proofs.lemmas.List.Sums.{prefix_len_stops}
 use Rattle.axe_field.specs.Order.{Order, order_number}
 use Rattle.axe_matrix.specs.Matrices.{MatrixValue}
@@ -14,8 +14,8 @@ use Rattle.axe_file.specs.TextReading.{Reading, GoesOn, read_space, read_gap, re
 use Rattle.axe_file.specs.declared.fault.FileFault.{FileFault}
 use Rattle.axe_file.specs.declared.fault.FileFault.TheVariants.{BadDigit, TooFewDigits, TrailingText}
 use Rattle.axe_file.proofs.TextSteps.{space_on, space_ends, space_none, gap_on, gap_fails, gap_none, word_on, word_fails, word_none, word_done, digits_on, digits_end, digits_none, digits_full, numeral_on, numeral_fails, numeral_none}
-use Rattle.axe_file.proofs.TextDigits.{dark_after_white, dark_after_dark, fault_white, fault_trailing, fault_digit, fault_bad, fault_none, fault_few}
-use Rattle.axe_file.proofs.TextRows.{IsDigitOf, value_below}
+use Rattle.axe_file.proofs.TextDigits.{dark_after_white, dark_after_dark, fault_white, fault_trailing, fault_bad, fault_none, fault_few}
+use Rattle.axe_file.proofs.TextRows.{IsDigitOf}
 use Rattle.axe_file.proofs.TextForms.{end_found, end_missing}
 
 -- ---- one reader after another
@@ -238,14 +238,6 @@ pub scan_white : (o left : ℕ) (bytes : List ℕ) (at : ℕ) → at < length by
 scan_white o left bytes at lt w =
     sym (ap (λ (x : List ℕ). digits_fault o left x at) (drop_more bytes at 0 lt) ∙ fault_white o left (get_or bytes at 0) (drop (at + 1) bytes) at w)
 
-pub scan_digit : (o left : ℕ) (bytes : List ℕ) (at : ℕ) → at < length bytes → is_white (get_or bytes at 0) ≡ false → is_element_digit o (get_or bytes at 0) ≡ true → (left ≡ 0 → ⊥)
-    → digits_fault o (left - 1) (drop (at + 1) bytes) (at + 1) ≡ digits_fault o left (drop at bytes) at
-scan_digit o left bytes at lt d e h =
-    sym
-    (ap (λ (x : List ℕ). digits_fault o left x at) (drop_more bytes at 0 lt)
-    ∙ ap (λ (n : ℕ). digits_fault o n (get_or bytes at 0 ∷ drop (at + 1) bytes) at) (some_wanted left h)
-    ∙ fault_digit o (left - 1) (get_or bytes at 0) (drop (at + 1) bytes) at d e)
-
 pub scan_trailing : (o left : ℕ) (bytes : List ℕ) (at : ℕ) → at < length bytes → is_white (get_or bytes at 0) ≡ false → left ≡ 0 → digits_fault o left (drop at bytes) at ≡ Some (TrailingText at)
 scan_trailing o left bytes at lt d none =
     ap (λ (x : List ℕ). digits_fault o left x at) (drop_more bytes at 0 lt)
@@ -296,51 +288,6 @@ next_digit q bytes end at e all some =
       digit = All-head (IsDigitOf q) (get_or bytes at 0) (filter is_dark (drop (at + 1) bytes)) whole;
       rest = rest;
       elements = All-tail (IsDigitOf q) (get_or bytes at 0) (filter is_dark (drop (at + 1) bytes)) whole;
-    }
-
--- so many entries of a row are read, up to an offset
-pub record RowRead (field : Order) (bytes : List ℕ) (start column end : ℕ) (entries : List ℕ) : Type 0 where
-  pub within : end ≤ length bytes
-  pub long : length entries ≡ column
-  pub fit : All (λ a. a < order_number field) entries
-  pub digits : entries ++ map digit_value (filter is_dark (drop end bytes)) ≡ map digit_value (filter is_dark (drop start bytes))
-  pub elements : All (IsDigitOf (order_number field)) (filter is_dark (drop end bytes))
-
--- while columns are left, there is a next digit
-pub digit_left : (field : Order) (columns : ℕ) (bytes : List ℕ) (start column end at : ℕ) (entries : List ℕ) → RowRead field bytes start column end entries → column < columns
-    → columns ≤ length (filter is_dark (drop start bytes)) → at ≡ end + prefix_len is_white (drop end bytes) → NextDigit (order_number field) bytes end at
-digit_left field columns bytes start column end at entries r lt enough e =
-    let both : length entries + length (map digit_value (filter is_dark (drop end bytes))) ≡ length (map digit_value (filter is_dark (drop start bytes))) =
-    sym (length-append entries (map digit_value (filter is_dark (drop end bytes)))) ∙ ap length r.digits in
-    let some : 0 < length (filter is_dark (drop end bytes)) =
-    omega (arith, r.long, length-map (filter is_dark (drop end bytes)) digit_value, length-map (filter is_dark (drop start bytes)) digit_value) in
-    next_digit (order_number field) bytes end at e r.elements some
-
-pub digit_above : (q b : ℕ) → is_element_digit q b ≡ true → 48 ≤ b
-unfolding is_element_digit
-digit_above q b e = leb-true 48 b (and_parts (leb 48 b) (ltb b (48 + q)) e).0
-
-pub digit_below : (q b : ℕ) → is_element_digit q b ≡ true → b - 48 < q
-unfolding digit_value
-digit_below q b e = value_below q b e
-
-pub row_more : (field : Order) (bytes : List ℕ) (start column end at d : ℕ) (entries next : List ℕ) → RowRead field bytes start column end entries → NextDigit (order_number field) bytes end at
-    → d ≡ get_or bytes at 0 - 48 → next ≡ entries ++ d ∷ [] → RowRead field bytes start (column + 1) (at + 1) next
-row_more field bytes start column end at d entries next r n e new =
-    let left = map digit_value (filter is_dark (drop (at + 1) bytes)) in
-    let value : d ≡ digit_value (get_or bytes at 0) = digit_is_value (get_or bytes at 0) d e in
-    let below : d < order_number field = rw e (digit_below (order_number field) (get_or bytes at 0) n.digit) in
-    record {
-      within = omega (arith, n.within);
-      long = ap length new ∙ length-append entries (d ∷ []) ∙ omega (arith, r.long);
-      fit = rw new (All-push (λ a. a < order_number field) entries d r.fit below);
-      digits =
-          ap (λ (x : List ℕ). x ++ left) new
-          ∙ append_assoc entries (d ∷ []) left
-          ∙ ap (λ (v : ℕ). entries ++ (v ∷ left)) value
-          ∙ ap (λ (x : List ℕ). entries ++ map digit_value x) (sym n.rest)
-          ∙ r.digits;
-      elements = n.elements;
     }
 
 -- ---- matrices

@@ -93,6 +93,23 @@ impl Layout {
         }
         byte
     }
+
+    /// One byte of a row, counted from 0, each of whose marks is that of a column.
+    #[inline(always)]
+    pub(crate) fn whole_byte<const COUNT: usize>(&self, row: &[u8], place: usize) -> u8
+        requires marks { self.now.marks ≡ COUNT }
+        requires elements { All (IsElement self.now.field) row.now }
+        requires whole { (place + 1) * COUNT ≤ length row.now }
+        ensures { result ≡ byte_with_marks self.now.field
+            (λ j. slice_index row.now (place * marks_per_byte self.now.field + j)) }
+    {
+        let order = self.field.order();
+        let mut byte = 0;
+        for index in 0..COUNT {
+            byte = byte * order + row[place * COUNT + index];
+        }
+        byte
+    }
 }
 
 /// The mark of a column, which is 0 past the last column.

@@ -1,6 +1,6 @@
 //! Reading the packed form: first all checks, which take no memory, then the matrix.
 
-ghost use Rattle.std.specs.Prelude.{◌≡◌, ◌≢◌, ◌+◌, ◌*◌, ◌/◌, ◌%◌, ◌<◌, ◌≤◌, [], None, Some, length, slice_get, slice_index, slice_range};
+ghost use Rattle.std.specs.Prelude.{ℕ, ◌≡◌, ◌≢◌, ◌+◌, ◌*◌, ◌/◌, ◌%◌, ◌<◌, ◌≤◌, [], None, Some, length, slice_get, slice_index, slice_range};
 ghost use Rattle.std.specs.Prelude.{IfOk, OnOk, IfErr};
 ghost use Rattle.std.specs.List.{flat_map, range_with_len};
 ghost use Rattle.std.specs.Int.{w32, from_le_bytes};
@@ -18,6 +18,7 @@ ghost use Rattle.axe_file.specs.declared.fault.FileFault.TheVariants.{Memory};
 use crate::fault::FileFault;
 use crate::layout::{HEADER_LENGTH, Layout, MAGIC};
 use axe_field::Field;
+use axe_lane::end_of_run;
 use axe_matrix::{MAX_COLUMNS, MAX_ROWS, Matrix};
 use axe_row::Row;
 use std::alloc::{AllocError, Global};
@@ -115,27 +116,35 @@ fn check_bytes(layout: &Layout, bytes: &[u8], count: usize) -> Result<(), FileFa
     ensures fault { IfErr result (λ fault.
         slice_get (flat_map (byte_faults bytes.now) (range_with_len 0 count)) 0 ≡ Some fault) }
 {
-    if layout.limit == 256 {
-        return check_last_bytes(layout, bytes, count);
-    }
-    let mut in_row = 0;
-    for place in 0..count {
-        check_byte(layout, bytes, place, in_row)?;
-        in_row += 1;
-        if in_row == layout.width {
-            in_row = 0;
-        }
+    let fitting = fitting_bytes(layout, bytes, count);
+    check_last_bytes(layout, bytes, fitting)?;
+    if fitting < count {
+        return Err(FileFault::BadByte(HEADER_LENGTH + fitting));
     }
     Ok(())
 }
 
-/// Looks for the first fault in the bytes of the rows where any byte may stand for marks, so that only the last byte of
-/// a row can have one.
+/// How many bytes of the rows, of so many, come before the first that is more than its marks can make.
+fn fitting_bytes(layout: &Layout, bytes: &[u8], count: usize) -> usize
+    requires { 16 + count ≤ length bytes.now }
+    ensures within { result ≤ count }
+    ensures below { (place : ℕ) → place < result → slice_index bytes.now (16 + place) < layout.now.limit }
+    ensures next { result < count → layout.now.limit ≤ slice_index bytes.now (16 + result) }
+{
+    if layout.limit == 256 {
+        return count;
+    }
+    let end = end_of_run(bytes, HEADER_LENGTH, 0, layout.limit as u8);
+    count.min(end - HEADER_LENGTH)
+}
+
+/// Looks for the first fault in the first bytes of the rows, so many, none of which is more than its marks can make: so
+/// only the last byte of a row can have one.
 fn check_last_bytes(layout: &Layout, bytes: &[u8], count: usize) -> Result<(), FileFault>
-    requires any { layout.now.limit ≡ 256 }
     requires says { SaysShape bytes.now layout.now.field (header_rows bytes.now) layout.now.columns }
-    requires count { count ≡ data_length bytes.now }
+    requires count { count ≤ data_length bytes.now }
     requires long { 16 + count ≤ length bytes.now }
+    requires below { (place : ℕ) → place < count → slice_index bytes.now (16 + place) < layout.now.limit }
     ensures faultless { OnOk result (flat_map (byte_faults bytes.now) (range_with_len 0 count) ≡ []) }
     ensures fault { IfErr result (λ fault.
         slice_get (flat_map (byte_faults bytes.now) (range_with_len 0 count)) 0 ≡ Some fault) }
@@ -145,27 +154,11 @@ fn check_last_bytes(layout: &Layout, bytes: &[u8], count: usize) -> Result<(), F
     }
     for index in 0..count / layout.width {
         let in_row = layout.width - 1;
-        check_byte(layout, bytes, index * layout.width + in_row, in_row)?;
-    }
-    Ok(())
-}
-
-/// Looks for a fault in one byte of the rows, counted from the first row on, and in its row from the first byte.
-fn check_byte(layout: &Layout, bytes: &[u8], place: usize, in_row: usize) -> Result<(), FileFault>
-    requires says { SaysShape bytes.now layout.now.field (header_rows bytes.now) layout.now.columns }
-    requires place { place < data_length bytes.now }
-    requires in_row { in_row ≡ place % layout.now.width }
-    requires long { 16 + place < length bytes.now }
-    ensures faultless { OnOk result (byte_faults bytes.now place ≡ []) }
-    ensures fault { IfErr result (λ fault. slice_get (byte_faults bytes.now place) 0 ≡ Some fault) }
-{
-    let offset = HEADER_LENGTH + place;
-    let byte = bytes[offset];
-    if u16::from(byte) >= layout.limit {
-        return Err(FileFault::BadByte(offset));
-    }
-    if layout.has_unused_mark(byte, in_row) {
-        return Err(FileFault::BadPadding(offset));
+        let place = index * layout.width + in_row;
+        let offset = HEADER_LENGTH + place;
+        if layout.has_unused_mark(bytes[offset], in_row) {
+            return Err(FileFault::BadPadding(offset));
+        }
     }
     Ok(())
 }

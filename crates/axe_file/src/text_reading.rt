@@ -1,6 +1,7 @@
 //! The text form, read.
 
 ghost use Rattle.std.specs.Prelude.{◌≡◌, ℕ, ◌+◌, ◌-◌, ◌*◌, ◌<◌, ◌≤◌, None, Some, length, drop, map, filter, ◌++◌, All};
+ghost use Rattle.std.specs.List.{prefix_len};
 ghost use Rattle.std.specs.Prelude.{IsTrue, IfOk, IfErr, MatchResult, ◌⊎◌};
 ghost use Rattle.axe_field.specs.Order.{order_number};
 ghost use Rattle.axe_matrix.specs.Limits.{most_rows, most_columns};
@@ -13,6 +14,7 @@ ghost use Rattle.axe_file.specs.declared.fault.FileFault.TheVariants.{Memory};
 use crate::fault::FileFault;
 use crate::text_header::{field_of, header_of, is_white, skip_space};
 use axe_field::Field;
+use axe_lane::{add_to_each, end_of_run};
 use axe_matrix::{Matrix, Row};
 use std::alloc::Global;
 
@@ -33,13 +35,13 @@ pub fn read_text(alloc: Global, bytes: &[u8]) -> Result<Matrix, FileFault>
     matrix_of_digits(alloc, field, rows, columns, bytes, header.end)
 }
 
-/// Whether a byte is the digit of an element of a field of this order.
-#[tactic(auto, unfolding(crate::specs::TextGrammar::is_element_digit))]
-fn is_element_digit(order: u8, byte: u8) -> bool
-    requires { order ≤ 9 }
-    ensures { result ≡ is_element_digit order byte }
+/// The offset at which the digits of elements end that stand one after another from an offset on.
+fn end_of_digits(bytes: &[u8], start: usize, order: u8) -> usize
+    requires within { start ≤ length bytes.now }
+    requires order { order ≤ 9 }
+    ensures { result ≡ start + prefix_len (is_element_digit order) (drop start bytes.now) }
 {
-    byte.wrapping_sub(b'0') < order
+    end_of_run(bytes, start, b'0', order)
 }
 
 /// Checks the bytes from an offset on: digits of elements, so many, with white space between.
@@ -50,15 +52,22 @@ fn check_digits(bytes: &[u8], start: usize, order: u8, wanted: usize) -> Result<
         (λ fault. digits_fault order wanted (drop start bytes.now) start ≡ Some fault) }
 {
     let mut left = wanted;
-    for at in start..bytes.len() {
-        let byte = bytes[at];
-        if left > 0 && is_element_digit(order, byte) {
-            left -= 1;
-        } else if !is_white(byte) {
-            if left == 0 {
-                return Err(FileFault::TrailingText(at));
+    let mut at = start;
+    while at < bytes.len() {
+        let end = end_of_digits(bytes, at, order);
+        if end - at > left {
+            return Err(FileFault::TrailingText(at + left));
+        }
+        left -= end - at;
+        at = end;
+        if at < bytes.len() {
+            if !is_white(bytes[at]) {
+                if left == 0 {
+                    return Err(FileFault::TrailingText(at));
+                }
+                return Err(FileFault::BadDigit(at));
             }
-            return Err(FileFault::BadDigit(at));
+            at += 1;
         }
     }
     if left == 0 {
@@ -91,18 +100,41 @@ fn next_row(
     ensures memory { IfErr result (λ fault. fault ≡ Memory) }
 {
     let mut entries = vec![in alloc; 0; columns]?;
-    let mut end = start;
-    for column in 0..columns {
-        let at = skip_space(bytes, end);
-        // The digits were counted before: there is one more, so the white space ends before the bytes do.
-        prove!(at < bytes.len());
-        entries[column] = bytes[at] - b'0';
-        end = at + 1;
-    }
+    let end = read_entries(field.order(), bytes, start, &mut entries);
     let Ok(row) = Row::from_elements(alloc, field, &entries) else {
         return Err(FileFault::Memory);
     };
     Ok((row, end))
+}
+
+/// Writes what the next digits from an offset on stand for into a list, as many as it has room for, and says where the
+/// last of these digits ends.
+fn read_entries(order: u8, bytes: &[u8], start: usize, entries: &mut [u8]) -> usize
+    requires order { order ≤ 9 }
+    requires within { start ≤ length bytes.now }
+    requires elements { All (λ byte. IsTrue (is_element_digit order byte)) (filter is_dark (drop start bytes.now)) }
+    requires enough { length entries.old ≤ length (filter is_dark (drop start bytes.now)) }
+    ensures within { result ≤ length bytes.now }
+    ensures long { length entries.new ≡ length entries.old }
+    ensures elements { All (λ entry. entry < order) entries.new }
+    ensures digits { entries.new ++ map digit_value (filter is_dark (drop result bytes.now))
+        ≡ map digit_value (filter is_dark (drop start bytes.now)) }
+    ensures elements_left { All (λ byte. IsTrue (is_element_digit order byte)) (filter is_dark (drop result bytes.now)) }
+{
+    let mut done = 0;
+    let mut end = start;
+    while done < entries.len() {
+        let at = skip_space(bytes, end);
+        let count = (entries.len() - done).min(end_of_digits(bytes, at, order) - at);
+        // The digits were counted before: there is one more, so the white space ends before the bytes do.
+        prove!(count > 0);
+        entries[done..done + count].copy_from_slice(&bytes[at..at + count]);
+        done += count;
+        end = at + count;
+    }
+    // Modulo 256 this takes b'0' away.
+    add_to_each(entries, u8::MAX - b'0' + 1);
+    end
 }
 
 /// The matrix of the digits from an offset on.

@@ -6,6 +6,7 @@ ghost use Rattle.axe_file.specs.TextWriting.{text_header, text_line, in_lines, t
 ghost use Rattle.axe_file.specs.declared.fault.FileFault.TheVariants.{Memory};
 
 use crate::fault::FileFault;
+use axe_lane::add_to_each;
 use axe_matrix::{Matrix, Row};
 use std::alloc::{AllocError, Global};
 
@@ -43,9 +44,7 @@ fn spell(row: &Row, digits: &mut [u8])
     // `len` is called for what it ensures beside the number: that the entries are elements, and so below 10.
     prove!(row.len() == digits.len());
     row.copy_to(digits);
-    for at in 0..digits.len() {
-        digits[at] += b'0';
-    }
+    add_to_each(digits, b'0');
 }
 
 /// Appends digits in lines.

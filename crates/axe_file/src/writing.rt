@@ -87,7 +87,28 @@ fn pack(layout: &Layout, row: &[u8], bytes: &mut [u8])
     requires room { length bytes.old ≡ layout.now.width }
     ensures { bytes.new ≡ packed_row layout.now.field layout.now.columns row.now }
 {
-    for place in 0..bytes.len() {
-        bytes[place] = layout.byte_of(row, place);
+    match layout.marks {
+        8 => pack_many::<8>(layout, row, bytes),
+        5 => pack_many::<5>(layout, row, bytes),
+        4 => pack_many::<4>(layout, row, bytes),
+        3 => pack_many::<3>(layout, row, bytes),
+        _ => pack_many::<2>(layout, row, bytes),
+    }
+}
+
+/// The same where a byte's number of marks is a constant, so that each whole byte is made at once.
+fn pack_many<const COUNT: usize>(layout: &Layout, row: &[u8], bytes: &mut [u8])
+    requires marks { layout.now.marks ≡ COUNT }
+    requires elements { All (IsElement layout.now.field) row.now }
+    requires columns { length row.now ≡ layout.now.columns }
+    requires room { length bytes.old ≡ layout.now.width }
+    ensures { bytes.new ≡ packed_row layout.now.field layout.now.columns row.now }
+{
+    let whole = row.len() / COUNT;
+    for place in 0..whole {
+        bytes[place] = layout.whole_byte::<COUNT>(row, place);
+    }
+    if whole < bytes.len() {
+        bytes[whole] = layout.byte_of(row, whole);
     }
 }
