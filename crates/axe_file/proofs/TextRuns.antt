@@ -1,26 +1,49 @@
 -- Digits that stand one after another in a text, read and written at once.
-use Rattle.std.proofs.Common.{◌≡◌, ℕ, zero, suc, ◌+◌, ◌-◌, ◌%◌, ◌<◌, ◌≤◌, true, false, leb, ltb, List, [], ◌∷◌, ◌++◌, length, map, take, drop, get_or, Some, refl, sym, ap, ap₂, subst, ◌∙◌, inl, inr, take-append-drop, leb-true, ltb-true, append_assoc, length-append, length-drop, get_or-drop, arith}
+use Rattle.std.proofs.Common.{◌≡◌, ℕ, zero, suc, ◌+◌, ◌-◌, ◌%◌, ◌<◌, ◌≤◌, true, false, Bool, min, leb, ltb, List, [], ◌∷◌, ◌++◌, length, map, take, drop, get_or, refl, sym, ap, ap₂, subst, ◌∙◌, inl, inr, take-append-drop, leb-true, ltb-true, append_assoc, length-append, length-drop, get_or-drop, arith}
 use Rattle.std.specs.Prelude.{All}
 use Rattle.std.specs.List.{filter, prefix_len}
 use Rattle.std.proofs.lemmas.Bool.{cases_Bool, and_parts}
-use Rattle.std.proofs.lemmas.List.{drop-drop, length-take, take_all, take_at, drop_at, map-append}
+use Rattle.std.proofs.lemmas.List.{drop-drop, drop-take, length-take, take_all, take_at, drop_at, map-append}
 use Rattle.std.proofs.lemmas.Slice.{take-put_mid}
 use Rattle.std.proofs.lemmas.List.Elements.{All-nil, All-cons, All-head, All-tail, All-take, All-drop, filter-append}
-use Rattle.std.proofs.lemmas.List.Sums.{prefix_len-le-length, prefix_len_passes, prefix_len_stops}
+use Rattle.std.proofs.lemmas.List.Sums.{prefix_len-le-length, prefix_len_stops}
 use Rattle.axe_lane.specs.Runs.{is_within}
 use Rattle.axe_lane.proofs.RunLaws.{run_has}
 use Rattle.axe_file.specs.TextGrammar.{is_white, is_dark, is_element_digit, digit_value, digit_code, AreElementDigits}
 use Rattle.axe_file.specs.TextReading.{digits_fault}
-use Rattle.axe_file.specs.declared.fault.FileFault.TheVariants.{TrailingText}
 use Rattle.axe_file.proofs.TextDigits.{IsFit, fit_digit, dark_no_white, dark_after_dark, after_front}
 use Rattle.axe_file.proofs.TextRows.{IsDigitOf, digit_no_white, values_below}
-use Rattle.axe_file.proofs.TextScans.{dark_after_front, scan_trailing, NextDigit, next_digit}
+use Rattle.axe_file.proofs.TextScans.{dark_after_front, NextDigit, next_digit}
 
 -- ---- digits and what they stand for, modulo 256
 
-pub digit_is_within : (q : ℕ) (bytes : List ℕ) → prefix_len (is_within 48 q) bytes ≡ prefix_len (is_element_digit q) bytes
+digit_is_within : (q : ℕ) (bytes : List ℕ) → prefix_len (is_within 48 q) bytes ≡ prefix_len (is_element_digit q) bytes
 unfolding is_within is_element_digit
 digit_is_within q bytes = refl
+
+prefix_of_front : (p : ℕ → Bool) (k : ℕ) (xs : List ℕ) → prefix_len p (take k xs) ≡ min k (prefix_len p xs)
+prefix_of_front p zero xs = omega arith
+prefix_of_front p (suc k) [] = omega arith
+prefix_of_front p (suc k) (x ∷ xs) = elim (cases_Bool (p x)) [
+  | inl t ↦
+      let more : min (suc k) (1 + prefix_len p xs) ≡ 1 + min k (prefix_len p xs) = omega arith in
+      rw t (ap (λ n. 1 + n) (prefix_of_front p k xs) ∙ sym more)
+  | inr f ↦ rw f (omega arith)
+]
+
+-- a run among so many bytes from an offset on
+pub run_at_most : (q : ℕ) (bytes : List ℕ) (start most end : ℕ) → end ≡ start + min most (length bytes - start) →
+    prefix_len (is_within 48 q) (drop start (take end bytes)) ≡ min most (prefix_len (is_element_digit q) (drop start bytes))
+run_at_most q bytes start most end is =
+    let k = min most (length bytes - start) in
+    let run = prefix_len-le-length (is_element_digit q) (drop start bytes) in
+    let least : min k (prefix_len (is_element_digit q) (drop start bytes)) ≡ min most (prefix_len (is_element_digit q) (drop start bytes)) =
+    omega (arith, run, length-drop start bytes) in
+    ap (λ e. prefix_len (is_within 48 q) (drop start (take e bytes))) is
+    ∙ ap (prefix_len (is_within 48 q)) (drop-take start k bytes)
+    ∙ digit_is_within q (take k (drop start bytes))
+    ∙ prefix_of_front (is_element_digit q) k (drop start bytes)
+    ∙ least
 
 pub spelled : (q : ℕ) (row : List ℕ) → q ≤ 9 → All (λ a. a < q) row → map (λ byte. (byte + 48) % 256) row ≡ map digit_code row
 unfolding digit_code
@@ -88,16 +111,6 @@ module _ (q left : ℕ) (bytes : List ℕ) (at : ℕ) where
       ∙ ap (λ (xs : List ℕ). digits_fault q (length (filter is_dark front) + (left - n)) xs at) (sym (take-append-drop n (drop at bytes)))
       ∙ after_front q front (drop n (drop at bytes)) (left - n) at (fit_run q n (drop at bytes) inside)
       ∙ ap₂ (λ (xs : List ℕ) k. digits_fault q (left - n) xs k) rest end
-
-  -- a run with more digits than are wanted
-  pub scan_long_run : left < prefix_len (is_element_digit q) (drop at bytes) → digits_fault q left (drop at bytes) at ≡ Some (TrailingText (at + left))
-  scan_long_run more =
-      let within : at + left < length bytes = omega (arith, more, prefix_len-le-length (is_element_digit q) (drop at bytes), length-drop at bytes) in
-      let digit : is_element_digit q (get_or bytes (at + left) 0) ≡ true =
-      ap (is_element_digit q) (sym (get_or-drop at bytes left 0)) ∙ prefix_len_passes (is_element_digit q) (drop at bytes) left 0 more in
-      let none : left - left ≡ 0 = omega arith in
-      scan_run left (at + left) (omega arith) (omega (arith, more)) refl
-      ∙ scan_trailing q (left - left) bytes (at + left) within (digit_no_white q _ digit) none
 
 -- what stands after a run is no digit
 pub run_is_over : (q : ℕ) (bytes : List ℕ) (at end : ℕ) → end ≡ at + prefix_len (is_element_digit q) (drop at bytes) → end < length bytes → is_element_digit q (get_or bytes end 0) ≡ false

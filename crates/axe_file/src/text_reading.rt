@@ -1,6 +1,6 @@
 //! The text form, read.
 
-ghost use Rattle.std.specs.Prelude.{◌≡◌, ℕ, ◌+◌, ◌-◌, ◌*◌, ◌<◌, ◌≤◌, None, Some, length, drop, map, filter, ◌++◌, All};
+ghost use Rattle.std.specs.Prelude.{◌≡◌, ℕ, ◌+◌, ◌-◌, ◌*◌, ◌<◌, ◌≤◌, None, Some, length, drop, map, filter, ◌++◌, min, All};
 ghost use Rattle.std.specs.List.{prefix_len};
 ghost use Rattle.std.specs.Prelude.{IsTrue, IfOk, IfErr, MatchResult, ◌⊎◌};
 ghost use Rattle.axe_field.specs.Order.{order_number};
@@ -35,13 +35,15 @@ pub fn read_text(alloc: Global, bytes: &[u8]) -> Result<Matrix, FileFault>
     matrix_of_digits(alloc, field, rows, columns, bytes, header.end)
 }
 
-/// The offset at which the digits of elements end that stand one after another from an offset on.
-fn end_of_digits(bytes: &[u8], start: usize, order: u8) -> usize
+/// The offset at which the digits of elements end that stand one after another from an offset on, or that of the one
+/// after so many, if there are more.
+fn end_of_digits(bytes: &[u8], start: usize, order: u8, most: usize) -> usize
     requires within { start ≤ length bytes.now }
     requires order { order ≤ 9 }
-    ensures { result ≡ start + prefix_len (is_element_digit order) (drop start bytes.now) }
+    ensures { result ≡ start + min most (prefix_len (is_element_digit order) (drop start bytes.now)) }
 {
-    end_of_run(bytes, start, b'0', order)
+    let end = start + most.min(bytes.len() - start);
+    end_of_run(&bytes[..end], start, b'0', order)
 }
 
 /// Checks the bytes from an offset on: digits of elements, so many, with white space between.
@@ -54,10 +56,7 @@ fn check_digits(bytes: &[u8], start: usize, order: u8, wanted: usize) -> Result<
     let mut left = wanted;
     let mut at = start;
     while at < bytes.len() {
-        let end = end_of_digits(bytes, at, order);
-        if end - at > left {
-            return Err(FileFault::TrailingText(at + left));
-        }
+        let end = end_of_digits(bytes, at, order, left);
         left -= end - at;
         at = end;
         if at < bytes.len() {
@@ -125,7 +124,7 @@ fn read_entries(order: u8, bytes: &[u8], start: usize, entries: &mut [u8]) -> us
     let mut end = start;
     while done < entries.len() {
         let at = skip_space(bytes, end);
-        let count = (entries.len() - done).min(end_of_digits(bytes, at, order) - at);
+        let count = end_of_digits(bytes, at, order, entries.len() - done) - at;
         // The digits were counted before: there is one more, so the white space ends before the bytes do.
         prove!(count > 0);
         entries[done..done + count].copy_from_slice(&bytes[at..at + count]);

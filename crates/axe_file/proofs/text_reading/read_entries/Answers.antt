@@ -20,7 +20,7 @@ prove-unreachable-requires c =
     let some =
     some_digit c.args.order c.args.bytes.now c.args.start c.loop-done.done c.loop-done.end c.loop-done.entries c.loop-done.invariant c.requires.elements
     c.skip_space-at.result c.loop-done-test.true (omega (arith, c.requires.enough, c.loop-done.auto.entries)) c.skip_space-at.ensures in
-    omega (arith, some, c.if-prove.true, c.min-count.ensures, c.end_of_digits.ensures, c.loop-done-test.true)
+    omega (arith, some, c.if-prove.true, c.end_of_digits.ensures, c.loop-done-test.true)
 
 pub slice_bounds-copy_from_slice-end-in-loop-done : goal.slice_bounds-copy_from_slice-end-in-loop-done
 slice_bounds-copy_from_slice-end-in-loop-done c =
@@ -29,19 +29,19 @@ slice_bounds-copy_from_slice-end-in-loop-done c =
     let low : at ≤ length bytes =
     run_within c.args.order c.args.bytes.now c.args.start c.loop-done.done c.loop-done.end c.loop-done.entries c.loop-done.invariant c.requires.elements
     c.skip_space-at.result c.loop-done-test.true (omega (arith, c.requires.enough, c.loop-done.auto.entries)) c.skip_space-at.ensures in
-    let end : at + c.min-count.result ≤ length bytes =
-    omega (arith, c.min-count.ensures, c.end_of_digits.ensures, prefix_len-le-length (is_element_digit c.args.order) (drop at bytes), length-drop at bytes, low) in
+    let end : at + (c.end_of_digits.result - at) ≤ length bytes =
+    omega (arith, c.end_of_digits.ensures, prefix_len-le-length (is_element_digit c.args.order) (drop at bytes), length-drop at bytes, low) in
     search rules
 
 pub loop-done-preserved : goal.loop-done-preserved
 loop-done-preserved c =
     let bytes = c.args.bytes.now in
     let at = c.skip_space-at.result in
-    let count = c.min-count.result in
+    let count = c.end_of_digits.result - at in
     let size : at + count - at ≡ count = omega arith in
     copied_more c.args.order bytes c.args.start c.loop-done.done c.loop-done.end c.loop-done.entries c.loop-done.invariant c.requires.elements at
     c.loop-done-test.true (omega (arith, c.requires.enough, c.loop-done.auto.entries)) c.skip_space-at.ensures
-    count _ _ _ c.copy_from_slice.new.self (omega (arith, c.min-count.ensures, c.end_of_digits.ensures))
+    count _ _ _ c.copy_from_slice.new.self (omega (arith, c.end_of_digits.ensures))
     (c.copy_from_slice.ensures.after ∙ ap (λ n. take n (drop at bytes)) size) (omega arith) (omega arith)
 
 pub returns-clause-elements : goal.returns-clause-elements
