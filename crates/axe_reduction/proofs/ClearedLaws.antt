@@ -12,7 +12,7 @@ use Rattle.axe_algebra.proofs.ElementNumbers.{element_add, element_mul}
 use Rattle.axe_algebra.proofs.ListEntries.{table_over, table_length, table_entry, matrix_entry-below, matrix_shape, matrix_of_table}
 use Rattle.axe_algebra.proofs.ListProducts.{product_entry-below, element_product_entry}
 use Rattle.axe_matrix.specs.Products.{rows_with_product}
-use Rattle.axe_reduction.proofs.JoinedLaws.{less_rows}
+use Rattle.axe_reduction.specs.Forms.{less_rows}
 use mathlib.Core.Path.{refl, ◌∙◌, ap, ap₂, subst}
 use native.Mathlib.Omega.{arith}
 

@@ -11,7 +11,7 @@ use Rattle.axe_algebra.proofs.Spanning.{within_trans}
 use Rattle.axe_algebra.specs.Bridge.{field_of, element, vector_of, matrix_of}
 use Rattle.axe_algebra.specs.Lists.{IsMatrixOver}
 use Rattle.axe_algebra.specs.SpansOfLists.{HaveSameSpan}
-use Rattle.axe_reduction.specs.Forms.{AreReducedRows}
+use Rattle.axe_reduction.specs.Forms.{AreReducedRows, AreReduced}
 use Rattle.axe_reduction.proofs.JoinedLaws.{each_of_sum, AreStacked, less_at_pivot, span_zero_at, joined_are_reduced, joined_same_span, first_within}
 use Rattle.axe_reduction.proofs.ClearedLaws.{cleared_rows, less_reduced, matrix_of_cleared, cleared_length}
 use mathlib.Core.Path.{sym, ◌∙◌, ap, subst}
@@ -20,16 +20,6 @@ use native.Mathlib.Omega.{arith}
 module _ (K : NumberField) where
   abbrev F : Field
   F = field_of K
-
-  -- the rows `reduced`, reduced at the pivots, and `rest`, 0 left of the bar, span what these rows do, and are as many
-  pub record AreReduced (left columns : ℕ) (rows : List (List ℕ)) (pivots : List ℕ) (reduced rest : List (List ℕ)) : Type 0 where
-    pub over : IsMatrixOver K columns reduced
-    pub count : length reduced + length rest ≡ length rows
-    pub pivot_count : length pivots ≡ length reduced
-    pub pivots_left : All (λ pivot. pivot < left) pivots
-    pub are_reduced : AreReducedRows F (length reduced) (matrix_of K reduced) (λ t. get_or pivots t 0)
-    pub rest_zero : (i j : ℕ) → i < length rest → j < left → matrix_of K rest i j ≡ F.zero
-    pub same : HaveSameSpan K rows (reduced ++ rest)
 
   pub append_stacked : (a b : List (List ℕ)) → AreStacked F (length a) (matrix_of K a) (length b) (matrix_of K b) (length (a ++ b)) (matrix_of K (a ++ b))
   append_stacked a b = record {
@@ -65,9 +55,9 @@ module _ (K : NumberField) where
   pub join_are_reduced : (left columns c : ℕ) (a u l : List (List ℕ)) (p q : List ℕ) (v z w y : List (List ℕ)) →
       c < K.order → element K c ≡ F.neg F.one → IsMatrixOver K columns l →
       AreStacked F (length u) (matrix_of K u) (length l) (matrix_of K l) (length a) (matrix_of K a) →
-      AreReduced left columns u p v z → AreReduced left columns (cleared_rows K columns c p v l) q w y →
+      AreReduced K left columns u p v z → AreReduced K left columns (cleared_rows K columns c p v l) q w y →
       IsMatrixOver K columns (cleared_rows K columns c q w v ++ w) →
-      AreReduced left columns a (p ++ q) (cleared_rows K columns c q w v ++ w) (z ++ y)
+      AreReduced K left columns a (p ++ q) (cleared_rows K columns c q w v ++ w) (z ++ y)
   join_are_reduced left columns c a u l p q v z w y small minus_one over_l rows first second over = record {
     over = over;
     count = omega (arith, rows.count, first.count, second.count, cleared_length K columns c p v l, length-append z y, stacked.count);

@@ -1,9 +1,13 @@
+pub mod AugmentedRowLaws
 pub mod BesideLaws
 pub mod BesideParts
+pub mod BesideRows
 pub mod BesideSums
 pub mod ClearLaws
 pub mod ClearedLaws
 pub mod Exits
+pub mod GrowingLaws
+pub mod InsertedRows
 pub mod JoinedLaws
 pub mod JoinedRows
 pub mod ReductionLaws

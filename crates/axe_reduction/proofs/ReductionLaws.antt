@@ -11,13 +11,13 @@ use Rattle.axe_field.specs.Arithmetic.{field_neg}
 use Rattle.axe_field.specs.NumberFields.{number_field, gf}
 use Rattle.axe_field.proofs.NumberFields.{number_field-neg}
 use Rattle.axe_reduction.specs.Augmented.{AugmentedValue, IsAugmented, AreAlike, some_rows}
-use Rattle.axe_reduction.specs.Forms.{AreReducedRows}
+use Rattle.axe_reduction.specs.Forms.{AreReducedRows, AreReduced}
 use Rattle.axe_reduction.specs.Reductions.{cleared, IsJoinOf, IsReductionOf}
 use Rattle.axe_reduction.specs.declared.reduction.Reduction.{Reduction}
 use Rattle.axe_reduction.proofs.JoinedLaws.{AreStacked}
 use Rattle.axe_reduction.proofs.ClearLaws.{minus_one-below}
 use Rattle.axe_reduction.proofs.ClearedLaws.{cleared_rows}
-use Rattle.axe_reduction.proofs.JoinedRows.{AreReduced, join_are_reduced}
+use Rattle.axe_reduction.proofs.JoinedRows.{join_are_reduced}
 use mathlib.Core.Path.{sym, ◌∙◌, ap, subst}
 use native.Mathlib.Omega.{arith}
 
@@ -54,7 +54,7 @@ rows_of_reduction a r h = record {
   same = h.same;
 }
 
-reduction_of_rows : (a : AugmentedValue) (r : Reduction) → AreAlike a r.reduced → AreAlike a r.rest → IsAugmented r.reduced →
+pub reduction_of_rows : (a : AugmentedValue) (r : Reduction) → AreAlike a r.reduced → AreAlike a r.rest → IsAugmented r.reduced →
     IsAugmented r.rest → AreReduced (number_field a.order) a.left a.cols a.rows r.pivots.items r.reduced.rows r.rest.rows →
     IsReductionOf a r
 reduction_of_rows a r reduced_alike rest_alike reduced_well_formed rest_well_formed h = record {

@@ -1,4 +1,5 @@
 pub mod Augmented
+pub mod AugmentedRows
 pub mod Forms
 pub mod Reductions
 pub mod Solutions

@@ -1,14 +1,15 @@
 //! Augmented matrices.
 
-ghost use Rattle.std.specs.Prelude.{◌≡◌, ◌+◌, ◌-◌, ◌<◌, ◌≤◌, None, IfOk, MatchOption, length, All};
-ghost use Rattle.axe_algebra.specs.Lists.{entry};
+ghost use Rattle.std.specs.Prelude.{◌≡◌, ◌+◌, ◌-◌, ◌<◌, ◌≤◌, [], None, IfOk, length, map, get_or, All};
 ghost use Rattle.axe_field.specs.Order.{IsElement};
 ghost use Rattle.axe_row.specs.Refusals.{Answers};
 ghost use Rattle.axe_matrix.specs.Limits.{most_rows, most_columns};
 ghost use Rattle.axe_matrix.specs.Matrices.{IsMatrix};
-ghost use Rattle.axe_reduction.specs.Augmented.{IsAugmented, AreAlike, LeadsLeftAt, IsZeroLeft, augmented, right_part};
-ghost use Rattle.axe_reduction.specs.Augmented.{some_rows, scaled_rows, entries_at_columns, with_rows, with_product};
+ghost use Rattle.axe_reduction.specs.Augmented.{IsAugmented, AreAlike, augmented, right_part};
+ghost use Rattle.axe_reduction.specs.Augmented.{some_rows, entries_at_columns, with_rows, with_product};
+ghost use Rattle.axe_reduction.specs.AugmentedRows.{IsRowOf, whole};
 
+use crate::augmented_row::AugmentedRow;
 use axe_field::Field;
 use axe_matrix::{Matrix, Refusal};
 use std::alloc::Global;
@@ -63,24 +64,6 @@ impl Augmented {
         self.left.field()
     }
 
-    /// The entry at a row and a column left of the bar.
-    pub(crate) fn get(&self, row: usize, column: usize) -> u8
-        requires row { row < length self.now.rows }
-        requires column { column < self.now.left }
-        ensures value { result ≡ entry self.now.rows row column }
-        ensures element { IsElement self.now.order result }
-    {
-        self.left.get(row, column)
-    }
-
-    /// The column of the first entry of a row other than 0, or `None` where the row is 0 left of the bar.
-    pub(crate) fn leading(&self, row: usize) -> Option<usize>
-        requires { row < length self.now.rows }
-        ensures { MatchOption result (IsZeroLeft self.now row) (LeadsLeftAt self.now row) }
-    {
-        self.left.row(row).first_nonzero()
-    }
-
     /// The entries at chosen columns left of the bar, of all rows. A column may stand more than once.
     pub(crate) fn entries_at(&self, alloc: Global, columns: &[usize]) -> Result<Matrix, Refusal>
         requires some_column { 1 ≤ length columns.now }
@@ -95,22 +78,6 @@ impl Augmented {
             entries.append(row)?;
         }
         Ok(entries)
-    }
-
-    /// `count` of the rows, from row `start` on.
-    pub(crate) fn some_rows(
-        &self,
-        alloc: Global,
-        start: usize,
-        count: usize,
-    ) -> Result<Augmented, Refusal>
-        requires { start + count ≤ length self.now.rows }
-        ensures rows { Answers None (λ rows. rows ≡ some_rows self.now start count) result }
-        ensures well_formed { IfOk result IsAugmented }
-    {
-        let left = self.left.block(alloc, start, count, 0, self.left.cols())?;
-        let right = self.right.block(alloc, start, count, 0, self.right.cols())?;
-        Ok(Augmented { left, right })
     }
 
     /// The first `count` rows, and those after them. The rows move, and none is copied.
@@ -133,20 +100,6 @@ impl Augmented {
             right: right_after,
         };
         Ok((first, after))
-    }
-
-    /// A multiple of each row.
-    pub(crate) fn scaled(&self, alloc: Global, scalar: u8) -> Result<Augmented, Refusal>
-        requires { IsElement self.now.order scalar }
-        ensures multiple { Answers None (λ multiple. multiple ≡ scaled_rows self.now scalar) result }
-        ensures well_formed { IfOk result IsAugmented }
-    {
-        let field = *self.field();
-        let mut left = Matrix::zero(alloc, field, self.rows(), self.left.cols())?;
-        left.add_scaled(scalar, &self.left);
-        let mut right = Matrix::zero(alloc, field, self.rows(), self.right.cols())?;
-        right.add_scaled(scalar, &self.right);
-        Ok(Augmented { left, right })
     }
 
     /// These rows with a multiple of a product added: `factors` has as many rows as there are here, and as many columns
@@ -184,6 +137,37 @@ impl Augmented {
         let (mut left, mut right) = (left, right);
         left.append_matrix(other.left)?;
         right.append_matrix(other.right)?;
+        Ok(Augmented { left, right })
+    }
+
+    /// A copy of a row.
+    pub(crate) fn row_copy(&self, alloc: Global, row: usize) -> Result<AugmentedRow, Refusal>
+        requires { row < length self.now.rows }
+        ensures copied { Answers None (λ copy. whole copy ≡ get_or self.now.rows row []) result }
+        ensures alike { IfOk result (IsRowOf self.now) }
+    {
+        let left = self.left.row(row).copy(alloc)?;
+        let right = self.right.row(row).copy(alloc)?;
+        Ok(AugmentedRow { left, right })
+    }
+
+    /// The augmented matrix of some rows over the field of this one, with its columns.
+    pub(crate) fn with_rows_of(
+        &self,
+        alloc: Global,
+        rows: Vec<AugmentedRow>,
+    ) -> Result<Augmented, Refusal>
+        requires alike { All (IsRowOf self.now) rows.items }
+        requires room { length rows.items ≤ most_rows }
+        ensures rows { Answers None (λ made. made ≡ record self.now { rows = map whole rows.items }) result }
+        ensures well_formed { IfOk result IsAugmented }
+    {
+        let mut left = Matrix::empty(alloc, *self.left.field(), self.left.cols());
+        let mut right = Matrix::empty(alloc, *self.right.field(), self.right.cols());
+        for row in rows {
+            left.append(row.left)?;
+            right.append(row.right)?;
+        }
         Ok(Augmented { left, right })
     }
 

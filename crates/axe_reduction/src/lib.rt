@@ -2,6 +2,8 @@
 #![tactic(auto)]
 
 mod augmented;
+mod augmented_row;
+mod few;
 mod reduction;
 mod solutions;
 

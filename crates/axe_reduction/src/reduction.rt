@@ -3,12 +3,16 @@
 ghost use Rattle.std.specs.Prelude.{◌≡◌, ◌+◌, ◌≤◌, ◌++◌, None, IfOk, length};
 ghost use Rattle.axe_row.specs.Refusals.{Answers};
 ghost use Rattle.axe_matrix.specs.Limits.{most_rows};
-ghost use Rattle.axe_reduction.specs.Augmented.{AreAlike, IsAugmented, IsZeroLeft, LeadsLeftAt};
+ghost use Rattle.axe_reduction.specs.Augmented.{AreAlike, IsAugmented};
 ghost use Rattle.axe_reduction.specs.Reductions.{cleared, AreReducedAt, IsJoinOf, IsReductionOf};
 
 use crate::augmented::Augmented;
+use crate::few::reduction_of_few;
 use axe_matrix::{MAX_ROWS, Refusal};
 use std::alloc::Global;
+
+/// The most rows that are reduced one after the other: for so few, products take longer.
+const FEW_ROWS: usize = 64;
 
 /// What the reduction of an augmented matrix gives: rows that together have the span of the given ones.
 #[derive(Drop)]
@@ -74,8 +78,8 @@ pub(crate) fn reduction_of(alloc: Global, rows: Augmented) -> Result<Reduction, 
     requires { 1 ≤ length rows.rows }
     ensures { Answers None (IsReductionOf rows) result }
 {
-    if rows.rows() == 1 {
-        return reduction_of_row(alloc, rows);
+    if rows.rows() <= FEW_ROWS {
+        return reduction_of_few(alloc, &rows);
     }
     let half = rows.rows() / 2;
     let (first, second) = rows.split(alloc, half)?;
@@ -83,52 +87,4 @@ pub(crate) fn reduction_of(alloc: Global, rows: Augmented) -> Result<Reduction, 
     let second = first.clear(alloc, second)?;
     let second = reduction_of(alloc, second)?;
     first.join(alloc, second)
-}
-
-/// The reduction of a single row.
-fn reduction_of_row(alloc: Global, row: Augmented) -> Result<Reduction, Refusal>
-    requires { length row.rows ≡ 1 }
-    ensures { Answers None (IsReductionOf row) result }
-{
-    match row.leading(0) {
-        Some(pivot) => reduction_at_pivot(alloc, &row, pivot),
-        None => reduction_to_rest(alloc, row),
-    }
-}
-
-/// The reduction of a single row whose first entry other than 0 stands left of the bar, at the pivot.
-fn reduction_at_pivot(alloc: Global, row: &Augmented, pivot: usize) -> Result<Reduction, Refusal>
-    requires single { length row.now.rows ≡ 1 }
-    requires leads { LeadsLeftAt row.now 0 pivot }
-    ensures { Answers None (IsReductionOf row.now) result }
-{
-    // `rows` is called for what it ensures beside the number: that this is an augmented matrix.
-    prove!(row.rows() == 1);
-    let scalar = row.field().inv(row.get(0, pivot));
-    let reduced = row.scaled(alloc, scalar)?;
-    let rest = row.some_rows(alloc, 0, 0)?;
-    let mut pivots = Vec::new(alloc);
-    pivots.push(pivot)?;
-    Ok(Reduction {
-        reduced,
-        pivots,
-        rest,
-    })
-}
-
-/// The reduction of a single row that is 0 left of the bar.
-fn reduction_to_rest(alloc: Global, row: Augmented) -> Result<Reduction, Refusal>
-    requires single { length row.rows ≡ 1 }
-    requires zero { IsZeroLeft row 0 }
-    ensures { Answers None (IsReductionOf row) result }
-{
-    // `rows` is called for what it ensures beside the number: that this is an augmented matrix.
-    prove!(row.rows() == 1);
-    let reduced = row.some_rows(alloc, 0, 0)?;
-    let pivots = Vec::new(alloc);
-    Ok(Reduction {
-        reduced,
-        pivots,
-        rest: row,
-    })
 }

@@ -1,0 +1,97 @@
+//! Reductions of a few rows, one after the other.
+
+ghost use Rattle.std.specs.Prelude.{◌≡◌, ◌+◌, ◌<◌, None, length, All};
+ghost use Rattle.axe_lane.specs.Entries.{IsFirstNonzero};
+ghost use Rattle.axe_row.specs.Refusals.{Answers};
+ghost use Rattle.axe_reduction.specs.AugmentedRows.{IsRowLike, AreReducedLike, IsClearedBy};
+ghost use Rattle.axe_reduction.specs.AugmentedRows.{IsInsertedAt, IsReductionOfFirst};
+ghost use Rattle.axe_reduction.specs.Reductions.{IsReductionOf};
+
+use crate::augmented::Augmented;
+use crate::augmented_row::{AugmentedRow, cancel_in_each};
+use crate::reduction::Reduction;
+use axe_matrix::Refusal;
+use std::alloc::Global;
+
+/// The reduction of the first of a few rows, which grows row by row.
+#[derive(Drop)]
+struct GrowingReduction {
+    /// The reduced rows: each is 1 at its pivot and 0 before it, and 0 at the pivots of the others.
+    reduced: Vec<AugmentedRow>,
+    /// The pivots of the reduced rows, in their order.
+    pivots: Vec<usize>,
+    /// The rows that are 0 left of the bar.
+    rest: Vec<AugmentedRow>,
+}
+
+impl GrowingReduction {
+    /// Goes on from the rows before an index to the row there.
+    fn insert(&mut self, alloc: Global, rows: &Augmented, index: usize) -> Result<(), Refusal>
+        requires index { index < length rows.now.rows }
+        requires before { IsReductionOfFirst rows.now index self.old }
+        ensures { Answers None (λ _. IsReductionOfFirst rows.now (index + 1) self.new) result }
+    {
+        // `rows` is called for what it ensures beside the number: that this is an augmented matrix.
+        prove!(index < rows.rows());
+        let mut row = rows.row_copy(alloc, index)?;
+        clear(&mut row, &self.pivots, &self.reduced);
+        let Some(pivot) = row.left.first_nonzero() else {
+            self.rest.push(row)?;
+            return Ok(());
+        };
+        self.insert_at(pivot, row)
+    }
+
+    /// Inserts a row that is 0 at the pivots, and has one itself.
+    fn insert_at(&mut self, pivot: usize, row: AugmentedRow) -> Result<(), Refusal>
+        requires row { IsRowLike row row }
+        requires pivot { IsFirstNonzero row.left.entries pivot }
+        requires alike { All (IsRowLike row) self.old.reduced.items }
+        ensures { Answers None (λ _. IsInsertedAt pivot row self.old self.new) result }
+    {
+        let mut row = row;
+        row.scale_at(pivot);
+        cancel_in_each(&mut self.reduced, pivot, &row);
+        self.reduced.push(row)?;
+        self.pivots.push(pivot)?;
+        Ok(())
+    }
+}
+
+/// Makes a row 0 at the pivots of reduced rows, by their multiples.
+fn clear(row: &mut AugmentedRow, pivots: &[usize], reduced: &[AugmentedRow])
+    requires row { IsRowLike row.old row.old }
+    requires reduced { AreReducedLike row.old pivots.now reduced.now }
+    ensures cleared { IsClearedBy pivots.now reduced.now row.old row.new }
+    ensures alike { IsRowLike row.old row.new }
+{
+    for (index, other) in reduced.iter().enumerate() {
+        row.cancel(pivots[index], other);
+    }
+}
+
+/// The reduction of an augmented matrix, row by row.
+pub(crate) fn reduction_of_few(alloc: Global, rows: &Augmented) -> Result<Reduction, Refusal>
+    ensures { Answers None (IsReductionOf rows.now) result }
+{
+    let mut growing = GrowingReduction {
+        reduced: Vec::new(alloc),
+        pivots: Vec::new(alloc),
+        rest: Vec::new(alloc),
+    };
+    for index in 0..rows.rows() {
+        growing.insert(alloc, rows, index)?;
+    }
+    let GrowingReduction {
+        reduced,
+        pivots,
+        rest,
+    } = growing;
+    let reduced = rows.with_rows_of(alloc, reduced)?;
+    let rest = rows.with_rows_of(alloc, rest)?;
+    Ok(Reduction {
+        reduced,
+        pivots,
+        rest,
+    })
+}
