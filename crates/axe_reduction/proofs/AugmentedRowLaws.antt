@@ -4,9 +4,9 @@ use Rattle.std.specs.Prelude.{slice_index}
 use Rattle.std.specs.List.{All}
 use Rattle.std.proofs.lemmas.Bool.{cases_lt}
 use Rattle.std.proofs.lemmas.List.{ext_get_or, get_or_append_left, get_or-append-add, get_or-map, length-map, length-set}
-use Rattle.std.proofs.lemmas.List.Elements.{All-get_or, All-from_get_or, All-append}
+use Rattle.std.proofs.lemmas.List.Elements.{All-append}
 use Rattle.axe_algebra.specs.NumberField.{NumberField}
-use Rattle.axe_algebra.specs.Bridge.{element, vector_of, matrix_of}
+use Rattle.axe_algebra.specs.Bridge.{element, vector_of}
 use Rattle.axe_algebra.specs.Lists.{IsVectorOver, IsMatrixOver}
 use Rattle.axe_algebra.specs.Vectors.{subtract, scale}
 use Rattle.axe_algebra.proofs.ElementNumbers.{element_neg, entry-below}

@@ -1,6 +1,5 @@
 -- Lists of rows beside one another, and the augmented matrices that matrices make.
 use Rattle.std.proofs.Common.{◌≡◌, ℕ, ◌+◌, ◌-◌, ◌<◌, List, [], ◌++◌, length, get_or, inl, inr, refl, sym, ap, ap₂, subst, ◌∙◌, arith, length-append}
-use Rattle.std.specs.Prelude.{Option, Some, None, MatchOption}
 use Rattle.std.specs.List.{All}
 use Rattle.std.proofs.lemmas.Bool.{cases_lt}
 use Rattle.std.proofs.lemmas.List.{ext_get_or, get_or_append_left, get_or-append-add}
@@ -9,12 +8,9 @@ use Rattle.axe_algebra.specs.Lists.{entry, table, AreElements, IsVectorOver, IsM
 use Rattle.axe_algebra.proofs.ListEntries.{listed_length, listed_at, table_length, table_row, table_entry}
 use Rattle.axe_field.specs.Order.{Order, IsElement}
 use Rattle.axe_field.specs.NumberFields.{number_field}
-use Rattle.axe_row.specs.Rows.{RowValue}
-use Rattle.axe_lane.specs.Entries.{IsFirstNonzero}
-use Rattle.axe_row.specs.Operations.{IsZeroVector}
-use Rattle.axe_matrix.specs.Matrices.{MatrixValue, IsMatrix, row_of}
+use Rattle.axe_matrix.specs.Matrices.{MatrixValue, IsMatrix}
 use Rattle.axe_matrix.proofs.MatrixLaws.{same_matrix, same_rows, length-row_of, IsRow-row_of}
-use Rattle.axe_reduction.specs.Augmented.{AugmentedValue, IsAugmented, AreBeside, IsZeroLeft, LeadsLeftAt, rows_beside, augmented, right_part}
+use Rattle.axe_reduction.specs.Augmented.{AugmentedValue, IsAugmented, AreBeside, rows_beside, augmented, right_part}
 
 -- each row has so many entries
 abbrev pub HaveLength : ℕ → List (List ℕ) → Type 0
@@ -182,30 +178,6 @@ view-entry a b v i j view_is h below inside =
     let count = view-count a b v view_is in
     sym (ap (λ (x : AugmentedValue). entry x.rows i j) view_is)
     ∙ left-entry a.cols a.rows b.rows i j h.left.row_lengths (omega arith) (omega (arith, columns))
-
--- the first nonzero entry of a row of the first matrix is that left of the bar
-pub leads_left : (a b : MatrixValue) (v : AugmentedValue) (i : ℕ) (row : RowValue) (found : Option ℕ) → augmented a b ≡ v → AreBeside a b → i < length v.rows →
-    row ≡ row_of a i → MatchOption found (IsZeroVector row.entries) (IsFirstNonzero row.entries) → MatchOption found (IsZeroLeft v i) (LeadsLeftAt v i)
-leads_left a b v i row found view_is h below row_is first = at found (subst (λ (r : RowValue). MatchOption found (IsZeroVector r.entries) (IsFirstNonzero r.entries)) row_is first)
-  where
-    columns : a.cols ≡ v.left
-    columns = ap (λ (x : AugmentedValue). x.left) view_is
-
-    long : length (get_or a.rows i []) ≡ v.left
-    long = let count = view-count a b v view_is in length-row_of a i h.left (omega (arith, count)) ∙ columns
-
-    same : (j : ℕ) → j < v.left → entry v.rows i j ≡ entry a.rows i j
-    same j inside = view-entry a b v i j view_is h below inside
-
-    at : (found : Option ℕ) → MatchOption found (IsZeroVector (get_or a.rows i [])) (IsFirstNonzero (get_or a.rows i [])) → MatchOption found (IsZeroLeft v i) (LeadsLeftAt v i)
-    at None zeros = λ j inside. same j inside ∙ zeros j 0 (omega (arith, long))
-    at (Some j) first =
-        let inside : j < v.left = omega (arith, long, first.within) in
-        record {
-          within = inside;
-          nonzero = λ e. first.nonzero (sym (same j inside) ∙ e);
-          before = λ column earlier. same column (omega arith) ∙ first.zeros_before column earlier;
-        }
 
 -- the second matrix is what stands right of the bar
 pub view-right : (a b : MatrixValue) (v : AugmentedValue) → augmented a b ≡ v → AreBeside a b → b ≡ right_part v b.cols

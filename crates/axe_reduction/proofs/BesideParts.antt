@@ -8,61 +8,12 @@ use Rattle.axe_algebra.specs.Lists.{entry, listed, table}
 use Rattle.axe_algebra.proofs.ListEntries.{listed_length, listed_at, table_length, table_row}
 use Rattle.axe_field.specs.Order.{Order}
 use Rattle.axe_row.specs.Rows.{RowValue}
-use Rattle.axe_matrix.specs.Matrices.{MatrixValue, IsMatrix, AreSplit, row_of, matrix_block}
+use Rattle.axe_matrix.specs.Matrices.{MatrixValue, IsMatrix, AreSplit, row_of}
 use Rattle.axe_matrix.proofs.MatrixLaws.{same_matrix}
 use Rattle.axe_reduction.specs.Augmented.{AugmentedValue, AreBeside, rows_beside, augmented, some_rows, with_rows, entries_at_columns}
-use Rattle.axe_reduction.proofs.BesideLaws.{HaveLength, length-row, length-rows_beside, row-rows_beside, append_beside, same_augmented, view-count, view-entry}
+use Rattle.axe_reduction.proofs.BesideLaws.{length-rows_beside, row-rows_beside, append_beside, same_augmented, view-count, view-entry}
 
 -- ---- some of the rows
-
--- a row of a block of all columns
-block_row : (m start count : ℕ) (a : List (List ℕ)) (i : ℕ) → HaveLength m a → start + count ≤ length a → i < count →
-    get_or (table count m (λ i j. entry a (start + i) (0 + j))) i [] ≡ get_or a (start + i) []
-block_row m start count a i long within below =
-    let row : List ℕ = get_or a (start + i) [] in
-    let same : length row ≡ m = length-row m a (start + i) long (omega arith) in
-    table_row count m (λ i j. entry a (start + i) (0 + j)) i below
-    ∙ ext_get_or 0 (listed m (λ j. get_or row (0 + j) 0)) row (listed_length m (λ j. get_or row (0 + j) 0) ∙ sym same) (λ j inside.
-    listed_at m (λ j. get_or row (0 + j) 0) j 0 (omega (arith, listed_length m (λ j. get_or row (0 + j) 0)))
-    ∙ ap (λ k. get_or row k 0) (let at : 0 + j ≡ j = omega arith in at))
-
--- blocks of all columns beside one another
-block_beside : (m n start count : ℕ) (a b : List (List ℕ)) → HaveLength m a → HaveLength n b → length b ≡ length a → start + count ≤ length a →
-    rows_beside (table count m (λ i j. entry a (start + i) (0 + j))) (table count n (λ i j. entry b (start + i) (0 + j)))
-    ≡ listed count (λ i. get_or (rows_beside a b) (start + i) [])
-block_beside m n start count a b long_a long_b same within =
-    let left = table count m (λ i j. entry a (start + i) (0 + j)) in
-    let right = table count n (λ i j. entry b (start + i) (0 + j)) in
-    let f : ℕ → List ℕ = λ i. get_or (rows_beside a b) (start + i) [] in
-    let all : length left ≡ count = table_length count m (λ i j. entry a (start + i) (0 + j)) in
-    ext_get_or [] (rows_beside left right) (listed count f) (length-rows_beside left right ∙ all ∙ sym (listed_length count f)) (λ i below.
-    let inside : i < count = omega (arith, length-rows_beside left right, all) in
-    row-rows_beside left right i (omega (arith, all))
-    ∙ ap₂ (λ (x y : List ℕ). x ++ y) (block_row m start count a i long_a within inside) (block_row n start count b i long_b (omega arith) inside)
-    ∙ sym (listed_at count f i [] inside ∙ row-rows_beside a b (start + i) (omega arith)))
-
--- blocks of as many rows are beside one another
-pub blocks-AreBeside : (a b left right : MatrixValue) (start count m n : ℕ) → AreBeside a b → left ≡ matrix_block a start count 0 m →
-    right ≡ matrix_block b start count 0 n → IsMatrix left → IsMatrix right → AreBeside left right
-blocks-AreBeside a b left right start count m n h left_is right_is left_fine right_fine = record {
-  field = ap (λ (x : MatrixValue). x.order) right_is ∙ h.field ∙ sym (ap (λ (x : MatrixValue). x.order) left_is);
-  as_many =
-      ap (λ (x : MatrixValue). length x.rows) right_is ∙ table_length count n (λ i j. entry b.rows (start + i) (0 + j))
-      ∙ sym (ap (λ (x : MatrixValue). length x.rows) left_is ∙ table_length count m (λ i j. entry a.rows (start + i) (0 + j)));
-  left = left_fine;
-  right = right_fine;
-}
-
--- they are some of the rows
-pub blocks_are_rows : (a b left right : MatrixValue) (v : AugmentedValue) (start count m n : ℕ) → augmented a b ≡ v → AreBeside a b →
-    start + count ≤ length v.rows → m ≡ a.cols → n ≡ b.cols → left ≡ matrix_block a start count 0 m → right ≡ matrix_block b start count 0 n →
-    augmented left right ≡ some_rows v start count
-blocks_are_rows a b left right v start count m n view_is h within m_is n_is left_is right_is =
-    let rows = view-count a b v view_is in
-    ap₂ augmented (left_is ∙ ap (λ k. matrix_block a start count 0 k) m_is) (right_is ∙ ap (λ k. matrix_block b start count 0 k) n_is)
-    ∙ same_augmented (augmented (matrix_block a start count 0 a.cols) (matrix_block b start count 0 b.cols)) (some_rows (augmented a b) start count) refl refl refl
-    (block_beside a.cols b.cols start count a.rows b.rows h.left.row_lengths h.right.row_lengths h.as_many (omega (arith, rows)))
-    ∙ ap (λ (x : AugmentedValue). some_rows x start count) view_is
 
 -- the first rows beside one another
 first_beside : (count : ℕ) (a b : List (List ℕ)) → length b ≡ length a → count ≤ length a →

@@ -1,16 +1,16 @@
 -- A reduction of rows and one further row, over a field of numbers.
-use Rattle.std.proofs.Common.{◌≡◌, ◌≢◌, ℕ, zero, suc, ◌+◌, ◌<◌, List, [], ◌∷◌, ◌++◌, length, get_or, refl, sym, ap, ap₂, subst, ◌∙◌, arith}
+use Rattle.std.proofs.Common.{◌≡◌, ◌≢◌, ℕ, zero, suc, ◌<◌, List, [], ◌∷◌, ◌++◌, length, get_or, refl, sym, ap, subst, ◌∙◌, arith}
 use Rattle.std.specs.List.{All}
 use Rattle.std.proofs.lemmas.List.{ext_get_or, append-nil}
 use Rattle.axe_algebra.specs.Bridge.{field_of, element, vector_of, matrix_of}
 use Rattle.axe_algebra.specs.Field.{Field}
-use Rattle.axe_algebra.specs.Lists.{table, listed, IsVectorOver, IsMatrixOver}
+use Rattle.axe_algebra.specs.Lists.{listed, IsVectorOver, IsMatrixOver}
 use Rattle.axe_algebra.specs.NumberField.{NumberField}
 use Rattle.axe_algebra.specs.SpansOfLists.{HaveSameSpan}
-use Rattle.axe_algebra.specs.Vectors.{Vector, Matrix, subtract, scale, times, add_vectors}
-use Rattle.axe_algebra.proofs.ElementNumbers.{element_zero, element_one}
+use Rattle.axe_algebra.specs.Vectors.{Vector, Matrix, subtract, scale, times}
+use Rattle.axe_algebra.proofs.ElementNumbers.{element_zero}
 use Rattle.axe_algebra.proofs.FieldLaws.{neg-sum_of_two, zero-add}
-use Rattle.axe_algebra.proofs.ListEntries.{listed_at, listed_length, table_length, table_row, table_over, same_vector, row_over, matrix_entry-below}
+use Rattle.axe_algebra.proofs.ListEntries.{listed_at, listed_length, table_over, same_vector, row_over, matrix_entry-below}
 use Rattle.axe_algebra.proofs.ListProducts.{product_entry-below}
 use Rattle.axe_algebra.proofs.ListVectors.{same_span_refl}
 use Rattle.axe_algebra.proofs.ProductLaws.{times_more, times_none}
@@ -18,7 +18,7 @@ use Rattle.axe_algebra.proofs.Reducing.{combination_zero_at}
 use Rattle.axe_matrix.specs.Products.{rows_with_product}
 use Rattle.axe_reduction.specs.Forms.{AreReducedRows, AreReduced, less_rows}
 use Rattle.axe_reduction.proofs.ClearLaws.{nothing_added}
-use Rattle.axe_reduction.proofs.ClearedLaws.{at_pivots, at_pivots_over, cleared_rows, cleared_length, less_reduced, matrix_of_cleared}
+use Rattle.axe_reduction.proofs.ClearedLaws.{at_pivots, at_pivots_over, cleared_rows, cleared_length, matrix_of_cleared}
 use Rattle.axe_reduction.proofs.JoinedLaws.{less_zero}
 use Rattle.axe_reduction.proofs.JoinedRows.{append_stacked, join_are_reduced}
 use Rattle.axe_reduction.proofs.RowReduction.{multiples, same_span_of_multiples, multiple_is_reduced}

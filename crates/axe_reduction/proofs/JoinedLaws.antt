@@ -1,7 +1,7 @@
 -- Two lists of reduced rows joined, and what they span with the other rows, over any field.
 use Rattle.std.specs.Prelude.{◌≡◌, ◌≢◌, ℕ, ◌<◌, ◌+◌, ◌-◌}
 use Rattle.axe_algebra.specs.Field.{Field}
-use Rattle.axe_algebra.specs.Vectors.{Vector, Matrix, subtract, add_vectors, times}
+use Rattle.axe_algebra.specs.Vectors.{Vector, Matrix, add_vectors, times}
 use Rattle.axe_algebra.specs.Spans.{InSpan, SpanWithin, SameSpan}
 use Rattle.axe_algebra.proofs.FieldLaws.{mul-zero, zero-mul, neg-zero, neg-add, difference_of_same}
 use Rattle.axe_algebra.proofs.Sums.{sum_zeros}

@@ -1,6 +1,5 @@
 -- Two reductions of lists of rows over a field of numbers, joined.
 use Rattle.std.specs.Prelude.{◌≡◌, ℕ, ◌<◌, ◌+◌, List, [], ◌++◌, length, get_or}
-use Rattle.std.specs.List.{All}
 use Rattle.std.proofs.lemmas.List.{length-append, get_or_append_left, get_or-append-add}
 use Rattle.std.proofs.lemmas.List.Elements.{All-append}
 use Rattle.axe_algebra.specs.NumberField.{NumberField}
@@ -11,7 +10,7 @@ use Rattle.axe_algebra.proofs.Spanning.{within_trans}
 use Rattle.axe_algebra.specs.Bridge.{field_of, element, vector_of, matrix_of}
 use Rattle.axe_algebra.specs.Lists.{IsMatrixOver}
 use Rattle.axe_algebra.specs.SpansOfLists.{HaveSameSpan}
-use Rattle.axe_reduction.specs.Forms.{AreReducedRows, AreReduced}
+use Rattle.axe_reduction.specs.Forms.{AreReduced}
 use Rattle.axe_reduction.proofs.JoinedLaws.{each_of_sum, AreStacked, less_at_pivot, span_zero_at, joined_are_reduced, joined_same_span, first_within}
 use Rattle.axe_reduction.proofs.ClearedLaws.{cleared_rows, less_reduced, matrix_of_cleared, cleared_length}
 use mathlib.Core.Path.{sym, ◌∙◌, ap, subst}

@@ -1,28 +1,19 @@
--- The reduction of a single row: its multiple that is 1 at its first entry other than 0, or the row itself as the rest.
-use Rattle.std.specs.Prelude.{◌≡◌, ℕ, zero, suc, ◌+◌, ◌<◌, List, [], ◌∷◌, ◌++◌, length, get_or}
-use Rattle.std.proofs.lemmas.List.{append-nil}
+-- Multiples of rows, which span what the rows do, and the multiple of a row that is reduced at its first entry other than 0.
+use Rattle.std.specs.Prelude.{◌≡◌, ℕ, zero, suc, ◌<◌, List, [], ◌∷◌, length, get_or}
 use Rattle.axe_algebra.specs.Bridge.{field_of, element, vector_of, matrix_of}
 use Rattle.axe_algebra.specs.Field.{Field}
-use Rattle.axe_algebra.specs.Lists.{entry, listed, table, IsMatrixOver}
+use Rattle.axe_algebra.specs.Lists.{entry, table, IsMatrixOver}
 use Rattle.axe_algebra.specs.NumberField.{NumberField}
 use Rattle.axe_algebra.specs.SpansOfLists.{HaveSameSpan}
 use Rattle.axe_algebra.specs.Vectors.{Vector, scale}
 use Rattle.axe_algebra.proofs.ElementNumbers.{element_zero, element_one, element_mul}
 use Rattle.axe_algebra.proofs.FieldLaws.{one-mul}
 use Rattle.axe_algebra.proofs.ListEntries.{table_length, table_entry, table_over, row_over, matrix_entry-below}
-use Rattle.axe_algebra.proofs.ListVectors.{vector_of_scaled, same_span_refl, same_span_by_rows}
+use Rattle.axe_algebra.proofs.ListVectors.{vector_of_scaled, same_span_by_rows}
 use Rattle.axe_algebra.proofs.Spanning.{span_row, span_same, span_scale}
-use Rattle.axe_field.specs.Arithmetic.{field_mul}
-use Rattle.axe_field.specs.NumberFields.{number_field, gf}
-use Rattle.axe_field.specs.Order.{Order, IsElement}
-use Rattle.axe_reduction.specs.Augmented.{AugmentedValue, IsAugmented, AreAlike, LeadsLeftAt, IsZeroLeft}
-use Rattle.axe_reduction.specs.Augmented.{some_rows, scaled_rows}
 use Rattle.axe_reduction.specs.Forms.{AreReducedRows}
-use Rattle.axe_reduction.specs.Reductions.{AreReducedAt, AreZeroLeft, IsReductionOf}
-use Rattle.axe_reduction.specs.declared.reduction.Reduction.{Reduction}
-use Rattle.axe_reduction.proofs.BesideLaws.{element-below}
 use Rattle.axe_reduction.proofs.ClearLaws.{mul-zero}
-use mathlib.Core.Path.{refl, sym, ◌∙◌, ap, ap₂, subst, fun_ext}
+use mathlib.Core.Path.{sym, ◌∙◌, ap, fun_ext}
 use native.Mathlib.Omega.{arith}
 
 -- ---- multiples of rows

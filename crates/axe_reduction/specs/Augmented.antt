@@ -1,8 +1,7 @@
 -- Augmented matrices: each row of a matrix goes on, beyond a bar, with a row of a second one.
-use Rattle.std.specs.Prelude.{◌≡◌, ◌≢◌, ℕ, ◌+◌, ◌<◌, ◌≤◌, List, [], ◌++◌, length, get_or}
+use Rattle.std.specs.Prelude.{◌≡◌, ℕ, ◌+◌, ◌<◌, ◌≤◌, List, [], ◌++◌, length, get_or}
 use Rattle.axe_algebra.specs.Lists.{entry, listed, table, IsMatrixOver}
 use Rattle.axe_field.specs.Order.{Order}
-use Rattle.axe_field.specs.Arithmetic.{field_mul}
 use Rattle.axe_field.specs.NumberFields.{number_field}
 use Rattle.axe_matrix.specs.Limits.{most_rows, most_columns}
 use Rattle.axe_matrix.specs.Matrices.{MatrixValue, IsMatrix}
@@ -69,22 +68,6 @@ with_rows a b = record a { rows = a.rows ++ b.rows }
 abbrev pub with_product : AugmentedValue → ℕ → MatrixValue → AugmentedValue → AugmentedValue
 with_product a c factors b =
     record a { rows = rows_with_product (number_field a.order) a.cols a.rows c factors.rows b.rows }
-
--- each entry times c
-abbrev pub scaled_rows : AugmentedValue → ℕ → AugmentedValue
-scaled_rows a c = record a {
-  rows = table (length a.rows) a.cols (λ i j. field_mul a.order c (entry a.rows i j));
-}
-
--- the first nonzero entry of row i stands at column j, left of the bar
-pub record LeadsLeftAt (a : AugmentedValue) (i j : ℕ) : Type 0 where
-  pub within : j < a.left
-  pub nonzero : entry a.rows i j ≢ 0
-  pub before : (column : ℕ) → column < j → entry a.rows i column ≡ 0
-
--- row i is 0 left of the bar
-abbrev pub IsZeroLeft : AugmentedValue → ℕ → Type 0
-IsZeroLeft a i = (j : ℕ) → j < a.left → entry a.rows i j ≡ 0
 
 -- two augmented matrices over one field, with the same columns and the bar at one place
 pub record AreAlike (a b : AugmentedValue) : Type 0 where

@@ -1,5 +1,5 @@
-use Rattle.std.proofs.Common.{length, ◌≤◌, arith}
-use Rattle.axe_reduction.proofs.AugmentedRowLaws.{mapped_none, mapped_all}
+use Rattle.std.proofs.Common.{arith}
+use Rattle.axe_reduction.proofs.AugmentedRowLaws.{mapped_all}
 use Rattle.axe_reduction.proofs.augmented_row.cancel_in_each.Goals as goal
 
 pub returns-clause-cancelled : goal.returns-clause-cancelled

@@ -1,4 +1,4 @@
-use Rattle.std.proofs.Common.{length, refl}
+use Rattle.std.proofs.Common.{refl}
 use Rattle.axe_reduction.proofs.GrowingLaws.{cleared_below_none, cleared_below_more}
 use Rattle.axe_reduction.proofs.few.clear.Goals as goal
 

@@ -1,4 +1,4 @@
-use Rattle.std.proofs.Common.{◌≡◌, ◌≤◌, length, refl, arith}
+use Rattle.std.proofs.Common.{refl, arith}
 use Rattle.axe_reduction.proofs.GrowingLaws.{first_none, first_fit, first_all}
 use Rattle.axe_reduction.proofs.few.reduction_of_few.Goals as goal
 
