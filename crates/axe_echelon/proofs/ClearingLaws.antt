@@ -1,31 +1,36 @@
--- Rows from which the pivots of the steps are cleared, one step after another.
+-- Rows from which the pivots of the steps are cleared, one after another in the order of their columns.
 use Rattle.std.specs.Prelude.{◌≡◌, ◌≢◌, ℕ, suc, ◌+◌, ◌<◌, ◌≤◌, List, length, get_or, set, replicate}
-use Rattle.std.proofs.Common.{add-one, get_or-set_other, get_or-set_same}
-use Rattle.std.proofs.lemmas.List.{length-set, set-get_or}
+use Rattle.std.proofs.Common.{get_or-set_other, get_or-set_same}
+use Rattle.std.proofs.lemmas.List.{length-map, length-set}
 use Rattle.axe_algebra.specs.NumberField.{NumberField}
 use Rattle.axe_algebra.specs.Vectors.{Vector, HasLength, zero_vector, unit_vector, add_vectors, scale, times}
 use Rattle.axe_algebra.specs.Bridge.{element, vector_of, matrix_of}
 use Rattle.axe_algebra.specs.Lists.{IsVectorOver}
+use Rattle.axe_algebra.specs.Reduced.{IsZeroAtPivots}
 use Rattle.axe_algebra.specs.SpansOfLists.{IsSpanned, IsRepresentative}
 use Rattle.axe_algebra.proofs.ProductLaws.{times_zero, times_unit, unit_at, unit_off}
 use Rattle.axe_algebra.proofs.FieldLaws.{zero-add, mul-zero}
 use Rattle.axe_algebra.proofs.Spanning.{span_same}
 use Rattle.axe_algebra.proofs.ElementNumbers.{element_neg, element_zero, entry-below}
 use Rattle.axe_algebra.proofs.ListVectors.{vector_of_added, IsInCoset, coset_of_itself, added_in_coset}
+use Rattle.axe_bits.specs.Supports.{restricted}
+use Rattle.axe_lane.specs.Entries.{AreZerosFrom, AreZerosBetween, IsNextNonzero}
 use Rattle.axe_field.specs.Order.{Order, IsElement}
 use Rattle.axe_field.specs.Arithmetic.{field_neg}
 use Rattle.axe_field.specs.NumberFields.{number_field, gf}
 use Rattle.axe_row.specs.Rows.{RowValue, IsRow}
 use Rattle.axe_row.specs.Operations.{sum_with_multiple, row_with_multiple}
 use Rattle.axe_row.proofs.OperationLaws.{get_or-sum_with_multiple}
-use Rattle.axe_echelon.specs.Steps.{inserted_rows, echelon_rows, multiplier_rows, scalars, pivots, IsStep, AreSteps, IsCleared}
+use Rattle.axe_echelon.specs.Steps.{inserted_rows, echelon_rows, multiplier_rows, scalars, pivots, IsStep, AreSteps, AreTabledSteps, IsCleared}
+use Rattle.axe_echelon.specs.PivotTables.{marks_of, HasRoom, IsPivotAt}
 use Rattle.axe_echelon.specs.declared.Step.{Step}
-use Rattle.axe_echelon.proofs.FormLaws.{below_or_at, cleared_more, cleared_all, rows_within, offset_more}
-use Rattle.axe_echelon.proofs.StepLaws.{over_of_row, is_row_of_over, below_of_element, negative_of, steps_fit, zeros_over, vector_of_zeros, row_of_steps, pivot_of_steps, length-inserted, step_at}
-use Rattle.axe_echelon.proofs.EliminationLaws.{zero_entry}
+use Rattle.axe_echelon.specs.declared.pivot_table.PivotTable.{PivotTable}
+use Rattle.axe_echelon.proofs.FormLaws.{cleared_more, cleared_all, rows_within, offset_more}
+use Rattle.axe_echelon.proofs.PivotTableLaws.{length-restricted, zero_where_marked, found_is_marked, room_if_marked}
+use Rattle.axe_echelon.proofs.StepLaws.{over_of_row, below_of_element, negative_of, steps_fit, zeros_over, vector_of_zeros, row_of_steps, pivot_of_steps, length-inserted, step_at}
 use mathlib.Core.Path.{sym, ◌∙◌, ap, ap₂, subst, fun_ext}
 use native.Mathlib.Omega.{arith}
-use native.Mathlib.Decide.{ℕ_discrete}
+use native.Mathlib.Decide.{ℕ_discrete, dec_lt}
 
 -- a row with a multiple of another
 sum_entry : (o : Order) (n : ℕ) (row other next : RowValue) (scalar : ℕ) → row.order ≡ o → IsVectorOver (number_field o) n row.entries →
@@ -44,240 +49,287 @@ pub vector_of_sum : (o : Order) (n : ℕ) (row other next : RowValue) (scalar : 
 vector_of_sum o n row other next scalar field over over_other is over_next below =
     vector_of_added (number_field o) n scalar row.entries other.entries next.entries over over_other over_next below (sum_entry o n row other next scalar field over is)
 
--- a row from which the pivots of the first i steps are cleared, in the coset of the first row
-pub record IsReducedSoFar (o : Order) (n : ℕ) (steps : List Step) (i : ℕ) (first row : RowValue) : Type 0 where
+-- a row that is 0 at the pivots before a column
+pub record IsClearBefore (o : Order) (n : ℕ) (steps : List Step) (column : ℕ) (row : RowValue) : Type 0 where
   pub field : row.order ≡ o
   pub over : IsVectorOver (number_field o) n row.entries
-  pub in_coset : IsInCoset (number_field o) (inserted_rows steps) first.entries row.entries
-  pub cleared : (s : ℕ) → s < i → vector_of (number_field o) row.entries (get_or (pivots steps) s 0) ≡ (gf o).zero
+  pub cleared : (s : ℕ) → s < length (inserted_rows steps) → get_or (pivots steps) s 0 < column →
+      vector_of (number_field o) row.entries (get_or (pivots steps) s 0) ≡ (gf o).zero
 
--- a row from which the pivots of the first i steps are cleared: the first row plus a combination of their rows
-pub record IsClearedSoFar (o : Order) (n : ℕ) (steps : List Step) (i : ℕ) (first row multipliers : RowValue) : Type 0 where
-  pub row_field : row.order ≡ o
+-- a row that is 0 at the pivots before a column, in the coset of the first row
+pub record IsReducedBefore (o : Order) (n : ℕ) (steps : List Step) (column : ℕ) (first row : RowValue) : Type 0 where
+  pub clear : IsClearBefore o n steps column row
+  pub in_coset : IsInCoset (number_field o) (inserted_rows steps) first.entries row.entries
+
+-- a row that is 0 at the pivots before a column: the first row plus a combination of the rows that have these pivots
+pub record IsClearedBefore (o : Order) (n : ℕ) (steps : List Step) (column : ℕ) (first row multipliers : RowValue) : Type 0 where
+  pub clear : IsClearBefore o n steps column row
   pub multipliers_field : multipliers.order ≡ o
-  pub row_over : IsVectorOver (number_field o) n row.entries
   pub multipliers_over : IsVectorOver (number_field o) n multipliers.entries
   pub offset : vector_of (number_field o) row.entries ≡
       add_vectors (gf o) (vector_of (number_field o) first.entries)
       (times (gf o) (length (inserted_rows steps)) (vector_of (number_field o) multipliers.entries) (matrix_of (number_field o) (echelon_rows steps)))
-  pub cleared : (s : ℕ) → s < i → vector_of (number_field o) row.entries (get_or (pivots steps) s 0) ≡ (gf o).zero
-  pub few : HasLength (gf o) i (vector_of (number_field o) multipliers.entries)
+  pub no_others : (t : ℕ) → t < length (inserted_rows steps) → column ≤ get_or (pivots steps) t 0 →
+      vector_of (number_field o) multipliers.entries t ≡ (gf o).zero
+  pub few : HasLength (gf o) (length (inserted_rows steps)) (vector_of (number_field o) multipliers.entries)
 
--- the scalar that clears the pivot of a step
-pub record IsClearing (o : Order) (step : Step) (row : RowValue) (scalar : ℕ) : Type 0 where
+-- what is added to a row to clear the pivot of a step: the multiple by the negative of its entry there
+pub record IsClearing (o : Order) (n : ℕ) (step : Step) (row next : RowValue) (scalar : ℕ) : Type 0 where
   pub below : scalar < (number_field o).order
   pub is : scalar ≡ (number_field o).neg (get_or row.entries step.pivot 0)
+  pub sum : next ≡ row_with_multiple row scalar step.row
+  pub field : next.order ≡ o
+  pub over : IsVectorOver (number_field o) n next.entries
 
-pub reduced_so_far_none : (o : Order) (n : ℕ) (steps : List Step) (row : RowValue) → row.order ≡ o → IsVectorOver (number_field o) n row.entries →
-    IsReducedSoFar o n steps 0 row row
-reduced_so_far_none o n steps row field over = record {
-  field = field;
-  over = over;
-  in_coset = coset_of_itself (number_field o) (inserted_rows steps) row.entries;
-  cleared = λ s below. absurd (omega arith);
+-- as the code clears it
+pub clearing_of : (o q : Order) (n : ℕ) (step : Step) (row next : RowValue) (scalar column : ℕ) → row.order ≡ o → IsVectorOver (number_field o) n row.entries →
+    step.pivot ≡ column → q ≡ o → IsElement q scalar → scalar ≡ field_neg q (get_or row.entries column 0) → next ≡ row_with_multiple row scalar step.row →
+    length next.entries ≡ length row.entries → IsRow next → IsClearing o n step row next scalar
+clearing_of o q n step row next scalar column field over pivot same element value sum long h = record {
+  below = subst (λ p. scalar < (number_field p).order) same (below_of_element q scalar element);
+  is = value ∙ ap₂ field_neg same (ap (λ k. get_or row.entries k 0) (sym pivot)) ∙ sym (negative_of o (get_or row.entries step.pivot 0));
+  sum = sum;
+  field = next_field;
+  over = over_of_row o n next next_field h (long ∙ over.length_is);
 }
+  where
+    next_field : next.order ≡ o
+    next_field = ap (λ (r : RowValue). r.order) sum ∙ field
 
-module _ (o : Order) (n : ℕ) (steps : List Step) (i : ℕ) (step : Step) (are : AreSteps o n steps) (below : i < length steps) (is : step ≡ get_or steps i step) where
+-- ---- the pivots up to the next at which a row is not 0
+
+module _ (o : Order) (n : ℕ) (steps : List Step) (table : PivotTable) (tabled : AreTabledSteps o n steps table) (row : RowValue) (start : ℕ)
+    (clear : IsClearBefore o n steps start row) where
+  counted : length (pivots steps) ≡ length (inserted_rows steps)
+  counted = omega (arith, length-inserted steps, length-map steps (λ (s : Step). s.pivot))
+
+  pub clear_up_to : (column : ℕ) → AreZerosBetween (restricted (marks_of table) row.entries) start column → IsClearBefore o n steps column row
+  clear_up_to column zeros = record {
+    field = clear.field;
+    over = clear.over;
+    cleared = λ s below ahead. at s below ahead (dec_lt (get_or (pivots steps) s 0) start);
+  }
+    where
+      at : (s : ℕ) → s < length (inserted_rows steps) → get_or (pivots steps) s 0 < column → Dec (get_or (pivots steps) s 0 < start) →
+          vector_of (number_field o) row.entries (get_or (pivots steps) s 0) ≡ (gf o).zero
+      at s below ahead (yes before) = clear.cleared s below before
+      at s below ahead (no after) =
+          ap (element (number_field o))
+          (zero_where_marked (marks_of table) row.entries (get_or (pivots steps) s 0) (tabled.tabled.marked s (omega (arith, below, counted)))
+          (zeros (get_or (pivots steps) s 0) (omega (arith, after)) ahead))
+          ∙ element_zero (number_field o)
+
+  -- where there is none the row is clear
+  pub clear_everywhere : AreZerosFrom (restricted (marks_of table) row.entries) start → IsClearBefore o n steps n row
+  clear_everywhere zeros = clear_up_to n (λ j from ahead. zeros j from)
+
+-- the step of the pivot that was found
+pub record IsFoundStep (steps : List Step) (column t : ℕ) : Type 0 where
+  pub within : t < length steps
+  pub pivot : get_or (pivots steps) t 0 ≡ column
+
+pub found_step : (o : Order) (n : ℕ) (steps : List Step) (table : PivotTable) (entries : List ℕ) (start column t : ℕ) → AreTabledSteps o n steps table →
+    IsNextNonzero (restricted (marks_of table) entries) start column → t ≡ get_or table.rows.items column 0 → IsFoundStep steps column t
+found_step o n steps table entries start column t tabled found is = record {
+  within = omega (arith, at.within, length-map steps (λ (s : Step). s.pivot));
+  pivot = at.is;
+}
+  where
+    at : IsPivotAt (pivots steps) t column
+    at = subst (λ k. IsPivotAt (pivots steps) k column) (sym is) (tabled.tabled.row column (found_is_marked (marks_of table) entries start column found))
+
+pub room_of_found : (o : Order) (n : ℕ) (steps : List Step) (table : PivotTable) (entries : List ℕ) (start column : ℕ) → AreTabledSteps o n steps table →
+    IsNextNonzero (restricted (marks_of table) entries) start column → HasRoom n table
+room_of_found o n steps table entries start column tabled found =
+    room_if_marked n (pivots steps) table column tabled.tabled (found_is_marked (marks_of table) entries start column found)
+
+pub place_of_found : (marks entries : List ℕ) (start column : ℕ) → IsNextNonzero (restricted marks entries) start column → column < length entries
+place_of_found marks entries start column found = omega (arith, found.within, length-restricted marks entries)
+
+-- ---- one more pivot
+
+module _ (o : Order) (n : ℕ) (steps : List Step) (t : ℕ) (step : Step) (are : AreSteps o n steps) (below : t < length steps) (is : step ≡ get_or steps t step) where
   abbrev K : NumberField
   K = number_field o
 
-  at_i : IsStep o n step
-  at_i = step_at o n steps i step are below is
+  at_t : IsStep o n step
+  at_t = step_at o n steps t step are below is
 
-  inside : i < length (inserted_rows steps)
+  inside : t < length (inserted_rows steps)
   inside = omega (arith, length-inserted steps)
+
+  pivot_is : get_or (pivots steps) t 0 ≡ step.pivot
+  pivot_is = pivot_of_steps steps t step below is
 
   row_spanned : IsSpanned K (inserted_rows steps) step.row.entries
   row_spanned =
-      span_same (gf o) (length (inserted_rows steps)) (matrix_of K (inserted_rows steps)) (vector_of K step.row.entries) (matrix_of K (echelon_rows steps) i)
-      (sym (row_of_steps o (λ (s : Step). s.row.entries) steps i step below is))
+      span_same (gf o) (length (inserted_rows steps)) (matrix_of K (inserted_rows steps)) (vector_of K step.row.entries) (matrix_of K (echelon_rows steps) t)
+      (sym (row_of_steps o (λ (s : Step). s.row.entries) steps t step below is))
       (rows_within (gf o) n (length (inserted_rows steps)) (matrix_of K (inserted_rows steps)) (matrix_of K (echelon_rows steps))
-      (matrix_of K (multiplier_rows steps)) (vector_of K (scalars steps)) (λ t. get_or (pivots steps) t 0) are.form i inside)
+      (matrix_of K (multiplier_rows steps)) (vector_of K (scalars steps)) (λ t. get_or (pivots steps) t 0) are.form t inside)
 
-  clears : (row next : RowValue) (scalar : ℕ) → row.order ≡ o → IsVectorOver K n row.entries → IsVectorOver K n next.entries →
-      IsClearing o step row scalar → next ≡ row_with_multiple row scalar step.row →
-      ((s : ℕ) → s < i → vector_of K row.entries (get_or (pivots steps) s 0) ≡ (gf o).zero) →
-      (s : ℕ) → s < suc i → vector_of K next.entries (get_or (pivots steps) s 0) ≡ (gf o).zero
-  clears row next scalar field over over_next clearing same cleared =
-      cleared_more (gf o) n (length (inserted_rows steps)) (matrix_of K (inserted_rows steps)) (matrix_of K (echelon_rows steps))
-      (matrix_of K (multiplier_rows steps)) (vector_of K (scalars steps)) (λ t. get_or (pivots steps) t 0) are.form i (vector_of K row.entries) (vector_of K next.entries)
-      inside cleared
-      (vector_of_sum o n row step.row next scalar field over at_i.row_over same over_next clearing.below
-      ∙ ap₂ (λ e (x : Vector (gf o)). add_vectors (gf o) (vector_of K row.entries) (scale (gf o) e x))
-      (ap (element K) clearing.is ∙ element_neg K (get_or row.entries step.pivot 0) (entry-below K row.entries step.pivot over.elements)
-      ∙ ap (λ k. (gf o).neg (vector_of K row.entries k)) (sym (pivot_of_steps steps i step below is)))
-      (sym (row_of_steps o (λ (s : Step). s.row.entries) steps i step below is)))
+  clears : (row next : RowValue) (scalar : ℕ) → IsClearBefore o n steps step.pivot row → IsClearing o n step row next scalar →
+      IsClearBefore o n steps (suc step.pivot) next
+  clears row next scalar clear clearing = record {
+    field = clearing.field;
+    over = clearing.over;
+    cleared = subst (λ k. (s : ℕ) → s < length (inserted_rows steps) → get_or (pivots steps) s 0 < suc k →
+        vector_of K next.entries (get_or (pivots steps) s 0) ≡ (gf o).zero) pivot_is
+        (cleared_more (gf o) n (length (inserted_rows steps)) (matrix_of K (inserted_rows steps)) (matrix_of K (echelon_rows steps))
+        (matrix_of K (multiplier_rows steps)) (vector_of K (scalars steps)) (λ t. get_or (pivots steps) t 0) are.form t (vector_of K row.entries)
+        (vector_of K next.entries) inside (λ s within ahead. clear.cleared s within (omega (arith, ahead, pivot_is)))
+        (vector_of_sum o n row step.row next scalar clear.field clear.over at_t.row_over clearing.sum clearing.over clearing.below
+        ∙ ap₂ (λ e (x : Vector (gf o)). add_vectors (gf o) (vector_of K row.entries) (scale (gf o) e x))
+        (ap (element K) clearing.is ∙ element_neg K (get_or row.entries step.pivot 0) (entry-below K row.entries step.pivot clear.over.elements)
+        ∙ ap (λ k. (gf o).neg (vector_of K row.entries k)) (sym pivot_is))
+        (sym (row_of_steps o (λ (s : Step). s.row.entries) steps t step below is))));
+  }
 
-  pub cleared_by_step : (first row next multipliers following : RowValue) (scalar : ℕ) → IsClearedSoFar o n steps i first row multipliers →
-      IsClearing o step row scalar → next ≡ row_with_multiple row scalar step.row →
-      following ≡ record { order = multipliers.order; entries = set multipliers.entries i scalar } →
-      next.order ≡ o → IsVectorOver K n next.entries → IsRow following → IsClearedSoFar o n steps (suc i) first next following
-  cleared_by_step first row next multipliers following scalar so_far clearing same_next placed next_field next_over following_row =
-      record {
-        row_field = next_field;
-        multipliers_field = following_field;
-        row_over = next_over;
-        multipliers_over = over_of_row o n following following_field following_row
-            (ap (λ (r : RowValue). length r.entries) placed ∙ length-set multipliers.entries i scalar ∙ so_far.multipliers_over.length_is);
-        offset = offset_more (gf o) (length (inserted_rows steps)) (matrix_of K (echelon_rows steps)) (vector_of K first.entries) (vector_of K row.entries)
-            (vector_of K next.entries) (vector_of K step.row.entries) (vector_of K multipliers.entries) (vector_of K following.entries)
-            (unit_vector (gf o) i) (element K scalar) so_far.offset
-            (sym (row_of_steps o (λ (s : Step). s.row.entries) steps i step below is)
-            ∙ sym (times_unit (gf o) (length (inserted_rows steps)) i (matrix_of K (echelon_rows steps)) inside))
-            (vector_of_sum o n row step.row next scalar so_far.row_field so_far.row_over at_i.row_over same_next next_over clearing.below)
-            (fun_ext λ j. at j (ℕ_discrete j i));
-        cleared = clears row next scalar so_far.row_field so_far.row_over next_over clearing same_next so_far.cleared;
-        few = λ j past. other j (omega (arith, past)) ∙ so_far.few j (omega (arith, past));
-      }
+  pub reduced_more : (first row next : RowValue) (scalar : ℕ) → IsReducedBefore o n steps step.pivot first row → IsClearing o n step row next scalar →
+      IsReducedBefore o n steps (suc step.pivot) first next
+  reduced_more first row next scalar so_far clearing = record {
+    clear = clears row next scalar so_far.clear clearing;
+    in_coset = added_in_coset K n scalar (inserted_rows steps) first.entries row.entries step.row.entries next.entries so_far.clear.over at_t.row_over
+        clearing.over clearing.below (sum_entry o n row step.row next scalar so_far.clear.field so_far.clear.over clearing.sum) so_far.in_coset row_spanned;
+  }
+
+  pub cleared_by_step : (first row next multipliers following : RowValue) (scalar : ℕ) → IsClearedBefore o n steps step.pivot first row multipliers →
+      IsClearing o n step row next scalar → following ≡ record { order = multipliers.order; entries = set multipliers.entries t scalar } → IsRow following →
+      IsClearedBefore o n steps (suc step.pivot) first next following
+  cleared_by_step first row next multipliers following scalar so_far clearing placed following_row = record {
+    clear = clears row next scalar so_far.clear clearing;
+    multipliers_field = following_field;
+    multipliers_over = over_of_row o n following following_field following_row
+        (ap (λ (r : RowValue). length r.entries) placed ∙ length-set multipliers.entries t scalar ∙ so_far.multipliers_over.length_is);
+    offset = offset_more (gf o) (length (inserted_rows steps)) (matrix_of K (echelon_rows steps)) (vector_of K first.entries) (vector_of K row.entries)
+        (vector_of K next.entries) (vector_of K step.row.entries) (vector_of K multipliers.entries) (vector_of K following.entries)
+        (unit_vector (gf o) t) (element K scalar) so_far.offset
+        (sym (row_of_steps o (λ (s : Step). s.row.entries) steps t step below is)
+        ∙ sym (times_unit (gf o) (length (inserted_rows steps)) t (matrix_of K (echelon_rows steps)) inside))
+        (vector_of_sum o n row step.row next scalar so_far.clear.field so_far.clear.over at_t.row_over clearing.sum clearing.over clearing.below)
+        (fun_ext λ j. at j (ℕ_discrete j t));
+    no_others = λ s within past. other s (λ e. absurd (omega (arith, past, pivot_is, ap (λ k. get_or (pivots steps) k 0) e)))
+        ∙ so_far.no_others s within (omega (arith, past));
+    few = λ j past. other j (omega (arith, past, inside)) ∙ so_far.few j past;
+  }
     where
       following_field : following.order ≡ o
       following_field = ap (λ (r : RowValue). r.order) placed ∙ so_far.multipliers_field
 
-      place : i < length multipliers.entries
+      place : t < length multipliers.entries
       place = omega (arith, below, steps_fit o n steps are, so_far.multipliers_over.length_is)
 
-      other : (j : ℕ) → j ≢ i → vector_of K following.entries j ≡ vector_of K multipliers.entries j
-      other j differs = ap (element K) (ap (λ (r : RowValue). get_or r.entries j 0) placed ∙ get_or-set_other multipliers.entries i j scalar 0 differs)
+      none_there : vector_of K multipliers.entries t ≡ (gf o).zero
+      none_there = so_far.no_others t inside (omega (arith, pivot_is))
 
-      at : (j : ℕ) → Dec (j ≡ i) → vector_of K following.entries j ≡
-          (gf o).add (vector_of K multipliers.entries j) ((gf o).mul (element K scalar) (unit_vector (gf o) i j))
+      other : (j : ℕ) → j ≢ t → vector_of K following.entries j ≡ vector_of K multipliers.entries j
+      other j differs = ap (element K) (ap (λ (r : RowValue). get_or r.entries j 0) placed ∙ get_or-set_other multipliers.entries t j scalar 0 differs)
+
+      at : (j : ℕ) → Dec (j ≡ t) → vector_of K following.entries j ≡
+          (gf o).add (vector_of K multipliers.entries j) ((gf o).mul (element K scalar) (unit_vector (gf o) t j))
       at j (yes e) =
           ap (vector_of K following.entries) e
-          ∙ ap (element K) (ap (λ (r : RowValue). get_or r.entries i 0) placed ∙ get_or-set_same multipliers.entries i scalar 0 place)
-          ∙ sym (ap₂ (gf o).add (so_far.few j (omega (arith, e)))
-          (ap (λ (k : ℕ). (gf o).mul (element K scalar) (unit_vector (gf o) i k)) e ∙ ap ((gf o).mul (element K scalar)) (unit_at (gf o) i)
+          ∙ ap (element K) (ap (λ (r : RowValue). get_or r.entries t 0) placed ∙ get_or-set_same multipliers.entries t scalar 0 place)
+          ∙ sym (ap₂ (gf o).add (ap (vector_of K multipliers.entries) e ∙ none_there)
+          (ap (λ (k : ℕ). (gf o).mul (element K scalar) (unit_vector (gf o) t k)) e ∙ ap ((gf o).mul (element K scalar)) (unit_at (gf o) t)
           ∙ (gf o).mul-one (element K scalar))
           ∙ zero-add (gf o) (element K scalar))
       at j (no differs) =
           other j differs
           ∙ sym (ap ((gf o).add (vector_of K multipliers.entries j))
-          (ap ((gf o).mul (element K scalar)) (unit_off (gf o) i j (λ e. differs (sym e))) ∙ mul-zero (gf o) (element K scalar))
+          (ap ((gf o).mul (element K scalar)) (unit_off (gf o) t j (λ e. differs (sym e))) ∙ mul-zero (gf o) (element K scalar))
           ∙ (gf o).add-zero (vector_of K multipliers.entries j))
 
-  -- a row that is 0 at the pivot already
-  is_clear : (row : RowValue) → get_or row.entries step.pivot 0 ≡ 0 → ((s : ℕ) → s < i → vector_of K row.entries (get_or (pivots steps) s 0) ≡ (gf o).zero) →
-      (s : ℕ) → s < suc i → vector_of K row.entries (get_or (pivots steps) s 0) ≡ (gf o).zero
-  is_clear row no_entry cleared = below_or_at (λ s. vector_of K row.entries (get_or (pivots steps) s 0) ≡ (gf o).zero) i cleared
-      (ap (vector_of K row.entries) (pivot_of_steps steps i step below is) ∙ ap (element K) no_entry ∙ element_zero K)
+-- ---- none, and all
 
-  pub clear_at_step : (first row multipliers : RowValue) → IsClearedSoFar o n steps i first row multipliers →
-      get_or row.entries step.pivot 0 ≡ 0 → IsClearedSoFar o n steps (suc i) first row multipliers
-  clear_at_step first row multipliers so_far no_entry = record {
-    row_field = so_far.row_field;
-    multipliers_field = so_far.multipliers_field;
-    row_over = so_far.row_over;
-    multipliers_over = so_far.multipliers_over;
-    offset = so_far.offset;
-    cleared = is_clear row no_entry so_far.cleared;
-    few = λ j past. so_far.few j (omega (arith, past));
-  }
+pub clear_before_none : (o : Order) (n : ℕ) (steps : List Step) (row : RowValue) → row.order ≡ o → IsVectorOver (number_field o) n row.entries →
+    IsClearBefore o n steps 0 row
+clear_before_none o n steps row field over = record { field = field; over = over; cleared = λ s below ahead. absurd (omega (arith, ahead)) }
 
-  pub reduced_so_far_same : (first row : RowValue) → IsReducedSoFar o n steps i first row → get_or row.entries step.pivot 0 ≡ 0 →
-      IsReducedSoFar o n steps (suc i) first row
-  reduced_so_far_same first row so_far no_entry = record {
-    field = so_far.field;
-    over = so_far.over;
-    in_coset = so_far.in_coset;
-    cleared = is_clear row no_entry so_far.cleared;
-  }
-
-  pub reduced_so_far_more : (first row next : RowValue) (scalar : ℕ) → IsReducedSoFar o n steps i first row → IsClearing o step row scalar →
-      next ≡ row_with_multiple row scalar step.row → next.order ≡ o → IsVectorOver K n next.entries → IsReducedSoFar o n steps (suc i) first next
-  reduced_so_far_more first row next scalar so_far clearing same field over = record {
-    field = field;
-    over = over;
-    in_coset = added_in_coset K n scalar (inserted_rows steps) first.entries row.entries step.row.entries next.entries so_far.over at_i.row_over over
-        clearing.below (sum_entry o n row step.row next scalar so_far.field so_far.over same) so_far.in_coset row_spanned;
-    cleared = clears row next scalar so_far.field so_far.over over clearing same so_far.cleared;
-  }
+pub reduced_before_none : (o : Order) (n : ℕ) (steps : List Step) (row : RowValue) → row.order ≡ o → IsVectorOver (number_field o) n row.entries →
+    IsReducedBefore o n steps 0 row row
+reduced_before_none o n steps row field over = record {
+  clear = clear_before_none o n steps row field over;
+  in_coset = coset_of_itself (number_field o) (inserted_rows steps) row.entries;
+}
 
 pub cleared_by_none : (o : Order) (n : ℕ) (steps : List Step) (row multipliers : RowValue) → row.order ≡ o → IsVectorOver (number_field o) n row.entries →
-    multipliers ≡ record { order = o; entries = replicate n 0 } → IsClearedSoFar o n steps 0 row row multipliers
+    multipliers ≡ record { order = o; entries = replicate n 0 } → IsClearedBefore o n steps 0 row row multipliers
 cleared_by_none o n steps row multipliers field over zeros = record {
-  row_field = field;
+  clear = clear_before_none o n steps row field over;
   multipliers_field = ap (λ (r : RowValue). r.order) zeros;
-  row_over = over;
   multipliers_over = subst (λ (r : RowValue). IsVectorOver (number_field o) n r.entries) (sym zeros) (zeros_over o n);
   offset = fun_ext (λ j. sym ((gf o).add-zero (vector_of (number_field o) row.entries j)))
       ∙ ap (add_vectors (gf o) (vector_of (number_field o) row.entries)) (sym (times_zero (gf o) (length (inserted_rows steps)) (matrix_of (number_field o) (echelon_rows steps)))
       ∙ ap (λ (x : Vector (gf o)). times (gf o) (length (inserted_rows steps)) x (matrix_of (number_field o) (echelon_rows steps))) (sym no_multipliers));
-  cleared = λ s below. absurd (omega arith);
+  no_others = λ t below past. ap (λ (x : Vector (gf o)). x t) no_multipliers;
   few = λ j past. ap (λ (x : Vector (gf o)). x j) no_multipliers;
 }
   where
     no_multipliers : vector_of (number_field o) multipliers.entries ≡ zero_vector (gf o)
     no_multipliers = ap (λ (r : RowValue). vector_of (number_field o) r.entries) zeros ∙ vector_of_zeros o n
 
-pub reduced_all : (o : Order) (n : ℕ) (steps : List Step) (i : ℕ) (first row : RowValue) → AreSteps o n steps → length steps ≤ i →
-    IsReducedSoFar o n steps i first row → IsRepresentative (number_field o) (inserted_rows steps) first.entries row.entries
-reduced_all o n steps i first row are all so_far = record {
+zero_at_pivots : (o : Order) (n : ℕ) (steps : List Step) (row : RowValue) → AreSteps o n steps → IsClearBefore o n steps n row →
+    IsZeroAtPivots (gf o) (length (inserted_rows steps)) (matrix_of (number_field o) (inserted_rows steps)) (vector_of (number_field o) row.entries)
+zero_at_pivots o n steps row are clear =
+    cleared_all (gf o) n (length (inserted_rows steps)) (matrix_of (number_field o) (inserted_rows steps))
+    (matrix_of (number_field o) (echelon_rows steps)) (matrix_of (number_field o) (multiplier_rows steps)) (vector_of (number_field o) (scalars steps))
+    (λ t. get_or (pivots steps) t 0) are.form (vector_of (number_field o) row.entries) clear.cleared
+
+pub reduced_all : (o : Order) (n : ℕ) (steps : List Step) (table : PivotTable) (start : ℕ) (first row : RowValue) → AreTabledSteps o n steps table →
+    IsReducedBefore o n steps start first row → AreZerosFrom (restricted (marks_of table) row.entries) start →
+    IsRepresentative (number_field o) (inserted_rows steps) first.entries row.entries
+reduced_all o n steps table start first row tabled so_far zeros = record {
   in_coset = so_far.in_coset;
-  at_pivots = cleared_all (gf o) n (length (inserted_rows steps)) (matrix_of (number_field o) (inserted_rows steps))
-      (matrix_of (number_field o) (echelon_rows steps)) (matrix_of (number_field o) (multiplier_rows steps)) (vector_of (number_field o) (scalars steps)) (λ t. get_or (pivots steps) t 0)
-      are.form (vector_of (number_field o) row.entries) (λ s below. so_far.cleared s (omega (arith, length-inserted steps)));
+  at_pivots = zero_at_pivots o n steps row tabled.are_steps (clear_everywhere o n steps table tabled row start so_far.clear zeros);
 }
 
-pub cleared_by_all : (o : Order) (n : ℕ) (steps : List Step) (i : ℕ) (first row multipliers : RowValue) → AreSteps o n steps → length steps ≤ i →
-    i ≤ length steps → IsClearedSoFar o n steps i first row multipliers → IsCleared o n steps first row multipliers
-cleared_by_all o n steps i first row multipliers are all within so_far = record {
-  row_field = so_far.row_field;
+pub cleared_by_all : (o : Order) (n : ℕ) (steps : List Step) (table : PivotTable) (start : ℕ) (first row multipliers : RowValue) → AreTabledSteps o n steps table →
+    IsClearedBefore o n steps start first row multipliers → AreZerosFrom (restricted (marks_of table) row.entries) start →
+    IsCleared o n steps first row multipliers
+cleared_by_all o n steps table start first row multipliers tabled so_far zeros = record {
+  row_field = so_far.clear.field;
   multipliers_field = so_far.multipliers_field;
-  row_over = so_far.row_over;
+  row_over = so_far.clear.over;
   multipliers_over = so_far.multipliers_over;
   offset = so_far.offset;
-  at_pivots = cleared_all (gf o) n (length (inserted_rows steps)) (matrix_of (number_field o) (inserted_rows steps))
-      (matrix_of (number_field o) (echelon_rows steps)) (matrix_of (number_field o) (multiplier_rows steps)) (vector_of (number_field o) (scalars steps))
-      (λ t. get_or (pivots steps) t 0)
-      are.form (vector_of (number_field o) row.entries) (λ s below. so_far.cleared s (omega (arith, length-inserted steps)));
-  few = λ j past. so_far.few j (omega (arith, past, within, length-inserted steps));
+  at_pivots = zero_at_pivots o n steps row tabled.are_steps (clear_everywhere o n steps table tabled row start so_far.clear zeros);
+  few = so_far.few;
 }
 
--- the rows of a step of the code are those of a step of the elimination
-clearing_of : (o q : Order) (step : Step) (row : RowValue) (scalar number : ℕ) → q ≡ o → IsElement q scalar → scalar ≡ field_neg q number →
-    number ≡ get_or row.entries step.pivot 0 → IsClearing o step row scalar
-clearing_of o q step row scalar number same element value entry = record {
-  below = subst (λ p. scalar < (number_field p).order) same (below_of_element q scalar element);
-  is = value ∙ ap₂ field_neg same entry ∙ sym (negative_of o (get_or row.entries step.pivot 0));
-}
+-- ---- the next pivot, as the code finds and clears it
 
-sum_over : (o : Order) (n : ℕ) (row other next : RowValue) (scalar : ℕ) → row.order ≡ o → IsVectorOver (number_field o) n row.entries →
-    next ≡ row_with_multiple row scalar other → length next.entries ≡ length row.entries → IsRow next → IsVectorOver (number_field o) n next.entries
-sum_over o n row other next scalar field over same long h =
-    over_of_row o n next (ap (λ (r : RowValue). r.order) same ∙ field) h (long ∙ over.length_is)
+pub reduce_next : (o : Order) (n : ℕ) (steps : List Step) (table : PivotTable) (start column t : ℕ) (step : Step) (first row next : RowValue) (scalar : ℕ) →
+    AreTabledSteps o n steps table → IsReducedBefore o n steps start first row → IsNextNonzero (restricted (marks_of table) row.entries) start column →
+    IsFoundStep steps column t → step ≡ get_or steps t step → IsClearing o n step row next scalar → IsReducedBefore o n steps (column + 1) first next
+reduce_next o n steps table start column t step first row next scalar tabled so_far found at is clearing =
+    subst (λ k. IsReducedBefore o n steps k first next)
+    (let after : suc step.pivot ≡ column + 1 = omega (arith, pivot_of_steps steps t step at.within is, at.pivot) in after)
+    (reduced_more o n steps t step tabled.are_steps at.within is first row next scalar
+    (record {
+      clear = clear_up_to o n steps table tabled row start so_far.clear step.pivot
+          (λ j from ahead. found.zeros_between j from (omega (arith, ahead, pivot_of_steps steps t step at.within is, at.pivot)));
+      in_coset = so_far.in_coset;
+    }) clearing)
 
-pub reduce_step : (o q : Order) (n : ℕ) (steps : List Step) (i : ℕ) (step : Step) (first row next : RowValue) (scalar number : ℕ) → AreSteps o n steps →
-    i < length steps → step ≡ get_or steps i step → IsReducedSoFar o n steps i first row → q ≡ o → IsElement q scalar → scalar ≡ field_neg q number →
-    number ≡ get_or row.entries step.pivot 0 → next ≡ row_with_multiple row scalar step.row → length next.entries ≡ length row.entries → IsRow next →
-    IsReducedSoFar o n steps (i + 1) first next
-reduce_step o q n steps i step first row next scalar number are below is so_far same element value entry sum long h =
-    subst (λ k. IsReducedSoFar o n steps k first next) (sym (add-one i))
-    (reduced_so_far_more o n steps i step are below is first row next scalar so_far (clearing_of o q step row scalar number same element value entry) sum
-    (ap (λ (r : RowValue). r.order) sum ∙ so_far.field) (sum_over o n row step.row next scalar so_far.field so_far.over sum long h))
-
-pub eliminate_step : (o q : Order) (n : ℕ) (steps : List Step) (i : ℕ) (step : Step) (first row next multipliers following : RowValue) (scalar number : ℕ) →
-    AreSteps o n steps → i < length steps → step ≡ get_or steps i step → IsClearedSoFar o n steps i first row multipliers → q ≡ o → IsElement q scalar →
-    scalar ≡ field_neg q number → number ≡ get_or row.entries step.pivot 0 → next ≡ row_with_multiple row scalar step.row →
-    length next.entries ≡ length row.entries → IsRow next →
-    following ≡ record { order = multipliers.order; entries = set multipliers.entries i scalar } → IsRow following →
-    IsClearedSoFar o n steps (i + 1) first next following
-eliminate_step o q n steps i step first row next multipliers following scalar number are below is so_far same element value entry sum long h placed following_h =
-    subst (λ k. IsClearedSoFar o n steps k first next following) (sym (add-one i))
-    (cleared_by_step o n steps i step are below is first row next multipliers following scalar so_far
-    (clearing_of o q step row scalar number same element value entry) sum placed
-    (ap (λ (r : RowValue). r.order) sum ∙ so_far.row_field)
-    (sum_over o n row step.row next scalar so_far.row_field so_far.row_over sum long h) following_h)
-
--- where nothing is added, the multiplier 0 that stands there is the step's
-pub eliminate_step_none : (o q : Order) (n : ℕ) (steps : List Step) (i : ℕ) (step : Step) (first row next multipliers : RowValue) (scalar number : ℕ) →
-    AreSteps o n steps → i < length steps → step ≡ get_or steps i step → IsClearedSoFar o n steps i first row multipliers → q ≡ o → IsElement q scalar →
-    scalar ≡ field_neg q number → number ≡ get_or row.entries step.pivot 0 → next ≡ row_with_multiple row scalar step.row →
-    length next.entries ≡ length row.entries → IsRow next → scalar ≡ 0 → IsClearedSoFar o n steps (i + 1) first next multipliers
-eliminate_step_none o q n steps i step first row next multipliers scalar number are below is so_far same element value entry sum long h none =
-    eliminate_step o q n steps i step first row next multipliers multipliers scalar number are below is so_far same element value entry sum long h
-    (λ j. record { order = multipliers.order; entries = placed j }) (is_row_of_over o n multipliers so_far.multipliers_field so_far.multipliers_over)
+pub clear_next : (o : Order) (n : ℕ) (steps : List Step) (table : PivotTable) (start column t : ℕ) (step : Step) (first row next multipliers following : RowValue)
+    (scalar : ℕ) → AreTabledSteps o n steps table → IsClearedBefore o n steps start first row multipliers →
+    IsNextNonzero (restricted (marks_of table) row.entries) start column → IsFoundStep steps column t → step ≡ get_or steps t step →
+    IsClearing o n step row next scalar → following ≡ record { order = multipliers.order; entries = set multipliers.entries t scalar } → IsRow following →
+    IsClearedBefore o n steps (column + 1) first next following
+clear_next o n steps table start column t step first row next multipliers following scalar tabled so_far found at is clearing placed following_row =
+    subst (λ k. IsClearedBefore o n steps k first next following)
+    (let after : suc step.pivot ≡ column + 1 = omega (arith, pivot_is, at.pivot) in after)
+    (cleared_by_step o n steps t step tabled.are_steps at.within is first row next multipliers following scalar
+    (record {
+      clear = clear_up_to o n steps table tabled row start so_far.clear step.pivot
+          (λ j from ahead. found.zeros_between j from (omega (arith, ahead, pivot_is, at.pivot)));
+      multipliers_field = so_far.multipliers_field;
+      multipliers_over = so_far.multipliers_over;
+      offset = so_far.offset;
+      no_others = λ s within past. so_far.no_others s within (omega (arith, past, found.not_before, pivot_is, at.pivot));
+      few = so_far.few;
+    }) clearing placed following_row)
   where
-    zero_there : get_or multipliers.entries i 0 ≡ scalar
-    zero_there = zero_entry (number_field o) n multipliers.entries i so_far.multipliers_over (so_far.few i (omega arith)) ∙ sym none
-
-    placed : multipliers.entries ≡ set multipliers.entries i scalar
-    placed = sym (ap (λ a. set multipliers.entries i a) (sym zero_there) ∙ set-get_or multipliers.entries i 0)
+    pivot_is : get_or (pivots steps) t 0 ≡ step.pivot
+    pivot_is = pivot_of_steps steps t step at.within is

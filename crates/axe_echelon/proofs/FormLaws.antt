@@ -111,25 +111,31 @@ module _ (F : Field) where
       leads = record { nonzero = λ e. F.one-not-zero (sym (form.one t below) ∙ e); before = λ i ahead. form.before t i below ahead };
     })
 
-    -- a vector that is 0 at the first i pivots
-    abbrev pub IsClearedBelow : ℕ → Vector F → Type 0
-    IsClearedBelow i x = (s : ℕ) → s < i → x (p s) ≡ F.zero
+    -- a vector that is 0 at the pivots before a column
+    abbrev pub IsClearedBefore : ℕ → Vector F → Type 0
+    IsClearedBefore column x = (s : ℕ) → s < r → p s < column → x (p s) ≡ F.zero
 
-    -- one more pivot is cleared by the row that has 1 there
-    pub cleared_more : (i : ℕ) (x y : Vector F) → i < r → IsClearedBelow i x →
-        y ≡ add_vectors F x (scale F (F.neg (x (p i))) (w i)) → IsClearedBelow (suc i) y
-    cleared_more i x y inside cleared same = below_or_at (λ s. y (p s) ≡ F.zero) i
-        (λ s below. ap (λ (z : Vector F). z (p s)) same
-        ∙ ap₂ F.add (cleared s below) (ap (F.mul (F.neg (x (p i)))) (form.cleared s i below inside) ∙ mul-zero F (F.neg (x (p i))))
-        ∙ F.add-zero F.zero)
-        (ap (λ (z : Vector F). z (p i)) same
-        ∙ ap (F.add (x (p i))) (ap (F.mul (F.neg (x (p i)))) (form.one i inside) ∙ F.mul-one (F.neg (x (p i)))) ∙ F.add-neg (x (p i)))
+    -- one more pivot is cleared by the row that has 1 there and 0 before it
+    pub cleared_more : (t : ℕ) (x y : Vector F) → t < r → IsClearedBefore (p t) x →
+        y ≡ add_vectors F x (scale F (F.neg (x (p t))) (w t)) → IsClearedBefore (suc (p t)) y
+    cleared_more t x y inside cleared same s below ahead = at (dec_lt (p s) (p t))
+      where
+        at : Dec (p s < p t) → y (p s) ≡ F.zero
+        at (yes earlier) =
+            ap (λ (z : Vector F). z (p s)) same
+            ∙ ap₂ F.add (cleared s below earlier)
+            (ap (F.mul (F.neg (x (p t)))) (form.before t (p s) inside earlier) ∙ mul-zero F (F.neg (x (p t))))
+            ∙ F.add-zero F.zero
+        at (no later) =
+            ap y (let at_pivot : p s ≡ p t = omega (arith, ahead, later) in at_pivot)
+            ∙ ap (λ (z : Vector F). z (p t)) same
+            ∙ ap (F.add (x (p t))) (ap (F.mul (F.neg (x (p t)))) (form.one t inside) ∙ F.mul-one (F.neg (x (p t)))) ∙ F.add-neg (x (p t))
 
-    pub cleared_all : (x : Vector F) → IsClearedBelow r x → IsZeroAtPivots F r v x
+    pub cleared_all : (x : Vector F) → IsClearedBefore n x → IsZeroAtPivots F r v x
     cleared_all x cleared j pivot = at (place_of_span_pivot j pivot)
       where
         at : (t : ℕ) × (t < r) × (p t ≡ j) → x j ≡ F.zero
-        at (t, below, e) = ap x (sym e) ∙ cleared t below
+        at (t, below, e) = ap x (sym e) ∙ cleared t below (form.place t below)
 
     -- one more row
     pub form_more : (v' w' m' : Matrix F) (c' : Vector F) (p' : ℕ → ℕ) → ((t : ℕ) → t < r → v' t ≡ v t) → ((t : ℕ) → t < r → w' t ≡ w t) →

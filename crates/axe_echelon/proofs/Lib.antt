@@ -4,6 +4,7 @@ pub mod StepLaws
 pub mod NegatedRows
 pub mod ClearingLaws
 pub mod SolvingLaws
+pub mod PivotTableLaws
 pub mod PivotLaws
 pub mod MoreStepsLaws
 pub mod EliminationLaws

@@ -1,5 +1,5 @@
 -- Subspaces: the rows of an echelon form as the steps of an elimination that is given these rows, and what one more row spans.
-use Rattle.std.specs.Prelude.{◌≡◌, ℕ, zero, suc, ◌+◌, ◌<◌, List, [], ◌∷◌, ◌++◌, length, get_or, set, Bool, true, false}
+use Rattle.std.specs.Prelude.{◌≡◌, ℕ, zero, suc, ◌+◌, ◌<◌, List, [], ◌∷◌, ◌++◌, length, get_or, set, true, false}
 use Rattle.std.proofs.lemmas.List.{get_or_append_left, get_or-map}
 use Rattle.axe_algebra.specs.NumberField.{NumberField}
 use Rattle.axe_algebra.specs.Field.{Field}
@@ -26,8 +26,10 @@ use Rattle.axe_row.specs.Operations.{multiple, multiple_row, IsZeroVector}
 use Rattle.axe_row.proofs.OperationLaws.{get_or-multiple, length-multiple}
 use Rattle.axe_echelon.specs.Echelons.{EchelonValue, IsEchelon}
 use Rattle.axe_echelon.specs.Steps.{inserted_rows, echelon_rows, echelon_of, IsStep, AreSteps, IsNextStep, AreTabledSteps}
+use Rattle.axe_echelon.specs.PivotTables.{marks_of, HasRoom}
 use Rattle.axe_echelon.specs.Subspaces.{step_of, steps_from, steps_of, IsNextRow, SpansOneMore}
 use Rattle.axe_echelon.specs.declared.Step.{Step}
+use Rattle.axe_echelon.specs.declared.pivot_table.PivotTable.{PivotTable}
 use Rattle.axe_echelon.specs.declared.subspace.PivotRow.{PivotRow}
 use Rattle.axe_echelon.proofs.EliminationLaws.{vector_of_zero_row, zero_row_of_vector}
 use Rattle.axe_echelon.proofs.FormLaws.{below_or_at}
@@ -262,12 +264,13 @@ next_step_of_row o n rows p v given =
     (subst (λ (l : List (List ℕ)). IsNextStep (echelon_of o n (steps_of o n rows)) l p.row.entries (step_of o n (length (inserted_rows (steps_of o n rows))) p))
     (rows_from o n 0 rows) given.next)
 
-pub tabled_more : (o : Order) (n : ℕ) (rows next : List PivotRow) (p : PivotRow) (v : List ℕ) (table : List Bool) → next ≡ rows ++ p ∷ [] →
-    AreTabledSteps o n (steps_of o n rows) table → IsNextRow (echelon_of o n (steps_of o n rows)) v p → length table ≡ n →
-    AreTabledSteps o n (steps_of o n next) (set table p.pivot true)
-tabled_more o n rows next p v table pushed tabled given long =
-    tabled_by_step o n (steps_of o n rows) (steps_of o n next) (step_of o n (length rows) p) p.row.entries table p.pivot
-    (ap (steps_of o n) pushed ∙ steps_of_more o n rows p) tabled (next_step_of_row o n rows p v given) long refl
+pub tabled_more : (o : Order) (n : ℕ) (rows next : List PivotRow) (p : PivotRow) (v : List ℕ) (table after : PivotTable) (index : ℕ) → next ≡ rows ++ p ∷ [] →
+    AreTabledSteps o n (steps_of o n rows) table → IsNextRow (echelon_of o n (steps_of o n rows)) v p → HasRoom n table → index ≡ length rows →
+    marks_of after ≡ set (marks_of table) p.pivot 1 → after.rows.items ≡ set table.rows.items p.pivot index → AreTabledSteps o n (steps_of o n next) after
+tabled_more o n rows next p v table after index pushed tabled given room counted marks items =
+    tabled_by_step o n (steps_of o n rows) (steps_of o n next) (step_of o n (length rows) p) p.row.entries table after p.pivot index
+    (ap (steps_of o n) pushed ∙ steps_of_more o n rows p) tabled (next_step_of_row o n rows p v given) room refl
+    (counted ∙ sym (length-steps_from o n 0 rows)) marks items
 
 pub spans_one_more : (o : Order) (n : ℕ) (rows next : List PivotRow) (p : PivotRow) (v : List ℕ) (e : EchelonValue) → next ≡ rows ++ p ∷ [] →
     echelon_of o n (steps_of o n rows) ≡ e → IsNextRow e v p → SpansOneMore true e v (echelon_of o n (steps_of o n next))

@@ -1,5 +1,6 @@
 pub mod Echelons
 pub mod Forms
+pub mod PivotTables
 pub mod Steps
 pub mod Inserted
 pub mod Subspaces

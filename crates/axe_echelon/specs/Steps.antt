@@ -1,6 +1,5 @@
 -- The steps of an elimination, one for each row that was new.
-use Rattle.std.specs.Prelude.{◌≡◌, ◌≢◌, ◌↔◌, ℕ, ◌<◌, ◌≤◌, Bool, false, IsTrue}
-use Rattle.std.specs.Prelude.{List, All, Contains, map, length, get_or}
+use Rattle.std.specs.Prelude.{◌≡◌, ◌≢◌, ℕ, ◌<◌, ◌≤◌, List, All, map, length, get_or}
 use Rattle.axe_algebra.specs.Vectors.{HasLength, zero_vector, add_vectors, scale, times}
 use Rattle.axe_algebra.specs.Reduced.{IsZeroAtPivots}
 use Rattle.axe_algebra.specs.Bridge.{element, vector_of, matrix_of}
@@ -14,7 +13,9 @@ use Rattle.axe_row.specs.Rows.{RowValue, IsRow}
 use Rattle.axe_matrix.specs.Limits.{most_columns}
 use Rattle.axe_echelon.specs.Echelons.{EchelonValue}
 use Rattle.axe_echelon.specs.Forms.{IsEchelonForm}
+use Rattle.axe_echelon.specs.PivotTables.{HasPivots}
 use Rattle.axe_echelon.specs.declared.Step.{Step}
+use Rattle.axe_echelon.specs.declared.pivot_table.PivotTable.{PivotTable}
 
 -- the rows as they were inserted
 abbrev pub inserted_rows : List Step → List (List ℕ)
@@ -59,11 +60,10 @@ pub record AreSteps (order : Order) (cols : ℕ) (steps : List Step) : Type 0 wh
       (matrix_of (number_field order) (multiplier_rows steps)) (vector_of (number_field order) (scalars steps))
       (λ t. get_or (pivots steps) t 0)
 
--- the table tells of each column whether it is the pivot of a step
-pub record AreTabledSteps (order : Order) (cols : ℕ) (steps : List Step) (table : List Bool) : Type 0 where
+-- the table has the pivots of the steps
+pub record AreTabledSteps (order : Order) (cols : ℕ) (steps : List Step) (table : PivotTable) : Type 0 where
   pub are_steps : AreSteps order cols steps
-  pub table_fits : length table ≤ cols
-  pub tells : (column : ℕ) → IsTrue (get_or table column false) ↔ Contains (pivots steps) column
+  pub tabled : HasPivots cols (pivots steps) table
 
 -- a row from which all pivots were cleared: it is the first row plus the combination of the rows of the echelon form
 -- with these multipliers

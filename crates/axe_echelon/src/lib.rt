@@ -14,10 +14,12 @@ ghost use Rattle.axe_row.specs.Rows.{IsRow};
 ghost use Rattle.axe_matrix.specs.Limits.{most_columns};
 ghost use Rattle.axe_matrix.specs.Matrices.{IsMatrix};
 ghost use Rattle.axe_echelon.specs.Echelons.{IsEchelon, with_row_where, AreCoordinates, IsReducedMatrix};
-ghost use Rattle.axe_echelon.specs.Steps.{AreSteps, Cancels, IsCleared, IsSolved, IsScaledStep, IsPivotRow};
+ghost use Rattle.axe_echelon.specs.Steps.{AreSteps, AreTabledSteps, Cancels, IsCleared, IsSolved, IsScaledStep};
+ghost use Rattle.axe_echelon.specs.Steps.{IsPivotRow};
 
 mod inverses;
 mod null_spaces;
+mod pivot_table;
 mod spans;
 mod subspace;
 
@@ -25,6 +27,7 @@ use axe_field::Field;
 use axe_matrix::{Matrix, Refusal, Row};
 pub use inverses::inverse;
 pub use null_spaces::null_space;
+use pivot_table::PivotTable;
 pub use spans::span_of;
 use std::alloc::Global;
 use std::marker::Model;
@@ -50,8 +53,8 @@ pub struct Echelon {
     field: Field,
     cols: usize,
     steps: Vec<Step>,
-    /// Whether each column is a pivot. It is empty until a row is inserted, and no column past its end is one.
-    pivots: Vec<bool>,
+    /// The pivots of the steps.
+    pivots: PivotTable,
 }
 
 impl Model for Echelon {
@@ -63,7 +66,7 @@ impl Model for Echelon {
 
     ghost view = { λ a. echelon_of a.field a.cols a.steps.items };
 
-    ghost invariant = { λ a. AreTabledSteps a.field a.cols a.steps.items a.pivots.items };
+    ghost invariant = { λ a. AreTabledSteps a.field a.cols a.steps.items a.pivots };
 }
 
 impl Echelon {
@@ -79,7 +82,7 @@ impl Echelon {
             field,
             cols,
             steps: Vec::new(alloc),
-            pivots: Vec::new(alloc),
+            pivots: PivotTable::new(alloc),
         }
     }
 
@@ -160,16 +163,17 @@ impl Echelon {
     {
         let mut rest = row.copy(self.alloc)?;
         let mut multipliers = Row::zero(self.alloc, *self.field(), self.cols())?;
-        eliminate(&self.steps, &mut rest, &mut multipliers);
+        eliminate(&self.steps, &self.pivots, &mut rest, &mut multipliers);
         let Some(pivot) = rest.first_nonzero() else {
             solve(&self.steps, &mut multipliers);
             return Ok(Some(multipliers));
         };
         let step = next_step(row, rest, pivot, multipliers);
-        // The table is made first: a longer one tells the same, so where the push finds no memory nothing has changed.
-        self.pivots.resize(self.cols, false)?;
+        let index = self.steps.len();
+        // The table has room first, and tells the same: so where the push finds no memory nothing has changed.
+        self.pivots.make_room(self.cols)?;
         self.steps.push(step)?;
-        self.pivots[pivot] = true;
+        self.pivots.mark(pivot, index);
         Ok(None)
     }
 
@@ -186,8 +190,12 @@ impl Echelon {
     {
         // `len` is called for what it ensures beside the number: that the entries are elements.
         prove!(row.len() == self.cols);
-        for step in &self.steps {
-            row.cancel(step.pivot, &step.row);
+        let mut start = 0;
+        while let Some(pivot) = self.pivots.next_pivot(row, start) {
+            // The pivot's row is 0 before it: so what was cleared stays 0.
+            let step = &self.steps[self.pivots.row_of(pivot)];
+            row.cancel(pivot, &step.row);
+            start = pivot + 1;
         }
     }
 
@@ -202,7 +210,7 @@ impl Echelon {
     {
         let mut multipliers = Row::zero(alloc, *self.field(), self.cols())?;
         let mut rest = row.copy(alloc)?;
-        eliminate(&self.steps, &mut rest, &mut multipliers);
+        eliminate(&self.steps, &self.pivots, &mut rest, &mut multipliers);
         if !rest.is_zero() {
             return Ok(None);
         }
@@ -248,25 +256,28 @@ impl Echelon {
     pub fn is_pivot(&self, column: usize) -> bool
         ensures { IsTrue result ↔ IsPivot (number_field self.now.order) self.now.rows column }
     {
-        self.pivots.get(column).copied().unwrap_or(false)
+        self.pivots.is_pivot(column)
     }
 }
 
-/// Clears the pivots of the steps from a row by adding multiples of their rows of the echelon form, and keeps the
-/// multiplier of each in a row of zeros.
-fn eliminate(steps: &[Step], row: &mut Row, multipliers: &mut Row)
-    requires steps { AreSteps row.old.order (length row.old.entries) steps.now }
+/// Clears the pivots of the steps, which are those of the table, from a row by adding multiples of their rows of the
+/// echelon form, and keeps the multiplier of each in a row of zeros.
+fn eliminate(steps: &[Step], pivots: &PivotTable, row: &mut Row, multipliers: &mut Row)
+    requires steps { AreTabledSteps row.old.order (length row.old.entries) steps.now pivots.now }
     requires zeros { multipliers.old
         ≡ record { order = row.old.order; entries = replicate (length row.old.entries) 0 } }
     ensures { IsCleared row.old.order (length row.old.entries) steps.now row.old row.new multipliers.new }
 {
     // `len` is called for what it ensures beside the number: that the entries are elements.
     prove!(row.len() == multipliers.len());
-    for (index, step) in steps.iter().enumerate() {
-        let multiplier = row.cancel(step.pivot, &step.row);
-        if multiplier != 0 {
-            multipliers.set(index, multiplier);
-        }
+    let mut start = 0;
+    while let Some(pivot) = pivots.next_pivot(row, start) {
+        // The pivot's row is 0 before it: so what was cleared stays 0.
+        let index = pivots.row_of(pivot);
+        let step = &steps[index];
+        let multiplier = row.cancel(pivot, &step.row);
+        multipliers.set(index, multiplier);
+        start = pivot + 1;
     }
 }
 

@@ -11,6 +11,7 @@ ghost use Rattle.axe_echelon.specs.Echelons.{IsEchelon, IsReducedMatrix};
 ghost use Rattle.axe_echelon.specs.Steps.{IsPivotRow};
 ghost use Rattle.axe_echelon.specs.Subspaces.{IsNextRow, SpansOneMore};
 
+use crate::pivot_table::PivotTable;
 use axe_field::Field;
 use axe_matrix::{Matrix, Refusal, Row};
 use std::alloc::Global;
@@ -32,8 +33,8 @@ pub struct Subspace {
     field: Field,
     cols: usize,
     rows: Vec<PivotRow>,
-    /// Whether each column is a pivot. It is empty until a vector is inserted, and no column past its end is one.
-    pivots: Vec<bool>,
+    /// The pivots of the rows.
+    pivots: PivotTable,
 }
 
 impl Model for Subspace {
@@ -46,7 +47,7 @@ impl Model for Subspace {
 
     ghost view = { λ a. echelon_of a.field a.cols (steps_of a.field a.cols a.rows.items) };
 
-    ghost invariant = { λ a. AreTabledSteps a.field a.cols (steps_of a.field a.cols a.rows.items) a.pivots.items };
+    ghost invariant = { λ a. AreTabledSteps a.field a.cols (steps_of a.field a.cols a.rows.items) a.pivots };
 }
 
 impl Subspace {
@@ -61,7 +62,7 @@ impl Subspace {
             field,
             cols,
             rows: Vec::new(alloc),
-            pivots: Vec::new(alloc),
+            pivots: PivotTable::new(alloc),
         }
     }
 
@@ -119,11 +120,11 @@ impl Subspace {
         let Some(next) = self.next_row(row) else {
             return Ok(false);
         };
-        let pivot = next.pivot;
-        // The table is made first: a longer one tells the same, so where the push finds no memory nothing has changed.
-        self.pivots.resize(self.cols, false)?;
+        let (pivot, index) = (next.pivot, self.rows.len());
+        // The table has room first, and tells the same: so where the push finds no memory nothing has changed.
+        self.pivots.make_room(self.cols)?;
         self.rows.push(next)?;
-        self.pivots[pivot] = true;
+        self.pivots.mark(pivot, index);
         Ok(true)
     }
 
@@ -159,8 +160,12 @@ impl Subspace {
     {
         // `len` is called for what it ensures beside the number: that the entries are elements.
         prove!(row.len() == self.cols);
-        for pivot_row in &self.rows {
-            row.cancel(pivot_row.pivot, &pivot_row.row);
+        let mut start = 0;
+        while let Some(pivot) = self.pivots.next_pivot(row, start) {
+            // The pivot's row is 0 before it: so what was cleared stays 0.
+            let pivot_row = &self.rows[self.pivots.row_of(pivot)];
+            row.cancel(pivot, &pivot_row.row);
+            start = pivot + 1;
         }
     }
 
@@ -213,6 +218,6 @@ impl Subspace {
     pub fn is_pivot(&self, column: usize) -> bool
         ensures { IsTrue result ↔ IsPivot (number_field self.now.order) self.now.rows column }
     {
-        self.pivots.get(column).copied().unwrap_or(false)
+        self.pivots.is_pivot(column)
     }
 }

@@ -1,42 +1,84 @@
-use Rattle.std.proofs.Common.{◌≡◌, ◌<◌, ◌≤◌, length, refl, ap, ◌∙◌, arith}
+use Rattle.std.proofs.Common.{◌<◌, sym, ◌∙◌, ap, arith}
 use Rattle.axe_echelon.specs.Echelons.{EchelonValue}
-use Rattle.axe_echelon.specs.Steps.{AreSteps, inserted_rows}
-use Rattle.axe_echelon.proofs.StepLaws.{over_of_row, is_row_of_over, step_place, echelon_of_steps}
-use Rattle.axe_echelon.proofs.ClearingLaws.{reduced_so_far_none, reduce_step, reduced_all}
+use Rattle.axe_echelon.specs.Steps.{IsStep}
+use Rattle.axe_echelon.proofs.StepLaws.{over_of_row, is_row_of_over, step_at, pivot_of_steps, echelon_of_steps}
+use Rattle.axe_echelon.proofs.ClearingLaws.{IsFoundStep, IsClearing, reduced_before_none, found_step, room_of_found, place_of_found, clearing_of, reduce_next, reduced_all}
+use Rattle.axe_echelon.proofs.Echelon.reduce.Goals.{In-Some, After-row_of, After-index-step}
 use Rattle.axe_echelon.proofs.Echelon.reduce.Goals as goal
 
-pub loop-step-init : goal.loop-step-init
-loop-step-init c = reduced_so_far_none _ _ _ _ c.requires.field (over_of_row _ _ _ c.requires.field c.len.ensures.well_formed c.requires.fits)
+pub loop-pivot-init : goal.loop-pivot-init
+loop-pivot-init c =
+    let field = c.requires.field ∙ sym (ap (λ (e : EchelonValue). e.order) c.self.view_is) in
+    let fits = c.requires.fits ∙ sym (ap (λ (e : EchelonValue). e.cols) c.self.view_is) in
+    record {
+      fits = omega arith;
+      so_far = reduced_before_none _ _ _ _ field (over_of_row _ _ _ field c.len.ensures.well_formed fits);
+    }
+
+place : (c : goal.In-Some) → c.in-Some.pivot < c.self.inside.cols
+place c = omega (arith, place_of_found _ c.loop-pivot.row.entries _ _ c.in-Some.ensures, c.loop-pivot.invariant.so_far.clear.over.length_is)
+
+pub row_of-requires : goal.row_of-requires
+row_of-requires c =
+    let room = room_of_found _ _ _ _ c.loop-pivot.row.entries _ _ c.self.invariant c.in-Some.ensures in
+    omega (arith, place (goal.at.row_of-requires c).In-Some, room.rows)
+
+found : (c : goal.After-row_of) → IsFoundStep c.self.inside.steps.items c.in-Some.pivot c.row_of.result
+found c = found_step _ _ c.self.inside.steps.items c.self.inside.pivots c.loop-pivot.row.entries _ _ _ c.self.invariant c.in-Some.ensures c.row_of.ensures
+
+pub index-step-requires : goal.index-step-requires
+index-step-requires c = omega (arith, (found (goal.at.index-step-requires c).After-row_of).within, c.self.inside.steps.ok.0)
+
+at : (c : goal.After-index-step) → IsStep c.self.inside.field c.self.inside.cols c.index-step.result.now
+at c = step_at _ _ c.self.inside.steps.items c.row_of.result c.index-step.result.now c.self.invariant.are_steps (found c.before).within c.index-step.ensures
 
 pub cancel-requires-clause-index : goal.cancel-requires-clause-index
-cancel-requires-clause-index c =
-    let are : AreSteps c.args.self.now.order c.args.self.now.cols c.deref-step-items.result.now =
-    rw (c.deref-step-items.ensures.value, ← c.self.view_is) c.self.invariant.are_steps in
-    let below : c.loop-step.step-index < length c.deref-step-items.result.now = omega (arith, c.loop-step-test.true) in
-    let place = step_place _ _ _ c.loop-step.step-index c.step-item.result are below c.step-item.is in
-    omega (arith, place, c.loop-step.invariant.over.length_is)
+cancel-requires-clause-index c = place_of_found _ c.loop-pivot.row.entries _ _ c.in-Some.ensures
 
-pub loop-step-preserved : goal.loop-step-preserved
-loop-step-preserved c =
-    let are : AreSteps c.args.self.now.order c.args.self.now.cols c.deref-step-items.result.now =
-    rw (c.deref-step-items.ensures.value, ← c.self.view_is) c.self.invariant.are_steps in
-    let below : c.loop-step.step-index < length c.deref-step-items.result.now = omega (arith, c.loop-step-test.true) in
-    reduce_step c.args.self.now.order c.loop-step.row.order c.args.self.now.cols c.deref-step-items.result.now c.loop-step.step-index
-    c.step-item.result c.args.row.now c.loop-step.row c.cancel.new.self c.cancel.result _ are below c.step-item.is
-    c.loop-step.invariant c.loop-step.invariant.field c.cancel.ensures.element c.cancel.ensures.factor refl
-    c.cancel.ensures.sum c.cancel.ensures.as_long c.cancel.ensures.well_formed
+pub cancel-requires-clause-field : goal.cancel-requires-clause-field
+cancel-requires-clause-field c = (at (goal.at.cancel-requires-clause-field c).After-index-step).row_field ∙ sym c.loop-pivot.invariant.so_far.clear.field
+
+pub cancel-requires-clause-fits : goal.cancel-requires-clause-fits
+cancel-requires-clause-fits c =
+    (at (goal.at.cancel-requires-clause-fits c).After-index-step).row_over.length_is ∙ sym c.loop-pivot.invariant.so_far.clear.over.length_is
+
+pub overflow_add-start : goal.overflow_add-start
+overflow_add-start c = omega (arith, place (goal.at.overflow_add-start c).In-Some, c.self.invariant.are_steps.columns_fit)
+
+pub loop-pivot-smaller : goal.loop-pivot-smaller
+loop-pivot-smaller c =
+    omega (arith, place (goal.at.loop-pivot-smaller c).In-Some, c.in-Some.ensures.not_before, c.requires.fits, ap (λ (e : EchelonValue). e.cols) c.self.view_is)
+
+pub loop-pivot-preserved : goal.loop-pivot-preserved
+loop-pivot-preserved c = record {
+  fits = omega (arith, place_of_found _ c.loop-pivot.row.entries _ _ c.in-Some.ensures, c.cancel.ensures.as_long);
+  so_far = reduce_next _ _ c.self.inside.steps.items c.self.inside.pivots c.loop-pivot.start c.in-Some.pivot c.row_of.result c.index-step.result.now
+      c.args.row.now c.loop-pivot.row c.cancel.new.self c.cancel.result c.self.invariant c.loop-pivot.invariant.so_far c.in-Some.ensures there
+      c.index-step.ensures clearing;
+}
+  where
+    there : IsFoundStep c.self.inside.steps.items c.in-Some.pivot c.row_of.result
+    there = found (goal.at.loop-pivot-preserved c).After-row_of
+
+    clearing : IsClearing c.self.inside.field c.self.inside.cols c.index-step.result.now c.loop-pivot.row c.cancel.new.self c.cancel.result
+    clearing = clearing_of _ c.loop-pivot.row.order _ c.index-step.result.now _ _ _ c.in-Some.pivot c.loop-pivot.invariant.so_far.clear.field
+        c.loop-pivot.invariant.so_far.clear.over
+        (sym (pivot_of_steps c.self.inside.steps.items c.row_of.result c.index-step.result.now there.within c.index-step.ensures) ∙ there.pivot)
+        c.loop-pivot.invariant.so_far.clear.field c.cancel.ensures.element c.cancel.ensures.factor
+        c.cancel.ensures.sum c.cancel.ensures.as_long c.cancel.ensures.well_formed
 
 pub returns-clause-representative : goal.returns-clause-representative
 returns-clause-representative c =
-    let are : AreSteps c.args.self.now.order c.args.self.now.cols c.deref-step-items.result.now =
-    rw (c.deref-step-items.ensures.value, ← c.self.view_is) c.self.invariant.are_steps in
-    let rows : inserted_rows c.deref-step-items.result.now ≡ c.args.self.now.rows =
-    ap inserted_rows c.deref-step-items.ensures.value ∙ ap (λ (e : EchelonValue). e.rows) c.self.view_is in
-    let all : length c.deref-step-items.result.now ≤ c.loop-step.step-index = omega (arith, c.loop-step-test.false) in
-    rw (← rows) (reduced_all _ _ _ c.loop-step.step-index _ _ are all c.loop-step.invariant)
+    rw (← c.self.view_is) (reduced_all _ _ _ c.self.inside.pivots c.loop-pivot.start _ _ c.self.invariant c.loop-pivot.invariant.so_far c.in_default.ensures)
+
+pub returns-clause-same_field : goal.returns-clause-same_field
+returns-clause-same_field c = c.loop-pivot.invariant.so_far.clear.field ∙ ap (λ (e : EchelonValue). e.order) c.self.view_is
+
+pub returns-clause-as_long : goal.returns-clause-as_long
+returns-clause-as_long c = c.loop-pivot.invariant.so_far.clear.over.length_is ∙ ap (λ (e : EchelonValue). e.cols) c.self.view_is
 
 pub returns-clause-row_well_formed : goal.returns-clause-row_well_formed
-returns-clause-row_well_formed c = is_row_of_over _ _ _ c.loop-step.invariant.field c.loop-step.invariant.over
+returns-clause-row_well_formed c = is_row_of_over _ _ _ c.loop-pivot.invariant.so_far.clear.field c.loop-pivot.invariant.so_far.clear.over
 
 pub returns-clause-well_formed : goal.returns-clause-well_formed
 returns-clause-well_formed c = rw (← c.self.view_is) (echelon_of_steps _ _ _ c.self.invariant.are_steps)

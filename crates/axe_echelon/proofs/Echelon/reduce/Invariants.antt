@@ -1,5 +1,12 @@
-use Rattle.axe_echelon.proofs.ClearingLaws.{IsReducedSoFar}
+use Rattle.std.proofs.Common.{◌≤◌, ◌-◌, length}
+use Rattle.axe_echelon.proofs.ClearingLaws.{IsReducedBefore}
 use Rattle.axe_echelon.proofs.Echelon.reduce.Given as goal
 
-abbrev pub invariant-loop-step : goal.invariant-loop-step
-invariant-loop-step l = IsReducedSoFar l.self.order l.self.cols l.step-items l.step-index l.fn.row l.row
+abbrev pub invariant-loop-pivot : goal.invariant-loop-pivot
+invariant-loop-pivot l = record {
+  fits : l.start ≤ length l.row.entries;
+  so_far : IsReducedBefore l.self-inside.field l.self-inside.cols l.self-inside.steps.items l.start l.fn.row l.row;
+}
+
+abbrev pub decreases-loop-pivot : goal.decreases-loop-pivot
+decreases-loop-pivot l = length l.fn.row.entries - l.start

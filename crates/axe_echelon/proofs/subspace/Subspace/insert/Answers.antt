@@ -1,13 +1,13 @@
 use Rattle.std.proofs.Common.{◌≡◌, ◌≢◌, List, length, ap, sym, ◌∙◌, arith, refl, true≢false}
 use Rattle.std.proofs.lemmas.Result.{IfOk-from_err}
 use Rattle.axe_row.specs.declared.refusals.Refusal.TheVariants.{Memory}
-use Rattle.axe_echelon.specs.Steps.{echelon_of, AreTabledSteps}
+use Rattle.axe_echelon.specs.Steps.{echelon_of}
 use Rattle.axe_echelon.specs.Subspaces.{steps_of, IsNextRow}
 use Rattle.axe_echelon.specs.declared.subspace.PivotRow.{PivotRow}
 use Rattle.axe_echelon.proofs.Exits.{no_memory, in_any_case}
 use Rattle.axe_echelon.proofs.EliminationLaws.{full_echelon_spans, room_of_echelon}
 use Rattle.axe_echelon.proofs.StepLaws.{echelon_of_steps}
-use Rattle.axe_echelon.proofs.PivotLaws.{table_filled_up}
+use Rattle.axe_echelon.proofs.PivotLaws.{same_table}
 use Rattle.axe_echelon.proofs.SubspaceLaws.{tabled_more, spans_one_more, spans_no_more}
 use Rattle.axe_echelon.proofs.subspace.Subspace.insert.Goals as goal
 
@@ -30,24 +30,22 @@ pub next_row-requires-clause-fits : goal.next_row-requires-clause-fits
 next_row-requires-clause-fits c = c.requires.fits
 
 pub invariant_of-self : goal.invariant_of-self
-invariant_of-self c = rw c.in_err-resize.ensures.items c.self.invariant
+invariant_of-self c = same_table _ _ _ _ c.make_room.new.self c.self.invariant c.make_room.ensures.pivots
 
 pub invariant_of-self-in_err-push : goal.invariant_of-self-in_err-push
 invariant_of-self-in_err-push c =
-    let long : length c.resize.new.self.items ≡ c.self.inside.cols = omega (arith, c.in_ok-resize.ensures.len, c.resize.new.self.ok.0) in
     let kept : c.push.new.self.items ≡ c.self.inside.rows.items = c.in_err-push.ensures.items in
-    rw kept (table_filled_up _ _ _ c.self.inside.pivots.items c.resize.new.self.items _ c.self.invariant c.in_ok-resize.ensures.items long)
+    rw kept (same_table _ _ _ _ c.make_room.new.self c.self.invariant c.make_room.ensures.pivots)
 
 pub invariant_of-self-2 : goal.invariant_of-self-2
 invariant_of-self-2 c =
-    let long : length c.resize.new.self.items ≡ c.self.inside.cols = omega (arith, c.in_ok-resize.ensures.len, c.resize.new.self.ok.0) in
-    let filled : AreTabledSteps c.self.inside.field c.self.inside.cols (steps_of c.self.inside.field c.self.inside.cols c.self.inside.rows.items)
-    c.resize.new.self.items =
-    table_filled_up _ _ _ c.self.inside.pivots.items c.resize.new.self.items _ c.self.invariant c.in_ok-resize.ensures.items long in
     let given : IsNextRow (echelon_of c.self.inside.field c.self.inside.cols (steps_of c.self.inside.field c.self.inside.cols c.self.inside.rows.items))
     c.args.row.entries c.in-Some.next =
     rw c.self.view_is c.in-Some.ensures in
-    tabled_more _ _ c.self.inside.rows.items c.push.new.self.items c.in-Some.next c.args.row.entries c.resize.new.self.items c.in_ok-push.ensures.items filled given long
+    tabled_more _ _ c.self.inside.rows.items c.push.new.self.items c.in-Some.next c.args.row.entries c.make_room.new.self c.mark.new.self c.len-index.result
+    c.in_ok-push.ensures.items (same_table _ _ _ _ c.make_room.new.self c.self.invariant c.make_room.ensures.pivots) given
+    (c.in_ok-make_room.ensures.room _ c.self.invariant.tabled) (omega (arith, c.len-index.ensures, c.self.inside.rows.ok.0))
+    c.mark.ensures.marks c.mark.ensures.rows
 
 pub returns-clause-well_formed : goal.returns-clause-well_formed
 returns-clause-well_formed c = echelon_of_steps _ _ _ (invariant_of-self-2 c).are_steps
@@ -86,17 +84,17 @@ returns-in_default-clause-unchanged c = tt
 pub returns-in_default-clause-well_formed : goal.returns-in_default-clause-well_formed
 returns-in_default-clause-well_formed c = c.dim.ensures.well_formed
 
-pub returns-in_err-resize-clause-exactly : goal.returns-in_err-resize-clause-exactly
-returns-in_err-resize-clause-exactly c = IfOk-from_err c.from_residual.result _ c.from_residual.ensures.0
+pub returns-in_err-make_room-clause-exactly : goal.returns-in_err-make_room-clause-exactly
+returns-in_err-make_room-clause-exactly c = IfOk-from_err c.from_residual.result _ c.from_residual.ensures.0
 
-pub returns-in_err-resize-clause-inserted : goal.returns-in_err-resize-clause-inserted
-returns-in_err-resize-clause-inserted c = no_memory _ c.from_residual.result Memory c.from_residual.ensures.1 refl
+pub returns-in_err-make_room-clause-inserted : goal.returns-in_err-make_room-clause-inserted
+returns-in_err-make_room-clause-inserted c = no_memory _ c.from_residual.result Memory c.from_residual.ensures.1 refl
 
-pub returns-in_err-resize-clause-unchanged : goal.returns-in_err-resize-clause-unchanged
-returns-in_err-resize-clause-unchanged c = in_any_case c.from_residual.result _ c.self.view_is
+pub returns-in_err-make_room-clause-unchanged : goal.returns-in_err-make_room-clause-unchanged
+returns-in_err-make_room-clause-unchanged c = in_any_case c.from_residual.result _ c.self.view_is
 
-pub returns-in_err-resize-clause-well_formed : goal.returns-in_err-resize-clause-well_formed
-returns-in_err-resize-clause-well_formed c = echelon_of_steps _ _ _ c.self.invariant.are_steps
+pub returns-in_err-make_room-clause-well_formed : goal.returns-in_err-make_room-clause-well_formed
+returns-in_err-make_room-clause-well_formed c = echelon_of_steps _ _ _ c.self.invariant.are_steps
 
 pub returns-in_err-push-clause-exactly : goal.returns-in_err-push-clause-exactly
 returns-in_err-push-clause-exactly c = IfOk-from_err c.from_residual-in_err-push.result _ c.from_residual-in_err-push.ensures.0

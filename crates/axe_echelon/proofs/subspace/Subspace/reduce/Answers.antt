@@ -1,74 +1,95 @@
-use Rattle.std.proofs.Common.{◌≡◌, ◌<◌, ◌≤◌, length, sym, ◌∙◌, arith, refl}
-use Rattle.axe_echelon.specs.Steps.{AreSteps, inserted_rows}
+use Rattle.std.proofs.Common.{◌≡◌, ◌<◌, length, get_or, sym, ◌∙◌, ap, arith}
+use Rattle.axe_echelon.specs.Echelons.{EchelonValue}
+use Rattle.axe_echelon.specs.Steps.{IsStep}
 use Rattle.axe_echelon.specs.Subspaces.{step_of, steps_of}
-use Rattle.axe_echelon.proofs.StepLaws.{over_of_row, is_row_of_over, step_at, step_place, echelon_of_steps}
-use Rattle.axe_echelon.proofs.ClearingLaws.{reduced_so_far_none, reduce_step, reduced_all}
+use Rattle.axe_echelon.specs.declared.Step.{Step}
+use Rattle.axe_echelon.proofs.StepLaws.{over_of_row, is_row_of_over, step_at, pivot_of_steps, echelon_of_steps}
+use Rattle.axe_echelon.proofs.ClearingLaws.{IsFoundStep, IsClearing, reduced_before_none, found_step, room_of_found, place_of_found, clearing_of, reduce_next, reduced_all}
 use Rattle.axe_echelon.proofs.SubspaceLaws.{length-steps_from, step_of_row}
+use Rattle.axe_echelon.proofs.subspace.Subspace.reduce.Goals.{In-Some, After-row_of, After-index-pivot_row}
 use Rattle.axe_echelon.proofs.subspace.Subspace.reduce.Goals as goal
 
-pub loop-pivot_row-init : goal.loop-pivot_row-init
-loop-pivot_row-init c = reduced_so_far_none _ _ _ _ c.requires.field (over_of_row _ _ _ c.requires.field c.len.ensures.well_formed c.requires.fits)
+pub loop-pivot-init : goal.loop-pivot-init
+loop-pivot-init c =
+    let field = c.requires.field ∙ sym (ap (λ (e : EchelonValue). e.order) c.self.view_is) in
+    let fits = c.requires.fits ∙ sym (ap (λ (e : EchelonValue). e.cols) c.self.view_is) in
+    record {
+      fits = omega arith;
+      so_far = reduced_before_none _ _ _ _ field (over_of_row _ _ _ field c.len.ensures.well_formed fits);
+    }
+
+place : (c : goal.In-Some) → c.in-Some.pivot < c.self.inside.cols
+place c = omega (arith, place_of_found _ c.loop-pivot.row.entries _ _ c.in-Some.ensures, c.loop-pivot.invariant.so_far.clear.over.length_is)
+
+pub row_of-requires : goal.row_of-requires
+row_of-requires c =
+    let room = room_of_found _ _ _ _ c.loop-pivot.row.entries _ _ c.self.invariant c.in-Some.ensures in
+    omega (arith, place (goal.at.row_of-requires c).In-Some, room.rows)
+
+found : (c : goal.After-row_of) → IsFoundStep (steps_of c.self.inside.field c.self.inside.cols c.self.inside.rows.items) c.in-Some.pivot c.row_of.result
+found c = found_step _ _ (steps_of c.self.inside.field c.self.inside.cols c.self.inside.rows.items) c.self.inside.pivots c.loop-pivot.row.entries _ _ _ c.self.invariant c.in-Some.ensures c.row_of.ensures
+
+inside : (c : goal.After-row_of) → c.row_of.result < length c.self.inside.rows.items
+inside c = omega (arith, (found c).within, length-steps_from c.self.inside.field c.self.inside.cols 0 c.self.inside.rows.items)
+
+pub index-pivot_row-requires : goal.index-pivot_row-requires
+index-pivot_row-requires c = omega (arith, inside (goal.at.index-pivot_row-requires c).After-row_of, c.self.inside.rows.ok.0)
+
+abbrev step : (c : goal.After-index-pivot_row) → Step
+step c = step_of c.self.inside.field c.self.inside.cols c.row_of.result c.index-pivot_row.result.now
+
+step_is : (c : goal.After-index-pivot_row) → step c ≡ get_or (steps_of c.self.inside.field c.self.inside.cols c.self.inside.rows.items) c.row_of.result (step c)
+step_is c = step_of_row _ _ c.self.inside.rows.items c.row_of.result c.index-pivot_row.result.now (inside c.before) c.index-pivot_row.ensures
+
+at : (c : goal.After-index-pivot_row) → IsStep c.self.inside.field c.self.inside.cols (step c)
+at c = step_at _ _ (steps_of c.self.inside.field c.self.inside.cols c.self.inside.rows.items) c.row_of.result (step c) c.self.invariant.are_steps
+    (found c.before).within (step_is c)
 
 pub cancel-requires-clause-index : goal.cancel-requires-clause-index
-cancel-requires-clause-index c =
-    let are : AreSteps c.args.self.now.order c.args.self.now.cols (steps_of c.args.self.now.order c.args.self.now.cols c.deref-pivot_row-items.result.now) =
-    rw (c.deref-pivot_row-items.ensures.value, ← c.self.view_is) c.self.invariant.are_steps in
-    let inside : c.loop-pivot_row.pivot_row-index < length c.deref-pivot_row-items.result.now = omega (arith, c.loop-pivot_row-test.true) in
-    let below : c.loop-pivot_row.pivot_row-index < length (steps_of c.args.self.now.order c.args.self.now.cols c.deref-pivot_row-items.result.now) =
-    omega (arith, inside, length-steps_from c.args.self.now.order c.args.self.now.cols 0 c.deref-pivot_row-items.result.now) in
-    let place = step_place _ _ _ c.loop-pivot_row.pivot_row-index (step_of c.args.self.now.order c.args.self.now.cols c.loop-pivot_row.pivot_row-index c.pivot_row-item.result)
-    are below (step_of_row _ _ _ _ _ inside c.pivot_row-item.is) in
-    omega (arith, place, c.loop-pivot_row.invariant.over.length_is)
+cancel-requires-clause-index c = place_of_found _ c.loop-pivot.row.entries _ _ c.in-Some.ensures
 
 pub cancel-requires-clause-field : goal.cancel-requires-clause-field
-cancel-requires-clause-field c =
-    let are : AreSteps c.args.self.now.order c.args.self.now.cols (steps_of c.args.self.now.order c.args.self.now.cols c.deref-pivot_row-items.result.now) =
-    rw (c.deref-pivot_row-items.ensures.value, ← c.self.view_is) c.self.invariant.are_steps in
-    let inside : c.loop-pivot_row.pivot_row-index < length c.deref-pivot_row-items.result.now = omega (arith, c.loop-pivot_row-test.true) in
-    let below : c.loop-pivot_row.pivot_row-index < length (steps_of c.args.self.now.order c.args.self.now.cols c.deref-pivot_row-items.result.now) =
-    omega (arith, inside, length-steps_from c.args.self.now.order c.args.self.now.cols 0 c.deref-pivot_row-items.result.now) in
-    let at = step_at _ _ _ c.loop-pivot_row.pivot_row-index (step_of c.args.self.now.order c.args.self.now.cols c.loop-pivot_row.pivot_row-index c.pivot_row-item.result)
-    are below (step_of_row _ _ _ _ _ inside c.pivot_row-item.is) in
-    at.row_field ∙ sym c.loop-pivot_row.invariant.field
+cancel-requires-clause-field c = (at (goal.at.cancel-requires-clause-field c).After-index-pivot_row).row_field ∙ sym c.loop-pivot.invariant.so_far.clear.field
 
 pub cancel-requires-clause-fits : goal.cancel-requires-clause-fits
 cancel-requires-clause-fits c =
-    let are : AreSteps c.args.self.now.order c.args.self.now.cols (steps_of c.args.self.now.order c.args.self.now.cols c.deref-pivot_row-items.result.now) =
-    rw (c.deref-pivot_row-items.ensures.value, ← c.self.view_is) c.self.invariant.are_steps in
-    let inside : c.loop-pivot_row.pivot_row-index < length c.deref-pivot_row-items.result.now = omega (arith, c.loop-pivot_row-test.true) in
-    let below : c.loop-pivot_row.pivot_row-index < length (steps_of c.args.self.now.order c.args.self.now.cols c.deref-pivot_row-items.result.now) =
-    omega (arith, inside, length-steps_from c.args.self.now.order c.args.self.now.cols 0 c.deref-pivot_row-items.result.now) in
-    let at = step_at _ _ _ c.loop-pivot_row.pivot_row-index (step_of c.args.self.now.order c.args.self.now.cols c.loop-pivot_row.pivot_row-index c.pivot_row-item.result)
-    are below (step_of_row _ _ _ _ _ inside c.pivot_row-item.is) in
-    at.row_over.length_is ∙ sym c.loop-pivot_row.invariant.over.length_is
+    (at (goal.at.cancel-requires-clause-fits c).After-index-pivot_row).row_over.length_is ∙ sym c.loop-pivot.invariant.so_far.clear.over.length_is
 
-pub loop-pivot_row-preserved : goal.loop-pivot_row-preserved
-loop-pivot_row-preserved c =
-    let are : AreSteps c.args.self.now.order c.args.self.now.cols (steps_of c.args.self.now.order c.args.self.now.cols c.deref-pivot_row-items.result.now) =
-    rw (c.deref-pivot_row-items.ensures.value, ← c.self.view_is) c.self.invariant.are_steps in
-    let inside : c.loop-pivot_row.pivot_row-index < length c.deref-pivot_row-items.result.now = omega (arith, c.loop-pivot_row-test.true) in
-    let below : c.loop-pivot_row.pivot_row-index < length (steps_of c.args.self.now.order c.args.self.now.cols c.deref-pivot_row-items.result.now) =
-    omega (arith, inside, length-steps_from c.args.self.now.order c.args.self.now.cols 0 c.deref-pivot_row-items.result.now) in
-    let is = step_of_row c.args.self.now.order c.args.self.now.cols c.deref-pivot_row-items.result.now c.loop-pivot_row.pivot_row-index c.pivot_row-item.result
-    inside c.pivot_row-item.is in
-    reduce_step c.args.self.now.order c.loop-pivot_row.row.order c.args.self.now.cols
-    (steps_of c.args.self.now.order c.args.self.now.cols c.deref-pivot_row-items.result.now) c.loop-pivot_row.pivot_row-index
-    (step_of c.args.self.now.order c.args.self.now.cols c.loop-pivot_row.pivot_row-index c.pivot_row-item.result) c.args.row.now c.loop-pivot_row.row
-    c.cancel.new.self c.cancel.result _ are below is c.loop-pivot_row.invariant c.loop-pivot_row.invariant.field c.cancel.ensures.element c.cancel.ensures.factor refl
-    c.cancel.ensures.sum c.cancel.ensures.as_long c.cancel.ensures.well_formed
+pub overflow_add-start : goal.overflow_add-start
+overflow_add-start c = omega (arith, place (goal.at.overflow_add-start c).In-Some, c.self.invariant.are_steps.columns_fit)
+
+pub loop-pivot-smaller : goal.loop-pivot-smaller
+loop-pivot-smaller c =
+    omega (arith, place (goal.at.loop-pivot-smaller c).In-Some, c.in-Some.ensures.not_before, c.requires.fits, ap (λ (e : EchelonValue). e.cols) c.self.view_is)
+
+pub loop-pivot-preserved : goal.loop-pivot-preserved
+loop-pivot-preserved c =
+    let steps = steps_of c.self.inside.field c.self.inside.cols c.self.inside.rows.items in
+    let at_row = (goal.at.loop-pivot-preserved c).After-index-pivot_row in
+    let there : IsFoundStep steps c.in-Some.pivot c.row_of.result = found (goal.at.loop-pivot-preserved c).After-row_of in
+    let pivot = sym (pivot_of_steps steps c.row_of.result (step at_row) there.within (step_is at_row)) ∙ there.pivot in
+    let so_far = c.loop-pivot.invariant.so_far in
+    let clearing : IsClearing c.self.inside.field c.self.inside.cols (step at_row) c.loop-pivot.row c.cancel.new.self c.cancel.result =
+    clearing_of _ c.loop-pivot.row.order _ (step at_row) _ _ _ c.in-Some.pivot so_far.clear.field so_far.clear.over pivot so_far.clear.field
+    c.cancel.ensures.element c.cancel.ensures.factor c.cancel.ensures.sum c.cancel.ensures.as_long c.cancel.ensures.well_formed in
+    record {
+      fits = omega (arith, place_of_found _ c.loop-pivot.row.entries _ _ c.in-Some.ensures, c.cancel.ensures.as_long);
+      so_far = reduce_next _ _ steps c.self.inside.pivots c.loop-pivot.start c.in-Some.pivot c.row_of.result (step at_row) c.args.row.now c.loop-pivot.row
+          c.cancel.new.self c.cancel.result c.self.invariant so_far c.in-Some.ensures there (step_is at_row) clearing;
+    }
 
 pub returns-clause-representative : goal.returns-clause-representative
 returns-clause-representative c =
-    let are : AreSteps c.args.self.now.order c.args.self.now.cols (steps_of c.args.self.now.order c.args.self.now.cols c.deref-pivot_row-items.result.now) =
-    rw (c.deref-pivot_row-items.ensures.value, ← c.self.view_is) c.self.invariant.are_steps in
-    let rows : inserted_rows (steps_of c.args.self.now.order c.args.self.now.cols c.deref-pivot_row-items.result.now) ≡ c.args.self.now.rows =
-    rw (c.deref-pivot_row-items.ensures.value, ← c.self.view_is) refl in
-    let all : length (steps_of c.args.self.now.order c.args.self.now.cols c.deref-pivot_row-items.result.now) ≤ c.loop-pivot_row.pivot_row-index =
-    omega (arith, c.loop-pivot_row-test.false, length-steps_from c.args.self.now.order c.args.self.now.cols 0 c.deref-pivot_row-items.result.now) in
-    rw (← rows) (reduced_all _ _ _ c.loop-pivot_row.pivot_row-index _ _ are all c.loop-pivot_row.invariant)
+    rw (← c.self.view_is) (reduced_all _ _ _ c.self.inside.pivots c.loop-pivot.start _ _ c.self.invariant c.loop-pivot.invariant.so_far c.in_default.ensures)
+
+pub returns-clause-same_field : goal.returns-clause-same_field
+returns-clause-same_field c = c.loop-pivot.invariant.so_far.clear.field ∙ ap (λ (e : EchelonValue). e.order) c.self.view_is
+
+pub returns-clause-as_long : goal.returns-clause-as_long
+returns-clause-as_long c = c.loop-pivot.invariant.so_far.clear.over.length_is ∙ ap (λ (e : EchelonValue). e.cols) c.self.view_is
 
 pub returns-clause-row_well_formed : goal.returns-clause-row_well_formed
-returns-clause-row_well_formed c = is_row_of_over _ _ _ c.loop-pivot_row.invariant.field c.loop-pivot_row.invariant.over
+returns-clause-row_well_formed c = is_row_of_over _ _ _ c.loop-pivot.invariant.so_far.clear.field c.loop-pivot.invariant.so_far.clear.over
 
 pub returns-clause-well_formed : goal.returns-clause-well_formed
 returns-clause-well_formed c = rw (← c.self.view_is) (echelon_of_steps _ _ _ c.self.invariant.are_steps)

@@ -1,0 +1,123 @@
+-- Tables of pivots: one more pivot, and the entries of a row at the columns that a table marks.
+use Rattle.std.specs.Prelude.{◌≡◌, ◌≢◌, ℕ, suc, ◌+◌, ◌<◌, ◌≤◌, List, [], ◌∷◌, ◌++◌, length, get_or, set, cond, eqb, Bool, true, false}
+use Rattle.std.specs.Prelude.{Option, Some, None, MatchOption}
+use Rattle.std.proofs.lemmas.Bool.{eq-eqb, ne_eqb}
+use Rattle.std.proofs.lemmas.List.{length-append, length-set, get_or_past, get_or_append_left, get_or-append-add, get_or-set_same, get_or-set_other}
+use Rattle.axe_algebra.proofs.ListEntries.{listed_at, listed_length}
+use Rattle.axe_bits.specs.Supports.{restricted}
+use Rattle.axe_lane.specs.Entries.{IsNextNonzero}
+use Rattle.axe_echelon.specs.PivotTables.{marks_in, marks_of, HasRoom, IsPivotAt, HasPivots}
+use Rattle.axe_echelon.specs.declared.pivot_table.PivotTable.{PivotTable}
+use mathlib.Core.Path.{refl, sym, ◌∙◌, ap, subst}
+use native.Mathlib.Omega.{arith}
+use native.Mathlib.Decide.{ℕ_discrete, dec_lt}
+
+-- ---- entries at the places where others are not 0
+
+cond_same : (b : Bool) (a : ℕ) → cond b a a ≡ a
+cond_same true a = refl
+cond_same false a = refl
+
+restricted_at : (marks entries : List ℕ) (j : ℕ) → get_or (restricted marks entries) j 0 ≡ cond (eqb (get_or marks j 0) 0) 0 (get_or entries j 0)
+unfolding restricted
+restricted_at marks entries j = at (dec_lt j (length entries))
+  where
+    at : Dec (j < length entries) → get_or (restricted marks entries) j 0 ≡ cond (eqb (get_or marks j 0) 0) 0 (get_or entries j 0)
+    at (yes below) = listed_at (length entries) (λ i. cond (eqb (get_or marks i 0) 0) 0 (get_or entries i 0)) j 0 below
+    at (no past) =
+        get_or_past (restricted marks entries) j 0
+        (omega (arith, past, listed_length (length entries) (λ i. cond (eqb (get_or marks i 0) 0) 0 (get_or entries i 0))))
+        ∙ sym (ap (cond (eqb (get_or marks j 0) 0) 0) (get_or_past entries j 0 (omega (arith, past))) ∙ cond_same (eqb (get_or marks j 0) 0) 0)
+
+pub length-restricted : (marks entries : List ℕ) → length (restricted marks entries) ≡ length entries
+unfolding restricted
+length-restricted marks entries = listed_length (length entries) (λ i. cond (eqb (get_or marks i 0) 0) 0 (get_or entries i 0))
+
+pub unmarked_is_zero : (marks entries : List ℕ) (j : ℕ) → get_or marks j 0 ≡ 0 → get_or (restricted marks entries) j 0 ≡ 0
+unmarked_is_zero marks entries j none = restricted_at marks entries j ∙ ap (λ b. cond b 0 (get_or entries j 0)) (eq-eqb (get_or marks j 0) 0 none)
+
+pub zero_where_marked : (marks entries : List ℕ) (j : ℕ) → get_or marks j 0 ≢ 0 → get_or (restricted marks entries) j 0 ≡ 0 → get_or entries j 0 ≡ 0
+zero_where_marked marks entries j marked none =
+    sym (restricted_at marks entries j ∙ ap (λ b. cond b 0 (get_or entries j 0)) (ne_eqb (get_or marks j 0) 0 marked)) ∙ none
+
+-- what a search finds is marked
+pub found_is_marked : (marks entries : List ℕ) (start column : ℕ) → IsNextNonzero (restricted marks entries) start column → get_or marks column 0 ≢ 0
+found_is_marked marks entries start column found none = found.nonzero (unmarked_is_zero marks entries column none)
+
+-- ---- tables
+
+-- there is room where there are marks
+room_of_marks : (m : Option (List ℕ)) (A B : Type 0) (column : ℕ) → MatchOption m A (λ _. B) → get_or (marks_in m) column 0 ≢ 0 → B
+room_of_marks None A B column h marked = absurd (marked refl)
+room_of_marks (Some marks) A B column h marked = h
+
+marks_of_room : (m : Option (List ℕ)) (A B : Type 0) → 1 ≤ length (marks_in m) → B → MatchOption m A (λ _. B)
+marks_of_room None A B some h = absurd (omega (arith, some))
+marks_of_room (Some marks) A B some h = h
+
+pub room_if_marked : (cols : ℕ) (pivots : List ℕ) (table : PivotTable) (column : ℕ) → HasPivots cols pivots table → get_or (marks_of table) column 0 ≢ 0 →
+    HasRoom cols table
+room_if_marked cols pivots table column h marked = room_of_marks table.marks (length pivots ≡ 0) (HasRoom cols table) column h.room marked
+
+-- ---- one more pivot
+
+module _ (cols : ℕ) (pivots : List ℕ) (column : ℕ) (old next : PivotTable) (h : HasPivots cols pivots old) (room : HasRoom cols old) (inside : column < cols)
+    (marks : marks_of next ≡ set (marks_of old) column 1) (rows : next.rows.items ≡ set old.rows.items column (length pivots)) where
+  mark_there : (j : ℕ) → j ≡ column → get_or (marks_of next) j 0 ≡ 1
+  mark_there j e = ap (λ k. get_or (marks_of next) k 0) e ∙ ap (λ (l : List ℕ). get_or l column 0) marks
+      ∙ get_or-set_same (marks_of old) column 1 0 (omega (arith, inside, room.marks))
+
+  mark_elsewhere : (j : ℕ) → j ≢ column → get_or (marks_of next) j 0 ≡ get_or (marks_of old) j 0
+  mark_elsewhere j other = ap (λ (l : List ℕ). get_or l j 0) marks ∙ get_or-set_other (marks_of old) column j 1 0 other
+
+  is_marked : (j : ℕ) → get_or (marks_of next) j 0 ≡ 1 → get_or (marks_of next) j 0 ≢ 0
+  is_marked j one none = absurd (omega (arith, one, none))
+
+  last : get_or (pivots ++ column ∷ []) (length pivots) 0 ≡ column
+  last = ap (λ k. get_or (pivots ++ column ∷ []) k 0) (let same : length pivots ≡ length pivots + 0 = omega arith in same)
+      ∙ get_or-append-add pivots (column ∷ []) 0 0
+
+  counted : length (pivots ++ column ∷ []) ≡ suc (length pivots)
+  counted = omega (arith, length-append pivots (column ∷ []))
+
+  still_marked : (index : ℕ) → index < length (pivots ++ column ∷ []) → get_or (marks_of next) (get_or (pivots ++ column ∷ []) index 0) 0 ≢ 0
+  still_marked index below = at (dec_lt index (length pivots)) (ℕ_discrete (get_or (pivots ++ column ∷ []) index 0) column)
+    where
+      at : Dec (index < length pivots) → Dec (get_or (pivots ++ column ∷ []) index 0 ≡ column) →
+          get_or (marks_of next) (get_or (pivots ++ column ∷ []) index 0) 0 ≢ 0
+      at _ (yes e) = is_marked _ (mark_there _ e)
+      at (yes before) (no other) = λ none. h.marked index before
+          (ap (λ k. get_or (marks_of old) k 0) (sym (get_or_append_left pivots (column ∷ []) 0 index before)) ∙ sym (mark_elsewhere _ other) ∙ none)
+      at (no past) (no other) = absurd (other (ap (λ k. get_or (pivots ++ column ∷ []) k 0)
+          (let same : index ≡ length pivots = omega (arith, below, past, counted) in same) ∙ last))
+
+  row_of_marked : (j : ℕ) → get_or (marks_of next) j 0 ≢ 0 → IsPivotAt (pivots ++ column ∷ []) (get_or next.rows.items j 0) j
+  row_of_marked j marked = at (ℕ_discrete j column)
+    where
+      at : Dec (j ≡ column) → IsPivotAt (pivots ++ column ∷ []) (get_or next.rows.items j 0) j
+      at (yes e) = subst (λ index. IsPivotAt (pivots ++ column ∷ []) index j)
+          (sym (ap (λ k. get_or next.rows.items k 0) e ∙ ap (λ (l : List ℕ). get_or l column 0) rows
+          ∙ get_or-set_same old.rows.items column (length pivots) 0 (omega (arith, inside, room.rows))))
+          (record { within = omega (arith, counted); is = last ∙ sym e })
+      at (no other) = subst (λ index. IsPivotAt (pivots ++ column ∷ []) index j)
+          (sym (ap (λ (l : List ℕ). get_or l j 0) rows ∙ get_or-set_other old.rows.items column j (length pivots) 0 other))
+          (longer (h.row j (λ none. marked (mark_elsewhere j other ∙ none))))
+        where
+          longer : {index : ℕ} → IsPivotAt pivots index j → IsPivotAt (pivots ++ column ∷ []) index j
+          longer {index} before = record {
+            within = omega (arith, before.within, counted);
+            is = get_or_append_left pivots (column ∷ []) 0 index before.within ∙ before.is;
+          }
+
+  pub pivots_more : HasPivots cols (pivots ++ column ∷ []) next
+  pivots_more = record {
+    room = marks_of_room next.marks (length (pivots ++ column ∷ []) ≡ 0) (HasRoom cols next) (omega (arith, long, inside)) room_after;
+    marked = still_marked;
+    row = row_of_marked;
+  }
+    where
+      long : length (marks_of next) ≡ cols
+      long = ap length marks ∙ length-set (marks_of old) column 1 ∙ room.marks
+
+      room_after : HasRoom cols next
+      room_after = record { marks = long; rows = ap length rows ∙ length-set old.rows.items column (length pivots) ∙ room.rows }

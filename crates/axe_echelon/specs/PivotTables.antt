@@ -1,0 +1,32 @@
+-- Tables of pivots by their columns.
+use Rattle.std.specs.Prelude.{◌≡◌, ◌≢◌, ℕ, ◌<◌, List, [], length, slice_index, Option, Some, None, IfSome, MatchOption}
+use Rattle.axe_echelon.specs.declared.pivot_table.PivotTable.{PivotTable}
+
+-- the marks that there are
+abbrev pub marks_in : Option (List ℕ) → List ℕ
+marks_in None = []
+marks_in (Some marks) = marks
+
+-- the marks of a table by columns: 0 at each column that is no pivot
+abbrev pub marks_of : PivotTable → List ℕ
+marks_of table = marks_in table.marks
+
+-- where there are marks, each of so many columns has one
+abbrev pub FitsColumns : ℕ → PivotTable → Type 0
+FitsColumns cols table = IfSome table.marks (λ marks. length marks ≡ cols)
+
+-- there are a mark and the index of a row for each of so many columns
+pub record HasRoom (cols : ℕ) (table : PivotTable) : Type 0 where
+  pub marks : length (marks_of table) ≡ cols
+  pub rows : length table.rows.items ≡ cols
+
+-- the column is the pivot at this index
+pub record IsPivotAt (pivots : List ℕ) (index column : ℕ) : Type 0 where
+  pub within : index < length pivots
+  pub is : slice_index pivots index ≡ column
+
+-- the pivots of the rows, in their order, are the columns that the table marks, and it has the index of each
+pub record HasPivots (cols : ℕ) (pivots : List ℕ) (table : PivotTable) : Type 0 where
+  pub room : MatchOption table.marks (length pivots ≡ 0) (λ _. HasRoom cols table)
+  pub marked : (index : ℕ) → index < length pivots → slice_index (marks_of table) (slice_index pivots index) ≢ 0
+  pub row : (column : ℕ) → slice_index (marks_of table) column ≢ 0 → IsPivotAt pivots (slice_index table.rows.items column) column

@@ -1,0 +1,93 @@
+//! The pivots of the rows of an echelon form, by their columns.
+
+ghost use Rattle.std.specs.Prelude.{◌≡◌, ◌≢◌, ◌<◌, ◌≤◌, ◌↔◌, [], ℕ, List, length, slice_index, slice_set};
+ghost use Rattle.std.specs.Prelude.{IfOk, IsTrue, MatchOption};
+ghost use Rattle.axe_bits.specs.Supports.{restricted};
+ghost use Rattle.axe_lane.specs.Entries.{AreZerosFrom, IsNextNonzero};
+ghost use Rattle.axe_echelon.specs.PivotTables.{marks_of, FitsColumns, HasRoom, HasPivots};
+
+use axe_bits::BitPlane;
+use axe_matrix::Row;
+use std::alloc::{AllocError, Global};
+
+/// For each column whether it is the pivot of a row of an echelon form, and of which row. It takes no memory until it
+/// is given room.
+#[derive(Drop)]
+pub(crate) struct PivotTable {
+    alloc: Global,
+    /// 1 at each pivot, and 0 at every other column. There are none until the table has room.
+    marks: Option<BitPlane>,
+    /// At each pivot the index of its row.
+    rows: Vec<usize>,
+}
+
+impl PivotTable {
+    /// The table of an echelon form that has no rows.
+    pub(crate) fn new(alloc: Global) -> PivotTable
+        ensures { (cols : ℕ) → HasPivots cols [] result }
+    {
+        PivotTable {
+            alloc,
+            marks: None,
+            rows: Vec::new(alloc),
+        }
+    }
+
+    /// Gives the table room for so many columns, where it has none. The pivots that it tells of stay, also where there
+    /// is no memory.
+    pub(crate) fn make_room(&mut self, cols: usize) -> Result<(), AllocError>
+        ensures pivots { (pivots : List ℕ) → HasPivots cols pivots self.old → HasPivots cols pivots self.new }
+        ensures room { IfOk result (λ _. (pivots : List ℕ) → HasPivots cols pivots self.old → HasRoom cols self.new) }
+    {
+        if self.marks.is_none() {
+            self.rows.resize(cols, 0)?;
+            self.marks = Some(BitPlane::zero(self.alloc, cols)?);
+        }
+        Ok(())
+    }
+
+    /// Tells of a column from now on that it is the pivot of the row at an index.
+    pub(crate) fn mark(&mut self, column: usize, index: usize)
+        requires { column < length self.old.rows.items }
+        ensures marks { marks_of self.new ≡ slice_set (marks_of self.old) column 1 }
+        ensures rows { self.new.rows.items ≡ slice_set self.old.rows.items column index }
+    {
+        if let Some(marks) = &mut self.marks {
+            marks.set(column, 1);
+        }
+        self.rows[column] = index;
+    }
+
+    /// Whether a column is a pivot.
+    pub(crate) fn is_pivot(&self, column: usize) -> bool
+        ensures { IsTrue result ↔ (slice_index (marks_of self.now) column ≢ 0) }
+    {
+        let Some(marks) = &self.marks else {
+            return false;
+        };
+        marks.get(column) != 0
+    }
+
+    /// The next pivot, from a column on, at which a row is not 0, or `None` where it is 0 at all pivots from there on.
+    #[inline]
+    pub(crate) fn next_pivot(&self, row: &Row, start: usize) -> Option<usize>
+        requires start { start ≤ length row.now.entries }
+        requires fits { FitsColumns (length row.now.entries) self.now }
+        ensures { MatchOption result (AreZerosFrom (restricted (marks_of self.now) row.now.entries) start)
+            (IsNextNonzero (restricted (marks_of self.now) row.now.entries) start) }
+    {
+        let Some(marks) = &self.marks else {
+            return None;
+        };
+        row.next_nonzero_within(start, marks)
+    }
+
+    /// The index of the row whose pivot a column is.
+    #[inline]
+    pub(crate) fn row_of(&self, pivot: usize) -> usize
+        requires { pivot < length self.now.rows.items }
+        ensures { result ≡ slice_index self.now.rows.items pivot }
+    {
+        self.rows[pivot]
+    }
+}
