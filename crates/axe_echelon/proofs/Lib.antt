@@ -11,9 +11,12 @@ pub mod EliminationLaws
 pub mod ReducedLaws
 pub mod InverseLaws
 pub mod SpanLaws
-pub mod NullLaws
-pub mod NullRowLaws
 pub mod OneMatrix
 pub mod SomeMatrix
 pub mod SubspaceLaws
 pub mod WholeSpace
+pub mod OrthogonalLaws
+pub mod PivotsOfRows
+pub mod OrthogonalRows
+pub mod OrthogonalSpaces
+pub mod Transposes

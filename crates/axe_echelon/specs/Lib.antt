@@ -4,3 +4,4 @@ pub mod PivotTables
 pub mod Steps
 pub mod Inserted
 pub mod Subspaces
+pub mod Orthogonal

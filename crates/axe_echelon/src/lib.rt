@@ -26,7 +26,7 @@ mod subspace;
 use axe_field::Field;
 use axe_matrix::{Matrix, Refusal, Row};
 pub use inverses::inverse;
-pub use null_spaces::null_space;
+pub use null_spaces::{null_space, orthogonal_space};
 use pivot_table::PivotTable;
 pub use spans::span_of;
 use std::alloc::Global;
@@ -126,26 +126,6 @@ impl Echelon {
             return Ok(false);
         }
         Ok(self.insert_or_cancel(row)?.is_none())
-    }
-
-    /// Inserts a row over the field with an entry for each column where it is new, and answers `None`. Else the answer
-    /// is its coefficients over the inserted rows, in their order, and nothing is changed.
-    pub(crate) fn insert_or_coordinates(&mut self, row: Row) -> Result<Option<Row>, Refusal>
-        requires field { row.order ≡ self.old.order }
-        requires fits { length row.entries ≡ self.old.cols }
-        ensures coordinates { Answers None (λ coordinates. MatchOption coordinates
-            (¬ (IsSpanned (number_field self.old.order) self.old.rows row.entries))
-            (AreCoordinates self.old row.entries)) result }
-        ensures inserted { Answers None (λ coordinates. MatchOption coordinates
-            (self.new ≡ with_row_where true self.old row.entries) (λ _. self.new ≡ self.old)) result }
-        ensures unchanged { OnErr result (self.new ≡ self.old) }
-        ensures well_formed { IsEchelon self.new }
-    {
-        let Some(coefficients) = self.insert_or_cancel(row)? else {
-            return Ok(None);
-        };
-        // The row plus the combination with these coefficients is zero, so their negatives combine to the row.
-        Ok(Some(negated_start(self.alloc, &coefficients, self.rank())?))
     }
 
     /// Inserts a row where it is new, and answers `None`. Else the answer is the coefficients of a combination of the

@@ -1,14 +1,20 @@
-//! Null spaces of matrices.
+//! Null spaces of matrices, and the spaces of all vectors that are orthogonal to given rows.
 
-ghost use Rattle.std.specs.Prelude.{◌≡◌, ◌<◌, ◌≤◌, length, None, IfOk};
+ghost use Rattle.std.specs.Prelude.{◌<◌, None, IfOk};
+ghost use Rattle.axe_algebra.specs.SpansOfLists.{IsAnnihilatorBasis, IsPivot};
+ghost use Rattle.axe_field.specs.NumberFields.{number_field};
 ghost use Rattle.axe_row.specs.Refusals.{Answers};
-ghost use Rattle.axe_matrix.specs.Matrices.{IsMatrix};
-ghost use Rattle.axe_echelon.specs.Echelons.{null_space_refusal, IsNullSpaceMatrix};
-ghost use Rattle.axe_echelon.specs.Inserted.{IsRelationWith};
+ghost use Rattle.axe_matrix.specs.Matrices.{IsMatrix, transposed_matrix};
+ghost use Rattle.axe_echelon.specs.Echelons.{null_space_refusal, IsNullSpaceMatrix, IsReducedMatrix};
+ghost use Rattle.axe_echelon.specs.Orthogonal.{IsSpaceOfRows, IsOrthogonalToSpace, IsOrthogonalVector, IsReducedBasisOrNone};
 
-use super::{Echelon, Subspace};
+use super::Subspace;
 use axe_matrix::{Matrix, Refusal, Row};
 use std::alloc::Global;
+
+/// Where fewer than one vector for so many dimensions of a space is to be made that is orthogonal to it, each is made
+/// by the rows of the space's echelon form.
+const DIMENSIONS_PER_VECTOR: usize = 16;
 
 /// The null space of a matrix: the reduced basis of all vectors whose product with the matrix, as `v X`, is zero. A
 /// matrix without rows is refused as NoRows.
@@ -16,51 +22,125 @@ pub fn null_space(alloc: Global, matrix: &Matrix) -> Result<Matrix, Refusal>
     ensures basis { Answers (null_space_refusal matrix.now) (IsNullSpaceMatrix matrix.now) result }
     ensures well_formed { IfOk result IsMatrix }
 {
-    if matrix.rows() == 0 {
-        return Err(Refusal::NoRows);
-    }
-    null_space_of_rows(alloc, matrix)
+    // `cols` is called for what it ensures beside the number: that the matrix is one.
+    prove!(matrix.cols() > 0);
+    // The entries of `v X` are the dot products of v with the columns of X.
+    let columns = matrix.transpose(alloc)?;
+    orthogonal_space(alloc, &columns)
 }
 
-/// The null space of a matrix with at least one row.
-fn null_space_of_rows(alloc: Global, matrix: &Matrix) -> Result<Matrix, Refusal>
-    requires { 1 ≤ length matrix.now.rows }
-    ensures basis { Answers None (IsNullSpaceMatrix matrix.now) result }
+/// The reduced basis of the space of all vectors that are orthogonal to the rows of a matrix: that have dot product 0
+/// with each. This is the null space of the transpose.
+pub fn orthogonal_space(alloc: Global, rows: &Matrix) -> Result<Matrix, Refusal>
+    ensures basis { Answers None (IsNullSpaceMatrix (transposed_matrix rows.now)) result }
+    ensures orthogonal { IfOk result (λ basis.
+        IsAnnihilatorBasis (number_field rows.now.order) rows.now.cols rows.now.rows basis.rows) }
+    ensures well_formed { IfOk result IsMatrix }
+{
+    let space = space_of(alloc, rows)?;
+    orthogonal_to(alloc, &space)
+}
+
+/// The span of the rows of a matrix.
+fn space_of(alloc: Global, rows: &Matrix) -> Result<Subspace, Refusal>
+    ensures span { Answers None (IsSpaceOfRows rows.now) result }
+    ensures well_formed { IsMatrix rows.now }
+{
+    let mut space = Subspace::zero(alloc, *rows.field(), rows.cols());
+    for index in 0..rows.rows() {
+        let row = rows.row(index).copy(alloc)?;
+        space.insert(row)?;
+    }
+    Ok(space)
+}
+
+/// The reduced basis of the space of all vectors that are orthogonal to a space. Such a vector is the combination of
+/// one vector for each column that is no pivot of the space, with its entries there as coefficients.
+fn orthogonal_to(alloc: Global, space: &Subspace) -> Result<Matrix, Refusal>
+    ensures basis { Answers None (IsOrthogonalToSpace space.now) result }
     ensures well_formed { Answers None IsMatrix result }
 {
-    let field = *matrix.field();
-    let mut image = Echelon::new(alloc, field, matrix.cols());
-    let mut units = Matrix::empty(alloc, field, matrix.rows());
-    let mut null = Subspace::zero(alloc, field, matrix.rows());
-    for index in 0..matrix.rows() {
-        let unit = Row::unit(alloc, field, matrix.rows(), index)?;
-        let row = matrix.row(index).copy(alloc)?;
-        match image.insert_or_coordinates(row)? {
-            None => {
-                units.append(unit)?;
-            }
-            Some(coordinates) => {
-                let vector = null_vector(alloc, &units, coordinates, unit)?;
-                null.insert(vector)?;
+    let reduced = reduced_where_many(alloc, space)?;
+    let mut orthogonal = Subspace::zero(alloc, *space.field(), space.cols());
+    for column in 0..space.cols() {
+        if !space.is_pivot(column) {
+            let vector = orthogonal_vector(alloc, space, &reduced, column)?;
+            orthogonal.insert(vector)?;
+        }
+    }
+    orthogonal.reduced(alloc)
+}
+
+/// The reduced basis of a space, where many vectors are to be made that are orthogonal to it: then it costs less than
+/// it saves.
+fn reduced_where_many(alloc: Global, space: &Subspace) -> Result<Option<Matrix>, Refusal>
+    ensures { Answers None (IsReducedBasisOrNone space.now) result }
+{
+    let count = space.cols().saturating_sub(space.dim());
+    if count <= space.dim() / DIMENSIONS_PER_VECTOR {
+        return Ok(None);
+    }
+    Ok(Some(space.reduced(alloc)?))
+}
+
+/// The vector orthogonal to a space that is 1 at a column that is no pivot of the space, and 0 at all others of them.
+fn orthogonal_vector(
+    alloc: Global,
+    space: &Subspace,
+    reduced: &Option<Matrix>,
+    column: usize,
+) -> Result<Row, Refusal>
+    requires reduced { IsReducedBasisOrNone space.now reduced.now }
+    requires within { column < space.now.cols }
+    requires no_pivot { ¬ (IsPivot (number_field space.now.order) space.now.rows column) }
+    ensures { Answers None (IsOrthogonalVector space.now column) result }
+{
+    match reduced {
+        Some(basis) => vector_by_basis(alloc, space, basis, column),
+        None => vector_by_rows(alloc, space, column),
+    }
+}
+
+/// This vector by the rows of the space's echelon form.
+fn vector_by_rows(alloc: Global, space: &Subspace, column: usize) -> Result<Row, Refusal>
+    requires within { column < space.now.cols }
+    requires no_pivot { ¬ (IsPivot (number_field space.now.order) space.now.rows column) }
+    ensures { Answers None (IsOrthogonalVector space.now column) result }
+{
+    let field = *space.field();
+    let mut vector = Row::unit(alloc, field, space.cols(), column)?;
+    // A row is 0 at the pivots of the rows before it: so what is set for them keeps the vector orthogonal to it.
+    for index in (0..space.dim()).rev() {
+        let product = space.row(index).dot(&vector);
+        // The row is 1 at its pivot, where the vector is 0 so far.
+        vector.set(space.pivot(index), field.neg(product));
+    }
+    Ok(vector)
+}
+
+/// This vector by the reduced basis of the space.
+fn vector_by_basis(
+    alloc: Global,
+    space: &Subspace,
+    basis: &Matrix,
+    column: usize,
+) -> Result<Row, Refusal>
+    requires basis { IsReducedMatrix space.now basis.now }
+    requires within { column < space.now.cols }
+    requires no_pivot { ¬ (IsPivot (number_field space.now.order) space.now.rows column) }
+    ensures { Answers None (IsOrthogonalVector space.now column) result }
+{
+    let field = *space.field();
+    let mut vector = Row::unit(alloc, field, space.cols(), column)?;
+    for index in 0..basis.rows() {
+        let row = basis.row(index);
+        let entry = row.get(column);
+        if entry != 0 {
+            // The first entry of a row other than 0 stands at its pivot, where all other rows are 0.
+            if let Some(pivot) = row.first_nonzero() {
+                vector.set(pivot, field.neg(entry));
             }
         }
     }
-    null.reduced(alloc)
-}
-
-/// A unit vector less the combination of other ones with the coordinates of its image over their images.
-fn null_vector(alloc: Global, units: &Matrix, coordinates: Row, unit: Row) -> Result<Row, Refusal>
-    requires coordinates_field { coordinates.order ≡ units.now.order }
-    requires coordinates_fit { length coordinates.entries ≡ length units.now.rows }
-    requires units_well_formed { IsMatrix units.now }
-    requires unit_field { unit.order ≡ units.now.order }
-    requires unit_fits { length unit.entries ≡ units.now.cols }
-    ensures { Answers None (IsRelationWith units.now coordinates unit.entries) result }
-{
-    // The images of the rows of `units` were inserted in the same order: so this has the same image as the unit vector.
-    let combination = units.vec_mul(alloc, &coordinates)?;
-    let mut vector = unit;
-    let minus_one = vector.field().neg(1);
-    vector.add_scaled(minus_one, &combination);
     Ok(vector)
 }

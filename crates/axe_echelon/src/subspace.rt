@@ -8,6 +8,7 @@ ghost use Rattle.axe_row.specs.Rows.{IsRow};
 ghost use Rattle.axe_matrix.specs.Limits.{most_columns};
 ghost use Rattle.axe_matrix.specs.Matrices.{IsMatrix};
 ghost use Rattle.axe_echelon.specs.Echelons.{IsEchelon, IsReducedMatrix};
+ghost use Rattle.axe_echelon.specs.Orthogonal.{IsPivotOfRow};
 ghost use Rattle.axe_echelon.specs.Steps.{IsPivotRow};
 ghost use Rattle.axe_echelon.specs.Subspaces.{IsNextRow, SpansOneMore};
 
@@ -100,6 +101,16 @@ impl Subspace {
         ensures well_formed { IsEchelon self.now }
     {
         &self.rows[index].row
+    }
+
+    /// The pivot of the row of the echelon form at an index: the column of its first entry other than 0, which is 1. The
+    /// rows after it are 0 there.
+    pub fn pivot(&self, index: usize) -> usize
+        requires { index < length self.now.rows }
+        ensures place { IsPivotOfRow self.now index result }
+        ensures within { result < self.now.cols }
+    {
+        self.rows[index].pivot
     }
 
     /// Inserts a vector over the field with an entry for each column, and tells whether it is new: whether it was not
