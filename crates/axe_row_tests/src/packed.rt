@@ -1,17 +1,18 @@
-//! Rows over two elements that are made of packed bytes, and that are written into them.
+//! Rows over two elements that are made of packed bytes, and that are written into them; the words of rows.
 use crate::tables::{Topic, each_call};
 use axe_row::Row;
 use axe_test_values::{
-    TableFault, bytes_of_hex, field_of, four_fields, is_row, is_row_answer, number_of, row_of,
-    three_fields, two_fields,
+    TableFault, bytes_of_hex, field_of, first_field, four_fields, is_row, is_row_answer, number_of,
+    row_of, small_number_of, three_fields, two_fields,
 };
 use std::alloc::Global;
 use std::process::Abort;
 
 /// - `of_packed_bits`: bytes, a length, and the row of so many of their bits;
 /// - `copy_packed_bits`: a row, and the bytes that it is written into, in which all bits were ones;
-/// - `word`: a row, an index, and the word there;
-/// - `set_word`: a row, an index, a word, and the row with the word there.
+/// - `digit_words`: a row, a power of x, an index, and the two words of its coefficients there;
+/// - `set_digit_words`: a row over a field of characteristic 2, a power of x, an index, a word, and the row with the bits
+///   of the word as its coefficients there.
 const PACKED: &str = "\
 of_packed_bits | 80 | 1 | 2: 1
 of_packed_bits | d0 | 7 | 2: 1101000
@@ -35,15 +36,29 @@ copy_packed_bits | 2: 0000001100111111100101101101010011001010100111000111100000
 copy_packed_bits | 2: 0010101110010101101100011011001000000000001110001101010111110011 | 2b 95 b1 b2 00 38 d5 f3
 copy_packed_bits | 2: 00111110000110000001011110001110110001101000100011010111101100001 | 3e 18 17 8e c6 88 d7 b0 80
 copy_packed_bits | 2: 1110111100101110111101000011100110010010011110100110101011011000010111110110000010010100001100000110011100011010110111101011011101 | ef 2e f4 39 92 7a 6a d8 5f 60 94 30 67 1a de b7 40
-word | 2: 1011 | 0 | 13
-word | 2: 1011 | 1 | 0
-word | 2: 000000000000000000000000000000000000000000000000000000000000000011 | 1 | 3
-set_word | 2: 0000 | 0 | 13 | 2: 1011
-set_word | 2: 101 | 1 | 7 | 2: 101
-set_word | 2: 00000000000000000000000000000000000000000000000000000000000000000 | 1 | 1 | 2: 00000000000000000000000000000000000000000000000000000000000000001
-# Bits that have no entry are dropped.
-set_word | 2: 1111 | 0 | 242 | 2: 0100
-set_word | 2: 000000000000000000000000000000000000000000000000000000000000000000 | 1 | 14 | 2: 000000000000000000000000000000000000000000000000000000000000000001
+digit_words | 2: 0100 | 0 | 0 | 2 0
+digit_words | 2: 1110 | 0 | 1 | 0 0
+digit_words | 2: 000101011011111010111010111101101111110000011010011111111011000111 | 0 | 1 | 3 0
+digit_words | 3: 01211 | 0 | 0 | 26 4
+digit_words | 3: 2112201110122211012102111002101000122020002021221001222122020120222101 | 0 | 1 | 40 7
+digit_words | 4: 112331 | 1 | 0 | 28 0
+digit_words | 4: 1300300220032232033111323103011003130111113233032121233323123302011 | 0 | 1 | 6 0
+digit_words | 8: 0175620 | 2 | 0 | 28 0
+digit_words | 8: 525314344214162105215414524410646001304115570653761546450604541465 | 1 | 1 | 1 0
+digit_words | 9: 085380 | 1 | 0 | 12 18
+digit_words | 9: 12110285406256663632280886423004876452128084585003703826538453557787 | 0 | 1 | 11 4
+digit_words | 9: 43262705860214584210834066882811265844032448452630765828025822018051 | 1 | 1 | 4 1
+set_digit_words | 2: 1100 | 0 | 0 | 13 | 2: 1011
+set_digit_words | 2: 000 | 0 | 1 | 7 | 2: 000
+set_digit_words | 2: 11001110111001110001110011111110010111100101110111101010011111011 | 0 | 1 | 1 | 2: 11001110111001110001110011111110010111100101110111101010011111011
+set_digit_words | 4: 203132 | 1 | 0 | 37 | 4: 203112
+set_digit_words | 4: 203102 | 0 | 0 | 25 | 4: 302112
+set_digit_words | 8: 4256775 | 2 | 0 | 90 | 8: 0616735
+set_digit_words | 8: 003145037451301253732416210460237555574754072075473546430614715755 | 1 | 1 | 2 | 8: 003145037451301253732416210460237555574754072075473546430614715757
+# Digits that have no entry are dropped.
+set_digit_words | 2: 1000 | 0 | 0 | 242 | 2: 0100
+set_digit_words | 2: 110001001001101110000000110011010000011010101101001000111000011000 | 0 | 1 | 14 | 2: 110001001001101110000000110011010000011010101101001000111000011001
+set_digit_words | 4: 13121 | 1 | 0 | 250 | 4: 13123
 ";
 
 fn makes_of_bits(rt: &impl Abort, alloc: Global, line: &str) -> Result<bool, TableFault> {
@@ -67,20 +82,26 @@ fn copies_bits(rt: &impl Abort, alloc: Global, line: &str) -> Result<bool, Table
     Ok(bytes == wanted)
 }
 
-fn reads_word(rt: &impl Abort, alloc: Global, line: &str) -> Result<bool, TableFault> {
-    let (row, index, wanted) = three_fields(line)?;
+fn reads_words(rt: &impl Abort, alloc: Global, line: &str) -> Result<bool, TableFault> {
+    let (row, power, index, wanted) = four_fields(line)?;
     let row = row_of(alloc, row)?;
-    let (index, wanted) = (number_of(index)?, number_of(wanted)?);
-    assert!(rt; row.field().order() == 2);
-    Ok(row.word(index) == wanted as u64)
+    let (power, index) = (small_number_of(power)?, number_of(index)?);
+    let (ones, twos) = wanted.split_once(' ').ok_or(TableFault::NotWritten)?;
+    let (ones, twos) = (number_of(ones)?, number_of(twos)?);
+    assert!(rt; row.field().prime() <= 3);
+    assert!(rt; power < row.field().degree());
+    let words = row.digit_words(power, index);
+    Ok(words[0] == ones as u64 && words[1] == twos as u64)
 }
 
-fn sets_word(rt: &impl Abort, alloc: Global, line: &str) -> Result<bool, TableFault> {
-    let (row, index, word, wanted) = four_fields(line)?;
+fn sets_words(rt: &impl Abort, alloc: Global, line: &str) -> Result<bool, TableFault> {
+    let (row, others) = first_field(line)?;
+    let (power, index, word, wanted) = four_fields(others)?;
     let mut row = row_of(alloc, row)?;
-    let (index, word) = (number_of(index)?, number_of(word)?);
-    assert!(rt; row.field().order() == 2);
-    row.set_word(index, word as u64);
+    let (power, index, word) = (small_number_of(power)?, number_of(index)?, number_of(word)?);
+    assert!(rt; row.field().prime() == 2);
+    assert!(rt; power < row.field().degree());
+    row.set_digit_words(power, index, [word as u64, 0]);
     is_row(alloc, &row, wanted)
 }
 
@@ -94,8 +115,8 @@ pub(crate) fn answers(
     match call {
         "of_packed_bits" => makes_of_bits(rt, alloc, line),
         "copy_packed_bits" => copies_bits(rt, alloc, line),
-        "word" => reads_word(rt, alloc, line),
-        "set_word" => sets_word(rt, alloc, line),
+        "digit_words" => reads_words(rt, alloc, line),
+        "set_digit_words" => sets_words(rt, alloc, line),
         _ => Err(TableFault::NotWritten),
     }
 }
