@@ -22,7 +22,8 @@ pub record HasEntries (f : ℕ → ℕ → ℕ) (top bottom left right : ℕ) (b
       (top ≤ i → i < bottom → left ≤ j → j < right → ⊥) → entry after.rows i j ≡ entry before.rows i j
 
 -- the matrix after is the one before with another coefficient f i j of x^k in the entries of these rows and columns
-pub record HasCoefficients (k : ℕ) (f : ℕ → ℕ → ℕ) (top bottom left right : ℕ) (before after : MatrixValue) : Type 0 where
+pub record HasCoefficients (k : ℕ) (f : ℕ → ℕ → ℕ) (top bottom left right : ℕ) (before after : MatrixValue)
+    : Type 0 where
   pub power : HasEntries f top bottom left right (coefficients_of k before) (coefficients_of k after)
   pub others : (h : ℕ) → h ≢ k → coefficients_of h after ≡ coefficients_of h before
 

@@ -1,5 +1,5 @@
-//! Transposes of matrices over fields whose prime is 2 or 3, by the coefficients of each power of x, and by blocks of 64
-//! rows and 64 columns of these.
+//! Transposes of matrices over fields whose prime is 2 or 3, by the coefficients of each power of x, and by blocks of
+//! 64 rows and 64 columns of these.
 
 ghost use Rattle.std.specs.Int.{bit_at};
 ghost use Rattle.std.specs.Prelude.{ℕ, ◌≡◌, ◌+◌, ◌-◌, ◌*◌, ◌%◌, ◌<◌, ◌≤◌, length, slice_index};

@@ -16,8 +16,8 @@ impl Row {
     pub fn digit_words(&self, power: u8, at: usize) -> [u64; 2]
         requires prime { prime_of self.now.order ≤ 3 }
         requires power { power < degree_of self.now.order }
-        ensures { (i : ℕ) → i < 64 →
-            digit_of_words result i ≡ slice_index (coefficients_at self.now.order power self.now.entries) (at * 64 + i) }
+        ensures { (i : ℕ) → i < 64 → digit_of_words result i
+            ≡ slice_index (coefficients_at self.now.order power self.now.entries) (at * 64 + i) }
     {
         if power == 0 {
             return self.constant.digit_words(at);

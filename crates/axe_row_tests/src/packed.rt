@@ -11,7 +11,7 @@ use std::process::Abort;
 /// - `of_packed_bits`: bytes, a length, and the row of so many of their bits;
 /// - `copy_packed_bits`: a row, and the bytes that it is written into, in which all bits were ones;
 /// - `digit_words`: a row, a power of x, an index, and the two words of its coefficients there;
-/// - `set_digit_words`: a row over a field of characteristic 2, a power of x, an index, a word, and the row with the bits
+/// - `set_digit_words`: a row over a field whose prime is 2, a power of x, an index, a word, and the row with the bits
 ///   of the word as its coefficients there.
 const PACKED: &str = "\
 of_packed_bits | 80 | 1 | 2: 1
