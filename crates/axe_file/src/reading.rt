@@ -1,7 +1,7 @@
 //! Reading the packed form: first all checks, which take no memory, then the matrix.
 
-ghost use Rattle.std.specs.Prelude.{ℕ, ◌≡◌, ◌≢◌, ◌+◌, ◌*◌, ◌/◌, ◌%◌, ◌<◌, ◌≤◌, [], None, Some, length, slice_get, slice_index, slice_range};
-ghost use Rattle.std.specs.Prelude.{IfOk, OnOk, IfErr};
+ghost use Rattle.std.specs.Prelude.{ℕ, ◌≡◌, ◌≢◌, ◌+◌, ◌*◌, ◌/◌, ◌%◌, ◌<◌, ◌≤◌, [], None, Some, length};
+ghost use Rattle.std.specs.Prelude.{slice_get, slice_index, slice_range, IfOk, OnOk, IfErr};
 ghost use Rattle.std.specs.List.{flat_map, range_with_len};
 ghost use Rattle.std.specs.Int.{w32, from_le_bytes};
 ghost use Rattle.axe_algebra.specs.Lists.{listed};

@@ -1,8 +1,8 @@
 //! The text form, read.
 
-ghost use Rattle.std.specs.Prelude.{◌≡◌, ℕ, ◌+◌, ◌-◌, ◌*◌, ◌<◌, ◌≤◌, None, Some, length, drop, map, filter, ◌++◌, min, All};
+ghost use Rattle.std.specs.Prelude.{◌≡◌, ℕ, ◌+◌, ◌-◌, ◌*◌, ◌<◌, ◌≤◌, None, Some, length, drop, map, filter, ◌++◌};
 ghost use Rattle.std.specs.List.{prefix_len};
-ghost use Rattle.std.specs.Prelude.{IsTrue, IfOk, IfErr, MatchResult, ◌⊎◌};
+ghost use Rattle.std.specs.Prelude.{min, All, IsTrue, IfOk, IfErr, MatchResult, ◌⊎◌};
 ghost use Rattle.axe_field.specs.Order.{order_number};
 ghost use Rattle.axe_matrix.specs.Limits.{most_rows, most_columns};
 ghost use Rattle.axe_matrix.specs.Matrices.{MatrixValue, IsMatrix};
@@ -118,7 +118,8 @@ fn read_entries(order: u8, bytes: &[u8], start: usize, entries: &mut [u8]) -> us
     ensures elements { All (λ entry. entry < order) entries.new }
     ensures digits { entries.new ++ map digit_value (filter is_dark (drop result bytes.now))
         ≡ map digit_value (filter is_dark (drop start bytes.now)) }
-    ensures elements_left { All (λ byte. IsTrue (is_element_digit order byte)) (filter is_dark (drop result bytes.now)) }
+    ensures elements_left { All (λ byte. IsTrue (is_element_digit order byte))
+        (filter is_dark (drop result bytes.now)) }
 {
     let mut done = 0;
     let mut end = start;
