@@ -1,5 +1,6 @@
 -- Digits modulo 3 in two layers of bits: a digit is 1 where the first layer has a bit, and 2 where the second has one.
-use Rattle.std.specs.Prelude.{◌≡◌, ℕ, ◌+◌, ◌*◌, ◌/◌, ◌<◌, ◌≤◌, List, [], length, slice_index, slice_index_or, take, drop}
+use Rattle.std.specs.Prelude.{◌≡◌, ℕ, ◌+◌, ◌*◌, ◌/◌, ◌<◌, ◌≤◌, List, []}
+use Rattle.std.specs.Prelude.{length, slice_index, slice_index_or, take, drop}
 use Rattle.axe_algebra.specs.Lists.{listed}
 use Rattle.axe_bits.specs.Bits.{bits, HoldsBits}
 use Rattle.axe_bits.specs.Digits.{AreDigits}

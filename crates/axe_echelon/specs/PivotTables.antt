@@ -29,4 +29,5 @@ pub record IsPivotAt (pivots : List ℕ) (index column : ℕ) : Type 0 where
 pub record HasPivots (cols : ℕ) (pivots : List ℕ) (table : PivotTable) : Type 0 where
   pub room : MatchOption table.marks (length pivots ≡ 0) (λ _. HasRoom cols table)
   pub marked : (index : ℕ) → index < length pivots → slice_index (marks_of table) (slice_index pivots index) ≢ 0
-  pub row : (column : ℕ) → slice_index (marks_of table) column ≢ 0 → IsPivotAt pivots (slice_index table.rows.items column) column
+  pub row : (column : ℕ) → slice_index (marks_of table) column ≢ 0 →
+      IsPivotAt pivots (slice_index table.rows.items column) column

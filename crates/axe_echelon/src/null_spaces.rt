@@ -6,7 +6,8 @@ ghost use Rattle.axe_field.specs.NumberFields.{number_field};
 ghost use Rattle.axe_row.specs.Refusals.{Answers};
 ghost use Rattle.axe_matrix.specs.Matrices.{IsMatrix, transposed_matrix};
 ghost use Rattle.axe_echelon.specs.Echelons.{null_space_refusal, IsNullSpaceMatrix, IsReducedMatrix};
-ghost use Rattle.axe_echelon.specs.Orthogonal.{IsSpaceOfRows, IsOrthogonalToSpace, IsOrthogonalVector, IsReducedBasisOrNone};
+ghost use Rattle.axe_echelon.specs.Orthogonal.{IsSpaceOfRows, IsOrthogonalToSpace, IsOrthogonalVector};
+ghost use Rattle.axe_echelon.specs.Orthogonal.{IsReducedBasisOrNone};
 
 use super::Subspace;
 use axe_matrix::{Matrix, Refusal, Row};

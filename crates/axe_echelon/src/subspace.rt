@@ -103,8 +103,8 @@ impl Subspace {
         &self.rows[index].row
     }
 
-    /// The pivot of the row of the echelon form at an index: the column of its first entry other than 0, which is 1. The
-    /// rows after it are 0 there.
+    /// The pivot of the row of the echelon form at an index: the column of its first entry other than 0, which is 1.
+    /// The rows after it are 0 there.
     pub fn pivot(&self, index: usize) -> usize
         requires { index < length self.now.rows }
         ensures place { IsPivotOfRow self.now index result }

@@ -61,8 +61,8 @@ fn put_row(
     bytes.extend_from_slice(packed)
 }
 
-/// Writes the bytes of a row into a list of as many bytes as they take. Another list has room for its entries, which are
-/// taken by that way unless there are two elements: then their bits are taken as they stand.
+/// Writes the bytes of a row into a list of as many bytes as they take. Another list has room for its entries, which
+/// are taken by that way unless there are two elements: then their bits are taken as they stand.
 fn pack_row(layout: &Layout, row: &Row, entries: &mut [u8], packed: &mut [u8])
     requires field { row.now.order ≡ layout.now.field }
     requires well_formed { IsRow row.now }

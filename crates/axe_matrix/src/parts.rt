@@ -3,7 +3,8 @@
 ghost use Rattle.std.specs.Prelude.{◌≡◌, ◌+◌, ◌<◌, ◌≤◌, ◌++◌, length, take, drop, None, IfOk, OnErr};
 ghost use Rattle.axe_row.specs.Refusals.{Answers};
 ghost use Rattle.axe_matrix.specs.Limits.{most_rows, most_columns};
-ghost use Rattle.axe_matrix.specs.Matrices.{IsMatrix, AreSplit, HasFirstRows, zero_matrix, identity_matrix, matrix_block};
+ghost use Rattle.axe_matrix.specs.Matrices.{IsMatrix, AreSplit, HasFirstRows, zero_matrix, identity_matrix};
+ghost use Rattle.axe_matrix.specs.Matrices.{matrix_block};
 
 use super::{Matrix, Refusal, Row};
 use axe_field::Field;

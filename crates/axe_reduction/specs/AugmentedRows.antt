@@ -38,7 +38,10 @@ IsRowLike other row =
 abbrev pub cancelled : ℕ → AugmentedRow → AugmentedRow → AugmentedRow
 cancelled column other row =
     let factor : ℕ = field_neg row.left.order (slice_index row.left.entries column) in
-    record { left = row_with_multiple row.left factor other.left; right = row_with_multiple row.right factor other.right }
+    record {
+      left = row_with_multiple row.left factor other.left;
+      right = row_with_multiple row.right factor other.right;
+    }
 
 -- the multiple of a row that is 1 at a column left of the bar
 abbrev pub scaled_at : ℕ → AugmentedRow → AugmentedRow
@@ -66,7 +69,8 @@ abbrev pub IsClearedBy : List ℕ → List AugmentedRow → AugmentedRow → Aug
 IsClearedBy pivots rows before after =
     vector_of (number_field before.left.order) (whole after)
     ≡ less_rows (gf before.left.order) (length rows) (λ t. get_or pivots t 0)
-    (matrix_of (number_field before.left.order) (map whole rows)) (vector_of (number_field before.left.order) (whole before))
+    (matrix_of (number_field before.left.order) (map whole rows))
+    (vector_of (number_field before.left.order) (whole before))
 
 -- with a further row, made 1 at its pivot, and the rows before it less their multiples of it that make them 0 there
 pub record IsInsertedAt (pivot : ℕ) (row : AugmentedRow) (before after : GrowingReduction) : Type 0 where

@@ -1,4 +1,5 @@
-//! Inverses, by the reduction of augmented matrices, half of the rows after the other.
+//! Inverses, by the reduction of augmented matrices: of few rows one after the other, and of more half of them after
+//! the other.
 #![tactic(auto)]
 
 mod augmented;

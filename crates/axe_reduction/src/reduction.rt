@@ -72,8 +72,8 @@ impl Reduction {
     }
 }
 
-/// The reduction of an augmented matrix with at least one row, half of the rows after the other, so that nearly all
-/// work is done in products.
+/// The reduction of an augmented matrix with at least one row: of few rows one after the other, and of more half of
+/// them after the other, so that nearly all work is done in products.
 pub(crate) fn reduction_of(alloc: Global, rows: Augmented) -> Result<Reduction, Refusal>
     requires { 1 ≤ length rows.rows }
     ensures { Answers None (IsReductionOf rows) result }

@@ -29,7 +29,8 @@ impl Row {
         }
     }
 
-    /// Takes the entry at an index away by its coefficients. It stands apart so that `cancel` is short over prime fields.
+    /// Takes the entry at an index away by its coefficients. It stands apart so that `cancel` is short over prime
+    /// fields.
     #[inline(never)]
     fn cancel_by_planes(&mut self, index: usize, other: &Row) -> u8
         requires index { index < length self.old.entries }

@@ -179,8 +179,8 @@ impl Row {
         }
     }
 
-    /// Makes an element the entry at an index by its coefficients; all other entries stay. It stands apart so that `set`
-    /// is short over prime fields.
+    /// Makes an element the entry at an index by its coefficients; all other entries stay. It stands apart so that
+    /// `set` is short over prime fields.
     #[inline(never)]
     fn set_by_planes(&mut self, index: usize, element: u8)
         requires index { index < length self.old.entries }
