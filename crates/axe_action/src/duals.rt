@@ -6,7 +6,7 @@ ghost use Rattle.axe_matrix.specs.Matrices.{IsMatrix};
 ghost use Rattle.axe_spin.specs.Modules.{IsModule};
 ghost use Rattle.axe_action.specs.Actions.{dual_module, IsAnnihilatorMatrix};
 
-use axe_echelon::null_space;
+use axe_echelon::orthogonal_space;
 use axe_matrix::{Matrix, Refusal};
 use axe_spin::Module;
 use std::alloc::Global;
@@ -29,9 +29,5 @@ pub fn annihilator(alloc: Global, rows: &Matrix) -> Result<Matrix, Refusal>
     ensures basis { Answers None (IsAnnihilatorMatrix rows.now) result }
     ensures well_formed { IfOk result IsMatrix }
 {
-    if rows.rows() == 0 {
-        return Matrix::identity(alloc, *rows.field(), rows.cols());
-    }
-    let transpose = rows.transpose(alloc)?;
-    null_space(alloc, &transpose)
+    orthogonal_space(alloc, rows)
 }

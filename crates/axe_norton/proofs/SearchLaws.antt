@@ -222,29 +222,13 @@ module _ (m : ModuleValue) (matrix : MatrixValue) (is : IsSquareIn m matrix) (v 
     well_formed = well_formed;
   }
 
--- ---- the transpose of a matrix that has rows, and its null space
-
-pub transpose_is : (matrix transpose : MatrixValue) → length matrix.rows ≡ matrix.cols → 0 < matrix.cols →
-    Answers (transpose_refusal matrix) (λ x. x ≡ transposed_matrix matrix) (Ok transpose) → transpose ≡ transposed_matrix matrix
-transpose_is matrix transpose square some answer = rw (transpose_refusal-none matrix (λ none. omega (arith, none))) at answer
-
-pub transpose_memory : (matrix : MatrixValue) (refusal : Refusal) → length matrix.rows ≡ matrix.cols → 0 < matrix.cols →
-    Answers (transpose_refusal matrix) (λ x. x ≡ transposed_matrix matrix) (Err refusal) → refusal ≡ Memory
-transpose_memory matrix refusal square some answer =
-    memory_if_accepted (transpose_refusal matrix) (λ x. x ≡ transposed_matrix matrix) refusal
-    (transpose_refusal-none matrix (λ none. omega (arith, none))) answer
+-- ---- the null space of a matrix that has rows, and that of its transpose
 
 pub null_accepted : (matrix : MatrixValue) (result : Result MatrixValue Refusal) → 0 < length matrix.rows →
     Answers (null_space_refusal matrix) (IsNullSpaceMatrix matrix) result → Answers None (IsNullSpaceMatrix matrix) result
 null_accepted matrix result some answer = rw (ne_eqb (length matrix.rows) 0 (λ none. omega (arith, none))) at answer
 
-pub transposed_null : (matrix transpose : MatrixValue) (result : Result MatrixValue Refusal) → 0 < matrix.cols → transpose ≡ transposed_matrix matrix →
-    Answers (null_space_refusal transpose) (IsNullSpaceMatrix transpose) result → Answers None (IsNullSpaceMatrix (transposed_matrix matrix)) result
-transposed_null matrix transpose result some is answer =
-    null_accepted (transposed_matrix matrix) result (omega (arith, transpose_length matrix.cols matrix.rows))
-    (subst (λ (t : MatrixValue). Answers (null_space_refusal t) (IsNullSpaceMatrix t) result) is answer)
-
--- a row that is the first point of that null space
+-- a row that is the first point of the null space of the transpose
 pub transposed_row_is : (matrix null : MatrixValue) (v : RowValue) → IsSquareOver (number_field matrix.order) matrix.cols matrix.rows → ¬ (IsInvertibleMatrix matrix) →
     IsNullSpaceMatrix (transposed_matrix matrix) null → IsMatrix null → v ≡ record { order = null.order; entries = point_of null 0 } → IsTransposedPointRow matrix v
 unfolding transposed_point_is

@@ -14,7 +14,7 @@ ghost use Rattle.axe_norton.specs.Searches.{IsReducedIn, IsSquareIn, FindsProper
 ghost use Rattle.axe_norton.specs.Searches.{IsTransposedPointRow, FindsTransposed, IsDualOrNone};
 
 use axe_action::{annihilator, dual};
-use axe_echelon::null_space;
+use axe_echelon::orthogonal_space;
 use axe_matrix::{Matrix, Refusal, Row};
 use axe_spin::{Module, generated_space};
 use axe_word::{Points, first_point};
@@ -131,7 +131,6 @@ fn transposed_point(alloc: Global, matrix: &Matrix) -> Result<Row, Refusal>
     requires singular { ¬ (IsInvertibleMatrix matrix.now) }
     ensures { Answers None (IsTransposedPointRow matrix.now) result }
 {
-    let transpose = matrix.transpose(alloc)?;
-    let null = null_space(alloc, &transpose)?;
+    let null = orthogonal_space(alloc, matrix)?;
     first_point(alloc, &null)
 }
