@@ -9,7 +9,7 @@ use crate::parts::WORD;
 impl TritPlane {
     /// The word at an index of the plane's support, counted from 0: its bit i, counted from the lowest, is 0 exactly
     /// where the digit 64 times the index plus i is 0 or missing.
-    #[inline]
+    #[inline(always)]
     pub fn support_word(&self, at: usize) -> u64
         ensures { IsSupportWord self.now at result }
     {
@@ -24,7 +24,7 @@ impl TritPlane {
 
 /// The index of the first place from an index on that a word of a support has, where the index stands in that word;
 /// `None` where the word has no such place.
-#[inline]
+#[inline(always)]
 pub fn next_in_word(word: u64, start: usize) -> Option<usize>
     ensures { (numbers : List ℕ) → IsSupportWord numbers (start / 64) word →
         MatchOption result (AreZerosBetween numbers start ((start / 64 + 1) * 64)) (IsNextNonzero numbers start) }

@@ -11,7 +11,7 @@ const WORD: usize = 64;
 impl Plane {
     /// The word at an index of the plane's support, counted from 0: its bit i, counted from the lowest, is 0 exactly
     /// where the digit 64 times the index plus i is 0 or missing.
-    #[inline]
+    #[inline(always)]
     pub fn support_word(&self, at: usize) -> u64
         ensures { IsSupportWord (digits_of self.now) at result }
     {
@@ -25,6 +25,7 @@ impl Plane {
 
 impl BytePlane {
     /// The word at an index of the plane's support, counted from 0.
+    #[inline(never)]
     pub fn support_word(&self, at: usize) -> u64
         ensures { IsSupportWord self.now.digits at result }
     {

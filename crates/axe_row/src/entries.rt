@@ -57,7 +57,7 @@ impl Row {
 
     /// The word at an index of the row's support, of which those places stay where a list of as many digits modulo 2
     /// has a 1.
-    #[inline]
+    #[inline(always)]
     fn support_within(&self, at: usize, places: &BitPlane) -> u64
         ensures { IsSupportWord (restricted places.now self.now.entries) at result }
     {
@@ -82,8 +82,20 @@ impl Row {
 
     /// The word at an index of the row's support, counted from 0: its bit i, counted from the lowest, is 0 exactly
     /// where the entry 64 times the index plus i is 0 or missing.
-    #[inline]
+    #[inline(always)]
     fn support_word(&self, at: usize) -> u64
+        ensures { IsSupportWord self.now.entries at result }
+    {
+        let Some(_) = &self.higher else {
+            return self.constant.support_word(at);
+        };
+        self.support_by_planes(at)
+    }
+
+    /// The word at an index of the row's support, by those of its planes. It stands apart so that `support_word` is
+    /// short over prime fields.
+    #[inline(never)]
+    fn support_by_planes(&self, at: usize) -> u64
         ensures { IsSupportWord self.now.entries at result }
     {
         let constant = self.constant.support_word(at);

@@ -9,7 +9,7 @@ use crate::parts::{WORD, lowest};
 impl BitPlane {
     /// The word at an index, counted from 0: its bit i, counted from the lowest, is the digit 64 times the index plus
     /// i, and 0 where there is no digit.
-    #[inline]
+    #[inline(always)]
     pub fn word(&self, at: usize) -> u64
         ensures { (i : ℕ) → i < 64 → bit_at result i ≡ slice_index self.now (at * 64 + i) }
     {
