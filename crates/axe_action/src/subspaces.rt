@@ -1,9 +1,9 @@
 //! The action of a module on an invariant space.
 
-ghost use Rattle.std.specs.Prelude.{◌≡◌, ◌≤◌, length, None, IfOk};
+ghost use Rattle.std.specs.Prelude.{◌≡◌, ◌≤◌, length, None, IfOk, IfSome};
 ghost use Rattle.axe_algebra.specs.SpansOfLists.{IsIndependent};
 ghost use Rattle.axe_field.specs.NumberFields.{number_field};
-ghost use Rattle.axe_row.specs.Refusals.{AnswersOr, RefusedAs, unless_refused};
+ghost use Rattle.axe_row.specs.Refusals.{Answers, AnswersOr, RefusedAs, unless_refused};
 ghost use Rattle.axe_row.specs.declared.refusals.Refusal.TheVariants.{NotInvariant};
 ghost use Rattle.axe_matrix.specs.Matrices.{IsMatrix};
 ghost use Rattle.axe_spin.specs.Modules.{IsModule, IsInvariantIn};
@@ -44,7 +44,30 @@ pub fn basis_action(alloc: Global, module: &Module, rows: &Matrix) -> Result<Mod
     ensures well_formed { IfOk result IsModule }
 {
     check_space(module, rows)?;
+    // A proper submodule mostly comes as its reduced basis, and then products do.
+    if let Some(columns) = coordinate_columns(alloc, rows)? {
+        return action_on_basis(alloc, module, rows, &columns);
+    }
     action_over(alloc, module, rows)
+}
+
+/// Columns at which the entries of the vectors of the span of a matrix's rows are their coordinates over these rows: the
+/// pivots, where the rows are the reduced basis of a span that is not everything. Else `None`.
+fn coordinate_columns(alloc: Global, rows: &Matrix) -> Result<Option<Vec<usize>>, Refusal>
+    ensures columns { Answers None (λ found. IfSome found (λ columns.
+        AreCoordinateColumns (number_field rows.now.order) rows.now.cols rows.now.rows columns.items)) result }
+    ensures well_formed { IsMatrix rows.now }
+{
+    // Rows that span everything are mostly a standard basis.
+    if rows.rows() == rows.cols() {
+        return Ok(None);
+    }
+    let span = span_of(alloc, rows)?;
+    let basis = span.reduced(alloc)?;
+    if !basis.same(rows) {
+        return Ok(None);
+    }
+    Ok(Some(pivot_columns(alloc, &span)?))
 }
 
 /// Refuses rows that are no vectors of a module, and rows that span zero.
