@@ -10,6 +10,7 @@ pub mod PackedWords
 pub mod NumberSums
 pub mod PieceDigits
 pub mod PieceBits
+pub mod TurnedPieces
 pub mod PieceLaws
 pub mod TableLaws
 pub mod TritLaws

@@ -17,7 +17,7 @@ use Rattle.axe_bits.proofs.BitLaws.{plane_long, get_or-bits, bit_of-word}
 
 -- ---- the bytes of a number, lowest first
 
-packed_number : (n e : ℕ) → e < 64 → packed_bit (to_le_bytes w64 n) e ≡ bit_at n (opposite e)
+pub packed_number : (n e : ℕ) → e < 64 → packed_bit (to_le_bytes w64 n) e ≡ bit_at n (opposite e)
 unfolding packed_bit
 packed_number n e low =
     let place : 8 * (0 + e / 8) + (7 - e % 8) ≡ opposite e = omega arith in

@@ -8,12 +8,13 @@ use Rattle.axe_algebra.specs.Digits.{number_with_digits}
 use Rattle.axe_algebra.specs.Lists.{listed}
 use Rattle.axe_algebra.proofs.ListEntries.{listed_length, listed_at}
 use Rattle.axe_bits.specs.Bits.{bit_of, bits}
-use Rattle.axe_bits.specs.Digits.{number_from}
+use Rattle.axe_bits.specs.Digits.{number_bound, number_from}
+use Rattle.axe_bits.specs.Packed.{number_of_piece}
 use Rattle.axe_bits.proofs.BitLaws.{plane_long, get_or-bits, bit_at-shifted}
-use Rattle.axe_bits.proofs.PieceDigits.{with_values, with_values-same, number_of_first, count_from, number_from-values}
+use Rattle.axe_bits.proofs.PieceDigits.{with_values, with_values-same, with_values-small, number_of_first, count_from, number_from-values}
 
 -- the digits of a listed function
-number_of_listed : (b : ℕ) (f : ℕ → ℕ) (n : ℕ) → number_with_digits b (listed n f) ≡ with_values b f n
+pub number_of_listed : (b : ℕ) (f : ℕ → ℕ) (n : ℕ) → number_with_digits b (listed n f) ≡ with_values b f n
 number_of_listed b f n =
     let long : length (listed n f) ≡ n = listed_length n f in
     ap (number_with_digits b) (sym (take_all n (listed n f) (omega (arith, long))))
@@ -26,27 +27,9 @@ number_of_listed b f n =
 abbrev pub IsNumberOfBits : ℕ → ℕ → ℕ → ℕ → Type 0
 IsNumberOfBits b word count number = number ≡ with_values b (bit_at word) count
 
-lowest_bit : (word : ℕ) → bit_and word 1 ≡ bit_at word 0
-lowest_bit word =
-    let whole : word ≡ word / 2 ^ 0 = omega arith in
-    ap (λ w. bit_and w 1) whole ∙ shr_and_one word 0
-
-pub one_bit : (b word : ℕ) → IsNumberOfBits b word 1 (bit_and word 1)
-one_bit b word = lowest_bit word ∙ omega arith
-
 pub bit_more : (b word count number : ℕ) → IsNumberOfBits b word count number →
     IsNumberOfBits b word (suc count) (number * b + bit_and (word / 2 ^ count) 1)
 bit_more b word count number is = ap₂ (λ x y. x * b + y) is (shr_and_one word count)
-
-pub two_bits : (b word : ℕ) → IsNumberOfBits b word 2 (bit_and word 1 * b + bit_and (word / 2) 1)
-two_bits b word = bit_more b word 1 _ (one_bit b word)
-
-pub three_bits : (b word : ℕ) → IsNumberOfBits b word 3 ((bit_and word 1 * b + bit_and (word / 2) 1) * b + bit_and (word / 4) 1)
-three_bits b word = bit_more b word 2 _ (two_bits b word)
-
-pub four_bits : (b word : ℕ) →
-    IsNumberOfBits b word 4 (((bit_and word 1 * b + bit_and (word / 2) 1) * b + bit_and (word / 4) 1) * b + bit_and (word / 8) 1)
-four_bits b word = bit_more b word 3 _ (three_bits b word)
 
 pub number_of_bits_is : (b word count digits number : ℕ) → IsNumberOfBits b word count number → digits ≡ count →
     number ≡ number_with_digits b (listed digits (bit_at word))
@@ -55,21 +38,15 @@ number_of_bits_is b word count digits number is same =
 
 -- ---- how large it is
 
-bit_small : (word place : ℕ) → bit_and (word / 2 ^ place) 1 < 2
-bit_small word place = let is = shr_and_one word place in let small = bit_at-lt word place in omega (arith, is, small)
+pub number_of_bits_small : (b word count number : ℕ) → IsNumberOfBits b word count number → b ≤ 9 → count ≤ 8 → number < number_bound
+number_of_bits_small b word count number is base few =
+    omega (arith, is, with_values-small b (bit_at word) count base (λ j. omega (arith, bit_at-lt word j)) few)
 
-bit_more_small : (b number bit most : ℕ) → b ≤ 9 → number ≤ most → bit < 2 → number * b + bit ≤ most * 9 + 1
-bit_more_small b number bit most base small one =
-    let product : number * b ≤ number * 9 = mul-le-mul_left number base in omega arith
-
-pub four_bits_small : (b word : ℕ) → b ≤ 9 →
-    ((bit_and word 1 * b + bit_and (word / 2) 1) * b + bit_and (word / 4) 1) * b + bit_and (word / 8) 1 < 6561
-four_bits_small b word base =
-    let first : bit_and word 1 ≤ 1 = omega (arith, lowest_bit word, bit_at-lt word 0) in
-    let second = bit_more_small b _ _ 1 base first (bit_small word 1) in
-    let third = bit_more_small b _ _ 10 base second (bit_small word 2) in
-    let fourth = bit_more_small b _ _ 91 base third (bit_small word 3) in
-    omega (arith, fourth)
+pub next_number_fits : (b word count number place : ℕ) → IsNumberOfBits b word count number → b ≤ 9 → count ≤ 8 →
+    number * b + bit_and (word / 2 ^ place) 1 < 2 ^ 64
+next_number_fits b word count number place is base few =
+    let product : number * b ≤ number * 9 = mul-le-mul_left number base in
+    omega (arith, product, number_of_bits_small b word count number is base few, shr_and_one word place, bit_at-lt word place)
 
 -- ---- the digits of a plane
 
@@ -93,11 +70,21 @@ number_of_word b size at n word count number words self is all same number_is =
     ∙ ap (with_values b (λ j. get_or self (at + j) 0)) counted ∙ sym (number_from-values b size at self)
 
 -- those of a piece that a word holds from one of its bits on
-pub number_of_piece : (b size at p n word number : ℕ) (words self : List ℕ) → bits n words ≡ self → at + (p + size) ≤ n → p + size ≤ 64 →
+pub number_of_shifted : (b size at p n word number : ℕ) (words self : List ℕ) → bits n words ≡ self → at + (p + size) ≤ n → p + size ≤ 64 →
     ((i : ℕ) → i < 64 → bit_at word i ≡ bit_of words (at + i)) → number ≡ number_with_digits b (listed size (bit_at (word / 2 ^ p))) →
     number ≡ number_from b size (at + p) self
-number_of_piece b size at p n word number words self is inside low same =
+number_of_shifted b size at p n word number words self is inside low same =
     number_of_word b size (at + p) n (word / 2 ^ p) size number words self is (omega arith) (λ i below.
     let here : p + i < 64 = omega arith in
     let there : at + (p + i) ≡ at + p + i = omega arith in
     bit_at-shifted word p i ∙ same (p + i) here ∙ ap (bit_of words) there)
+
+-- the same where the number is in base 2
+pub number_of_part : (b size at p e n word number : ℕ) (words self : List ℕ) → b ≡ 2 → bits n words ≡ self → e ≡ at + p → at + (p + size) ≤ n →
+    p + size ≤ 64 → ((i : ℕ) → i < 64 → bit_at word i ≡ bit_of words (at + i)) → number ≡ number_of_piece word p size →
+    number ≡ number_from b size e self
+number_of_part b size at p e n word number words self two is place inside low same part =
+    number_of_shifted 2 size at p n word number words self is inside low same
+    (part ∙ number_of_listed 2 (λ j. bit_at word (p + j)) size ∙ with_values-same 2 _ _ size (λ j _. sym (bit_at-shifted word p j))
+    ∙ sym (number_of_listed 2 (bit_at (word / 2 ^ p)) size))
+    ∙ ap₂ (λ q a. number_from q size a self) (sym two) (sym place)

@@ -4,7 +4,7 @@ use Rattle.std.proofs.lemmas.List.{get_or-drop, get_or_past, length-drop, length
 use native.Mathlib.Decide.{dec_lt}
 use native.Mathlib.Nat.{mul_assoc, mul_comm, add-mul, mul-add, pow-zero, pow-suc, pow-le-pow_right, mul-le-mul_left}
 use Rattle.axe_algebra.specs.Digits.{number_with_digits}
-use Rattle.axe_bits.specs.Digits.{number_from}
+use Rattle.axe_bits.specs.Digits.{number_bound, number_from}
 
 -- one digit more, at the end
 pub number_with_digits-push : (q : ℕ) (ds : List ℕ) (d : ℕ) → number_with_digits q (ds ++ d ∷ []) ≡ number_with_digits q ds * q + d
@@ -32,6 +32,21 @@ pub with_values-none : (b : ℕ) (f : ℕ → ℕ) (n : ℕ) → ((j : ℕ) → 
 with_values-none b f zero none = refl
 with_values-none b f (suc n) none =
     ap₂ (λ x y. x * b + y) (with_values-none b f n none) (none n) ∙ omega arith
+
+-- a number with digits below 9
+with_values-below : (b : ℕ) (f : ℕ → ℕ) (n : ℕ) → b ≤ 9 → ((j : ℕ) → f j < 9) → with_values b f n < 9 ^ n
+with_values-below b f zero base small = lit< tt
+with_values-below b f (suc n) base small =
+    let before = with_values-below b f n base small in
+    let power : 9 ^ suc n ≡ 9 * 9 ^ n = pow-suc 9 n ∙ mul_comm (9 ^ n) 9 in
+    let most : with_values b f n * b ≤ with_values b f n * 9 = mul-le-mul_left (with_values b f n) base in
+    omega (arith, power, most, before, small n)
+
+-- and at most eight of them
+pub with_values-small : (b : ℕ) (f : ℕ → ℕ) (n : ℕ) → b ≤ 9 → ((j : ℕ) → f j < 9) → n ≤ 8 → with_values b f n < number_bound
+with_values-small b f n base small few =
+    let power : 9 ^ n ≤ 9 ^ 8 = pow-le-pow_right {n = 9} (lit< tt) few in
+    omega (arith, with_values-below b f n base small, power)
 
 -- digits that are a sum with a multiple of others
 pub with_values-sum : (b p : ℕ) (f g : ℕ → ℕ) (n : ℕ) → with_values b (λ j. f j + p * g j) n ≡ with_values b f n + p * with_values b g n
@@ -94,18 +109,18 @@ IsNumberOf-more b at xs index number digit h after base is small =
           omega (arith, power, most, h.below));
     }
 
-pub IsNumberOf-small : (b at : ℕ) (xs : List ℕ) (index number : ℕ) → IsNumberOf b at xs index number → index ≤ at + 4 → number < 6561
+pub IsNumberOf-small : (b at : ℕ) (xs : List ℕ) (index number : ℕ) → IsNumberOf b at xs index number → index ≤ at + 8 → number < number_bound
 IsNumberOf-small b at xs index number h most =
-    let few : index - at ≤ 4 = omega arith in
-    let power : 9 ^ (index - at) ≤ 9 ^ 4 = pow-le-pow_right {n = 9} (lit< tt) few in
+    let few : index - at ≤ 8 = omega arith in
+    let power : 9 ^ (index - at) ≤ 9 ^ 8 = pow-le-pow_right {n = 9} (lit< tt) few in
     omega (arith, h.below)
 
 -- a number of which no digit is there
 none_past : (b at : ℕ) (xs : List ℕ) (n : ℕ) → length xs ≤ at → with_values b (λ j. get_or xs (at + j) 0) n ≡ 0
 none_past b at xs n past = with_values-none b _ n (λ j. get_or_past xs (at + j) 0 (omega arith))
 
-pub IsNumberOf-few : (b at : ℕ) (xs : List ℕ) (index number : ℕ) → IsNumberOf b at xs index number → (at ≤ length xs → index ≤ at + 4) →
-    number < 6561
+pub IsNumberOf-few : (b at : ℕ) (xs : List ℕ) (index number : ℕ) → IsNumberOf b at xs index number → (at ≤ length xs → index ≤ at + 8) →
+    number < number_bound
 IsNumberOf-few b at xs index number h most = elim (dec_lt (length xs) at) [
   | yes past ↦ omega (arith, h.number_is, none_past b at xs (index - at) (omega arith))
   | no inside ↦ IsNumberOf-small b at xs index number h (most (omega arith))

@@ -1,21 +1,11 @@
 -- The numbers that have digits modulo 3 of a list, from those of its two layers.
-use Rattle.std.proofs.Common.{◌≡◌, ℕ, zero, suc, ◌+◌, ◌*◌, ◌^◌, ◌<◌, ◌≤◌, List, [], ◌∷◌, length, get_or, sym, ap, ap₂, subst, ◌∙◌, arith, lit<}
-use native.Mathlib.Nat.{mul_comm, pow-suc, pow-le-pow_right, mul-le-mul_left}
-use Rattle.axe_bits.specs.Digits.{number_from, numbers_from}
+use Rattle.std.proofs.Common.{◌≡◌, ℕ, ◌+◌, ◌*◌, ◌<◌, ◌≤◌, List, [], ◌∷◌, length, get_or, sym, ap, ap₂, subst, ◌∙◌, arith}
+use Rattle.axe_bits.specs.Digits.{number_bound, number_from, numbers_from}
 use Rattle.axe_bits.specs.Trits.{trits, HoldTrits}
-use Rattle.axe_bits.proofs.PieceDigits.{with_values, with_values-same, with_values-sum, count_from, number_from-values, same_four, four_small}
+use Rattle.axe_bits.proofs.PieceDigits.{with_values, with_values-same, with_values-small, with_values-sum, count_from, number_from-values, same_four, four_small}
 use Rattle.axe_bits.proofs.TritPlaneLaws.{trits_long, trits_at}
 
--- a number with digits below 9
-with_values-below : (q : ℕ) (f : ℕ → ℕ) (n : ℕ) → q ≤ 9 → ((j : ℕ) → f j < 9) → with_values q f n < 9 ^ n
-with_values-below q f zero base small = lit< tt
-with_values-below q f (suc n) base small =
-    let before = with_values-below q f n base small in
-    let power : 9 ^ suc n ≡ 9 * 9 ^ n = pow-suc 9 n ∙ mul_comm (9 ^ n) 9 in
-    let most : with_values q f n * q ≤ with_values q f n * 9 = mul-le-mul_left (with_values q f n) base in
-    omega (arith, power, most, before, small n)
-
--- the number of up to four digits modulo 3
+-- the number of up to eight digits modulo 3
 number_of_layers : (q size at : ℕ) (a b x : List ℕ) → HoldTrits a b → trits a b ≡ x →
     number_from q size at a + 2 * number_from q size at b ≡ number_from q size at x
 number_of_layers q size at a b x h is =
@@ -31,15 +21,13 @@ number_of_layers q size at a b x h is =
     ∙ with_values-sum q 2 (λ j. get_or a (at + j) 0) (λ j. get_or b (at + j) 0) count in
     ap₂ (λ m n. m + 2 * n) one two ∙ sym whole
 
-number_small : (q size at : ℕ) (a b x : List ℕ) → HoldTrits a b → trits a b ≡ x → q ≤ 9 → size ≤ 4 →
-    number_from q size at x < 6561
+number_small : (q size at : ℕ) (a b x : List ℕ) → HoldTrits a b → trits a b ≡ x → q ≤ 9 → size ≤ 8 →
+    number_from q size at x < number_bound
 number_small q size at a b x h is base short =
     let count = count_from size at (length x) in
-    let small = with_values-below q (λ j. get_or x (at + j) 0) count base
-    (λ j. omega (arith, trits_at a b x h is (at + j), h.apart (at + j))) in
-    let few : count ≤ 4 = omega arith in
-    let power : 9 ^ count ≤ 9 ^ 4 = pow-le-pow_right {n = 9} (lit< tt) few in
-    omega (arith, number_from-values q size at x, small, power)
+    let small = with_values-small q (λ j. get_or x (at + j) 0) count base
+    (λ j. omega (arith, trits_at a b x h is (at + j), h.apart (at + j))) (omega arith) in
+    omega (arith, number_from-values q size at x, small)
 
 -- the four numbers of two layers together
 abbrev pub four_sums : List ℕ → List ℕ → List ℕ
@@ -55,11 +43,11 @@ four_numbers q size at a b x ones twos h is left right =
     (number_of_layers q size (at + 2 * size) a b x h is) (number_of_layers q size (at + 3 * size) a b x h is)
 
 pub four_numbers_small : (q size at : ℕ) (a b x ones twos : List ℕ) → HoldTrits a b → trits a b ≡ x →
-    ones ≡ numbers_from q size at a → twos ≡ numbers_from q size at b → q ≤ 9 → size ≤ 4 → (i : ℕ) →
-    get_or (four_sums ones twos) i 0 < 6561
+    ones ≡ numbers_from q size at a → twos ≡ numbers_from q size at b → q ≤ 9 → size ≤ 8 → (i : ℕ) →
+    get_or (four_sums ones twos) i 0 < number_bound
 four_numbers_small q size at a b x ones twos h is left right base short i =
-    subst (λ (v : List ℕ). get_or v i 0 < 6561) (sym (four_numbers q size at a b x ones twos h is left right))
-    (four_small 6561 _ _ _ _ (small at) (small (at + size)) (small (at + 2 * size)) (small (at + 3 * size)) i)
+    subst (λ (v : List ℕ). get_or v i 0 < number_bound) (sym (four_numbers q size at a b x ones twos h is left right))
+    (four_small number_bound _ _ _ _ (small at) (small (at + size)) (small (at + 2 * size)) (small (at + 3 * size)) i)
   where
-    small : (at : ℕ) → number_from q size at x < 6561
+    small : (at : ℕ) → number_from q size at x < number_bound
     small at = number_small q size at a b x h is base short

@@ -1,5 +1,4 @@
 //! Planes of digits modulo 2.
-ghost use Rattle.std.specs.Int.{bit_at};
 ghost use Rattle.std.specs.Prelude.{ℕ, ◌≡◌, ◌+◌, ◌*◌, ◌/◌, ◌^◌, ◌%◌, ◌<◌, ◌≤◌, ◌↔◌, IsTrue, IfOk, length, map};
 ghost use Rattle.std.specs.Prelude.{replicate, slice_index, slice_set, All, MatchOption};
 ghost use Rattle.axe_algebra.specs.Lists.{listed};
@@ -8,7 +7,7 @@ ghost use Rattle.axe_lane.specs.Entries.{IsFirstNonzero, AreZerosFrom, IsNextNon
 ghost use Rattle.axe_bits.specs.Bits.{bits, HoldsBits};
 ghost use Rattle.axe_bits.specs.Digits.{AreDigits, digits_at, digits_with_four, digits_with_multiple};
 ghost use Rattle.axe_bits.specs.Digits.{AreSmallSums, numbers_with_multiple};
-ghost use Rattle.axe_bits.specs.Digits.{number_from, numbers_from};
+ghost use Rattle.axe_bits.specs.Digits.{number_from, numbers_from, number_bound};
 ghost use Rattle.axe_bits.specs.Packed.{packed_bit};
 
 use crate::layer::{
@@ -96,40 +95,28 @@ impl BitPlane {
         }
     }
 
-    /// Sixteen digits that stand in one word, as the lowest bits of a number: the digit at an index is the lowest bit,
-    /// and those after it stand above it.
-    #[inline]
-    pub fn sixteen_from(&self, index: usize) -> u64
-        requires inside { index + 16 ≤ length self.now }
-        requires one_word { index % 64 ≤ 48 }
-        ensures { (i : ℕ) → i < 16 → bit_at result i ≡ slice_index self.now (index + i) }
-    {
-        let (word, place) = (index / WORD, index % WORD);
-        self.words[word] >> place
-    }
-
-    /// The number whose digits in a base up to 9, most significant first, are up to four of the plane's digits from an
+    /// The number whose digits in a base up to 9, most significant first, are up to eight of the plane's digits from an
     /// index on: `size` of them or those that there are.
     #[inline]
     pub fn number_from(&self, base: usize, size: usize, at: usize) -> usize
         requires base { base ≤ 9 }
-        requires short { size ≤ 4 }
+        requires short { size ≤ 8 }
         requires counted { at + size < 2 ^ 64 }
         ensures value { result ≡ number_from base size at self.now }
-        ensures small { result < 6561 }
+        ensures small { result < number_bound }
     {
         number_in(&self.words, self.len, base, size, at)
     }
 
-    /// Four numbers in a base up to 9, the digits of each being up to four of the plane's, most significant first:
+    /// Four numbers in a base up to 9, the digits of each being up to eight of the plane's, most significant first:
     /// those of the pieces of `size` digits one after another from an index on, as far as the plane goes.
     #[inline]
     pub fn numbers_from(&self, base: usize, size: usize, at: usize) -> [usize; 4]
         requires base { base ≤ 9 }
-        requires short { size ≤ 4 }
+        requires short { size ≤ 8 }
         requires counted { at + 4 * size < 2 ^ 64 }
         ensures value { result ≡ numbers_from base size at self.now }
-        ensures small { (i : ℕ) → slice_index result i < 6561 }
+        ensures small { (i : ℕ) → slice_index result i < number_bound }
     {
         numbers_in(&self.words, self.len, base, size, at)
     }

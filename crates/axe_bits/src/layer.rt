@@ -8,8 +8,9 @@ ghost use Rattle.axe_algebra.specs.Lists.{listed};
 ghost use Rattle.axe_lane.specs.Entries.{AreZerosBetween, IsNextNonzero};
 ghost use Rattle.axe_bits.specs.Bits.{bit_of, bits, HoldsBits};
 ghost use Rattle.axe_bits.specs.Digits.{AreSmallSums, digits_at, numbers_with_multiple};
-ghost use Rattle.axe_bits.specs.Digits.{number_from, numbers_from};
+ghost use Rattle.axe_bits.specs.Digits.{number_from, numbers_from, number_bound};
 
+use crate::packed::numbers_of_pieces;
 use crate::parts::{WORD, add_spread, gathered, lowest, spread, word_from};
 use axe_lane::{bits_of_bytes, first_set};
 
@@ -98,16 +99,16 @@ pub(crate) fn set_bit(words: &mut [u64], index: usize, digit: u8)
     words[word] = with_bit(words[word], index % WORD, digit);
 }
 
-/// The number whose digits in a base up to 9, most significant first, are up to four of those of a layer of `len`
+/// The number whose digits in a base up to 9, most significant first, are up to eight of those of a layer of `len`
 /// digits from an index on: `size` of them or those that there are.
 #[inline]
 pub(crate) fn number_in(words: &[u64], len: usize, base: usize, size: usize, at: usize) -> usize
     requires long { length words.now ≡ (len + 63) / 64 }
     requires base { base ≤ 9 }
-    requires short { size ≤ 4 }
+    requires short { size ≤ 8 }
     requires counted { at + size < 2 ^ 64 }
     ensures value { result ≡ number_from base size at (bits len words.now) }
-    ensures small { result < 6561 }
+    ensures small { result < number_bound }
 {
     if at >= len {
         return 0;
@@ -116,7 +117,7 @@ pub(crate) fn number_in(words: &[u64], len: usize, base: usize, size: usize, at:
     number_of_bits(word_from(words, at), base, count)
 }
 
-/// Four numbers in a base up to 9, the digits of each being up to four of those of a layer of `len` digits, most
+/// Four numbers in a base up to 9, the digits of each being up to eight of those of a layer of `len` digits, most
 /// significant first: those of the pieces of `size` digits one after another from an index on, as far as the layer
 /// goes.
 #[inline]
@@ -129,10 +130,10 @@ pub(crate) fn numbers_in(
 ) -> [usize; 4]
     requires long { length words.now ≡ (len + 63) / 64 }
     requires base { base ≤ 9 }
-    requires short { size ≤ 4 }
+    requires short { size ≤ 8 }
     requires counted { at + 4 * size < 2 ^ 64 }
     ensures value { result ≡ numbers_from base size at (bits len words.now) }
-    ensures small { (i : ℕ) → slice_index result i < 6561 }
+    ensures small { (i : ℕ) → slice_index result i < number_bound }
 {
     if at >= len || len - at < 4 * size {
         return [
@@ -143,6 +144,9 @@ pub(crate) fn numbers_in(
         ];
     }
     let word = word_from(words, at);
+    if base == 2 {
+        return numbers_of_pieces(word, size);
+    }
     [
         number_of_bits(word, base, size),
         number_of_bits(word >> size, base, size),
@@ -176,26 +180,20 @@ pub(crate) fn next_in(words: &[u64], start: usize, end: usize) -> Option<usize>
     }
 }
 
-/// The number whose digits in a base up to 9, most significant first, are up to four of the bits of a word, from the
+/// The number whose digits in a base up to 9, most significant first, are up to eight of the bits of a word, from the
 /// lowest on.
 #[inline]
 fn number_of_bits(word: u64, base: usize, count: usize) -> usize
     requires base { base ≤ 9 }
-    requires short { count ≤ 4 }
+    requires short { count ≤ 8 }
     ensures value { result ≡ number_with_digits base (listed count (bit_at word)) }
-    ensures small { result < 6561 }
+    ensures small { result < number_bound }
 {
-    let first = (word & 1) as usize;
-    let second = (word >> 1 & 1) as usize;
-    let third = (word >> 2 & 1) as usize;
-    let fourth = (word >> 3 & 1) as usize;
-    match count {
-        0 => 0,
-        1 => first,
-        2 => first * base + second,
-        3 => (first * base + second) * base + third,
-        _ => ((first * base + second) * base + third) * base + fourth,
+    let mut number = 0;
+    for place in 0..count {
+        number = number * base + (word >> place & 1) as usize;
     }
+    number
 }
 
 /// A word with another bit at a place, counted from the lowest.

@@ -8,7 +8,7 @@ ghost use Rattle.axe_bits.specs.Bits.{bits};
 ghost use Rattle.axe_lane.specs.Trits.{AreTrits, IsTritSum};
 ghost use Rattle.axe_bits.specs.Trits.{trits, first_half, second_half, HoldLayers};
 ghost use Rattle.axe_bits.specs.Digits.{AreDigits, digits_with_multiple};
-ghost use Rattle.axe_bits.specs.Digits.{AreSmallSums, numbers_with_multiple, numbers_from};
+ghost use Rattle.axe_bits.specs.Digits.{AreSmallSums, numbers_with_multiple, numbers_from, number_bound};
 
 use crate::layer::{
     add_digits, bit_in, copy_digits, fill_with_bits, fill_with_part, fill_with_selected,
@@ -86,15 +86,15 @@ impl TritPlane {
         bit_in(ones, index) + 2 * bit_in(twos, index)
     }
 
-    /// Four numbers in a base up to 9, the digits of each being up to four of the plane's, most significant first:
+    /// Four numbers in a base up to 9, the digits of each being up to eight of the plane's, most significant first:
     /// those of the pieces of `size` digits one after another from an index on, as far as the plane goes.
     #[inline]
     pub fn numbers_from(&self, base: usize, size: usize, at: usize) -> [usize; 4]
         requires base { base ≤ 9 }
-        requires short { size ≤ 4 }
+        requires short { size ≤ 8 }
         requires counted { at + 4 * size < 2 ^ 64 }
         ensures value { result ≡ numbers_from base size at self.now }
-        ensures small { (i : ℕ) → slice_index result i < 6561 }
+        ensures small { (i : ℕ) → slice_index result i < number_bound }
     {
         let (ones, twos) = self.layers();
         let ones = numbers_in(ones, self.len, base, size, at);
