@@ -5,7 +5,7 @@ ghost use Rattle.axe_algebra.specs.Lists.{listed};
 ghost use Rattle.axe_lane.specs.Bytes.{multiple_modulo, sum_of_products};
 ghost use Rattle.axe_lane.specs.Entries.{IsFirstNonzero, AreZerosFrom, IsNextNonzero};
 ghost use Rattle.axe_bits.specs.Digits.{AreDigits, digits_at, digits_with_four, digits_with_multiple, AreSmallSums};
-ghost use Rattle.axe_bits.specs.Digits.{numbers_with_multiple, number_from};
+ghost use Rattle.axe_bits.specs.Digits.{numbers_with_multiple, number_from, number_bound};
 ghost use Rattle.axe_plane.specs.Planes.{negative_modulo};
 ghost use Rattle.axe_plane.specs.Primes.{byte_prime, ByteDigits};
 
@@ -86,15 +86,15 @@ impl BytePlane {
         }
     }
 
-    /// The number whose digits in a base up to 9, most significant first, are up to four of the plane's digits from an
+    /// The number whose digits in a base up to 9, most significant first, are up to eight of the plane's digits from an
     /// index on: `size` of them or those that there are.
     #[inline]
     pub fn number_from(&self, base: usize, size: usize, at: usize) -> usize
         requires base { base ≤ 9 }
-        requires short { size ≤ 4 }
+        requires short { size ≤ 8 }
         requires counted { at + size < 2 ^ 64 }
         ensures value { result ≡ number_from base size at self.now.digits }
-        ensures small { result < 6561 }
+        ensures small { result < number_bound }
     {
         let mut number = 0;
         for index in at..self.bytes.len().min(at + size) {

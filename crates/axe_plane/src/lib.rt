@@ -2,14 +2,13 @@
 //! 3 has 64 in two words, and one modulo 5 or 7 has a byte for each digit.
 #![tactic(auto)]
 
-ghost use Rattle.std.specs.Int.{bit_at};
 ghost use Rattle.std.specs.Prelude.{ℕ, ◌≡◌, ◌≢◌, ◌⊎◌, ◌+◌, ◌%◌, ◌<◌, ◌≤◌, ◌↔◌, IsTrue, IfOk, length, map, replicate};
 ghost use Rattle.std.specs.Prelude.{slice_index, slice_set, All, MatchOption, ◌^◌, ◌*◌};
 ghost use Rattle.axe_algebra.specs.Lists.{listed};
 ghost use Rattle.axe_lane.specs.Bytes.{multiple_modulo, sum_of_products};
 ghost use Rattle.axe_lane.specs.Entries.{IsFirstNonzero, AreZerosFrom, IsNextNonzero};
 ghost use Rattle.axe_bits.specs.Digits.{AreDigits, digits_at, digits_with_four, digits_with_multiple, AreSmallSums};
-ghost use Rattle.axe_bits.specs.Digits.{numbers_with_multiple, numbers_from};
+ghost use Rattle.axe_bits.specs.Digits.{numbers_with_multiple, numbers_from, number_bound};
 ghost use Rattle.axe_plane.specs.Planes.{negative_modulo};
 ghost use Rattle.axe_plane.specs.Tables.{plane_at, IsEntryFor};
 
@@ -101,30 +100,15 @@ impl Plane {
         }
     }
 
-    /// Sixteen digits modulo 2 that stand in one word, as the lowest bits of a number: the digit at an index is the
-    /// lowest bit, and those after it stand above it.
-    #[inline]
-    pub fn sixteen_from(&self, index: usize) -> u64
-        requires even { prime_of_plane self.now ≡ 2 }
-        requires inside { index + 16 ≤ length (digits_of self.now) }
-        requires one_word { index % 64 ≤ 48 }
-        ensures { (i : ℕ) → i < 16 → bit_at result i ≡ slice_index (digits_of self.now) (index + i) }
-    {
-        match self {
-            Plane::Bits(plane) => plane.sixteen_from(index),
-            Plane::Trits(_) | Plane::Bytes(_) => 0,
-        }
-    }
-
-    /// Four numbers in a base up to 9, the digits of each being up to four of the plane's, most significant first:
+    /// Four numbers in a base up to 9, the digits of each being up to eight of the plane's, most significant first:
     /// those of the pieces of `size` digits one after another from an index on, as far as the plane goes.
     #[inline]
     pub fn numbers_from(&self, base: usize, size: usize, at: usize) -> [usize; 4]
         requires base { base ≤ 9 }
-        requires short { size ≤ 4 }
+        requires short { size ≤ 8 }
         requires counted { at + 4 * size < 2 ^ 64 }
         ensures value { result ≡ numbers_from base size at (digits_of self.now) }
-        ensures small { (i : ℕ) → slice_index result i < 6561 }
+        ensures small { (i : ℕ) → slice_index result i < number_bound }
     {
         let (second, third) = (at + size, at + 2 * size);
         let fourth = at + 3 * size;

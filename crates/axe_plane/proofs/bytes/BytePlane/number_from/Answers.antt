@@ -1,6 +1,6 @@
 use Rattle.std.proofs.Common.{◌≡◌, ℕ, ◌+◌, ◌*◌, ◌<◌, ◌≤◌, List, length, get_or, ap, ◌∙◌, arith, lit<}
 use native.Mathlib.Nat.{mul-le-mul_left}
-use Rattle.axe_bits.specs.Digits.{AreDigits}
+use Rattle.axe_bits.specs.Digits.{AreDigits, number_bound}
 use Rattle.axe_plane.specs.Primes.{byte_prime, ByteDigits}
 use Rattle.axe_plane.specs.declared.primes.BytePrime.{BytePrime}
 use Rattle.axe_plane.specs.declared.primes.BytePrime.TheVariants.{Five, Seven}
@@ -24,15 +24,15 @@ loop-index-init c = IsNumberOf-none _ _ _
 
 pub overflow_mul-number : goal.overflow_mul-number
 overflow_mul-number c =
-    let few : c.loop-index.index ≤ c.args.at + 4 = omega (arith, c.loop-index-test.true, c.min-index-end.ensures, c.requires.short) in
-    let small : c.loop-index.number < 6561 = IsNumberOf-small _ _ _ _ _ c.loop-index.invariant few in
+    let few : c.loop-index.index ≤ c.args.at + 8 = omega (arith, c.loop-index-test.true, c.min-index-end.ensures, c.requires.short) in
+    let small : c.loop-index.number < number_bound = IsNumberOf-small _ _ _ _ _ c.loop-index.invariant few in
     let product : c.loop-index.number * c.args.base ≤ c.loop-index.number * 9 = mul-le-mul_left c.loop-index.number c.requires.base in
     omega arith
 
 pub overflow_add-number : goal.overflow_add-number
 overflow_add-number c =
-    let few : c.loop-index.index ≤ c.args.at + 4 = omega (arith, c.loop-index-test.true, c.min-index-end.ensures, c.requires.short) in
-    let small : c.loop-index.number < 6561 = IsNumberOf-small _ _ _ _ _ c.loop-index.invariant few in
+    let few : c.loop-index.index ≤ c.args.at + 8 = omega (arith, c.loop-index-test.true, c.min-index-end.ensures, c.requires.short) in
+    let small : c.loop-index.number < number_bound = IsNumberOf-small _ _ _ _ _ c.loop-index.invariant few in
     let product : c.loop-index.number * c.args.base ≤ c.loop-index.number * 9 = mul-le-mul_left c.loop-index.number c.requires.base in
     omega (arith, c.from.ensures, c.get.ensures, digit _ _ _ c.loop-index.index c.self.invariant c.self.view_is)
 
