@@ -14,14 +14,14 @@ use Rattle.axe_algebra.proofs.Digits.{digits_cons, digits-below, leading_digit}
 use Rattle.axe_algebra.proofs.ElementNumbers.{number_sum-below, entry-below}
 use Rattle.axe_algebra.proofs.ListEntries.{listed_length, listed_at, matrix_entry-below}
 use Rattle.axe_field.specs.NumberFields.{number_field}
-use Rattle.axe_field.specs.Order.{Order, Two, Three, Four, Five, Seven, Eight, Nine, order_number, IsElement}
+use Rattle.axe_field.specs.Order.{Order, order_number, IsElement}
 use Rattle.axe_field.proofs.Laws.{field_zero-mul}
 use Rattle.axe_field.proofs.Orders.{order_number-at_least}
-use Rattle.axe_row.specs.Combinations.{CombosValue, IsTableOfRows, AreOfOneKind, Combines, most_combined}
+use Rattle.axe_row.specs.Combinations.{CombosValue, IsTableOfRows, AreOfOneKind, Combines}
 use Rattle.axe_row.specs.Operations.{sum_with_multiple}
 use Rattle.axe_row.specs.Rows.{RowValue}
 use Rattle.axe_row.proofs.OperationLaws.{length-sum_with_multiple, get_or-sum_with_multiple}
-use Rattle.axe_row.proofs.PieceNumbers.{power-below}
+use Rattle.axe_row.proofs.TablePlanes.{few_rows}
 
 -- ---- combinations
 
@@ -191,17 +191,8 @@ AreMultiplesBelow-more n filled b before table next h some kept sums kind well_f
 
 -- ---- a table of few rows
 
-pub rows-below : (table : CombosValue) → IsTableOfRows table → length table.rows ≤ 6561
-rows-below table h = omega (arith, h.counted, power-below table.order table.size (few table.order table.size h.size_fits))
-  where
-    few : (o : Order) (n : ℕ) → n ≤ most_combined o → n ≤ 4
-    few Two n most = most
-    few Three n most = most
-    few Four n most = most
-    few Five n most = omega arith
-    few Seven n most = omega arith
-    few Eight n most = omega arith
-    few Nine n most = omega arith
+pub rows-below : (table : CombosValue) → IsTableOfRows table → length table.rows ≤ 256
+rows-below table h = omega (arith, h.counted, few_rows table.order table.size h.size_fits)
 
 -- ---- combinations of all rows
 

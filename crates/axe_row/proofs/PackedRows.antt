@@ -3,6 +3,7 @@ use Rattle.std.proofs.Common.{◌≡◌, ℕ, ◌<◌, List, length, get_or, ref
 use Rattle.axe_algebra.specs.Lists.{listed}
 use Rattle.axe_algebra.proofs.ListEntries.{listed_length, listed_at}
 use Rattle.axe_field.specs.Order.{Order, Two, order_number, prime_of, degree_of}
+use Rattle.axe_field.proofs.Orders.{order_number-injective}
 use Rattle.axe_bits.specs.Digits.{AreDigits}
 use Rattle.axe_bits.specs.Packed.{packed_bit}
 use Rattle.axe_bits.proofs.PackedWords.{packed_bit_below}
@@ -10,7 +11,6 @@ use Rattle.axe_plane.specs.Planes.{prime_of_plane, digits_of, IsPlane, IsPlaneOf
 use Rattle.axe_plane.specs.declared.Plane.{Plane}
 use Rattle.axe_row.specs.Planes.{ArePlanes}
 use Rattle.axe_row.specs.Rows.{RowValue}
-use Rattle.axe_row.proofs.PieceNumbers.{order_is_two}
 use Rattle.axe_row.proofs.PrimeRows.{one_plane_at}
 use Rattle.axe_row.proofs.RowPlanes.{entries_of}
 
@@ -18,6 +18,10 @@ AreDigits-packed : (n : ℕ) (bytes : List ℕ) → AreDigits 2 (listed n (packe
 AreDigits-packed n bytes e d inside =
     let small : e < n = omega (arith, listed_length n (packed_bit bytes)) in
     subst (λ x. x < 2) (sym (listed_at n (packed_bit bytes) e d small)) (packed_bit_below bytes e)
+
+-- the field of two elements
+order_is_two : (o r : Order) → o ≡ r → order_number r ≡ 2 → o ≡ Two
+order_is_two o r same two = same ∙ order_number-injective r Two two
 
 -- the plane of a row over two elements that is made of bits
 pub packed_plane : (o : Order) (n : ℕ) (bytes : List ℕ) (c : Plane) → order_number o ≡ 2 → IsPlane 2 (listed n (packed_bit bytes)) c →

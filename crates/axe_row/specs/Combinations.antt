@@ -16,10 +16,10 @@ pub record CombosValue : Type 0 where
   pub len : ℕ
   pub rows : List (List ℕ)
 
--- how many rows a table combines at most: the greatest t up to 4 with at most 256 lists of t elements of the field
+-- how many rows a table combines at most: the greatest t with at most 256 lists of t elements of the field
 abbrev pub most_combined : Order → ℕ
-most_combined Two = 4
-most_combined Three = 4
+most_combined Two = 8
+most_combined Three = 5
 most_combined Four = 4
 most_combined Five = 3
 most_combined Seven = 2

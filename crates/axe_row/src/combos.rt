@@ -51,14 +51,15 @@ impl Model for Combos {
     ghost invariant = { λ a. ArePlaneTables a.field a.size a.len a.constant a.linear a.quadratic };
 }
 
-/// How many rows a table over a field combines at most: the greatest number up to 4 for which a table has at most 256
-/// rows.
+/// How many rows a table over a field combines at most: the greatest number for which a table has at most 256 rows.
 pub fn most_combined(field: &Field) -> usize
     ensures value { result ≡ most_combined field.now }
     ensures some { 1 ≤ result }
 {
     match field.order() {
-        2 | 3 | 4 => 4,
+        2 => 8,
+        3 => 5,
+        4 => 4,
         5 => 3,
         _ => 2,
     }

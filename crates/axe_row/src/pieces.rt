@@ -1,9 +1,8 @@
 //! The numbers of pieces of a row: which combinations of the rows of a table they name.
 
-ghost use Rattle.std.specs.Int.{bit_at};
-ghost use Rattle.std.specs.Prelude.{◌≡◌, ◌+◌, ◌*◌, ◌^◌, ◌<◌, ◌≤◌, ◌%◌, ◌∷◌, [], length};
-ghost use Rattle.axe_algebra.specs.Digits.{number_with_digits};
-ghost use Rattle.axe_field.specs.Order.{IsElement, order_number};
+ghost use Rattle.std.specs.Prelude.{◌≡◌, ◌+◌, ◌*◌, ◌^◌, ◌<◌, ◌≤◌};
+ghost use Rattle.axe_bits.specs.Digits.{number_bound};
+ghost use Rattle.axe_field.specs.Order.{IsElement};
 ghost use Rattle.axe_row.specs.Combinations.{piece_number, piece_numbers};
 
 use crate::Row;
@@ -15,15 +14,10 @@ impl Row {
     /// 0.
     pub fn piece_numbers(&self, scalar: u8, size: usize, at: usize) -> [usize; 4]
         requires element { IsElement self.now.order scalar }
-        requires short { size ≤ 4 }
+        requires short { size ≤ 8 }
         requires counted { at + 4 * size < 2 ^ 64 }
         ensures { result ≡ piece_numbers self.now scalar size at }
     {
-        if self.field().order() == 2 && scalar == 1 && size == 4 {
-            if at % 64 <= 48 && at + 16 <= self.len() {
-                return self.numbers_of_bits(at);
-            }
-        }
         if scalar == 1 {
             return self.numbers_by_planes(size, at);
         }
@@ -35,26 +29,10 @@ impl Row {
         ]
     }
 
-    /// The numbers of four pieces of four bits each that stand in one word.
-    fn numbers_of_bits(&self, at: usize) -> [usize; 4]
-        requires even { order_number self.now.order ≡ 2 }
-        requires one_word { at % 64 ≤ 48 }
-        requires inside { at + 16 ≤ length self.now.entries }
-        ensures { result ≡ piece_numbers self.now 1 4 at }
-    {
-        let bits = self.constant.sixteen_from(at);
-        [
-            number_of_bits(bits),
-            number_of_bits(bits >> 4),
-            number_of_bits(bits >> 8),
-            number_of_bits(bits >> 12),
-        ]
-    }
-
     /// The number of a piece of a row.
     fn piece_number(&self, scalar: u8, size: usize, at: usize) -> usize
         requires element { IsElement self.now.order scalar }
-        requires short { size ≤ 4 }
+        requires short { size ≤ 8 }
         requires counted { at + size < 2 ^ 64 }
         ensures { result ≡ piece_number self.now scalar size at }
     {
@@ -69,7 +47,7 @@ impl Row {
 
     /// The numbers of four pieces of a row, by the numbers that the planes have of their digits.
     fn numbers_by_planes(&self, size: usize, at: usize) -> [usize; 4]
-        requires short { size ≤ 4 }
+        requires short { size ≤ 8 }
         requires counted { at + 4 * size < 2 ^ 64 }
         ensures { result ≡ piece_numbers self.now 1 size at }
     {
@@ -92,20 +70,11 @@ impl Row {
 
 /// The number of a piece, by those that its coefficients of 1, x and x^2 have as digits.
 fn number_of_parts(prime: u8, constant: usize, linear: usize, quadratic: usize) -> usize
-    requires constant { constant < 6561 }
-    requires linear { linear < 6561 }
-    requires quadratic { quadratic < 6561 }
+    requires constant { constant < number_bound }
+    requires linear { linear < number_bound }
+    requires quadratic { quadratic < number_bound }
     ensures { result ≡ constant + prime * (linear + prime * quadratic) }
 {
     let prime = usize::from(prime);
     constant + prime * (linear + prime * quadratic)
-}
-
-/// The number whose digits in base 2 are the four lowest bits of a word, most significant first.
-fn number_of_bits(word: u64) -> usize
-    ensures { result ≡ number_with_digits 2 (bit_at word 0 ∷ bit_at word 1 ∷ bit_at word 2 ∷ bit_at word 3 ∷ []) }
-{
-    let (first, second) = (word % 2, word / 2 % 2);
-    let (third, fourth) = (word / 4 % 2, word / 8 % 2);
-    (8 * first + 4 * second + 2 * third + fourth) as usize
 }

@@ -1,5 +1,6 @@
 use Rattle.std.proofs.Common.{◌≡◌, ◌+◌, ◌<◌, ◌≤◌, length, get_or, ap, ◌∙◌, arith}
 use Rattle.std.proofs.lemmas.Nat.{mul-add-lt}
+use Rattle.axe_bits.specs.Digits.{number_bound}
 use Rattle.axe_field.specs.Order.{order_number}
 use Rattle.axe_field.specs.Arithmetic.{field_mul}
 use Rattle.axe_row.proofs.PieceNumbers.{IsNumberBelow-none, IsNumberBelow-more, IsNumberBelow-small}
@@ -10,20 +11,20 @@ loop-index-init c = IsNumberBelow-none _ _ _
 
 pub overflow_mul-number : goal.overflow_mul-number
 overflow_mul-number c =
-    let few : c.loop-index.index ≤ c.args.at + 4 = omega (arith, c.loop-index-test.true, c.min-index-end.ensures) in
-    let small : c.loop-index.number < 6561 = IsNumberBelow-small _ _ _ _ _ c.loop-index.invariant few in
+    let few : c.loop-index.index ≤ c.args.at + 8 = omega (arith, c.loop-index-test.true, c.min-index-end.ensures) in
+    let small : c.loop-index.number < number_bound = IsNumberBelow-small _ _ _ _ _ c.loop-index.invariant few in
     let base : c.from-order.result ≤ 9 = omega (arith, c.from-order.ensures, c.order.ensures.at_most_nine) in
     let some : 0 < c.from-order.result = omega (arith, c.from-order.ensures, c.order.ensures.at_least_two) in
-    omega (arith, mul-add-lt c.loop-index.number c.from-order.result 0 6561 small some)
+    omega (arith, mul-add-lt c.loop-index.number c.from-order.result 0 number_bound small some)
 
 pub overflow_add-number : goal.overflow_add-number
 overflow_add-number c =
-    let few : c.loop-index.index ≤ c.args.at + 4 = omega (arith, c.loop-index-test.true, c.min-index-end.ensures) in
-    let small : c.loop-index.number < 6561 = IsNumberBelow-small _ _ _ _ _ c.loop-index.invariant few in
+    let few : c.loop-index.index ≤ c.args.at + 8 = omega (arith, c.loop-index-test.true, c.min-index-end.ensures) in
+    let small : c.loop-index.number < number_bound = IsNumberBelow-small _ _ _ _ _ c.loop-index.invariant few in
     let base : c.from-order.result ≤ 9 = omega (arith, c.from-order.ensures, c.order.ensures.at_most_nine) in
     let digit : c.from.result < c.from-order.result =
     omega (arith, c.from.ensures, c.mul.ensures.element, c.from-order.ensures, c.order.ensures.value) in
-    omega (arith, mul-add-lt c.loop-index.number c.from-order.result c.from.result 6561 small digit)
+    omega (arith, mul-add-lt c.loop-index.number c.from-order.result c.from.result number_bound small digit)
 
 pub loop-index-preserved : goal.loop-index-preserved
 loop-index-preserved c =

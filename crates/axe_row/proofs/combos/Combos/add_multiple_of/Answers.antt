@@ -7,13 +7,13 @@ use Rattle.axe_row.proofs.combos.Combos.add_multiple_of.Goals as goal
 
 pub overflow_mul-start : goal.overflow_mul-start
 overflow_mul-start c =
-    let small : length c.args.self.now.rows ≤ 6561 = rows-below _ c.requires.table in
+    let small : length c.args.self.now.rows ≤ 256 = rows-below _ c.requires.table in
     let scalar : c.from.result ≤ order_number c.args.self.now.order = omega (arith, c.from.ensures, c.requires.element) in
     omega (arith, c.requires.room, mul-le-mul_right c.args.filled scalar)
 
 pub overflow_add-start : goal.overflow_add-start
 overflow_add-start c =
-    let small : length c.args.self.now.rows ≤ 6561 = rows-below _ c.requires.table in
+    let small : length c.args.self.now.rows ≤ 256 = rows-below _ c.requires.table in
     let scalar : c.from.result < order_number c.args.self.now.order = omega (arith, c.from.ensures, c.requires.element) in
     omega (arith, c.requires.room, mul-add-lt c.from.result c.args.filled c.loop-index.index _ scalar c.loop-index-test.true)
 
