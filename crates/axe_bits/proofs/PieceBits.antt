@@ -27,9 +27,23 @@ number_of_listed b f n =
 abbrev pub IsNumberOfBits : ℕ → ℕ → ℕ → ℕ → Type 0
 IsNumberOfBits b word count number = number ≡ with_values b (bit_at word) count
 
+lowest_bit : (word : ℕ) → bit_and word 1 ≡ bit_at word 0
+lowest_bit word =
+    let whole : word ≡ word / 2 ^ 0 = omega arith in
+    ap (λ w. bit_and w 1) whole ∙ shr_and_one word 0
+
+pub one_bit : (b word : ℕ) → IsNumberOfBits b word 1 (bit_and word 1)
+one_bit b word = lowest_bit word ∙ omega arith
+
 pub bit_more : (b word count number : ℕ) → IsNumberOfBits b word count number →
     IsNumberOfBits b word (suc count) (number * b + bit_and (word / 2 ^ count) 1)
 bit_more b word count number is = ap₂ (λ x y. x * b + y) is (shr_and_one word count)
+
+pub two_bits : (b word : ℕ) → IsNumberOfBits b word 2 (bit_and word 1 * b + bit_and (word / 2) 1)
+two_bits b word = bit_more b word 1 _ (one_bit b word)
+
+pub three_bits : (b word : ℕ) → IsNumberOfBits b word 3 ((bit_and word 1 * b + bit_and (word / 2) 1) * b + bit_and (word / 4) 1)
+three_bits b word = bit_more b word 2 _ (two_bits b word)
 
 pub number_of_bits_is : (b word count digits number : ℕ) → IsNumberOfBits b word count number → digits ≡ count →
     number ≡ number_with_digits b (listed digits (bit_at word))

@@ -119,9 +119,31 @@ pub(crate) fn number_in(words: &[u64], len: usize, base: usize, size: usize, at:
 
 /// Four numbers in a base up to 9, the digits of each being up to eight of those of a layer of `len` digits, most
 /// significant first: those of the pieces of `size` digits one after another from an index on, as far as the layer
-/// goes.
+/// goes. In base 2 all four are read at once where there are so many digits.
 #[inline]
 pub(crate) fn numbers_in(
+    words: &[u64],
+    len: usize,
+    base: usize,
+    size: usize,
+    at: usize,
+) -> [usize; 4]
+    requires long { length words.now ≡ (len + 63) / 64 }
+    requires base { base ≤ 9 }
+    requires short { size ≤ 8 }
+    requires counted { at + 4 * size < 2 ^ 64 }
+    ensures value { result ≡ numbers_from base size at (bits len words.now) }
+    ensures small { (i : ℕ) → slice_index result i < number_bound }
+{
+    if base == 2 && at < len && 4 * size <= len - at {
+        return numbers_of_pieces(word_from(words, at), size);
+    }
+    numbers_by_digits(words, len, base, size, at)
+}
+
+/// The numbers that [`numbers_in`] gives, digit by digit. It stands apart so that they are read in few steps in base 2.
+#[inline(never)]
+pub(crate) fn numbers_by_digits(
     words: &[u64],
     len: usize,
     base: usize,
@@ -144,9 +166,6 @@ pub(crate) fn numbers_in(
         ];
     }
     let word = word_from(words, at);
-    if base == 2 {
-        return numbers_of_pieces(word, size);
-    }
     [
         number_of_bits(word, base, size),
         number_of_bits(word >> size, base, size),
@@ -181,7 +200,7 @@ pub(crate) fn next_in(words: &[u64], start: usize, end: usize) -> Option<usize>
 }
 
 /// The number whose digits in a base up to 9, most significant first, are up to eight of the bits of a word, from the
-/// lowest on.
+/// lowest on. The first four are read without a loop, since most numbers have no more.
 #[inline]
 fn number_of_bits(word: u64, base: usize, count: usize) -> usize
     requires base { base ≤ 9 }
@@ -189,11 +208,23 @@ fn number_of_bits(word: u64, base: usize, count: usize) -> usize
     ensures value { result ≡ number_with_digits base (listed count (bit_at word)) }
     ensures small { result < number_bound }
 {
-    let mut number = 0;
-    for place in 0..count {
-        number = number * base + (word >> place & 1) as usize;
+    let first = (word & 1) as usize;
+    let second = (word >> 1 & 1) as usize;
+    let third = (word >> 2 & 1) as usize;
+    let fourth = (word >> 3 & 1) as usize;
+    match count {
+        0 => 0,
+        1 => first,
+        2 => first * base + second,
+        3 => (first * base + second) * base + third,
+        _ => {
+            let mut number = ((first * base + second) * base + third) * base + fourth;
+            for place in 4..count {
+                number = number * base + (word >> place & 1) as usize;
+            }
+            number
+        }
     }
-    number
 }
 
 /// A word with another bit at a place, counted from the lowest.

@@ -12,7 +12,7 @@ ghost use Rattle.axe_bits.specs.Digits.{AreSmallSums, numbers_with_multiple, num
 
 use crate::layer::{
     add_digits, bit_in, copy_digits, fill_with_bits, fill_with_part, fill_with_selected,
-    numbers_in, set_bit,
+    numbers_by_digits, set_bit,
 };
 use crate::next_in_word;
 use crate::parts::WORD;
@@ -97,8 +97,8 @@ impl TritPlane {
         ensures small { (i : ℕ) → slice_index result i < number_bound }
     {
         let (ones, twos) = self.layers();
-        let ones = numbers_in(ones, self.len, base, size, at);
-        let twos = numbers_in(twos, self.len, base, size, at);
+        let ones = numbers_by_digits(ones, self.len, base, size, at);
+        let twos = numbers_by_digits(twos, self.len, base, size, at);
         [
             ones[0] + 2 * twos[0],
             ones[1] + 2 * twos[1],
