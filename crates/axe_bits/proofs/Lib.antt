@@ -27,3 +27,5 @@ pub mod WordWrites
 pub mod TritWordWrites
 pub mod BlockBits
 pub mod SupportLaws
+pub mod LowestBits
+pub mod FourPlaces

@@ -25,7 +25,7 @@ module _ (numbers : List ℕ) (start word : ℕ) (h : IsSupportWord numbers (sta
   abbrev rest : ℕ
   rest = word / 2 ^ (start % 64)
 
-  at_place : (i : ℕ) → start % 64 + i < 64 → bit_at rest i ≡ 0 ↔ get_or numbers (start + i) 0 ≡ 0
+  pub at_place : (i : ℕ) → start % 64 + i < 64 → bit_at rest i ≡ 0 ↔ get_or numbers (start + i) 0 ≡ 0
   at_place i low =
       let there : start / 64 * 64 + (start % 64 + i) ≡ start + i = omega arith in
       let number = ap (λ j. get_or numbers j 0) there in

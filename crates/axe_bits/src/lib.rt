@@ -19,6 +19,6 @@ pub use bits::BitPlane;
 pub use blocks::transposed_block;
 pub use pieces::start_of;
 pub use places::earlier;
-pub use supports::next_in_word;
+pub use supports::{four_in_word, next_in_word};
 pub use trit_table::TritTable;
 pub use trits::TritPlane;
