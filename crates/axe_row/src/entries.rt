@@ -83,7 +83,7 @@ impl Row {
     /// The word at an index of the row's support, counted from 0: its bit i, counted from the lowest, is 0 exactly
     /// where the entry 64 times the index plus i is 0 or missing.
     #[inline(always)]
-    fn support_word(&self, at: usize) -> u64
+    pub fn support_word(&self, at: usize) -> u64
         ensures { IsSupportWord self.now.entries at result }
     {
         let Some(_) = &self.higher else {

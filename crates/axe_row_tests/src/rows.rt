@@ -15,6 +15,7 @@ use std::process::Abort;
 /// - `copy`: a row, and its copy;
 /// - `first_nonzero`: a row, and the index of its first entry that is not zero;
 /// - `next_nonzero`: a row, an index, and that of the first entry from there on that is not zero;
+/// - `support_word`: a row, an index, and the number that the word of its support there is;
 /// - `is_zero`: a row, and whether it is zero.
 const ENTRIES: &str = "\
 zero | 7 | 2 | 7: 00
@@ -33,12 +34,23 @@ next_nonzero | 7: 0503 | 2 | 3
 next_nonzero | 9: 1360 | 3 | none
 next_nonzero | 9: 1360 | 4 | none
 next_nonzero | 8: 0402 | 2 | 3
+support_word | 2: 10110 | 0 | 13
+support_word | 2: 10110 | 1 | 0
+support_word | 3: 0212 | 0 | 14
+support_word | 5: 0402 | 0 | 10
+support_word | 4: 0312 | 0 | 14
+support_word | 8: 0402 | 0 | 10
+support_word | 9: 1360 | 0 | 7
+support_word | 9: 1360 | 1 | 0
 is_zero | 7: 00 | yes
 is_zero | 7: 05 | no
 # One digit more than a word has.
 set | 2: 00000000000000000000000000000000000000000000000000000000000000000 | 64 | 1 | 2: 00000000000000000000000000000000000000000000000000000000000000001
 first_nonzero | 2: 00000000000000000000000000000000000000000000000000000000000000001 | 64
 next_nonzero | 2: 10000000000000000000000000000000000000000000000000000000000000001 | 1 | 64
+support_word | 2: 10000000000000000000000000000000000000000000000000000000000000001 | 0 | 1
+support_word | 2: 10000000000000000000000000000000000000000000000000000000000000001 | 1 | 1
+support_word | 9: 000000000000000000000000000000000000000000000000000000000000000006 | 1 | 2
 is_zero | 2: 00000000000000000000000000000000000000000000000000000000000000001 | no
 is_zero | 2: 00000000000000000000000000000000000000000000000000000000000000000 | yes
 next_nonzero | 3: 0102 | 0 | 1
@@ -225,6 +237,13 @@ fn finds_next_nonzero(rt: &impl Abort, alloc: Global, line: &str) -> Result<bool
     }
 }
 
+fn gives_support_word(alloc: Global, line: &str) -> Result<bool, TableFault> {
+    let (row, at, wanted) = three_fields(line)?;
+    let at = number_of(at)?;
+    let wanted = number_of(wanted)?;
+    Ok(row_of(alloc, row)?.support_word(at) == wanted as u64)
+}
+
 fn tells_zero(alloc: Global, line: &str) -> Result<bool, TableFault> {
     let (row, wanted) = two_fields(line)?;
     let wanted = truth_of(wanted)?;
@@ -331,6 +350,7 @@ pub(crate) fn answers(
         "get" => gets(rt, alloc, line),
         "first_nonzero" => finds_first_nonzero(alloc, line),
         "next_nonzero" => finds_next_nonzero(rt, alloc, line),
+        "support_word" => gives_support_word(alloc, line),
         "is_zero" => tells_zero(alloc, line),
         "part" => takes_part(rt, alloc, line),
         "first_and_last" => selects_ends(rt, alloc, line),
