@@ -1,6 +1,7 @@
 -- A row to which rows of a matrix over the field of two elements are added four at a time.
 use Rattle.std.proofs.Common.{◌≡◌, ℕ, ◌+◌, ◌<◌, List, length, get_or, sym, ap, ◌∙◌, arith}
 use Rattle.std.specs.List.{All}
+use Rattle.axe_bits.specs.Supports.{AreNextFour}
 use Rattle.axe_field.specs.Arithmetic.{field_mul}
 use Rattle.axe_field.specs.CheckedLaws.{field_mul-one}
 use Rattle.axe_field.specs.NumberFields.{number_field}
@@ -12,7 +13,6 @@ use Rattle.axe_row.specs.Operations.{row_with_multiple}
 use Rattle.axe_row.specs.Rows.{RowValue}
 use Rattle.axe_row.proofs.RowLaws.{one-IsElement}
 use Rattle.axe_matrix.specs.Matrices.{MatrixValue, IsMatrix, row_of}
-use Rattle.axe_matrix.specs.VectorTerms.{AreNextFour}
 use Rattle.axe_matrix.proofs.BlockLaws.{length-row_with_terms}
 use Rattle.axe_matrix.proofs.DirectRows.{so_many_terms, one_more_term, zero_terms}
 

@@ -1,12 +1,17 @@
 //! Products of a row vector and a matrix, row by row.
 
 ghost use Rattle.std.specs.Prelude.{◌≡◌, ◌≤◌, IfSome, length};
+ghost use Rattle.axe_bits.specs.Supports.{AreNextFour};
 ghost use Rattle.axe_field.specs.Order.{IsElement};
 ghost use Rattle.axe_row.specs.Rows.{IsRow};
 ghost use Rattle.axe_matrix.specs.Products.{row_with_product};
-ghost use Rattle.axe_matrix.specs.VectorTerms.{AreNextFour, row_with_first_terms};
+ghost use Rattle.axe_matrix.specs.VectorTerms.{row_with_first_terms};
 
 use super::{Matrix, Row};
+use axe_bits::four_in_word;
+
+/// How many places a word of a support has.
+const WORD: usize = 64;
 
 impl Matrix {
     /// Adds a multiple of a row vector times this matrix to a row over its field: each entry d of the row becomes
@@ -64,8 +69,23 @@ impl Matrix {
     }
 }
 
-/// The indices of the next four entries of a row other than 0 from an index on, or `None` where there are fewer.
+/// The indices of the next four entries of a row other than 0 from an index on, or `None` where there are fewer. Mostly
+/// one word of the row's support has all four.
+#[inline(always)]
 fn next_four(row: &Row, start: usize) -> Option<[usize; 4]>
+    requires { start ≤ length row.now.entries }
+    ensures { IfSome result (AreNextFour row.now.entries start) }
+{
+    if let Some(four) = four_in_word(row.support_word(start / WORD), start) {
+        return Some(four);
+    }
+    next_four_by_entries(row, start)
+}
+
+/// The indices of the next four entries of a row other than 0 from an index on, one after another, or `None` where
+/// there are fewer. It stands apart so that `next_four` is short where one word has all four.
+#[inline(never)]
+fn next_four_by_entries(row: &Row, start: usize) -> Option<[usize; 4]>
     requires { start ≤ length row.now.entries }
     ensures { IfSome result (AreNextFour row.now.entries start) }
 {
