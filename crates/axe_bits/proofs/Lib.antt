@@ -12,6 +12,7 @@ pub mod PieceDigits
 pub mod PieceBits
 pub mod TurnedPieces
 pub mod PieceLaws
+pub mod EndLaws
 pub mod TableLaws
 pub mod TritLaws
 pub mod TritPlaneLaws
@@ -22,6 +23,7 @@ pub mod TritTables
 pub mod TritWords
 pub mod TritDots
 pub mod TritHalves
+pub mod TritEnds
 pub mod TritEntries
 pub mod WordWrites
 pub mod TritWordWrites

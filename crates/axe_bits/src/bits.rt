@@ -3,7 +3,7 @@ ghost use Rattle.std.specs.Prelude.{ℕ, ◌≡◌, ◌+◌, ◌*◌, ◌/◌, �
 ghost use Rattle.std.specs.Prelude.{replicate, slice_index, slice_set, All, MatchOption};
 ghost use Rattle.axe_algebra.specs.Lists.{listed};
 ghost use Rattle.axe_lane.specs.Bytes.{multiple_modulo, sum_of_products};
-ghost use Rattle.axe_lane.specs.Entries.{IsFirstNonzero, AreZerosFrom, IsNextNonzero};
+ghost use Rattle.axe_lane.specs.Entries.{IsFirstNonzero, AreZerosBefore, AreZerosFrom, IsNextNonzero};
 ghost use Rattle.axe_bits.specs.Bits.{bits, HoldsBits};
 ghost use Rattle.axe_bits.specs.Digits.{AreDigits, digits_at, digits_with_four, digits_with_multiple};
 ghost use Rattle.axe_bits.specs.Digits.{AreSmallSums, numbers_with_multiple};
@@ -200,7 +200,20 @@ impl BitPlane {
         requires { length other.now ≡ length self.old }
         ensures { self.new ≡ digits_with_multiple 2 self.old 1 other.now }
     {
-        xor_into(&mut self.words, &other.words);
+        self.add_from(0, other);
+    }
+
+    /// Adds another plane of the same length, whose digits before an index are 0, as [`BitPlane::add`] does. The words
+    /// before that of the index are not looked at.
+    #[inline]
+    pub fn add_from(&mut self, start: usize, other: &BitPlane)
+        requires fits { length other.now ≡ length self.old }
+        requires within { start ≤ length self.old }
+        requires zeros { AreZerosBefore other.now start }
+        ensures { self.new ≡ digits_with_multiple 2 self.old 1 other.now }
+    {
+        let first = start / WORD;
+        xor_into(&mut self.words[first..], &other.words[first..]);
     }
 
     /// The words of the plane.

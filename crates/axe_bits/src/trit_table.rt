@@ -70,6 +70,6 @@ impl TritTable {
         requires fits { length (slice_index_or self.now index []) ≡ length plane.old }
         ensures { plane.new ≡ digits_with_multiple 3 plane.old factor (slice_index_or self.now index []) }
     {
-        plane.add_layers(factor, self.ones.entry(index), self.twos.entry(index));
+        plane.add_layers(0, factor, self.ones.entry(index), self.twos.entry(index));
     }
 }

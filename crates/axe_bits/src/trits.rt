@@ -3,7 +3,7 @@ ghost use Rattle.std.specs.Prelude.{ℕ, ◌≡◌, ◌+◌, ◌*◌, ◌%◌, �
 ghost use Rattle.std.specs.Prelude.{replicate, slice_index, slice_set, All, MatchOption};
 ghost use Rattle.axe_algebra.specs.Lists.{listed};
 ghost use Rattle.axe_lane.specs.Bytes.{multiple_modulo, sum_of_products};
-ghost use Rattle.axe_lane.specs.Entries.{IsFirstNonzero, AreZerosFrom, IsNextNonzero};
+ghost use Rattle.axe_lane.specs.Entries.{IsFirstNonzero, AreZerosBefore, AreZerosFrom, IsNextNonzero};
 ghost use Rattle.axe_bits.specs.Bits.{bits};
 ghost use Rattle.axe_lane.specs.Trits.{AreTrits, IsTritSum};
 ghost use Rattle.axe_bits.specs.Trits.{trits, first_half, second_half, HoldLayers};
@@ -190,23 +190,40 @@ impl TritPlane {
         requires fits { length other.now ≡ length self.old }
         ensures { self.new ≡ digits_with_multiple 3 self.old factor other.now }
     {
-        let (ones, twos) = other.layers();
-        self.add_layers(factor, ones, twos);
+        self.add_scaled_from(0, factor, other);
     }
 
-    /// Adds a multiple of the digits that two layers of as many bits hold. Twice a digit is the digit with its layers
-    /// exchanged.
+    /// Adds a multiple of another plane of the same length, whose digits before an index are 0, as
+    /// [`TritPlane::add_scaled`] does. The words before those of the index are not looked at.
     #[inline]
-    pub(crate) fn add_layers(&mut self, factor: u8, ones: &[u64], twos: &[u64])
+    pub fn add_scaled_from(&mut self, start: usize, factor: u8, other: &TritPlane)
+        requires within { start ≤ length self.old }
+        requires factor { factor < 3 }
+        requires fits { length other.now ≡ length self.old }
+        requires zeros { AreZerosBefore other.now start }
+        ensures { self.new ≡ digits_with_multiple 3 self.old factor other.now }
+    {
+        let (ones, twos) = other.layers();
+        self.add_layers(start, factor, ones, twos);
+    }
+
+    /// Adds a multiple of the digits that two layers of as many bits hold, which are 0 before an index. Twice a digit
+    /// is the digit with its layers exchanged.
+    #[inline]
+    pub(crate) fn add_layers(&mut self, start: usize, factor: u8, ones: &[u64], twos: &[u64])
+        requires within { start ≤ length self.old }
         requires factor { factor < 3 }
         requires layers { HoldLayers (length self.old) ones.now twos.now }
+        requires zeros { AreZerosBefore
+            (trits (bits (length self.old) ones.now) (bits (length self.old) twos.now)) start }
         ensures { self.new ≡ digits_with_multiple 3 self.old factor
             (trits (bits (length self.old) ones.now) (bits (length self.old) twos.now)) }
     {
+        let first = start / WORD;
         match factor {
             0 => {}
-            1 => add_to_halves(&mut self.words, ones, twos),
-            _ => add_to_halves(&mut self.words, twos, ones),
+            1 => add_to_halves(&mut self.words, first, ones, twos),
+            _ => add_to_halves(&mut self.words, first, twos, ones),
         }
     }
 
@@ -282,18 +299,26 @@ impl TritPlane {
     }
 }
 
-/// Adds the digits modulo 3 that two layers hold to those of the two halves of a list of words: each digit becomes the
-/// sum modulo 3.
+/// Adds the digits modulo 3 that two layers hold, which are 0 in the words before the first that is given, to those of
+/// the two halves of a list of words: each digit becomes the sum modulo 3.
 #[inline]
-fn add_to_halves(words: &mut [u64], ones: &[u64], twos: &[u64])
+fn add_to_halves(words: &mut [u64], first: usize, ones: &[u64], twos: &[u64])
     requires fits { 2 * length ones.now ≡ length words.old }
+    requires within { first ≤ length ones.now }
     requires row { AreTrits (first_half words.old) (second_half words.old) }
     requires more { AreTrits ones.now twos.now }
+    requires zero_ones { AreZerosBefore ones.now first }
+    requires zero_twos { AreZerosBefore twos.now first }
     ensures long { length words.new ≡ length words.old }
     ensures sum { IsTritSum (first_half words.old) (second_half words.old) ones.now twos.now
         (first_half words.new) (second_half words.new) }
 {
     let width = words.len() / 2;
     let (own_ones, own_twos) = words.split_at_mut(width);
-    add_trits(own_ones, own_twos, ones, twos);
+    add_trits(
+        &mut own_ones[first..],
+        &mut own_twos[first..],
+        &ones[first..],
+        &twos[first..],
+    );
 }

@@ -4,6 +4,8 @@ use Rattle.axe_bits.specs.Bits.{bits}
 use Rattle.axe_bits.specs.Digits.{digits_with_multiple}
 use Rattle.axe_bits.specs.Trits.{trits, first_half, second_half}
 use Rattle.axe_bits.proofs.DigitLaws.{digits_with_multiple-none}
+use Rattle.axe_bits.proofs.EndLaws.{word_within}
+use Rattle.axe_bits.proofs.TritEnds.{zero_ones_before, zero_twos_before}
 use Rattle.axe_bits.proofs.TritHalves.{halves_long, halves_wide, half_trits-sum, HalvesHold-sum}
 use Rattle.axe_bits.proofs.TritPlaneLaws.{trits_below}
 use Rattle.axe_bits.proofs.TritWords.{exchanged, layers_are_trits, twice_layers}
@@ -44,6 +46,24 @@ add_to_halves-requires-in_default-clause-row c =
 
 pub add_to_halves-requires-in_default-clause-more : goal.add_to_halves-requires-in_default-clause-more
 add_to_halves-requires-in_default-clause-more c = layers_are_trits _ _ _ (exchanged _ _ _ c.requires.layers)
+
+pub add_to_halves-requires-clause-within : goal.add_to_halves-requires-clause-within
+add_to_halves-requires-clause-within c = word_within _ c.args.start _ c.requires.layers.ones_held c.requires.within
+
+pub add_to_halves-requires-clause-zero_ones : goal.add_to_halves-requires-clause-zero_ones
+add_to_halves-requires-clause-zero_ones c = zero_ones_before _ c.args.start _ _ c.requires.layers c.requires.zeros
+
+pub add_to_halves-requires-clause-zero_twos : goal.add_to_halves-requires-clause-zero_twos
+add_to_halves-requires-clause-zero_twos c = zero_twos_before _ c.args.start _ _ c.requires.layers c.requires.zeros
+
+pub add_to_halves-requires-in_default-clause-within : goal.add_to_halves-requires-in_default-clause-within
+add_to_halves-requires-in_default-clause-within c = word_within _ c.args.start _ c.requires.layers.twos_held c.requires.within
+
+pub add_to_halves-requires-in_default-clause-zero_ones : goal.add_to_halves-requires-in_default-clause-zero_ones
+add_to_halves-requires-in_default-clause-zero_ones c = zero_twos_before _ c.args.start _ _ c.requires.layers c.requires.zeros
+
+pub add_to_halves-requires-in_default-clause-zero_twos : goal.add_to_halves-requires-in_default-clause-zero_twos
+add_to_halves-requires-in_default-clause-zero_twos c = zero_ones_before _ c.args.start _ _ c.requires.layers c.requires.zeros
 
 pub invariant_of-self : goal.invariant_of-self
 invariant_of-self c =
