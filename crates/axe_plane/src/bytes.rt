@@ -3,7 +3,7 @@ ghost use Rattle.std.specs.Prelude.{map, replicate, slice_index, slice_set, All,
 ghost use Rattle.std.specs.Prelude.{◌<◌, ◌≤◌, ◌↔◌, IsTrue, IfOk, length, ◌^◌};
 ghost use Rattle.axe_algebra.specs.Lists.{listed};
 ghost use Rattle.axe_lane.specs.Bytes.{multiple_modulo, sum_of_products};
-ghost use Rattle.axe_lane.specs.Entries.{IsFirstNonzero, AreZerosFrom, IsNextNonzero};
+ghost use Rattle.axe_lane.specs.Entries.{IsFirstNonzero, AreZerosBefore, AreZerosFrom, IsNextNonzero};
 ghost use Rattle.axe_bits.specs.Digits.{AreDigits, digits_at, digits_with_four, digits_with_multiple, AreSmallSums};
 ghost use Rattle.axe_bits.specs.Digits.{numbers_with_multiple, number_from, number_bound};
 ghost use Rattle.axe_plane.specs.Planes.{negative_modulo};
@@ -186,16 +186,39 @@ impl BytePlane {
           digits = digits_with_multiple (byte_prime self.old.prime) self.old.digits factor other.now.digits;
         } }
     {
+        self.add_scaled_from(0, factor, other);
+    }
+
+    /// Adds a multiple of another plane modulo the same prime and of the same length, whose digits before an index are
+    /// 0, as [`BytePlane::add_scaled`] does. The digits before the index are not looked at.
+    pub fn add_scaled_from(&mut self, start: usize, factor: u8, other: &BytePlane)
+        requires within { start ≤ length self.old.digits }
+        requires prime { other.now.prime ≡ self.old.prime }
+        requires factor { factor < byte_prime self.old.prime }
+        requires fits { length other.now.digits ≡ length self.old.digits }
+        requires zeros { AreZerosBefore other.now.digits start }
+        ensures { self.new ≡ record {
+          prime = self.old.prime;
+          digits = digits_with_multiple (byte_prime self.old.prime) self.old.digits factor other.now.digits;
+        } }
+    {
         let prime = self.prime.number();
-        add_scaled_bytes(&mut self.bytes, &other.bytes, factor, prime);
+        add_scaled_bytes(
+            &mut self.bytes[start..],
+            &other.bytes[start..],
+            factor,
+            prime,
+        );
     }
 
     /// Adds the multiple of another plane modulo the same prime and of the same length by the negative of the digit at
-    /// an index, and gives that factor.
+    /// an index, and gives that factor. The other plane's digits before `start` are 0.
     #[inline(never)]
-    pub(crate) fn cancel(&mut self, index: usize, other: &BytePlane) -> u8
+    pub(crate) fn cancel(&mut self, index: usize, start: usize, other: &BytePlane) -> u8
+        requires within { start ≤ length self.old.digits }
         requires prime { other.now.prime ≡ self.old.prime }
         requires fits { length other.now.digits ≡ length self.old.digits }
+        requires zeros { AreZerosBefore other.now.digits start }
         ensures factor { result ≡ negative_modulo (byte_prime self.old.prime) (slice_index self.old.digits index) }
         ensures digit { result < byte_prime self.old.prime }
         ensures sum { self.new ≡ record {
@@ -206,7 +229,7 @@ impl BytePlane {
         let prime = self.prime.number();
         let factor = (prime - self.get(index)) % prime;
         if factor != 0 {
-            self.add_scaled(factor, other);
+            self.add_scaled_from(start, factor, other);
         }
         factor
     }

@@ -6,7 +6,7 @@ ghost use Rattle.std.specs.Prelude.{ℕ, ◌≡◌, ◌≢◌, ◌⊎◌, ◌+�
 ghost use Rattle.std.specs.Prelude.{slice_index, slice_set, All, MatchOption, ◌^◌, ◌*◌};
 ghost use Rattle.axe_algebra.specs.Lists.{listed};
 ghost use Rattle.axe_lane.specs.Bytes.{multiple_modulo, sum_of_products};
-ghost use Rattle.axe_lane.specs.Entries.{IsFirstNonzero, AreZerosFrom, IsNextNonzero};
+ghost use Rattle.axe_lane.specs.Entries.{IsFirstNonzero, AreZerosBefore, AreZerosFrom, IsNextNonzero};
 ghost use Rattle.axe_bits.specs.Digits.{AreDigits, digits_at, digits_with_four, digits_with_multiple, AreSmallSums};
 ghost use Rattle.axe_bits.specs.Digits.{numbers_with_multiple, numbers_from, number_bound};
 ghost use Rattle.axe_plane.specs.Planes.{negative_modulo};
@@ -204,11 +204,32 @@ impl Plane {
             (digits_with_multiple (prime_of_plane self.old) (digits_of self.old) factor (digits_of other.now))
             self.new }
     {
+        self.add_scaled_from(0, factor, other);
+    }
+
+    /// Adds a multiple of another plane, whose digits before an index are 0, as [`Plane::add_scaled`] does: the digits
+    /// before the index stay, and are not looked at.
+    #[inline]
+    pub fn add_scaled_from(&mut self, start: usize, factor: u8, other: &Plane)
+        requires within { factor ≢ 0 → start ≤ length (digits_of self.old) }
+        requires prime { prime_of_plane other.now ≡ prime_of_plane self.old }
+        requires factor { factor < prime_of_plane self.old }
+        requires fits { factor ≢ 0 → length (digits_of other.now) ≡ length (digits_of self.old) }
+        requires zeros { AreZerosBefore (digits_of other.now) start }
+        requires digits { AreDigits (prime_of_plane self.old) (digits_of self.old) }
+        ensures { IsPlane (prime_of_plane self.old)
+            (digits_with_multiple (prime_of_plane self.old) (digits_of self.old) factor (digits_of other.now))
+            self.new }
+    {
         if factor != 0 {
             match (self, other) {
-                (Plane::Bits(plane), Plane::Bits(other)) => plane.add(other),
-                (Plane::Trits(plane), Plane::Trits(other)) => plane.add_scaled(factor, other),
-                (Plane::Bytes(plane), Plane::Bytes(other)) => plane.add_scaled(factor, other),
+                (Plane::Bits(plane), Plane::Bits(other)) => plane.add_from(start, other),
+                (Plane::Trits(plane), Plane::Trits(other)) => {
+                    plane.add_scaled_from(start, factor, other)
+                }
+                (Plane::Bytes(plane), Plane::Bytes(other)) => {
+                    plane.add_scaled_from(start, factor, other)
+                }
                 _ => {}
             }
         }
@@ -228,10 +249,46 @@ impl Plane {
             (digits_with_multiple (prime_of_plane self.old) (digits_of self.old) result (digits_of other.now))
             self.new }
     {
+        self.cancel_where_zeros(index, 0, other)
+    }
+
+    /// Adds a multiple of another plane, whose digits before the index are 0, as [`Plane::cancel`] does: the digits
+    /// before the index stay, and are not looked at.
+    #[inline]
+    pub fn cancel_from(&mut self, index: usize, other: &Plane) -> u8
+        requires within { index ≤ length (digits_of self.old) }
+        requires prime { prime_of_plane other.now ≡ prime_of_plane self.old }
+        requires fits { length (digits_of other.now) ≡ length (digits_of self.old) }
+        requires zeros { AreZerosBefore (digits_of other.now) index }
+        requires digits { AreDigits (prime_of_plane self.old) (digits_of self.old) }
+        ensures factor { result ≡ negative_modulo (prime_of_plane self.old) (slice_index (digits_of self.old) index) }
+        ensures digit { result < prime_of_plane self.old }
+        ensures sum { IsPlane (prime_of_plane self.old)
+            (digits_with_multiple (prime_of_plane self.old) (digits_of self.old) result (digits_of other.now))
+            self.new }
+    {
+        self.cancel_where_zeros(index, index, other)
+    }
+
+    /// Adds the multiple of another plane by the negative of the digit at an index, and gives that factor. The other
+    /// plane's digits before `start` are 0.
+    #[inline]
+    fn cancel_where_zeros(&mut self, index: usize, start: usize, other: &Plane) -> u8
+        requires within { start ≤ length (digits_of self.old) }
+        requires prime { prime_of_plane other.now ≡ prime_of_plane self.old }
+        requires fits { length (digits_of other.now) ≡ length (digits_of self.old) }
+        requires zeros { AreZerosBefore (digits_of other.now) start }
+        requires digits { AreDigits (prime_of_plane self.old) (digits_of self.old) }
+        ensures factor { result ≡ negative_modulo (prime_of_plane self.old) (slice_index (digits_of self.old) index) }
+        ensures digit { result < prime_of_plane self.old }
+        ensures sum { IsPlane (prime_of_plane self.old)
+            (digits_with_multiple (prime_of_plane self.old) (digits_of self.old) result (digits_of other.now))
+            self.new }
+    {
         match (self, other) {
-            (Plane::Bits(plane), Plane::Bits(other)) => cancel_bits(plane, index, other),
-            (Plane::Trits(plane), Plane::Trits(other)) => cancel_trits(plane, index, other),
-            (Plane::Bytes(plane), Plane::Bytes(other)) => plane.cancel(index, other),
+            (Plane::Bits(plane), Plane::Bits(other)) => cancel_bits(plane, index, start, other),
+            (Plane::Trits(plane), Plane::Trits(other)) => cancel_trits(plane, index, start, other),
+            (Plane::Bytes(plane), Plane::Bytes(other)) => plane.cancel(index, start, other),
             _ => 0,
         }
     }
@@ -414,11 +471,13 @@ impl Plane {
     }
 }
 
-/// Adds another plane of the same length where the digit at an index is 1, and gives that digit, which is its own
-/// negative modulo 2.
+/// Adds another plane of the same length, whose digits before `start` are 0, where the digit at an index is 1, and
+/// gives that digit, which is its own negative modulo 2.
 #[inline]
-fn cancel_bits(plane: &mut BitPlane, index: usize, other: &BitPlane) -> u8
+fn cancel_bits(plane: &mut BitPlane, index: usize, start: usize, other: &BitPlane) -> u8
+    requires within { start ≤ length plane.old }
     requires fits { length other.now ≡ length plane.old }
+    requires zeros { AreZerosBefore other.now start }
     requires digits { AreDigits 2 plane.old }
     ensures factor { result ≡ negative_modulo 2 (slice_index plane.old index) }
     ensures digit { result < 2 }
@@ -426,16 +485,19 @@ fn cancel_bits(plane: &mut BitPlane, index: usize, other: &BitPlane) -> u8
 {
     let digit = plane.get(index);
     if digit != 0 {
-        plane.add(other);
+        plane.add_from(start, other);
     }
     digit
 }
 
-/// Adds the multiple of another plane of the same length by the negative modulo 3 of the digit at an index, and gives
-/// that factor. It stands apart so that `cancel` is short where it is asked most, modulo 2.
+/// Adds the multiple of another plane of the same length, whose digits before `start` are 0, by the negative modulo 3
+/// of the digit at an index, and gives that factor. It stands apart so that `cancel` is short where it is asked most,
+/// modulo 2.
 #[inline(never)]
-fn cancel_trits(plane: &mut TritPlane, index: usize, other: &TritPlane) -> u8
+fn cancel_trits(plane: &mut TritPlane, index: usize, start: usize, other: &TritPlane) -> u8
+    requires within { start ≤ length plane.old }
     requires fits { length other.now ≡ length plane.old }
+    requires zeros { AreZerosBefore other.now start }
     requires digits { AreDigits 3 plane.old }
     ensures factor { result ≡ negative_modulo 3 (slice_index plane.old index) }
     ensures digit { result < 3 }
@@ -444,7 +506,7 @@ fn cancel_trits(plane: &mut TritPlane, index: usize, other: &TritPlane) -> u8
     let trit = plane.get(index);
     let factor = (3 - trit) % 3;
     if trit != 0 {
-        plane.add_scaled(factor, other);
+        plane.add_scaled_from(start, factor, other);
     }
     factor
 }

@@ -1,7 +1,7 @@
 use Rattle.std.proofs.Common.{◌≡◌, refl, arith}
 use Rattle.axe_bits.proofs.DigitLaws.{digits_with_multiple-none}
 use Rattle.axe_plane.proofs.PlaneLaws.{prime_of_plane-positive}
-use Rattle.axe_plane.proofs.Plane.add_scaled.Goals as goal
+use Rattle.axe_plane.proofs.Plane.add_scaled_from.Goals as goal
 
 pub returns-else-factor-ne0 : goal.returns-else-factor-ne0
 returns-else-factor-ne0 c = record {

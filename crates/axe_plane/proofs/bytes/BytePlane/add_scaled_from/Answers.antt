@@ -1,26 +1,40 @@
-use Rattle.std.proofs.Common.{◌≡◌, ◌++◌, ◌+◌, ◌*◌, ◌%◌, List, ℕ, length, take, drop, ap, sym, ◌∙◌}
+use Rattle.std.proofs.Common.{◌≡◌, ◌++◌, ◌+◌, ◌-◌, ◌*◌, ◌%◌, ◌<◌, ◌≤◌, List, ℕ, length, get_or, take, drop, ap, sym, subst, ◌∙◌, arith}
+use Rattle.std.proofs.Math.Nat.{mod-eq_of_lt}
 use Rattle.std.specs.Simd.Lanes.{zip2}
-use Rattle.std.proofs.lemmas.Simd.{length-zip2}
-use Rattle.axe_bits.specs.Digits.{digits_with_multiple}
+use Rattle.axe_lane.specs.Entries.{AreZerosBefore}
+use Rattle.axe_bits.specs.Digits.{AreDigits, digits_with_multiple}
+use Rattle.axe_bits.proofs.DigitLaws.{digit-below, zip2-sum}
+use Rattle.axe_bits.proofs.EndLaws.{zip2-written}
 use Rattle.axe_plane.specs.Primes.{byte_prime, ByteDigits}
-use Rattle.axe_bits.proofs.BitLaws.{written}
-use Rattle.axe_bits.proofs.DigitLaws.{zip2-sum}
-use Rattle.axe_plane.proofs.bytes.BytePlane.add_scaled.Goals as goal
+use Rattle.axe_plane.proofs.PlaneLaws.{byte_prime-positive}
+use Rattle.axe_plane.proofs.bytes.BytePlane.add_scaled_from.Goals as goal
+
+-- a digit to which a multiple of 0 is added
+unchanged : (p m x y : ℕ) → x < p → y ≡ 0 → (x + m * y) % p ≡ x
+unchanged p m x y below none =
+    let nothing : x + m * y ≡ x = rw none (omega arith) in ap (λ s. s % p) nothing ∙ mod-eq_of_lt below
 
 -- the bytes after
-after : (k r p m : ℕ) (a b x y dst : List ℕ) → k ≡ length a → x ≡ a → y ≡ b → r ≡ p → length b ≡ length a →
-    dst ≡ zip2 (λ x y. (x + m * y) % r) x y → take k (dst ++ drop (length dst) a) ≡ digits_with_multiple p a m b
-after k r p m a b x y dst all ex ey er same e =
-    let sum : dst ≡ zip2 (λ x y. (x + m * y) % p) a b =
-    e ∙ ap (λ s. zip2 (λ x y. (x + m * y) % s) x y) er ∙ ap (λ (s : List ℕ). zip2 (λ x y. (x + m * y) % p) s y) ex
-    ∙ ap (zip2 (λ x y. (x + m * y) % p) a) ey in
-    written k dst a all (ap length sum ∙ length-zip2 (λ x y. (x + m * y) % p) a b (sym same)) ∙ sum ∙ zip2-sum p a m b same
+after : (k r p m start : ℕ) (a b v w dst : List ℕ) → k ≡ length a → v ≡ a → w ≡ b → r ≡ p → length b ≡ length a → start ≤ length a →
+    AreZerosBefore b start → 0 < p → AreDigits p a →
+    dst ≡ zip2 (λ x y. (x + m * y) % r) (take (length v - start) (drop start v)) (take (length w - start) (drop start w)) →
+    take k ((take start v ++ (dst ++ drop (length v - start) (drop start v)))
+    ++ drop (length (take start v ++ (dst ++ drop (length v - start) (drop start v)))) a) ≡ digits_with_multiple p a m b
+after k r p m start a b v w dst all ev ew er same within zeros positive digits e =
+    zip2-written (λ x y. (x + m * y) % p) start a b within same
+    (λ j before. unchanged p m (get_or a j 0) (get_or b j 0) (digit-below p a j positive digits) (zeros j before)) k v w dst all ev ew
+    (e ∙ ap (λ s. zip2 (λ x y. (x + m * y) % s) (take (length v - start) (drop start v)) (take (length w - start) (drop start w))) er)
+    ∙ zip2-sum p a m b same
 
 pub returns : goal.returns
 returns c =
+    let mine = ap (λ (s : ByteDigits). length s.digits) c.self.view_is in
     let same : length c.other.inside.bytes.items ≡ length c.self.inside.bytes.items =
-    ap (λ (s : ByteDigits). length s.digits) c.other.view_is ∙ c.requires.fits ∙ sym (ap (λ (s : ByteDigits). length s.digits) c.self.view_is) in
-    let digits = after _ _ _ _ _ _ _ _ _ c.self.inside.bytes.ok.0 c.deref_mut.ensures.value c.deref.ensures.value c.number-prime.ensures same c.add_scaled_bytes.ensures.sum in
+    ap (λ (s : ByteDigits). length s.digits) c.other.view_is ∙ c.requires.fits ∙ sym mine in
+    let within : c.args.start ≤ length c.self.inside.bytes.items = omega (arith, c.requires.within, mine) in
+    let zeros = subst (λ (s : ByteDigits). AreZerosBefore s.digits c.args.start) (sym c.other.view_is) c.requires.zeros in
+    let digits = after _ _ _ _ c.args.start _ _ _ _ _ c.self.inside.bytes.ok.0 c.deref_mut.ensures.value c.deref.ensures.value c.number-prime.ensures same
+    within zeros (byte_prime-positive c.self.inside.prime) c.self.invariant c.add_scaled_bytes.ensures.sum in
     ap (λ (x : List ℕ). record { prime = c.self.inside.prime; digits = x }) digits
     ∙ ap (λ (s : ByteDigits). record { prime = s.prime; digits = digits_with_multiple (byte_prime s.prime) s.digits c.args.factor c.other.inside.bytes.items }) c.self.view_is
     ∙ ap (λ (t : ByteDigits). record { prime = c.args.self.now.prime; digits = digits_with_multiple (byte_prime c.args.self.now.prime) c.args.self.now.digits c.args.factor t.digits }) c.other.view_is
