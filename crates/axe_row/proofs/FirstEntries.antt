@@ -14,7 +14,7 @@ use Rattle.axe_plane.specs.declared.Plane.{Plane}
 use Rattle.axe_lane.specs.Entries.{IsFirstNonzero}
 use Rattle.axe_row.specs.Operations.{IsZeroVector}
 use Rattle.axe_bits.specs.Earlier.{earlier_of}
-use Rattle.axe_row.specs.Planes.{ArePlanes}
+use Rattle.axe_row.specs.Planes.{ArePlanes, HaveZerosBefore}
 use Rattle.axe_row.specs.Rows.{RowValue}
 use Rattle.axe_row.proofs.RowPlanes.{entries_of, length-entries, entries-at, element_at, element_of-zeros}
 
@@ -110,6 +110,26 @@ digits_past o n c l q j h past =
       get_or_past (digits_of l) j 0 (omega (arith, h.constant.long, h.linear.long, no_longer (ltb 1 (degree_of o)) n)),
       get_or_past (digits_of q) j 0 (omega (arith, h.constant.long, h.quadratic.long, no_longer (ltb 2 (degree_of o)) n)),
     )
+
+-- a digit of a row whose entries before an index are 0
+zero_before : (o : Order) (c l q : Plane) (start j : ℕ) → ArePlanes o (length (digits_of c)) c l q → lane.AreZerosBefore (entries_of o c l q) start →
+    j < start → digit_sum c l q j ≡ 0
+zero_before o c l q start j h zeros before = elim (dec_lt j (length (digits_of c))) [
+  | yes inside ↦ digits_zero o (length (digits_of c)) c l q j h inside (zeros j before)
+  | no outside ↦ digits_past o (length (digits_of c)) c l q j h (omega arith)
+]
+
+-- the planes of such a row
+pub zeros_before_in_planes : (o : Order) (c l q : Plane) (start : ℕ) (self : RowValue) → ArePlanes o (length (digits_of c)) c l q →
+    record { order = o; entries = entries_of o c l q } ≡ self → lane.AreZerosBefore self.entries start → HaveZerosBefore start c l q
+zeros_before_in_planes o c l q start self h self_is zeros = record {
+  constant = λ j before. omega (arith, zero_before o c l q start j h here before);
+  linear = λ j before. omega (arith, zero_before o c l q start j h here before);
+  quadratic = λ j before. omega (arith, zero_before o c l q start j h here before);
+}
+  where
+    here : lane.AreZerosBefore (entries_of o c l q) start
+    here = subst (λ (row : RowValue). lane.AreZerosBefore row.entries start) (sym self_is) zeros
 
 digits_are_zero : (o : Order) (n : ℕ) (c l q : Plane) → ArePlanes o n c l q → IsZeroVector (entries_of o c l q) → (j : ℕ) → digit_sum c l q j ≡ 0
 digits_are_zero o n c l q h zeros j = elim (dec_lt j (length (digits_of c))) [

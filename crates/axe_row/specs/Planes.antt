@@ -1,8 +1,9 @@
 -- What a row keeps: the planes of the coefficients of 1, x and x^2 of its entries.
-use Rattle.std.specs.Prelude.{◌≢◌, ◌≡◌, ℕ, ◌<◌, List, [], length, map, slice_index, cond, ltb}
+use Rattle.std.specs.Prelude.{◌≢◌, ◌≡◌, ℕ, ◌<◌, ◌≤◌, List, [], length, map, slice_index, cond, ltb}
 use Rattle.axe_algebra.specs.Lists.{listed}
 use Rattle.axe_field.specs.Order.{Order, prime_of, degree_of}
 use Rattle.axe_field.specs.Planes.{coefficient, element_of}
+use Rattle.axe_lane.specs.Entries.{AreZerosBefore}
 use Rattle.axe_bits.specs.Digits.{AreDigits, digits_with_multiple}
 use Rattle.axe_plane.specs.Planes.{prime_of_plane, digits_of, IsPlaneOf}
 use Rattle.axe_plane.specs.declared.Plane.{Plane}
@@ -40,6 +41,16 @@ pub record AreAddable (plane : Plane) (factors : List ℕ) (c l q : Plane) : Typ
   pub constant : IsAddable plane (slice_index factors 0) c
   pub linear : IsAddable plane (slice_index factors 1) l
   pub quadratic : IsAddable plane (slice_index factors 2) q
+
+-- the plane reaches an index, except where the three factors of what is added to it are 0
+abbrev pub ReachWhereNonzero : Plane → ℕ → List ℕ → Type 0
+ReachWhereNonzero plane index factors = (i : ℕ) → i < 3 → slice_index factors i ≢ 0 → index ≤ length (digits_of plane)
+
+-- the digits of three planes before an index are 0
+pub record HaveZerosBefore (index : ℕ) (c l q : Plane) : Type 0 where
+  pub constant : AreZerosBefore (digits_of c) index
+  pub linear : AreZerosBefore (digits_of l) index
+  pub quadratic : AreZerosBefore (digits_of q) index
 
 -- the planes after are those before, moved to the next powers of x, and that of the highest power, 1 or 2, is that of
 -- the constants

@@ -1,12 +1,12 @@
 //! Row vectors over a small finite field, and why an operation on rows or matrices is refused.
 #![tactic(auto)]
 
-ghost use Rattle.std.specs.Prelude.{◌≡◌, ◌≢◌, ◌<◌, ◌↔◌, None, IsTrue, length, replicate, slice_index, slice_set, All};
+ghost use Rattle.std.specs.Prelude.{◌≡◌, ◌≢◌, ◌<◌, ◌≤◌, ◌↔◌, None, IsTrue, length, replicate, slice_index, slice_set, All};
 ghost use Rattle.std.specs.Prelude.{MatchOption};
 ghost use Rattle.axe_algebra.specs.Lists.{unit_row};
 ghost use Rattle.axe_field.specs.NumberFields.{number_field};
 ghost use Rattle.axe_field.specs.Order.{IsElement, prime_of, degree_of};
-ghost use Rattle.axe_lane.specs.Entries.{IsFirstNonzero};
+ghost use Rattle.axe_lane.specs.Entries.{AreZerosBefore, IsFirstNonzero};
 ghost use Rattle.axe_row.specs.Operations.{dot_product, row_with_multiple, multiple_row, IsZeroVector};
 ghost use Rattle.axe_plane.specs.Planes.{digits_of, IsPlaneOf};
 ghost use Rattle.axe_row.specs.Planes.{entries_of_digits, ArePlanes};
@@ -226,7 +226,7 @@ impl Row {
         if self.field.degree() == 1 {
             self.constant.add_scaled(scalar, &other.constant);
         } else {
-            self.add_by_planes(scalar, other);
+            self.add_by_planes(0, scalar, other);
         }
     }
 
@@ -355,26 +355,36 @@ impl Row {
         })
     }
 
-    /// Adds a multiple of another row, plane by plane.
-    fn add_by_planes(&mut self, scalar: u8, other: &Row)
+    /// Adds a multiple of another row, whose entries before an index are 0, plane by plane.
+    fn add_by_planes(&mut self, start: usize, scalar: u8, other: &Row)
+        requires within { start ≤ length self.old.entries }
         requires field { other.now.order ≡ self.old.order }
         requires fits { length other.now.entries ≡ length self.old.entries }
         requires element { IsElement self.old.order scalar }
+        requires zeros { AreZerosBefore other.now.entries start }
         ensures sum { self.new ≡ row_with_multiple self.old scalar other.now }
         ensures well_formed { IsRow self.new }
     {
         let Some(others) = &other.higher else {
-            self.constant.add_scaled(scalar, &other.constant);
+            self.constant
+                .add_scaled_from(start, scalar, &other.constant);
             return;
         };
         let (c, l, q) = (&other.constant, &others.linear, &others.quadratic);
         let m = self.field.plane_matrix(scalar);
-        add_multiples(&mut self.constant, [m[0][0], m[1][0], m[2][0]], c, l, q);
+        add_multiples(
+            &mut self.constant,
+            start,
+            [m[0][0], m[1][0], m[2][0]],
+            c,
+            l,
+            q,
+        );
         let Some(higher) = &mut self.higher else {
             return;
         };
         let Higher { linear, quadratic } = &mut **higher;
-        add_multiples(linear, [m[0][1], m[1][1], m[2][1]], c, l, q);
-        add_multiples(quadratic, [m[0][2], m[1][2], m[2][2]], c, l, q);
+        add_multiples(linear, start, [m[0][1], m[1][1], m[2][1]], c, l, q);
+        add_multiples(quadratic, start, [m[0][2], m[1][2], m[2][2]], c, l, q);
     }
 }

@@ -1,10 +1,12 @@
 //! The planes of a row: the coefficients of 1, of x and of x^2 of its entries.
-ghost use Rattle.std.specs.Prelude.{◌≡◌, ◌≢◌, ◌<◌, IfOk, cond, length, ltb, slice_index};
+ghost use Rattle.std.specs.Prelude.{◌≡◌, ◌≢◌, ◌<◌, ◌≤◌, IfOk, cond, length, ltb, slice_index};
 ghost use Rattle.axe_field.specs.Order.{prime_of, degree_of};
 ghost use Rattle.axe_field.specs.Planes.{IsCoefficient, element_of};
+ghost use Rattle.axe_lane.specs.Entries.{AreZerosBefore};
 ghost use Rattle.axe_bits.specs.Digits.{AreDigits, digits_with_multiple};
 ghost use Rattle.axe_plane.specs.Planes.{prime_of_plane, digits_of, IsPlane};
-ghost use Rattle.axe_row.specs.Planes.{AreAddable, IsAddable, coefficients_at, digits_with_multiples};
+ghost use Rattle.axe_row.specs.Planes.{AreAddable, HaveZerosBefore, IsAddable, ReachWhereNonzero};
+ghost use Rattle.axe_row.specs.Planes.{coefficients_at, digits_with_multiples};
 
 use axe_field::Field;
 use axe_plane::Plane;
@@ -62,34 +64,40 @@ pub(crate) fn element(field: &Field, constant: u8, linear: u8, quadratic: u8) ->
     constant + prime * high
 }
 
-/// Adds multiples of three planes to one.
+/// Adds multiples of three planes, whose digits before an index are 0, to one.
 #[inline]
 pub(crate) fn add_multiples(
     plane: &mut Plane,
+    start: usize,
     factors: [u8; 3],
     constant: &Plane,
     linear: &Plane,
     quadratic: &Plane,
 )
-    requires { AreAddable plane.old factors constant.now linear.now quadratic.now }
+    requires addable { AreAddable plane.old factors constant.now linear.now quadratic.now }
+    requires within { ReachWhereNonzero plane.old start factors }
+    requires zeros { HaveZerosBefore start constant.now linear.now quadratic.now }
     ensures { IsPlane (prime_of_plane plane.old)
         (digits_with_multiples (prime_of_plane plane.old) (digits_of plane.old) factors
         (digits_of constant.now) (digits_of linear.now) (digits_of quadratic.now)) plane.new }
 {
-    add_multiple(plane, factors[0], constant);
-    add_multiple(plane, factors[1], linear);
-    add_multiple(plane, factors[2], quadratic);
+    add_multiple(plane, start, factors[0], constant);
+    add_multiple(plane, start, factors[1], linear);
+    add_multiple(plane, start, factors[2], quadratic);
 }
 
-/// Adds a multiple of a plane to one. Factor 0, which stands wherever a power of x is beyond the degree, costs no call.
+/// Adds a multiple of a plane, whose digits before an index are 0, to one. Factor 0, which stands wherever a power of x
+/// is beyond the degree, costs no call.
 #[inline]
-fn add_multiple(plane: &mut Plane, factor: u8, other: &Plane)
+fn add_multiple(plane: &mut Plane, start: usize, factor: u8, other: &Plane)
     requires digits { AreDigits (prime_of_plane plane.old) (digits_of plane.old) }
     requires addable { IsAddable plane.old factor other.now }
+    requires within { factor ≢ 0 → start ≤ length (digits_of plane.old) }
+    requires zeros { AreZerosBefore (digits_of other.now) start }
     ensures { IsPlane (prime_of_plane plane.old)
         (digits_with_multiple (prime_of_plane plane.old) (digits_of plane.old) factor (digits_of other.now)) plane.new }
 {
     if factor != 0 {
-        plane.add_scaled(factor, other);
+        plane.add_scaled_from(start, factor, other);
     }
 }
