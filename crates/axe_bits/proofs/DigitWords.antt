@@ -1,14 +1,14 @@
 -- Words that are written one after another, from the digits modulo 2 that they are to hold.
-use Rattle.std.proofs.Common.{◌≡◌, ◌≢◌, ℕ, ◌+◌, ◌-◌, ◌⊎◌, ◌*◌, ◌/◌, ◌%◌, ◌^◌, ◌<◌, ◌≤◌, List, length, ◌++◌, take, drop, get_or, map, set, min, max, sym, ap, ap₂, subst, ◌∙◌, arith, inl, inr, get_or-set_same, get_or-set_other}
-use Rattle.std.specs.Int.{bit_at, w64}
-use Rattle.std.specs.Int.Bits.{bit_and, bit_or, or_zero_r}
+use Rattle.std.proofs.Common.{◌≡◌, ℕ, ◌+◌, ◌-◌, ◌⊎◌, ◌*◌, ◌/◌, ◌%◌, ◌^◌, ◌<◌, ◌≤◌, List, length, ◌++◌, take, drop, get_or, map, set, min, max, sym, ap, ap₂, subst, below_more, ◌∙◌, arith, inl, inr, get_or-set_same, get_or-set_other}
+use Rattle.std.specs.Int.{bit_at}
+use Rattle.std.specs.Int.Bits.{bit_and, bit_or}
 use Rattle.std.proofs.lemmas.Bool.{cases_eq}
 use Rattle.std.specs.List.{All}
 use Rattle.std.proofs.lemmas.List.{ext_get_or, get_or_past, get_or-map, length-map, length-set}
 use Rattle.std.proofs.lemmas.Nat.{pow_pos}
-use Rattle.std.proofs.lemmas.Nat.Bits.{bit_at-lt, bit_at-zero, bit_at_above, bit_at_and, bit_at_or, bit_at_cat_high, bit_at_cat_low, bit_at_ones, bit_at_ones_above, bit_at_set_same, bit_at_set_other}
-use Rattle.std.proofs.lemmas.Simd.{length-put_chunk, put_chunk_is, get_or-put_chunk_below, get_or-put_chunk_at}
-use Rattle.std.specs.Simd.Lanes.{put_chunk}
+use Rattle.std.proofs.lemmas.Nat.Bits.{shr_and_one, bit_at-lt, bit_at-zero, bit_at_above, bit_at_and, bit_at_or, bit_at_cat_high, bit_at_cat_low, bit_at_ones, bit_at_ones_above}
+use Rattle.std.proofs.lemmas.Simd.{get_or-chunk, length-put_chunk, put_chunk_is, get_or-put_chunk_below, get_or-put_chunk_at}
+use Rattle.std.specs.Simd.Lanes.{chunk, put_chunk}
 use native.Mathlib.Decide.{dec_lt}
 use Rattle.axe_algebra.specs.Lists.{listed}
 use Rattle.axe_algebra.proofs.ListEntries.{listed_length, listed_at}
@@ -74,31 +74,29 @@ bits-digits n digits until words same h all =
     let here : e < n = omega (arith, length-bits n words) in
     get_or-bits n words e here ∙ all_digits digits until e words h all)
 
--- ---- a digit more in a word
+-- ---- words that are shifted up
 
-none_more : (word digit k : ℕ) → digit ≡ 0 → bit_or word (digit * 2 ^ k % 2 ^ 64) ≡ word
-none_more word digit k none =
-    let nothing : digit * 2 ^ k % 2 ^ 64 ≡ 0 = rw none (omega arith) in
-    ap (bit_or word) nothing ∙ or_zero_r word
+shifted_up : (w k i : ℕ) → i < 64 → bit_at (w * 2 ^ k % 2 ^ 64) i ≡ bit_at (w * 2 ^ k) i
+shifted_up w k i low =
+    let n : ℕ = w * 2 ^ k in
+    let whole : n / 2 ^ 64 * 2 ^ 64 + n % 2 ^ 64 ≡ n = omega arith in
+    sym (bit_at_cat_low (n / 2 ^ 64) 64 (n % 2 ^ 64) i low) ∙ ap (λ x. bit_at x i) whole
 
-one_more : (word digit k : ℕ) → digit ≡ 1 → bit_or word (digit * 2 ^ k % 2 ^ 64) ≡ bit_or word (1 * 2 ^ k % 2 ^ 64)
-one_more word digit k one = ap (λ d. bit_or word (d * 2 ^ k % 2 ^ 64)) one
+pub shifted_up_low : (w k i : ℕ) → i < 64 → i < k → bit_at (w * 2 ^ k % 2 ^ 64) i ≡ 0
+shifted_up_low w k i low below =
+    let none : w * 2 ^ k ≡ w * 2 ^ k + 0 = omega arith in
+    shifted_up w k i low ∙ ap (λ x. bit_at x i) none ∙ bit_at_cat_low w k 0 i below ∙ bit_at-zero i
 
-pub digit_more_same : (word digit k : ℕ) → k < 64 → digit < 2 → bit_at word k ≡ 0 → bit_at (bit_or word (digit * 2 ^ k % 2 ^ 64)) k ≡ digit
-digit_more_same word digit k small below free = elim (cases_eq digit 0) [
-  | inl none ↦ ap (λ w. bit_at w k) (none_more word digit k none) ∙ free ∙ sym none
-  | inr some ↦
-      let one : digit ≡ 1 = omega (arith, some) in
-      ap (λ w. bit_at w k) (one_more word digit k one) ∙ bit_at_set_same w64 word k small ∙ sym one
-]
+pub shifted_up_high : (w k i : ℕ) → i < 64 → k ≤ i → bit_at (w * 2 ^ k % 2 ^ 64) i ≡ bit_at w (i - k)
+shifted_up_high w k i low above =
+    let none : w * 2 ^ k ≡ w * 2 ^ k + 0 = omega arith in
+    shifted_up w k i low ∙ ap (λ x. bit_at x i) none ∙ bit_at_cat_high w k 0 i (pow_pos k) above
 
-pub digit_more_other : (word digit k i : ℕ) → k < 64 → digit < 2 → i ≢ k → bit_at (bit_or word (digit * 2 ^ k % 2 ^ 64)) i ≡ bit_at word i
-digit_more_other word digit k i small below other = elim (cases_eq digit 0) [
-  | inl none ↦ ap (λ w. bit_at w i) (none_more word digit k none)
-  | inr some ↦
-      let one : digit ≡ 1 = omega (arith, some) in
-      ap (λ w. bit_at w i) (one_more word digit k one) ∙ bit_at_set_other w64 word k small i other
-]
+max-zero : (x : ℕ) → max x 0 ≡ x
+max-zero x = omega arith
+
+zero-max : (x : ℕ) → max 0 x ≡ x
+zero-max x = omega arith
 
 -- ---- digits at indices
 
@@ -107,30 +105,63 @@ pub record AreGathered (words indices : List ℕ) (from at word : ℕ) : Type 0 
   pub done : (i : ℕ) → i < 64 → from + i < at → bit_at word i ≡ bit_of words (get_or indices (from + i) 0)
   pub left : (i : ℕ) → i < 64 → at ≤ from + i → bit_at word i ≡ 0
 
-pub gathered_more : (words indices : List ℕ) (from at word digit next : ℕ) → from ≤ at → at < from + 64 → AreGathered words indices from at word →
-    digit ≡ bit_of words (get_or indices at 0) → next ≡ at + 1 → AreGathered words indices from next (bit_or word (digit * 2 ^ (at - from) % 2 ^ 64))
-gathered_more words indices from at word digit next begun within h is more = record {
-  done = λ i low before. elim (cases_eq i (at - from)) [
-    | inl same ↦
-        let here : at ≡ from + i = omega (arith, same) in
-        ap (bit_at after) same ∙ digit_more_same word digit (at - from) small below (h.left (at - from) small (omega arith)) ∙ is
-        ∙ ap (λ j. bit_of words (get_or indices j 0)) here
-    | inr other ↦
-        digit_more_other word digit (at - from) i small below other ∙ h.done i low (omega (arith, other, more))
+-- so many of the first indices, one at least, are numbers one after another
+pub record IsRunBelow (indices : List ℕ) (most count : ℕ) : Type 0 where
+  pub some : 1 ≤ count
+  pub within : count ≤ most
+  pub run : (i : ℕ) → i < count → get_or indices i 0 ≡ get_or indices 0 0 + i
+
+pub run_of_one : (indices : List ℕ) (most : ℕ) → 1 ≤ most → IsRunBelow indices most 1
+run_of_one indices most room = record {
+  some = omega arith;
+  within = room;
+  run = λ i below.
+      let first : i ≡ 0 = omega arith in
+      ap (λ j. get_or indices j 0) first ∙ rw first (omega arith);
+}
+
+pub run_more : (indices : List ℕ) (most count : ℕ) → IsRunBelow indices most count → count < most →
+    get_or indices count 0 ≡ get_or indices 0 0 + count → IsRunBelow indices most (count + 1)
+run_more indices most count h room next = record {
+  some = omega arith;
+  within = omega arith;
+  run = below_more _ _ h.run next;
+}
+
+-- the digits of a run more
+pub gathered_more : (words indices : List ℕ) (from at end word low count : ℕ) → from ≤ at → end ≤ from + 64 → 1 ≤ count → count ≤ end - at →
+    AreGathered words indices from at word →
+    ((i : ℕ) → i < count → get_or (chunk at (end - at) indices) i 0 ≡ get_or (chunk at (end - at) indices) 0 0 + i) →
+    ((i : ℕ) → i < 64 → i < count → bit_at low i ≡ bit_of words (get_or indices at 0 + i)) →
+    ((i : ℕ) → i < 64 → count ≤ i → bit_at low i ≡ 0) →
+    AreGathered words indices from (at + count) (bit_or word (low * 2 ^ (at - from) % 2 ^ 64))
+gathered_more words indices from at end word low count begun within some short h run taken cleared = record {
+  done = λ i small before. bit_at_or word up i ∙ elim (dec_lt i (at - from)) [
+    | yes earlier ↦
+        ap (max (bit_at word i)) (shifted_up_low low (at - from) i small earlier) ∙ max-zero (bit_at word i) ∙ h.done i small (omega arith)
+    | no later ↦
+        let k : ℕ = i - (at - from) in
+        let below : k < count = omega arith in
+        let here : at + k ≡ from + i = omega arith in
+        ap (λ x. max x (bit_at up i)) (h.left i small (omega arith)) ∙ zero-max (bit_at up i)
+        ∙ shifted_up_high low (at - from) i small (omega arith) ∙ taken k (omega arith) below
+        ∙ ap (bit_of words) (sym (index k below)) ∙ ap (λ j. bit_of words (get_or indices j 0)) here
   ];
-  left = λ i low past.
-      let other : i ≢ at - from = omega (arith, more) in
-      digit_more_other word digit (at - from) i small below other ∙ h.left i low (omega (arith, more));
+  left = λ i small past.
+      bit_at_or word up i ∙ ap (λ x. max x (bit_at up i)) (h.left i small (omega arith)) ∙ zero-max (bit_at up i)
+      ∙ shifted_up_high low (at - from) i small (omega arith) ∙ cleared (i - (at - from)) (omega arith) (omega arith);
 }
   where
-    after : ℕ
-    after = bit_or word (digit * 2 ^ (at - from) % 2 ^ 64)
+    up : ℕ
+    up = low * 2 ^ (at - from) % 2 ^ 64
 
-    small : at - from < 64
-    small = omega arith
+    there : (k : ℕ) → k < count → get_or (chunk at (end - at) indices) k 0 ≡ get_or indices (at + k) 0
+    there k below = get_or-chunk at (end - at) indices k 0 (omega arith)
 
-    below : digit < 2
-    below = subst (λ d. d < 2) (sym is) (bit_of-below words (get_or indices at 0))
+    index : (k : ℕ) → k < count → get_or indices (at + k) 0 ≡ get_or indices at 0 + k
+    index k below =
+        let first : at + 0 ≡ at = omega arith in
+        sym (there k below) ∙ run k below ∙ ap (λ n. n + k) (there 0 (omega arith) ∙ ap (λ j. get_or indices j 0) first)
 
 -- the word when all indices are done
 pub gathered_word : (words indices : List ℕ) (from at word i : ℕ) → AreGathered words indices from at word → i < 64 →
@@ -160,22 +191,6 @@ digits_gathered n words self indices is all =
     f index = get_or self index 0
 
 -- ---- digits from an index on
-
-shifted_up : (w k i : ℕ) → i < 64 → bit_at (w * 2 ^ k % 2 ^ 64) i ≡ bit_at (w * 2 ^ k) i
-shifted_up w k i low =
-    let n : ℕ = w * 2 ^ k in
-    let whole : n / 2 ^ 64 * 2 ^ 64 + n % 2 ^ 64 ≡ n = omega arith in
-    sym (bit_at_cat_low (n / 2 ^ 64) 64 (n % 2 ^ 64) i low) ∙ ap (λ x. bit_at x i) whole
-
-pub shifted_up_low : (w k i : ℕ) → i < 64 → i < k → bit_at (w * 2 ^ k % 2 ^ 64) i ≡ 0
-shifted_up_low w k i low below =
-    let none : w * 2 ^ k ≡ w * 2 ^ k + 0 = omega arith in
-    shifted_up w k i low ∙ ap (λ x. bit_at x i) none ∙ bit_at_cat_low w k 0 i below ∙ bit_at-zero i
-
-pub shifted_up_high : (w k i : ℕ) → i < 64 → k ≤ i → bit_at (w * 2 ^ k % 2 ^ 64) i ≡ bit_at w (i - k)
-shifted_up_high w k i low above =
-    let none : w * 2 ^ k ≡ w * 2 ^ k + 0 = omega arith in
-    shifted_up w k i low ∙ ap (λ x. bit_at x i) none ∙ bit_at_cat_high w k 0 i (pow_pos k) above
 
 -- the word from an index on within the first word that it meets
 pub first_of_two : (words : List ℕ) (from i : ℕ) → get_or words (from / 64) 0 < 2 ^ 64 → i < 64 → (from % 64 ≡ 0) ⊎ (length words ≤ from / 64 + 1) →
@@ -215,12 +230,6 @@ both_of_two words from i fits low odd = bit_at_or first second i ∙ elim (dec_l
     second : ℕ
     second = get_or words (from / 64 + 1) 0 * 2 ^ (64 - from % 64) % 2 ^ 64
 
-    max-zero : (x : ℕ) → max x 0 ≡ x
-    max-zero x = omega arith
-
-    zero-max : (x : ℕ) → max 0 x ≡ x
-    zero-max x = omega arith
-
 -- the lowest digits of a word
 pub lowest_kept : (word count i : ℕ) → i < count → bit_at (bit_and word (2 ^ count - 1)) i ≡ bit_at word i
 lowest_kept word count i below =
@@ -236,6 +245,26 @@ lowest_cleared word count i past =
   where
     least : (x : ℕ) → min x 0 ≡ 0
     least x = omega arith
+
+-- a digit alone
+pub digit_alone : (words : List ℕ) (e i count : ℕ) → count ≡ 1 → i < count →
+    bit_at (bit_and (get_or words (e / 64) 0 / 2 ^ (e % 64)) 1) i ≡ bit_of words (e + i)
+digit_alone words e i count one below =
+    let first : i ≡ 0 = omega (arith, one) in
+    let whole : e + 0 ≡ e = omega arith in
+    let bit = bit_of-below words e in
+    ap₂ bit_at (shr_and_one (get_or words (e / 64) 0) (e % 64) ∙ sym (bit_of-word words e)) first ∙ lowest_bit (bit_of words e) bit
+    ∙ sym (ap (λ j. bit_of words (e + j)) first ∙ ap (bit_of words) whole)
+  where
+    lowest_bit : (x : ℕ) → x < 2 → bit_at x 0 ≡ x
+    lowest_bit x small = omega arith
+
+pub none_above_one : (x i count : ℕ) → count ≡ 1 → count ≤ i → bit_at (bit_and x 1) i ≡ 0
+none_above_one x i count one above =
+    let whole : x ≡ x / 2 ^ 0 = omega arith in
+    let bit : bit_and x 1 ≡ bit_at x 0 = ap (λ w. bit_and w 1) whole ∙ shr_and_one x 0 in
+    let small = bit_at-lt x 0 in
+    bit_at_above (bit_and x 1) 1 i (omega (arith, bit, small)) (omega (arith, one, above))
 
 -- the word of some of the digits from an index on
 pub part_word : (words : List ℕ) (start len before i word whole : ℕ) → i < 64 →

@@ -1,6 +1,6 @@
 //! Digits modulo 2 of a list of words, as words of their own.
 ghost use Rattle.std.specs.Int.{bit_at};
-ghost use Rattle.std.specs.Prelude.{ℕ, ◌≡◌, ◌+◌, ◌*◌, ◌/◌, ◌^◌, ◌<◌, ◌≤◌, length, map, slice_index, All};
+ghost use Rattle.std.specs.Prelude.{ℕ, ◌≡◌, ◌≢◌, ◌+◌, ◌*◌, ◌/◌, ◌^◌, ◌<◌, ◌≤◌, length, map, slice_index, All};
 ghost use Rattle.axe_bits.specs.Bits.{bit_of};
 
 use axe_lane::add_bits;
@@ -15,13 +15,51 @@ pub(crate) fn gathered(words: &[u64], indices: &[usize], from: usize) -> u64
     requires within { All (λ index. index / 64 < length words.now) indices.now }
     ensures { (i : ℕ) → i < 64 → bit_at result i ≡ slice_index (map (bit_of words.now) indices.now) (from + i) }
 {
+    let end = indices.len().min(from + WORD);
     let mut word = 0;
-    for at in from..indices.len().min(from + WORD) {
-        let index = indices[at];
-        let digit = words[index / WORD] >> (index % WORD) & 1;
-        word |= digit << (at - from);
+    let mut at = from;
+    while at < end {
+        let count = run_length(&indices[at..end]);
+        word |= digits_from(words, indices[at], count) << (at - from);
+        at += count;
     }
     word
+}
+
+/// How many of some indices, from the first on, are the numbers from that one on, one after another.
+#[inline]
+fn run_length(indices: &[usize]) -> usize
+    requires { 1 ≤ length indices.now }
+    ensures some { 1 ≤ result }
+    ensures within { result ≤ length indices.now }
+    ensures run { (i : ℕ) → i < result → slice_index indices.now i ≡ slice_index indices.now 0 + i }
+    ensures whole { result < length indices.now → slice_index indices.now result ≢ slice_index indices.now 0 + result }
+{
+    let first = indices[0];
+    if indices.len() == 1 || indices[1] != first.wrapping_add(1) {
+        return 1;
+    }
+    // So that no number of the run is greater than an index can be.
+    let most = 1 + (indices.len() - 1).min(usize::MAX - first);
+    let mut count = 1;
+    while count < most && indices[count] == first + count {
+        count += 1;
+    }
+    count
+}
+
+/// The word of so many digits from an index on, as far as a word holds them; the others are 0.
+#[inline]
+fn digits_from(words: &[u64], from: usize, count: usize) -> u64
+    requires { from / 64 < length words.now }
+    ensures taken { (i : ℕ) → i < 64 → i < count → bit_at result i ≡ bit_of words.now (from + i) }
+    ensures cleared { (i : ℕ) → i < 64 → count ≤ i → bit_at result i ≡ 0 }
+{
+    if count == 1 {
+        words[from / WORD] >> (from % WORD) & 1
+    } else {
+        lowest(word_from(words, from), count)
+    }
 }
 
 /// The word of the digits from an index on; a digit that lies beyond the words is 0.
