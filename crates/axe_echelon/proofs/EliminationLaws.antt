@@ -1,11 +1,10 @@
 -- What an elimination shows: whether a row is in the span, its coordinates, and the step that a new row gives.
-use Rattle.std.specs.Prelude.{◌≡◌, ◌≢◌, ℕ, ◌<◌, ◌≤◌, List, length, get_or, Bool, true, false, not, IsTrue, ◌↔◌}
-use Rattle.std.specs.Prelude.{Option, Some, None, is_some, MatchOption}
-use Rattle.std.proofs.Common.{true≢false}
+use Rattle.std.specs.Prelude.{◌≡◌, ◌≢◌, ℕ, ◌<◌, ◌≤◌, List, length, get_or}
 use Rattle.std.proofs.lemmas.List.Elements.{All-from_get_or}
 use Rattle.axe_algebra.specs.NumberField.{NumberField}
 use Rattle.axe_algebra.specs.Field.{Field}
 use Rattle.axe_algebra.specs.Vectors.{Vector, Matrix, zero_vector, add_vectors, subtract, scale, times}
+use Rattle.axe_algebra.specs.Spans.{SpanWithin}
 use Rattle.axe_algebra.specs.Bridge.{field_of, element, vector_of, matrix_of}
 use Rattle.axe_algebra.specs.Lists.{listed, IsVectorOver}
 use Rattle.axe_algebra.specs.ListArithmetic.{combination}
@@ -26,7 +25,7 @@ use Rattle.axe_row.specs.Rows.{RowValue, IsRow}
 use Rattle.axe_lane.specs.Entries.{IsFirstNonzero}
 use Rattle.axe_row.specs.Operations.{multiple, IsZeroVector}
 use Rattle.axe_row.proofs.OperationLaws.{get_or-multiple, length-multiple}
-use Rattle.axe_echelon.specs.Echelons.{EchelonValue, IsEchelon, with_row_where, AreCoordinates}
+use Rattle.axe_echelon.specs.Echelons.{EchelonValue, IsEchelon, AreCoordinates}
 use Rattle.axe_echelon.specs.Steps.{inserted_rows, echelon_rows, multiplier_rows, scalars, pivots, echelon_of, AreSteps, IsCleared, IsSolved, Cancels, IsScaledStep, IsNextStep}
 use Rattle.axe_echelon.specs.declared.Step.{Step}
 use Rattle.axe_echelon.proofs.FormLaws.{rows_within}
@@ -85,9 +84,6 @@ module _ (e : EchelonValue) (h : IsEchelon e) (first coefficients : RowValue) (c
       negatives_combine F (length e.rows) (matrix_of K e.rows) (vector_of K first.entries) (zero_vector F) (vector_of K coefficients.entries)
       (sym cancels.vanishes) refl
 
-  pub spanned_if_cancelled : IsSpanned K e.rows first.entries
-  spanned_if_cancelled = record { coefficients = subtract F (zero_vector F) (vector_of K coefficients.entries); combines = first_combines }
-
   -- the negatives of the coefficients are the coordinates
   pub coordinates_of_cancels : (start : RowValue) →
       start ≡ record { order = coefficients.order; entries = listed (length e.rows) (λ j. field_neg coefficients.order (get_or coefficients.entries j 0)) } →
@@ -140,6 +136,20 @@ module _ (o : Order) (n : ℕ) (steps : List Step) (are : AreSteps o n steps) (f
     vanishes = ap (add_vectors G (vector_of N first.entries)) (sym solved.same) ∙ sym cleared.offset ∙ vector_of_zero_row N row.entries zeros;
   }
 
+  -- the rows of the echelon form are in the span
+  form_within : SpanWithin G (length rows) (matrix_of N (echelon_rows steps)) (length rows) (matrix_of N rows)
+  form_within = rows_within G n (length rows) (matrix_of N rows) (matrix_of N (echelon_rows steps)) (matrix_of N (multiplier_rows steps))
+      (vector_of N (scalars steps)) (λ t. get_or (pivots steps) t 0) are.form
+
+  -- where nothing is left of the row, it is in the span
+  pub spanned_if_nothing_left : IsZeroVector row.entries → IsSpanned N rows first.entries
+  spanned_if_nothing_left zeros =
+      let negatives : Vector G = subtract G (zero_vector G) (vector_of N multipliers.entries) in
+      span_same G (length rows) (matrix_of N rows) (vector_of N first.entries) (times G (length rows) negatives (matrix_of N (echelon_rows steps)))
+      (negatives_combine G (length rows) (matrix_of N (echelon_rows steps)) (vector_of N first.entries) (vector_of N row.entries)
+      (vector_of N multipliers.entries) cleared.offset (vector_of_zero_row N row.entries zeros))
+      (span_times G (length rows) (matrix_of N rows) (length rows) negatives (matrix_of N (echelon_rows steps)) form_within)
+
   -- where the row is in the span nothing is left of it
   pub nothing_left_if_spanned : IsSpanned N rows first.entries → IsZeroVector row.entries
   nothing_left_if_spanned spanned = zero_row_of_vector N n row.entries cleared.row_over
@@ -147,8 +157,7 @@ module _ (o : Order) (n : ℕ) (steps : List Step) (are : AreSteps o n steps) (f
       (span_same G (length rows) (matrix_of N rows) (vector_of N row.entries) _ cleared.offset
       (span_add G (length rows) (matrix_of N rows) (vector_of N first.entries) _ spanned
       (span_times G (length rows) (matrix_of N rows) (length rows) (vector_of N multipliers.entries) (matrix_of N (echelon_rows steps))
-      (rows_within G n (length rows) (matrix_of N rows) (matrix_of N (echelon_rows steps)) (matrix_of N (multiplier_rows steps))
-      (vector_of N (scalars steps)) (λ t. get_or (pivots steps) t 0) are.form))))
+      form_within)))
       cleared.at_pivots)
 
   -- the step that a new row gives
@@ -234,29 +243,14 @@ module _ (o : Order) (n : ℕ) (steps : List Step) (are : AreSteps o n steps) (e
       nothing_left_if_spanned o n steps are first row multipliers cleared
       (subst (λ (x : EchelonValue). IsSpanned (number_field x.order) x.rows first.entries) (sym view) spanned)
 
+  pub row_is_spanned : IsZeroVector row.entries → IsSpanned (number_field e.order) e.rows first.entries
+  row_is_spanned zeros =
+      subst (λ (x : EchelonValue). IsSpanned (number_field x.order) x.rows first.entries) view
+      (spanned_if_nothing_left o n steps are first row multipliers cleared zeros)
+
   pub row_is_outside : (column : ℕ) → IsFirstNonzero row.entries column → ¬ (IsSpanned (number_field e.order) e.rows first.entries)
   row_is_outside column leads spanned = leads.nonzero (row_spanned_leaves_none spanned column 0 leads.within)
 
   pub step_of_new_row : (step : Step) (column : ℕ) → IsFirstNonzero row.entries column → IsScaledStep first row column multipliers step →
       IsNextStep (echelon_of o n steps) (echelon_rows steps) first.entries step
   step_of_new_row step column leads scaled = next_step_of o n steps are first row multipliers cleared step column over_first leads scaled
-
--- a row is new exactly where nothing cancels it
-pub new_if_none : (e : EchelonValue) (h : IsEchelon e) (row : RowValue) (found : Option RowValue) (new : Bool) →
-    MatchOption found (¬ (IsSpanned (number_field e.order) e.rows row.entries)) (Cancels e row) → is_some found ≡ not new →
-    IsTrue new ↔ ¬ (IsSpanned (number_field e.order) e.rows row.entries)
-new_if_none e h row None true outside is = (λ _. outside, λ _. refl)
-new_if_none e h row None false outside is = absurd (true≢false (sym is))
-new_if_none e h row (Some coefficients) true cancels is = absurd (true≢false is)
-new_if_none e h row (Some coefficients) false cancels is = (
-  λ no. absurd (true≢false (sym no)),
-  λ outside. absurd (outside (spanned_if_cancelled e h row coefficients cancels)),
-)
-
--- what an insertion leaves, by whether the row is new
-pub inserted_if_none : (before after : EchelonValue) (row : List ℕ) (found : Option RowValue) (new : Bool) →
-    MatchOption found (after ≡ with_row_where true before row) (λ _. after ≡ before) → is_some found ≡ not new → after ≡ with_row_where new before row
-inserted_if_none before after row None true inserted is = inserted
-inserted_if_none before after row None false inserted is = absurd (true≢false (sym is))
-inserted_if_none before after row (Some coefficients) true same is = absurd (true≢false is)
-inserted_if_none before after row (Some coefficients) false same is = same

@@ -3,7 +3,7 @@
 #![tactic(auto)]
 
 ghost use Rattle.std.specs.Prelude.{◌≡◌, ◌<◌, ◌≤◌, ◌↔◌, ◌++◌, ◌∷◌, [], length, replicate, slice_index, IsTrue, None};
-ghost use Rattle.std.specs.Prelude.{IfOk, OnErr, MatchOption, true};
+ghost use Rattle.std.specs.Prelude.{IfOk, OnErr, MatchOption};
 ghost use Rattle.axe_algebra.specs.Lists.{listed};
 ghost use Rattle.axe_algebra.specs.SpansOfLists.{IsPivot, IsRepresentative, IsSpanned};
 ghost use Rattle.axe_field.specs.Arithmetic.{field_neg};
@@ -14,7 +14,7 @@ ghost use Rattle.axe_row.specs.Rows.{IsRow};
 ghost use Rattle.axe_matrix.specs.Limits.{most_columns};
 ghost use Rattle.axe_matrix.specs.Matrices.{IsMatrix};
 ghost use Rattle.axe_echelon.specs.Echelons.{IsEchelon, with_row_where, AreCoordinates, IsReducedMatrix};
-ghost use Rattle.axe_echelon.specs.Steps.{AreSteps, AreTabledSteps, Cancels, IsCleared, IsSolved, IsScaledStep};
+ghost use Rattle.axe_echelon.specs.Steps.{AreSteps, AreTabledSteps, IsCleared, IsSolved, IsScaledStep};
 ghost use Rattle.axe_echelon.specs.Steps.{IsPivotRow};
 
 mod inverses;
@@ -125,28 +125,11 @@ impl Echelon {
         if self.rank() == self.cols() {
             return Ok(false);
         }
-        Ok(self.insert_or_cancel(row)?.is_none())
-    }
-
-    /// Inserts a row where it is new, and answers `None`. Else the answer is the coefficients of a combination of the
-    /// inserted rows that gives zero when the row is added, and nothing is changed.
-    fn insert_or_cancel(&mut self, row: Row) -> Result<Option<Row>, Refusal>
-        requires field { row.order ≡ self.old.order }
-        requires fits { length row.entries ≡ self.old.cols }
-        ensures cancels { Answers None (λ coefficients. MatchOption coefficients
-            (¬ (IsSpanned (number_field self.old.order) self.old.rows row.entries))
-            (Cancels self.old row)) result }
-        ensures inserted { Answers None (λ coefficients. MatchOption coefficients
-            (self.new ≡ with_row_where true self.old row.entries) (λ _. self.new ≡ self.old)) result }
-        ensures unchanged { OnErr result (self.new ≡ self.old) }
-        ensures well_formed { IsEchelon self.new }
-    {
         let mut rest = row.copy(self.alloc)?;
         let mut multipliers = Row::zero(self.alloc, *self.field(), self.cols())?;
         eliminate(&self.steps, &self.pivots, &mut rest, &mut multipliers);
         let Some(pivot) = rest.first_nonzero() else {
-            solve(&self.steps, &mut multipliers);
-            return Ok(Some(multipliers));
+            return Ok(false);
         };
         let step = next_step(row, rest, pivot, multipliers);
         let index = self.steps.len();
@@ -154,7 +137,7 @@ impl Echelon {
         self.pivots.make_room(self.cols)?;
         self.steps.push(step)?;
         self.pivots.mark(pivot, index);
-        Ok(None)
+        Ok(true)
     }
 
     /// Makes a row over the field the one vector of its coset modulo the span that is 0 at each pivot.
