@@ -1,6 +1,6 @@
 //! Echelon forms: rows that are inserted, reduced and taken apart, null spaces, and inverses.
 use crate::tables::{Topic, each_call};
-use axe_echelon::{Echelon, Subspace, inverse, null_space, span_of};
+use axe_echelon::{Echelon, Subspace, inverse, null_space, row_space, span_of};
 use axe_matrix::{Matrix, Row};
 use axe_test_values::{
     TableFault, field_of, four_fields, is_matrix, is_row, matrix_of, number_of, row_of_shape,
@@ -34,11 +34,15 @@ reduce | 2: 101/011 | 2: 111 | 2: 001
 reduced | 2: 111/011 | 2: 100/011
 ";
 
-/// - `subspace`: a matrix whose rows are inserted into a subspace, and the reduced basis of it.
+/// - `subspace`: a matrix whose rows are inserted into a subspace, and the reduced basis of it;
+/// - `row_space`: a matrix, and the reduced basis of its row space.
 const SUBSPACES: &str = "\
 subspace | 2: 111/011 | 2: 100/011
 subspace | 2: 101/011/110 | 2: 101/011
 subspace | 2: 10/01 | 2: 10/01
+row_space | 2: 101/011/110 | 2: 101/011
+row_space | 3: 000/012/021 | 3: 012
+row_space | 2: 0x3 | 2: 0x3
 ";
 
 /// A matrix, and its null space or its inverse.
@@ -137,6 +141,7 @@ fn gives_matrix(alloc: Global, call: &str, line: &str) -> Result<bool, TableFaul
     let (matrix, wanted) = two_fields(line)?;
     let matrix = matrix_of(alloc, matrix)?;
     let answer = match call {
+        "row_space" => row_space(alloc, &matrix)?.reduced(alloc),
         "null_space" => null_space(alloc, &matrix),
         _ => inverse(alloc, &matrix),
     };
@@ -153,7 +158,7 @@ pub(crate) fn answers(alloc: Global, call: &str, line: &str) -> Result<bool, Tab
         "reduce" => reduces(alloc, line),
         "reduced" => finds_reduced_basis(alloc, line),
         "subspace" => finds_subspace(alloc, line),
-        "null_space" | "inverse" => gives_matrix(alloc, call, line),
+        "row_space" | "null_space" | "inverse" => gives_matrix(alloc, call, line),
         _ => Err(TableFault::NotWritten),
     }
 }

@@ -18,5 +18,6 @@ pub mod WholeSpace
 pub mod OrthogonalLaws
 pub mod PivotsOfRows
 pub mod OrthogonalRows
+pub mod RowSpaces
 pub mod OrthogonalSpaces
 pub mod Transposes

@@ -20,8 +20,8 @@ use Rattle.axe_row.specs.Refusals.{Answers}
 use Rattle.axe_row.specs.declared.refusals.Refusal.{Refusal}
 use Rattle.axe_matrix.specs.Matrices.{MatrixValue, IsMatrix, transposed_matrix, transpose_refusal}
 use Rattle.axe_matrix.proofs.MatrixLaws.{same_matrix}
-use Rattle.axe_echelon.specs.Echelons.{EchelonValue, null_space_refusal, IsNullSpaceMatrix}
-use Rattle.axe_echelon.specs.Orthogonal.{IsSpaceOfRows, IsOrthogonalToSpace}
+use Rattle.axe_echelon.specs.Echelons.{EchelonValue, IsRowSpace, null_space_refusal, IsNullSpaceMatrix}
+use Rattle.axe_echelon.specs.Orthogonal.{IsOrthogonalToSpace}
 use Rattle.axe_echelon.proofs.Exits.{answers_more}
 use Rattle.axe_echelon.proofs.InverseLaws.{matrix_over}
 use mathlib.Core.Path.{refl, sym, ◌∙◌, ap, subst, fun_ext}
@@ -83,14 +83,14 @@ module _ (K : NumberField) where
   }
 
 -- the space that is orthogonal to the span of rows
-pub orthogonal_to_rows : (m basis : MatrixValue) (e : EchelonValue) → IsSpaceOfRows m e → IsOrthogonalToSpace e basis →
+pub orthogonal_to_rows : (m basis : MatrixValue) (e : EchelonValue) → IsRowSpace m e → IsOrthogonalToSpace e basis →
     IsAnnihilatorBasis (number_field m.order) m.cols m.rows basis.rows
 orthogonal_to_rows m basis e space orthogonal =
     annihilator_of_same_span (number_field m.order) m.cols m.rows e.rows basis.rows space.same
     (subst (λ o. IsAnnihilatorBasis (number_field o) m.cols e.rows basis.rows) space.field
     (subst (λ n. IsAnnihilatorBasis (number_field e.order) n e.rows basis.rows) space.columns orthogonal.basis))
 
-pub null_space_of_transpose : (m basis : MatrixValue) (e : EchelonValue) → IsMatrix m → IsSpaceOfRows m e → IsOrthogonalToSpace e basis →
+pub null_space_of_transpose : (m basis : MatrixValue) (e : EchelonValue) → IsMatrix m → IsRowSpace m e → IsOrthogonalToSpace e basis →
     IsNullSpaceMatrix (transposed_matrix m) basis
 null_space_of_transpose m basis e h space orthogonal = record {
   field = orthogonal.field ∙ space.field;

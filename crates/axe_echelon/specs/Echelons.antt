@@ -38,6 +38,13 @@ pub record IsSpanOfRows (m : MatrixValue) (e : EchelonValue) : Type 0 where
   pub as_many : length e.rows ≡ length m.rows → e.rows ≡ m.rows
   pub well_formed : IsEchelon e
 
+-- the rows of e are a basis of the row space of the matrix: of the span of its rows
+pub record IsRowSpace (m : MatrixValue) (e : EchelonValue) : Type 0 where
+  pub field : e.order ≡ m.order
+  pub columns : e.cols ≡ m.cols
+  pub same : HaveSameSpan (number_field m.order) m.rows e.rows
+  pub well_formed : IsEchelon e
+
 -- these are the coefficients with which the rows combine to v, one for each row in their order
 pub record AreCoordinates (e : EchelonValue) (v : List ℕ) (coordinates : RowValue) : Type 0 where
   pub field : coordinates.order ≡ e.order

@@ -2,12 +2,12 @@
 use Rattle.std.specs.Prelude.{◌≡◌, ◌≢◌, ℕ, ◌<◌, [], length, get_or, Option, Some, None, ⊤}
 use Rattle.axe_algebra.specs.Bridge.{vector_of}
 use Rattle.axe_algebra.specs.Lists.{entry, IsVectorOver}
-use Rattle.axe_algebra.specs.SpansOfLists.{HaveSameSpan, IsPivot, IsInAnnihilator, IsAnnihilatorBasis}
+use Rattle.axe_algebra.specs.SpansOfLists.{IsPivot, IsInAnnihilator, IsAnnihilatorBasis}
 use Rattle.axe_field.specs.NumberFields.{number_field, gf}
 use Rattle.axe_lane.specs.Entries.{IsFirstNonzero}
 use Rattle.axe_row.specs.Rows.{RowValue}
 use Rattle.axe_matrix.specs.Matrices.{MatrixValue}
-use Rattle.axe_echelon.specs.Echelons.{EchelonValue, IsEchelon, IsReducedMatrix}
+use Rattle.axe_echelon.specs.Echelons.{EchelonValue, IsReducedMatrix}
 
 -- the row of the echelon form at an index has its pivot at this column: its first entry other than 0, which is 1; the
 -- rows after it are 0 there
@@ -16,13 +16,6 @@ pub record IsPivotOfRow (e : EchelonValue) (index column : ℕ) : Type 0 where
   pub one : entry e.rows index column ≡ 1
   pub cleared : (t : ℕ) → index < t → t < length e.rows → entry e.rows t column ≡ 0
   pub is_pivot : IsPivot (number_field e.order) e.rows column
-
--- the space is the span of the matrix's rows
-pub record IsSpaceOfRows (m : MatrixValue) (e : EchelonValue) : Type 0 where
-  pub field : e.order ≡ m.order
-  pub columns : e.cols ≡ m.cols
-  pub same : HaveSameSpan (number_field m.order) m.rows e.rows
-  pub well_formed : IsEchelon e
 
 -- the matrix has as its rows the reduced basis of all vectors that are orthogonal to the space
 pub record IsOrthogonalToSpace (e : EchelonValue) (m : MatrixValue) : Type 0 where

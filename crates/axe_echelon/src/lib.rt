@@ -28,7 +28,7 @@ use axe_matrix::{Matrix, Refusal, Row};
 pub use inverses::inverse;
 pub use null_spaces::{null_space, orthogonal_space};
 use pivot_table::PivotTable;
-pub use spans::span_of;
+pub use spans::{row_space, span_of};
 use std::alloc::Global;
 use std::marker::Model;
 pub use subspace::Subspace;

@@ -6,10 +6,10 @@ ghost use Rattle.axe_field.specs.NumberFields.{number_field};
 ghost use Rattle.axe_row.specs.Refusals.{Answers};
 ghost use Rattle.axe_matrix.specs.Matrices.{IsMatrix, transposed_matrix};
 ghost use Rattle.axe_echelon.specs.Echelons.{null_space_refusal, IsNullSpaceMatrix, IsReducedMatrix};
-ghost use Rattle.axe_echelon.specs.Orthogonal.{IsSpaceOfRows, IsOrthogonalToSpace, IsOrthogonalVector};
+ghost use Rattle.axe_echelon.specs.Orthogonal.{IsOrthogonalToSpace, IsOrthogonalVector};
 ghost use Rattle.axe_echelon.specs.Orthogonal.{IsReducedBasisOrNone};
 
-use super::Subspace;
+use super::{Subspace, row_space};
 use axe_matrix::{Matrix, Refusal, Row};
 use std::alloc::Global;
 
@@ -38,21 +38,8 @@ pub fn orthogonal_space(alloc: Global, rows: &Matrix) -> Result<Matrix, Refusal>
         IsAnnihilatorBasis (number_field rows.now.order) rows.now.cols rows.now.rows basis.rows) }
     ensures well_formed { IfOk result IsMatrix }
 {
-    let space = space_of(alloc, rows)?;
+    let space = row_space(alloc, rows)?;
     orthogonal_to(alloc, &space)
-}
-
-/// The span of the rows of a matrix.
-fn space_of(alloc: Global, rows: &Matrix) -> Result<Subspace, Refusal>
-    ensures span { Answers None (IsSpaceOfRows rows.now) result }
-    ensures well_formed { IsMatrix rows.now }
-{
-    let mut space = Subspace::zero(alloc, *rows.field(), rows.cols());
-    for index in 0..rows.rows() {
-        let row = rows.row(index).copy(alloc)?;
-        space.insert(row)?;
-    }
-    Ok(space)
 }
 
 /// The reduced basis of the space of all vectors that are orthogonal to a space. Such a vector is the combination of

@@ -3,9 +3,9 @@
 ghost use Rattle.std.specs.Prelude.{None};
 ghost use Rattle.axe_row.specs.Refusals.{Answers};
 ghost use Rattle.axe_matrix.specs.Matrices.{IsMatrix};
-ghost use Rattle.axe_echelon.specs.Echelons.{IsSpanOfRows};
+ghost use Rattle.axe_echelon.specs.Echelons.{IsSpanOfRows, IsRowSpace};
 
-use super::Echelon;
+use super::{Echelon, Subspace};
 use axe_matrix::{Matrix, Refusal};
 use std::alloc::Global;
 
@@ -20,4 +20,17 @@ pub fn span_of(alloc: Global, rows: &Matrix) -> Result<Echelon, Refusal>
         span.insert(row)?;
     }
     Ok(span)
+}
+
+/// The row space of a matrix: the span of its rows. Unlike [`span_of`], it doesn't keep the rows themselves.
+pub fn row_space(alloc: Global, matrix: &Matrix) -> Result<Subspace, Refusal>
+    ensures span { Answers None (IsRowSpace matrix.now) result }
+    ensures well_formed { IsMatrix matrix.now }
+{
+    let mut space = Subspace::zero(alloc, *matrix.field(), matrix.cols());
+    for index in 0..matrix.rows() {
+        let row = matrix.row(index).copy(alloc)?;
+        space.insert(row)?;
+    }
+    Ok(space)
 }

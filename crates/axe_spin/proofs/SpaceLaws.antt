@@ -1,6 +1,6 @@
--- Row spaces, spaces of vectors of a module that are enlarged by images, and the spaces that rows generate.
-use Rattle.std.specs.Prelude.{◌≡◌, ℕ, suc, ◌+◌, ◌<◌, ◌≤◌, List, [], ◌∷◌, ◌++◌, length, take, get_or, Bool, true, false, if◌then◌else◌}
-use Rattle.std.proofs.lemmas.List.{get_or_append_left, get_or_push, length_push, take_all, take_more}
+-- Spaces of vectors of a module, enlarged by images, and the spaces that rows generate.
+use Rattle.std.specs.Prelude.{◌≡◌, ℕ, suc, ◌+◌, ◌<◌, ◌≤◌, List, [], ◌∷◌, ◌++◌, length, get_or, Bool, true, false, if◌then◌else◌}
+use Rattle.std.proofs.lemmas.List.{get_or_append_left, get_or_push, length_push}
 use Rattle.axe_algebra.specs.NumberField.{NumberField}
 use Rattle.axe_algebra.specs.Field.{Field}
 use Rattle.axe_algebra.specs.Vectors.{Vector}
@@ -14,74 +14,23 @@ use Rattle.axe_algebra.proofs.Generated.{generated_is_invariant, generated_is_le
 use Rattle.axe_algebra.proofs.ListEntries.{row_over, rows_length}
 use Rattle.axe_algebra.proofs.ListGenerated.{seed_row_generated, image_generated, spanned_generated, generates}
 use Rattle.axe_algebra.proofs.ListModules.{module_shape, invariant_by_images}
-use Rattle.axe_algebra.proofs.ListSpans.{row_spanned, appended_row_spanned, appended_same_span}
-use Rattle.axe_algebra.proofs.ListVectors.{spanned_within, same_span_refl, same_span_sym, same_span_trans}
+use Rattle.axe_algebra.proofs.ListSpans.{row_spanned, appended_row_spanned}
+use Rattle.axe_algebra.proofs.ListVectors.{spanned_within, same_span_sym}
 use Rattle.axe_algebra.proofs.Spanning.{span_within}
-use Rattle.axe_field.specs.Order.{Order}
 use Rattle.axe_field.specs.NumberFields.{number_field}
 use Rattle.axe_matrix.specs.Matrices.{MatrixValue}
-use Rattle.axe_echelon.specs.Echelons.{EchelonValue, IsEchelon}
+use Rattle.axe_echelon.specs.Echelons.{EchelonValue, IsEchelon, IsRowSpace}
 use Rattle.axe_echelon.specs.Subspaces.{SpansOneMore}
 use Rattle.axe_echelon.proofs.EliminationLaws.{full_echelon_spans, room_of_rank}
 use Rattle.axe_echelon.proofs.FormLaws.{below_or_at}
-use Rattle.axe_echelon.proofs.InverseLaws.{spanned_of_not_new}
+use Rattle.axe_echelon.proofs.RowSpaces.{grown_span}
 use Rattle.axe_spin.specs.Modules.{ModuleValue, IsModule}
-use Rattle.axe_spin.specs.Spaces.{IsRowSpace, IsSubspaceOf, IsEnlarged, AreImagesSpanned}
+use Rattle.axe_spin.specs.Spaces.{IsSubspaceOf, IsEnlarged, AreImagesSpanned}
 use Rattle.axe_spin.specs.Spinning.{IsGeneratedSpace}
 use Rattle.axe_spin.specs.Spun.{image_of_row}
-use Rattle.axe_spin.proofs.SpunLaws.{image_over, same_span_with_row}
+use Rattle.axe_spin.proofs.SpunLaws.{image_over}
 use mathlib.Core.Path.{refl, sym, ◌∙◌, ap, subst}
 use native.Mathlib.Omega.{arith}
-
--- a subspace into which a vector was inserted is the span of its rows and the vector
-pub span_with_vector : (old next : EchelonValue) (v : List ℕ) (new : Bool) → IsEchelon old → length v ≡ old.cols → SpansOneMore new old v next →
-    (¬ (IsSpanned (number_field old.order) old.rows v) → new ≡ true) → HaveSameSpan (number_field old.order) (old.rows ++ v ∷ []) next.rows
-span_with_vector old next v true h long one_more exactly = one_more.same
-span_with_vector old next v false h long one_more exactly =
-    let K : NumberField = number_field old.order in
-    same_span_trans K (old.rows ++ v ∷ []) old.rows next.rows
-    (same_span_sym K old.rows (old.rows ++ v ∷ []) (appended_same_span K old.rows v (spanned_of_not_new old v false h long exactly refl)))
-    one_more.same
-
--- ---- row spaces
-
--- the matrix of the first rows of a matrix
-abbrev pub first_rows : MatrixValue → ℕ → MatrixValue
-first_rows m i = record m { rows = take i m.rows }
-
-pub row_space_none : (m : MatrixValue) (space : EchelonValue) (field : Order) (cols : ℕ) → space ≡ record { order = field; cols = cols; rows = [] } →
-    field ≡ m.order → cols ≡ m.cols → IsEchelon space → IsRowSpace (first_rows m 0) space
-row_space_none m space field cols space_is field_is cols_is h = record {
-  field = ap (λ (e : EchelonValue). e.order) space_is ∙ field_is;
-  columns = ap (λ (e : EchelonValue). e.cols) space_is ∙ cols_is;
-  same = subst (HaveSameSpan (number_field m.order) []) (sym (ap (λ (e : EchelonValue). e.rows) space_is)) (same_span_refl (number_field m.order) []);
-  well_formed = h;
-}
-
-pub row_space_more : (m : MatrixValue) (i : ℕ) (space next : EchelonValue) (row : List ℕ) (new : Bool) → IsRowSpace (first_rows m i) space →
-    i < length m.rows → row ≡ get_or m.rows i [] → length row ≡ m.cols → SpansOneMore new space row next →
-    (¬ (IsSpanned (number_field space.order) space.rows row) → new ≡ true) → IsEchelon next → IsRowSpace (first_rows m (i + 1)) next
-row_space_more m i space next row new so_far below row_is long one_more exactly h = record {
-  field = one_more.field ∙ so_far.field;
-  columns = one_more.columns ∙ so_far.columns;
-  same = subst (λ (rows : List (List ℕ)). HaveSameSpan K rows next.rows)
-      (sym (take_more m.rows i [] below ∙ ap (λ (x : List ℕ). take i m.rows ++ x ∷ []) (sym row_is)))
-      (same_span_trans K (take i m.rows ++ row ∷ []) (space.rows ++ row ∷ []) next.rows (same_span_with_row K (take i m.rows) space.rows row so_far.same)
-      (subst (λ o. HaveSameSpan (number_field o) (space.rows ++ row ∷ []) next.rows) so_far.field
-      (span_with_vector space next row new so_far.well_formed (long ∙ sym so_far.columns) one_more exactly)));
-  well_formed = h;
-}
-  where
-    K : NumberField
-    K = number_field m.order
-
-pub row_space_all : (m : MatrixValue) (i : ℕ) (space : EchelonValue) → IsRowSpace (first_rows m i) space → length m.rows ≤ i → IsRowSpace m space
-row_space_all m i space so_far all = record {
-  field = so_far.field;
-  columns = so_far.columns;
-  same = subst (λ (rows : List (List ℕ)). HaveSameSpan (number_field m.order) rows space.rows) (take_all i m.rows all) so_far.same;
-  well_formed = so_far.well_formed;
-}
 
 -- the row space of vectors of a module
 pub subspace_of_rows : (m : ModuleValue) (rows : MatrixValue) (space : EchelonValue) → rows.order ≡ m.order → rows.cols ≡ m.dim → IsRowSpace rows space →
@@ -173,8 +122,7 @@ module _ (m : ModuleValue) (is : IsModule m) where
       (inside : number < length m.generators) (image_is : image ≡ image_of_row m space.rows source number) (one_more : SpansOneMore new space image next)
       (exactly : ¬ (IsSpanned (number_field space.order) space.rows image) → new ≡ true) (well_formed : IsEchelon next) where
     same : HaveSameSpan K (space.rows ++ image ∷ []) next.rows
-    same = subst (λ o. HaveSameSpan (number_field o) (space.rows ++ image ∷ []) next.rows) h.field
-        (span_with_vector space next image new h.well_formed long one_more exactly)
+    same = grown_span m.order space next image new h.field one_more h.well_formed long exactly
       where
         long : length image ≡ space.cols
         long = ap length image_is ∙ (image_over m space.rows source number is (over space h) below inside).length_is ∙ sym h.columns

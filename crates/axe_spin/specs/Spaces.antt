@@ -1,19 +1,11 @@
 -- Subspaces of a module, enlarged by images of their vectors until they are invariant.
 use Rattle.std.specs.Prelude.{◌≡◌, ℕ, ◌<◌, ◌≤◌, List, [], length, get_or}
-use Rattle.axe_algebra.specs.SpansOfLists.{IsSpanned, HaveSameSpan}
+use Rattle.axe_algebra.specs.SpansOfLists.{IsSpanned}
 use Rattle.axe_algebra.specs.ModulesOfLists.{IsGenerated}
 use Rattle.axe_field.specs.NumberFields.{number_field}
-use Rattle.axe_matrix.specs.Matrices.{MatrixValue}
 use Rattle.axe_echelon.specs.Echelons.{EchelonValue, IsEchelon}
 use Rattle.axe_spin.specs.Modules.{ModuleValue}
 use Rattle.axe_spin.specs.Spun.{image_of_row}
-
--- the subspace is the row space of the matrix
-pub record IsRowSpace (m : MatrixValue) (space : EchelonValue) : Type 0 where
-  pub field : space.order ≡ m.order
-  pub columns : space.cols ≡ m.cols
-  pub same : HaveSameSpan (number_field m.order) m.rows space.rows
-  pub well_formed : IsEchelon space
 
 -- it is a space of vectors of the module
 pub record IsSubspaceOf (m : ModuleValue) (space : EchelonValue) : Type 0 where

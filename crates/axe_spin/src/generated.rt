@@ -4,11 +4,11 @@ ghost use Rattle.std.specs.Prelude.{◌≡◌, ◌<◌, length, None, IfOk};
 ghost use Rattle.axe_row.specs.Refusals.{Answers, unless_refused};
 ghost use Rattle.axe_matrix.specs.Matrices.{IsMatrix};
 ghost use Rattle.axe_spin.specs.Modules.{IsModule};
-ghost use Rattle.axe_spin.specs.Spaces.{IsRowSpace, IsSubspaceOf, IsEnlarged, AreImagesSpanned};
+ghost use Rattle.axe_spin.specs.Spaces.{IsSubspaceOf, IsEnlarged, AreImagesSpanned};
 ghost use Rattle.axe_spin.specs.Spinning.{has_only_zeros, seed_refusal, IsGeneratedSpace, IsGeneratedMatrix};
 
 use crate::module::Module;
-use axe_echelon::Subspace;
+use axe_echelon::{Subspace, row_space};
 use axe_matrix::{Matrix, Refusal};
 use std::alloc::Global;
 
@@ -55,18 +55,6 @@ pub fn has_only_zeros(matrix: &Matrix) -> bool
         }
     }
     true
-}
-
-/// The row space of a seed.
-fn row_space(alloc: Global, seed: &Matrix) -> Result<Subspace, Refusal>
-    ensures { Answers None (IsRowSpace seed.now) result }
-{
-    let mut space = Subspace::zero(alloc, *seed.field(), seed.cols());
-    for index in 0..seed.rows() {
-        let row = seed.row(index).copy(alloc)?;
-        space.insert(row)?;
-    }
-    Ok(space)
 }
 
 /// Enlarges a space of vectors of a module to the least invariant space with it. It takes the rows of the echelon form

@@ -4,7 +4,7 @@ use Rattle.axe_echelon.proofs.null_spaces.orthogonal_space.Goals as goal
 
 pub returns-clause-basis : goal.returns-clause-basis
 returns-clause-basis c = answers_more c.orthogonal_to.result _ _ c.orthogonal_to.ensures.basis
-    (λ basis orthogonal. null_space_of_transpose c.args.rows.now basis c.in_ok-space.space c.space_of.ensures.well_formed c.in_ok-space.ensures.span orthogonal)
+    (λ basis orthogonal. null_space_of_transpose c.args.rows.now basis c.in_ok-space.space c.row_space.ensures.well_formed c.in_ok-space.ensures.span orthogonal)
 
 pub returns-clause-orthogonal : goal.returns-clause-orthogonal
 returns-clause-orthogonal c = value_if_answered c.orthogonal_to.result _ (answers_more c.orthogonal_to.result _ _ c.orthogonal_to.ensures.basis

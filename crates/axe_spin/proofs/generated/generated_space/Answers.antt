@@ -10,7 +10,7 @@ pub make_invariant-requires : goal.make_invariant-requires
 make_invariant-requires c =
     let none = not_refused (seed_refusal c.args.module.now c.args.seed.now) tt c.in_ok-check_seed.field-0 c.in_ok-check_seed.ensures.refusal in
     let taken = seed_if_not_refused c.args.module.now c.args.seed.now none in
-    subspace_of_rows c.args.module.now c.args.seed.now c.in_ok-space.space taken.field taken.columns c.in_ok-space.ensures
+    subspace_of_rows c.args.module.now c.args.seed.now c.in_ok-space.space taken.field taken.columns c.in_ok-space.ensures.span
 
 pub returns-in_err-check_seed : goal.returns-in_err-check_seed
 returns-in_err-check_seed c =
@@ -20,7 +20,7 @@ pub returns-in_err-space : goal.returns-in_err-space
 returns-in_err-space c =
     let none = not_refused (seed_refusal c.args.module.now c.args.seed.now) tt c.in_ok-check_seed.field-0 c.in_ok-check_seed.ensures.refusal in
     answers_early (seed_refusal c.args.module.now c.args.seed.now) _ c.from_residual-in_err-space.result none
-    (no_memory _ c.from_residual-in_err-space.result _ c.from_residual-in_err-space.ensures.1 c.in_err-space.ensures)
+    (no_memory _ c.from_residual-in_err-space.result _ c.from_residual-in_err-space.ensures.1 c.in_err-space.ensures.span)
 
 pub returns-in_err-make_invariant : goal.returns-in_err-make_invariant
 returns-in_err-make_invariant c =
@@ -36,4 +36,4 @@ returns c =
     let taken = seed_if_not_refused m seed none in
     let over : IsMatrixOver (number_field m.order) m.dim seed.rows = vectors_over m seed taken.field taken.columns c.check_seed.ensures.seed_well_formed in
     rw none (generated_by_rows m c.make_invariant.ensures.module_well_formed seed c.in_ok-space.space c.make_invariant.new.space taken.field over
-    c.in_ok-space.ensures (subspace_of_rows m seed c.in_ok-space.space taken.field taken.columns c.in_ok-space.ensures) c.in_ok-make_invariant.ensures.generated)
+    c.in_ok-space.ensures.span (subspace_of_rows m seed c.in_ok-space.space taken.field taken.columns c.in_ok-space.ensures.span) c.in_ok-make_invariant.ensures.generated)

@@ -1,0 +1,19 @@
+use Rattle.std.proofs.Common.{◌≡◌, ◌<◌, ◌≤◌, length, get_or, [], ap, sym, ◌∙◌, arith}
+use Rattle.axe_row.specs.Rows.{RowValue}
+use Rattle.axe_echelon.proofs.RowSpaces.{row_space_more, row_space_whole}
+use Rattle.axe_echelon.proofs.spans.row_space.Goals as goal
+
+pub loop-index-preserved : goal.loop-index-preserved
+loop-index-preserved c =
+    let row : c.in_ok-row.row.entries ≡ get_or c.args.matrix.now.rows c.loop-index.index [] =
+    ap (λ (r : RowValue). r.entries) (c.in_ok-row.ensures.copied ∙ c.row.ensures.value) in
+    let below : c.loop-index.index < length c.args.matrix.now.rows = omega (arith, c.loop-index-test.true, c.rows-index-end.ensures.count) in
+    let long : length c.in_ok-row.row.entries ≡ c.loop-index.space.cols =
+    ap (λ (r : RowValue). length r.entries) c.in_ok-row.ensures.copied ∙ c.row.ensures.as_long ∙ sym c.loop-index.invariant.columns in
+    row_space_more c.args.matrix.now c.loop-index.index c.loop-index.space c.insert.new.self c.in_ok-row.row c.in_ok-insert.field-0 c.loop-index.invariant below
+    row long c.in_ok-insert.ensures.inserted c.in_ok-insert.ensures.exactly.1 c.insert.ensures.well_formed
+
+pub returns-clause-span : goal.returns-clause-span
+returns-clause-span c =
+    let whole : length c.args.matrix.now.rows ≤ c.loop-index.index = omega (arith, c.loop-index-test.false, c.rows-index-end.ensures.count) in
+    row_space_whole c.args.matrix.now c.loop-index.index c.loop-index.space c.loop-index.invariant whole
