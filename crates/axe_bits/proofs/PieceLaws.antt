@@ -1,9 +1,9 @@
 -- Lists in pieces of one width: piece x of width w is what stands from x w on.
-use Rattle.std.proofs.Common.{◌≡◌, ◌≢◌, ℕ, ◌+◌, ◌-◌, ◌*◌, ◌<◌, ◌≤◌, List, [], ◌++◌, length, get_or, set, take, drop, replicate, sym, ap, subst, ◌∙◌, arith, inl, inr, get_or-set_other, get_or-set_same}
+use Rattle.std.proofs.Common.{◌≡◌, ◌≢◌, ℕ, ◌+◌, ◌-◌, ◌*◌, ◌<◌, ◌≤◌, List, [], ◌++◌, length, get_or, set, take, drop, replicate, sym, ap, ap₂, subst, ◌∙◌, arith, inl, inr, get_or-set_other, get_or-set_same}
 use Rattle.std.specs.List.{copy_within, All}
 use Rattle.std.specs.Simd.Lanes.{chunk, put_chunk}
 use Rattle.std.proofs.lemmas.Bool.{cases_eq, cases_lt}
-use Rattle.std.proofs.lemmas.List.{ext_get_or, get_or-replicate, length-replicate, length-set}
+use Rattle.std.proofs.lemmas.List.{ext_get_or, get_or-replicate, get_or-take, length-replicate, length-set, length-take-le}
 use Rattle.std.proofs.lemmas.List.Elements.{All-append, All-take, All-drop}
 use Rattle.std.proofs.lemmas.Nat.{mul-le}
 use Rattle.std.proofs.lemmas.Simd.{length-chunk, length-put_chunk, put_chunk_is, get_or-chunk, get_or-put_chunk_below, get_or-put_chunk_at, get_or-put_chunk_above}
@@ -28,6 +28,29 @@ written_piece k a w v items new same all room long =
     ∙ ap (λ (l : List ℕ). take a l ++ (new ++ drop (length new) (drop a l))) same
     ∙ sym (put_chunk_is a items new (omega (arith, long))) in
     written k _ items all (ap length is ∙ length-put_chunk a items new) ∙ is
+
+-- a piece of a vector that was written anew in what follows a cut
+pub written_after : (k a w : ℕ) (v items front back new : List ℕ) → v ≡ items → k ≡ length items → front ≡ take a v → back ≡ drop a v →
+    a + w ≤ length items → length new ≡ w →
+    take k ((front ++ (new ++ drop w back)) ++ drop (length (front ++ (new ++ drop w back))) items) ≡ put_chunk a items new
+written_after k a w v items front back new same all front_is back_is room long =
+    let wide : w ≡ a + w - a = omega arith in
+    let whole : List ℕ → List ℕ = λ after. take k (after ++ drop (length after) items) in
+    ap whole (ap₂ (λ (f b : List ℕ). f ++ (new ++ drop w b)) front_is back_is ∙ ap (λ m. take a v ++ (new ++ drop m (drop a v))) wide)
+    ∙ written_piece k a w v items new same all room long
+
+-- a piece that ends before a cut
+pub piece_before : (a i w : ℕ) (v items front : List ℕ) → v ≡ items → front ≡ take a v → i + w ≤ a → a ≤ length items →
+    take (i + w - i) (drop i front) ≡ chunk i w items
+piece_before a i w v items front same front_is before room =
+    let wide : i + w - i ≡ w = omega arith in
+    let cut : List ℕ = take a items in
+    let all : length cut ≡ a = length-take-le a items room in
+    let long = length-chunk i w cut (omega (arith, all, before)) in
+    ap (λ n. take n (drop i front)) wide ∙ ap (chunk i w) (front_is ∙ ap (take a) same)
+    ∙ ext_get_or 0 (chunk i w cut) (chunk i w items) (long ∙ sym (length-chunk i w items (omega (arith, before, room)))) (λ j inside.
+    let small : j < w = omega (arith, long) in
+    get_or-chunk i w cut j 0 small ∙ get_or-take a items (i + j) 0 (omega (arith, before)) ∙ sym (get_or-chunk i w items j 0 small))
 
 -- a copy of a piece
 pub copied_piece : (xs : List ℕ) (i w dest : ℕ) → i + w ≤ length xs → dest + w ≤ length xs →

@@ -58,6 +58,13 @@ entry_words n w count x start words v self h is inside at same =
         ap (λ k. take k (drop start v)) wide ∙ ap (λ s. take w (drop s v)) at
         ∙ ap (λ (l : List ℕ). take w (drop (x * w) l)) same
 
+-- the words of a plane of an entry's length, of which there are as many as an entry has
+pub plane_held : (n w count x : ℕ) (words plane_words plane : List ℕ) (self : List (List ℕ)) → HoldsEntries n w count words →
+    bit_entries n w count words ≡ self → x < length self → length plane ≡ length (get_or self x []) → HoldsBits (length plane) plane_words →
+    HoldsBits n plane_words
+plane_held n w count x words plane_words plane self h is inside fits ok =
+    subst (λ m. HoldsBits m plane_words) (fits ∙ bit_entry-long n w count x words self is inside) ok
+
 -- the words after those of another plane took the place of an entry
 pub entries_held : (n w count to : ℕ) (words new : List ℕ) → to < count → HoldsEntries n w count words → HoldsBits n new →
     HoldsEntries n w count (put_chunk (to * w) words new)

@@ -7,7 +7,7 @@ ghost use Rattle.axe_bits.specs.Trits.{trits, trit_entries, HoldLayers, HoldTrit
 use crate::BitPlane;
 use crate::parts::WORD;
 use crate::pieces::start_of;
-use axe_lane::{add_trits, xor_into};
+use axe_lane::{add_trits, put_xor, xor_into};
 use std::alloc::{AllocError, Global};
 use std::marker::Model;
 
@@ -80,6 +80,24 @@ impl BitTable {
     {
         let start = start_of(to, self.width, self.count);
         xor_into(&mut self.words[start..start + self.width], plane.words());
+    }
+
+    /// Makes an entry the sum of an earlier one and a plane of its length, in one pass.
+    pub fn put_sum(&mut self, to: usize, from: usize, plane: &BitPlane)
+        requires to { to < length self.old }
+        requires earlier { from < to }
+        requires fits { length plane.now ≡ length (slice_index_or self.old from []) }
+        ensures { self.new
+            ≡ slice_set self.old to (digits_with_multiple 2 (slice_index_or self.old from []) 1 plane.now) }
+    {
+        let (width, source) = (self.width, start_of(from, self.width, self.count));
+        let start = start_of(to, width, self.count);
+        let (before, after) = self.words.split_at_mut(start);
+        put_xor(
+            &mut after[..width],
+            &before[source..source + width],
+            plane.words(),
+        );
     }
 }
 

@@ -24,7 +24,7 @@ module _ (f : ℕ → ℕ → ℕ) where
   take-zip2 (suc n) (x ∷ xs) [] = refl
   take-zip2 (suc n) (x ∷ xs) (y ∷ ys) = ap (λ rest. f x y ∷ rest) (take-zip2 n xs ys)
 
-  chunk-zip2 : (n k : ℕ) (xs ys : List ℕ) → length ys ≡ length xs → chunk n k (zip2 f xs ys) ≡ zip2 f (chunk n k xs) (chunk n k ys)
+  pub chunk-zip2 : (n k : ℕ) (xs ys : List ℕ) → length ys ≡ length xs → chunk n k (zip2 f xs ys) ≡ zip2 f (chunk n k xs) (chunk n k ys)
   chunk-zip2 n k xs ys e = ap (take k) (drop-zip2 n xs ys e) ∙ take-zip2 k (drop n xs) (drop n ys)
 
   associative : ((x y z : ℕ) → f x (f y z) ≡ f (f x y) z) → (xs ys zs : List ℕ) → zip2 f xs (zip2 f ys zs) ≡ zip2 f (zip2 f xs ys) zs

@@ -2,6 +2,7 @@
 use Rattle.std.proofs.Common.{◌≡◌, ℕ, zero, suc, ◌+◌, ◌<◌, ◌≤◌, List, [], ◌∷◌, length, get_or, set, take, refl, sym, ap, ◌∙◌, arith, add-one}
 use Rattle.std.specs.Simd.Lanes.{chunk, put_chunk, zip2}
 use Rattle.std.specs.List.{All}
+use Rattle.std.proofs.lemmas.Simd.{length-chunk}
 use Rattle.std.proofs.lemmas.List.Elements.{All-nil, All-cons, All-tail}
 
 module _ (f : ℕ → ℕ → ℕ) where
@@ -94,3 +95,31 @@ module _ (f : ℕ → ℕ → ℕ) where
   All-zip2 P value [] ys = All-nil P
   All-zip2 P value (x ∷ xs) [] = All-nil P
   All-zip2 P value (x ∷ xs) (y ∷ ys) = All-cons P (f x y) (zip2 f xs ys) (value x y) (All-zip2 P value xs ys)
+
+-- ---- a list that another takes the place of
+
+abbrev pub second : ℕ → ℕ → ℕ
+second x y = y
+
+zip2-second : (xs ys : List ℕ) → length ys ≡ length xs → zip2 second xs ys ≡ ys
+zip2-second [] [] e = refl
+zip2-second [] (y ∷ ys) e = absurd (omega arith)
+zip2-second (x ∷ xs) [] e = absurd (omega arith)
+zip2-second (x ∷ xs) (y ∷ ys) e = ap (λ rest. y ∷ rest) (zip2-second xs ys (omega arith))
+
+pub put_block : (k n m : ℕ) (xs ys now : List ℕ) → now ≡ combined_to second n xs ys → m ≡ n + k → m ≤ length xs → length ys ≡ length xs →
+    put_chunk n now (chunk n k ys) ≡ combined_to second m xs ys
+put_block k n m xs ys now so_far next room e =
+    let here : List ℕ = combined_to second n xs ys in
+    let long : length (chunk n k here) ≡ k = length-chunk n k here (omega (arith, next, room, length-combined_to second n xs ys)) in
+    let other : length (chunk n k ys) ≡ k = length-chunk n k ys (omega (arith, next, room, e)) in
+    ap (λ zs. put_chunk n zs (chunk n k ys)) so_far
+    ∙ ap (put_chunk n here) (sym (zip2-second (chunk n k here) (chunk n k ys) (other ∙ sym long)))
+    ∙ combined_to_block second k n m xs ys next room e
+
+pub put_entry : (n : ℕ) (xs ys now : List ℕ) → now ≡ combined_to second n xs ys → n < length xs → length ys ≡ length xs →
+    set now n (get_or ys n 0) ≡ combined_to second (n + 1) xs ys
+put_entry n xs ys now so_far below e = ap (λ zs. set zs n (get_or ys n 0)) so_far ∙ combined_to_more second n xs ys below e
+
+pub put_all : (n : ℕ) (xs ys : List ℕ) → length xs ≤ n → length ys ≡ length xs → combined_to second n xs ys ≡ ys
+put_all n xs ys all e = combined_to_end second n xs ys all e ∙ zip2-second xs ys e

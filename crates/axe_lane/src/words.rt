@@ -36,6 +36,22 @@ pub fn xor_into(dst: &mut [u64], src: &[u64])
     }
 }
 
+/// Makes each word of `dst` the exclusive or of the words of two lists at the same index: the sum of two rows over the
+/// field of order 2, put elsewhere in one pass.
+pub fn put_xor(dst: &mut [u64], a: &[u64], b: &[u64])
+    requires a_fits { length a.now ≡ length dst.old }
+    requires b_fits { length b.now ≡ length dst.old }
+    ensures { dst.new ≡ xor_of_words a.now b.now }
+{
+    let whole = dst.len() / SUM_BLOCK;
+    for block in 0..whole {
+        put_xor_block(dst, a, b, block * SUM_BLOCK);
+    }
+    for at in whole * SUM_BLOCK..dst.len() {
+        dst[at] = a[at] ^ b[at];
+    }
+}
+
 /// Adds four rows over the field of order 2 to a fifth, in one pass: each word of `dst` becomes its exclusive or with
 /// the words of the four at the same index.
 pub fn xor4_into(dst: &mut [u64], a: &[u64], b: &[u64], c: &[u64], d: &[u64])
@@ -107,6 +123,18 @@ fn xor_block(dst: &mut [u64], src: &[u64], at: usize)
     ensures { dst.new ≡ put_chunk at dst.old (zip2 bit_xor (chunk at SUM_BLOCK dst.old) (chunk at SUM_BLOCK src.now)) }
 {
     let sum = u64x4::from_slice(&dst[at..]) ^ u64x4::from_slice(&src[at..]);
+    sum.copy_to_slice(&mut dst[at..]);
+}
+
+/// The block of a sum that is put elsewhere, from an index on.
+#[inline(always)]
+fn put_xor_block(dst: &mut [u64], a: &[u64], b: &[u64], at: usize)
+    requires dst_has_block { at + SUM_BLOCK ≤ length dst.old }
+    requires a_has_block { at + SUM_BLOCK ≤ length a.now }
+    requires b_has_block { at + SUM_BLOCK ≤ length b.now }
+    ensures { dst.new ≡ put_chunk at dst.old (zip2 bit_xor (chunk at SUM_BLOCK a.now) (chunk at SUM_BLOCK b.now)) }
+{
+    let sum = u64x4::from_slice(&a[at..]) ^ u64x4::from_slice(&b[at..]);
     sum.copy_to_slice(&mut dst[at..]);
 }
 

@@ -1,13 +1,14 @@
 -- Tables of planes in one flat list: their entries, and what they are after one was written.
-use Rattle.std.proofs.Common.{◌≡◌, ℕ, lit<, ◌+◌, ◌-◌, ◌*◌, ◌<◌, List, [], length, get_or, set, take, drop, replicate, sym, ap, subst, ◌∙◌, arith}
+use Rattle.std.proofs.Common.{◌≡◌, ℕ, lit<, ◌+◌, ◌-◌, ◌*◌, ◌<◌, List, [], length, get_or, set, take, drop, replicate, sym, ap, subst, ◌∙◌, arith, get_or-set_same}
 use Rattle.std.specs.Simd.Lanes.{chunk, put_chunk}
+use Rattle.std.proofs.Math.Seq.{set-set}
 use Rattle.std.proofs.lemmas.List.{length-replicate}
 use Rattle.std.proofs.lemmas.List.Elements.{All-take, All-drop}
 use Rattle.std.proofs.lemmas.Simd.{length-chunk, length-put_chunk}
 use Rattle.axe_algebra.proofs.ListEntries.{listed_length, listed_at}
-use Rattle.axe_bits.specs.Digits.{AreDigits}
+use Rattle.axe_bits.specs.Digits.{AreDigits, digits_with_multiple}
 use Rattle.axe_plane.specs.FlatTables.{byte_entries, HoldsDigits}
-use Rattle.axe_plane.specs.Tables.{prime_of_table}
+use Rattle.axe_plane.specs.Tables.{prime_of_table, entries_of_table, IsTable}
 use Rattle.axe_plane.specs.declared.tables.PlaneTable.{PlaneTable}
 use Rattle.axe_plane.specs.declared.tables.PlaneTable.TheVariants.{Bits, Trits, Bytes}
 use Rattle.axe_plane.proofs.PlaneLaws.{byte_prime-positive}
@@ -79,3 +80,38 @@ pub prime_of_table-positive : (table : PlaneTable) → 0 < prime_of_table table
 prime_of_table-positive (Bits entries) = lit< tt
 prime_of_table-positive (Trits entries) = lit< tt
 prime_of_table-positive (Bytes table) = byte_prime-positive table.prime
+
+-- ---- an entry that was written
+
+-- the digits there are those that were written
+pub written_at : (p to : ℕ) (entries : List (List ℕ)) (digits : List ℕ) (after : PlaneTable) → to < length entries →
+    IsTable p (set entries to digits) after → get_or (entries_of_table after) to [] ≡ digits
+written_at p to entries digits after within h =
+    ap (λ (s : List (List ℕ)). get_or s to []) h.entries_are ∙ get_or-set_same entries to digits [] within
+
+-- a multiple of a plane may be added to it, where its length is right
+pub written_fits : (p to : ℕ) (entries : List (List ℕ)) (digits other : List ℕ) (after : PlaneTable) → to < length entries →
+    IsTable p (set entries to digits) after → length other ≡ length digits → length other ≡ length (get_or (entries_of_table after) to [])
+written_fits p to entries digits other after within h long = long ∙ sym (ap length (written_at p to entries digits after within h))
+
+pub written_digits : (p to : ℕ) (entries : List (List ℕ)) (digits : List ℕ) (after : PlaneTable) → to < length entries →
+    IsTable p (set entries to digits) after → AreDigits p digits →
+    AreDigits (prime_of_table after) (get_or (entries_of_table after) to [])
+written_digits p to entries digits after within h all =
+    subst (λ r. AreDigits r (get_or (entries_of_table after) to [])) (sym h.prime)
+    (subst (AreDigits p) (sym (written_at p to entries digits after within h)) all)
+
+-- what was written is what a multiple is added to
+pub written_more : (p to f : ℕ) (entries : List (List ℕ)) (digits b : List ℕ) (one two : PlaneTable) → to < length entries →
+    IsTable p (set entries to digits) one →
+    IsTable (prime_of_table one)
+    (set (entries_of_table one) to (digits_with_multiple (prime_of_table one) (get_or (entries_of_table one) to []) f b)) two →
+    IsTable p (set entries to (digits_with_multiple p digits f b)) two
+written_more p to f entries digits b one two within h e = record {
+  prime = e.prime ∙ h.prime;
+  entries_are =
+      e.entries_are ∙ ap (λ r. set (entries_of_table one) to (digits_with_multiple r (get_or (entries_of_table one) to []) f b)) h.prime
+      ∙ ap (λ (d : List ℕ). set (entries_of_table one) to (digits_with_multiple p d f b)) (written_at p to entries digits one within h)
+      ∙ ap (λ (s : List (List ℕ)). set s to (digits_with_multiple p digits f b)) h.entries_are
+      ∙ set-set entries to digits (digits_with_multiple p digits f b);
+}

@@ -82,6 +82,32 @@ impl PlaneTable {
         }
     }
 
+    /// Makes an entry an earlier one plus a multiple of a plane modulo the same prime and of that one's length, in one
+    /// pass modulo 2. It becomes a copy of the earlier one where the factor is 0, and then the lengths may differ.
+    pub fn put_sum(&mut self, to: usize, from: usize, factor: u8, plane: &Plane)
+        requires to { to < length (entries_of_table self.old) }
+        requires earlier { from < to }
+        requires prime { prime_of_plane plane.now ≡ prime_of_table self.old }
+        requires factor { factor < prime_of_table self.old }
+        requires fits { factor ≢ 0 → length (digits_of plane.now)
+            ≡ length (slice_index_or (entries_of_table self.old) from []) }
+        requires digits { AreDigits (prime_of_table self.old) (slice_index_or (entries_of_table self.old) from []) }
+        ensures { IsTable (prime_of_table self.old) (slice_set (entries_of_table self.old) to
+            (digits_with_multiple (prime_of_table self.old) (slice_index_or (entries_of_table self.old) from [])
+            factor (digits_of plane.now)))
+            self.new }
+    {
+        match (&mut *self, plane) {
+            (PlaneTable::Bits(table), Plane::Bits(plane)) if factor != 0 => {
+                table.put_sum(to, from, plane);
+            }
+            _ => {
+                self.copy_entry(to, from);
+                self.add_to_entry(to, factor, plane);
+            }
+        }
+    }
+
     /// Adds a multiple of an entry to a plane modulo the same prime and of its length. Nothing is done where the factor
     /// is 0, and then the lengths may differ.
     pub fn add_entry(&self, index: usize, factor: u8, plane: &mut Plane)

@@ -17,6 +17,7 @@ use Rattle.axe_plane.specs.Tables.{prime_of_table, entries_of_table, plane_at, I
 use Rattle.axe_plane.specs.declared.Plane.{Plane}
 use Rattle.axe_plane.specs.declared.tables.PlaneTable.{PlaneTable}
 use Rattle.axe_plane.specs.declared.tables.PlaneTable.TheVariants.{Bits, Trits, Bytes}
+use Rattle.axe_plane.proofs.TableLaws.{written_at}
 use Rattle.axe_bits.proofs.DigitLaws.{AreDigits-zeros, AreDigits-sum, digit-below, length-digits_with_multiple, get_or-digits_with_multiple}
 use Rattle.axe_row.specs.Combinations.{CombosValue, IsTableOfRows, most_combined}
 use Rattle.axe_row.specs.Operations.{sum_with_multiple}
@@ -48,39 +49,6 @@ pub copied_entry : (to from : ℕ) (before after : PlaneTable) →
 copied_entry to from before after h = record {
   prime = h.prime;
   entries_are = h.entries_are ∙ ap (λ (d : List ℕ). set (entries_of_table before) to d) (sym (digits_of-plane_at before from));
-}
-
--- the digits there are those that were written
-pub written_at : (p to : ℕ) (entries : List (List ℕ)) (digits : List ℕ) (after : PlaneTable) → to < length entries →
-    IsTable p (set entries to digits) after → get_or (entries_of_table after) to [] ≡ digits
-written_at p to entries digits after within h =
-    ap (λ (s : List (List ℕ)). get_or s to []) h.entries_are ∙ get_or-set_same entries to digits [] within
-
--- a multiple of a plane may be added to it, where its length is right
-pub written_fits : (p to : ℕ) (entries : List (List ℕ)) (digits other : List ℕ) (after : PlaneTable) → to < length entries →
-    IsTable p (set entries to digits) after → length other ≡ length digits → length other ≡ length (get_or (entries_of_table after) to [])
-written_fits p to entries digits other after within h long = long ∙ sym (ap length (written_at p to entries digits after within h))
-
-pub written_digits : (p to : ℕ) (entries : List (List ℕ)) (digits : List ℕ) (after : PlaneTable) → to < length entries →
-    IsTable p (set entries to digits) after → AreDigits p digits →
-    AreDigits (prime_of_table after) (get_or (entries_of_table after) to [])
-written_digits p to entries digits after within h all =
-    subst (λ r. AreDigits r (get_or (entries_of_table after) to [])) (sym h.prime)
-    (subst (AreDigits p) (sym (written_at p to entries digits after within h)) all)
-
--- what was written is what a multiple is added to
-pub written_more : (p to f : ℕ) (entries : List (List ℕ)) (digits b : List ℕ) (one two : PlaneTable) → to < length entries →
-    IsTable p (set entries to digits) one →
-    IsTable (prime_of_table one)
-    (set (entries_of_table one) to (digits_with_multiple (prime_of_table one) (get_or (entries_of_table one) to []) f b)) two →
-    IsTable p (set entries to (digits_with_multiple p digits f b)) two
-written_more p to f entries digits b one two within h e = record {
-  prime = e.prime ∙ h.prime;
-  entries_are =
-      e.entries_are ∙ ap (λ r. set (entries_of_table one) to (digits_with_multiple r (get_or (entries_of_table one) to []) f b)) h.prime
-      ∙ ap (λ (d : List ℕ). set (entries_of_table one) to (digits_with_multiple p d f b)) (written_at p to entries digits one within h)
-      ∙ ap (λ (s : List (List ℕ)). set s to (digits_with_multiple p digits f b)) h.entries_are
-      ∙ set-set entries to digits (digits_with_multiple p digits f b);
 }
 
 -- ---- a table of planes of one length

@@ -6,18 +6,11 @@ use Rattle.axe_bits.specs.Digits.{digits_with_multiple}
 use Rattle.axe_bits.specs.FlatTables.{bit_entries, HoldsEntries}
 use Rattle.axe_bits.proofs.BitLaws.{bits-xor, HoldsBits-xor}
 use Rattle.axe_bits.proofs.PieceLaws.{written_piece}
-use Rattle.axe_bits.proofs.TableLaws.{bit_index, bit_entry-at, bit_entry-long, bit_entries-after, entries_held, entry_words}
+use Rattle.axe_bits.proofs.TableLaws.{bit_index, bit_entry-at, bit_entry-long, bit_entries-after, entries_held, entry_words, plane_held}
 use Rattle.axe_bits.proofs.bit_table.BitTable.add_to_entry.Goals as goal
 
 pub start_of-start-requires-clause-within : goal.start_of-start-requires-clause-within
 start_of-start-requires-clause-within c = bit_index _ _ _ _ _ _ c.self.view_is c.requires.to
-
--- the plane's words, of which there are as many as an entry has
-held : (n w count x : ℕ) (words plane_words plane : List ℕ) (self : List (List ℕ)) → HoldsEntries n w count words →
-    bit_entries n w count words ≡ self → x < length self → length plane ≡ length (get_or self x []) → HoldsBits (length plane) plane_words →
-    HoldsBits n plane_words
-held n w count x words plane_words plane self h is inside fits ok =
-    subst (λ m. HoldsBits m plane_words) (fits ∙ bit_entry-long n w count x words self is inside) ok
 
 pub xor_into-requires : goal.xor_into-requires
 xor_into-requires c =
@@ -47,7 +40,7 @@ invariant_of-self c =
     let w = c.self.inside.width in
     let words = c.self.inside.words.items in
     let to = bit_index _ _ _ c.args.to _ _ c.self.view_is c.requires.to in
-    let ok = held _ _ _ c.args.to words c.words.result.now _ _ c.self.invariant c.self.view_is c.requires.to c.requires.fits c.words.ensures.holds in
+    let ok = plane_held _ _ _ c.args.to words c.words.result.now _ _ c.self.invariant c.self.view_is c.requires.to c.requires.fits c.words.ensures.holds in
     subst (HoldsEntries n w c.self.inside.count)
     (sym (after n w c.self.inside.count c.args.to _ _ words _ c.words.result.now _ c.self.invariant ok to c.deref_mut.ensures.value c.self.inside.words.ok.0
     c.start_of-start.ensures.start c.start_of-start.ensures.end c.xor_into.ensures))
@@ -60,7 +53,7 @@ returns c =
     let count = c.self.inside.count in
     let words = c.self.inside.words.items in
     let to = bit_index _ _ _ c.args.to _ _ c.self.view_is c.requires.to in
-    let ok = held _ _ _ c.args.to words c.words.result.now _ _ c.self.invariant c.self.view_is c.requires.to c.requires.fits c.words.ensures.holds in
+    let ok = plane_held _ _ _ c.args.to words c.words.result.now _ _ c.self.invariant c.self.view_is c.requires.to c.requires.fits c.words.ensures.holds in
     let mine = c.self.invariant.held c.args.to to in
     let as_long : length c.args.plane.now ≡ n = c.requires.fits ∙ bit_entry-long _ _ _ _ _ _ c.self.view_is c.requires.to in
     let plane : bits n c.words.result.now ≡ c.args.plane.now = ap (λ m. bits m c.words.result.now) (sym as_long) ∙ c.words.ensures.digits in
