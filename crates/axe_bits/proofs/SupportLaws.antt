@@ -1,10 +1,10 @@
 -- The words of supports, and the places that they have.
-use Rattle.std.proofs.Common.{◌≡◌, ◌≢◌, ◌↔◌, ℕ, ◌+◌, ◌-◌, ◌*◌, ◌/◌, ◌%◌, ◌^◌, ◌<◌, ◌≤◌, Option, MatchOption, List, length, get_or, cond, eqb, max, sym, ap, ◌∙◌, arith, inl, inr, w64}
+use Rattle.std.proofs.Common.{◌≡◌, ◌≢◌, ◌↔◌, ℕ, ◌+◌, ◌-◌, ◌*◌, ◌/◌, ◌%◌, ◌^◌, ◌<◌, ◌≤◌, Option, MatchOption, List, length, get_or, take, cond, eqb, max, sym, ap, ◌∙◌, arith, inl, inr, w64}
 use Rattle.std.specs.Int.{bit_at, trailing_zeros}
 use Rattle.std.specs.Int.RustNames.{bit_or}
 use Rattle.std.specs.Int.Bits.{bit_and}
 use Rattle.std.proofs.lemmas.Bool.{cases_eq, eq-eqb, ne_eqb}
-use Rattle.std.proofs.lemmas.List.{get_or_past}
+use Rattle.std.proofs.lemmas.List.{get_or_past, get_or-take, length-take}
 use Rattle.std.proofs.lemmas.Nat.Bits.{bit_at-lt, bit_at-zero, bit_at_and, bit_at_or, bit_at-trailing_zeros}
 use Rattle.std.proofs.Math.Nat.{div-le_self}
 use native.Mathlib.Decide.{dec_lt}
@@ -65,6 +65,16 @@ module _ (numbers : List ℕ) (start word : ℕ) (h : IsSupportWord numbers (sta
 
       nonzero : get_or numbers (start + low) 0 ≢ 0
       nonzero none = absurd (omega (arith, bit.1, (at_place low place).1 none))
+
+-- a place that is next in every list with this word of its support stands in the word
+pub stands_inside : (numbers : List ℕ) (start word i : ℕ) → IsSupportWord numbers (start / 64) word →
+    ((list : List ℕ) → IsSupportWord list (start / 64) word → IsNextNonzero list start i) → i < (start / 64 + 1) * 64
+stands_inside numbers start word i support next =
+    let end = (start / 64 + 1) * 64 in
+    let cut = next (take end numbers) (λ j low.
+    let same = get_or-take end numbers (start / 64 * 64 + j) 0 (omega (arith, low)) in
+    (λ none. same ∙ (support j low).0 none, λ none. (support j low).1 (sym same ∙ none))) in
+    omega (arith, cut.within, length-take end numbers)
 
 -- ---- word after word
 

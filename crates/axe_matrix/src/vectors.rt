@@ -1,14 +1,15 @@
 //! Products of a row vector and a matrix, row by row.
 
-ghost use Rattle.std.specs.Prelude.{◌≡◌, ◌≤◌, IfSome, length};
-ghost use Rattle.axe_bits.specs.Supports.{AreNextFour};
+ghost use Rattle.std.specs.Prelude.{◌≡◌, ◌+◌, ◌/◌, ◌≤◌, IfSome, MatchOption, length};
+ghost use Rattle.axe_bits.specs.Supports.{AreNextFour, IsSupportWord};
 ghost use Rattle.axe_field.specs.Order.{IsElement};
+ghost use Rattle.axe_lane.specs.Entries.{AreZerosFrom, IsNextNonzero};
 ghost use Rattle.axe_row.specs.Rows.{IsRow};
 ghost use Rattle.axe_matrix.specs.Products.{row_with_product};
 ghost use Rattle.axe_matrix.specs.VectorTerms.{row_with_first_terms};
 
 use super::{Matrix, Row};
-use axe_bits::four_in_word;
+use axe_bits::{four_in_word, next_in_word};
 
 /// How many places a word of a support has.
 const WORD: usize = 64;
@@ -32,7 +33,8 @@ impl Matrix {
         prove!(row.len() == self.cols());
         prove!(vector.len() == self.rows());
         let mut at = self.add_fours(scalar, vector, row);
-        while let Some(index) = vector.next_nonzero(at) {
+        let mut word = vector.support_word(at / WORD);
+        while let Some(index) = next_entry(vector, at, &mut word) {
             let factor = self.field().mul(scalar, vector.get(index));
             row.add_scaled(factor, self.row(index));
             at = index + 1;
@@ -67,6 +69,29 @@ impl Matrix {
         }
         at
     }
+}
+
+/// The index of the next entry of a row other than 0 from an index on, or `None` where every entry from there on is 0.
+/// The word of the row's support in which that index stands is given, and becomes the one in which the index after the
+/// entry stands, so that a word is read once for all its entries.
+#[inline(always)]
+fn next_entry(row: &Row, start: usize, word: &mut u64) -> Option<usize>
+    requires start { start ≤ length row.now.entries }
+    requires word { IsSupportWord row.now.entries (start / 64) word.old }
+    ensures next { MatchOption result (AreZerosFrom row.now.entries start) (IsNextNonzero row.now.entries start) }
+    ensures word { IfSome result (λ index. IsSupportWord row.now.entries ((index + 1) / 64) word.new) }
+{
+    // `len` is called for what it says of the length: that it is a number of the machine, so that no sum below wraps.
+    prove!(start <= row.len());
+    if let Some(index) = next_in_word(*word, start) {
+        if (index + 1) % WORD == 0 {
+            *word = row.support_word((index + 1) / WORD);
+        }
+        return Some(index);
+    }
+    let index = row.next_nonzero(start)?;
+    *word = row.support_word((index + 1) / WORD);
+    Some(index)
 }
 
 /// The indices of the next four entries of a row other than 0 from an index on, or `None` where there are fewer. Mostly

@@ -19,6 +19,7 @@ loop-index-init c = record {
       ∙ ap (λ (o : Order). row_with_terms (number_field o) c.args.self.now.cols c.args.row.now.entries c.args.scalar c.args.vector.now.entries c.args.self.now.rows 0 c.add_fours-at.result)
       c.requires.row_field;
   well_formed = c.add_fours-at.ensures.well_formed;
+  word = c.support_word-word.ensures;
 }
 
 pub add_scaled-requires-clause-fits : goal.add_scaled-requires-clause-fits
@@ -28,7 +29,7 @@ add_scaled-requires-clause-fits c =
 pub loop-index-preserved : goal.loop-index-preserved
 loop-index-preserved c =
     let invariant = c.loop-index.invariant in
-    let next = c.in-Some.ensures in
+    let next = c.in-Some.ensures.next in
     let over_r = subst (λ (o : Order). All (IsElement o) c.args.row.now.entries) c.requires.row_field c.len.ensures.well_formed.elements in
     let over_v = subst (λ (o : Order). All (IsElement o) c.args.vector.now.entries) c.requires.vector_field c.len-2.ensures.well_formed.elements in
     let factor_is = c.mul-factor.ensures.value ∙ ap (λ (o : Order). field_mul o c.args.scalar c.get.result) c.field.ensures.order
@@ -44,6 +45,7 @@ loop-index-preserved c =
           ∙ one_more_term c.args.self.now c.args.row.now.entries c.args.scalar c.args.vector.now.entries c.in-Some.index c.mul-factor.result c.loop-index.row c.row.result.now
           c.rows.ensures.well_formed c.requires.element over_r over_v invariant.field so_far factor_is c.row.ensures.value;
       well_formed = c.add_scaled.ensures.well_formed;
+      word = c.in-Some.ensures.word;
     }
 
 pub returns-clause-sum : goal.returns-clause-sum
@@ -54,7 +56,7 @@ returns-clause-sum c =
     same_row c.loop-index.row (row_with_product c.args.row.now c.args.scalar c.args.vector.now c.args.self.now) (invariant.field ∙ sym c.requires.row_field)
     (invariant.so_far
     ∙ zero_terms c.args.self.now c.args.row.now.entries c.args.scalar c.args.vector.now.entries c.loop-index.at (length c.args.self.now.rows)
-    c.rows.ensures.well_formed over_v fits (λ t past _. c.in_default.ensures t past)
+    c.rows.ensures.well_formed over_v fits (λ t past _. c.in_default.ensures.next t past)
     ∙ ap (λ (o : Order). row_with_terms (number_field o) c.args.self.now.cols c.args.row.now.entries c.args.scalar c.args.vector.now.entries c.args.self.now.rows 0 (length c.args.self.now.rows))
     (sym c.requires.row_field))
 

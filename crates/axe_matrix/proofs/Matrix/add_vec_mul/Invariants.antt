@@ -1,4 +1,5 @@
-use Rattle.std.proofs.Common.{◌≡◌, ◌≤◌, ◌-◌, length}
+use Rattle.std.proofs.Common.{◌≡◌, ◌/◌, ◌≤◌, ◌-◌, length}
+use Rattle.axe_bits.specs.Supports.{IsSupportWord}
 use Rattle.axe_field.specs.NumberFields.{number_field}
 use Rattle.axe_row.specs.Rows.{IsRow}
 use Rattle.axe_matrix.specs.Products.{row_with_terms}
@@ -10,6 +11,7 @@ invariant-loop-index l = record {
   field : l.row.order ≡ l.self.order;
   so_far : l.row.entries ≡ row_with_terms (number_field l.self.order) l.self.cols l.fn.row.entries l.scalar l.vector.entries l.self.rows 0 l.at;
   well_formed : IsRow l.row;
+  word : IsSupportWord l.vector.entries (l.at / 64) l.word;
 }
 
 abbrev pub decreases-loop-index : goal.decreases-loop-index

@@ -1,0 +1,13 @@
+use Rattle.std.proofs.Common.{◌≡◌, ◌+◌, ◌/◌, ℕ, subst, arith}
+use Rattle.axe_bits.specs.Supports.{IsSupportWord}
+use Rattle.axe_bits.proofs.SupportLaws.{stands_inside}
+use Rattle.axe_matrix.proofs.vectors.next_entry.Goals as goal
+
+pub returns-else-index-eq0-clause-word : goal.returns-else-index-eq0-clause-word
+returns-else-index-eq0-clause-word c =
+    let numbers = c.args.row.now.entries in
+    let inside =
+    stands_inside numbers c.args.start c.args.word.now c.in-Some.index c.requires.word (λ list support. c.in-Some.ensures list support) in
+    let same : c.args.start / 64 ≡ (c.in-Some.index + 1) / 64 =
+    omega (arith, inside, (c.in-Some.ensures numbers c.requires.word).not_before, c.if-index-eq0.false) in
+    subst (λ (k : ℕ). IsSupportWord numbers k c.args.word.now) same c.requires.word
