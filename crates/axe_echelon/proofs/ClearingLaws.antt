@@ -11,10 +11,10 @@ use Rattle.axe_algebra.specs.SpansOfLists.{IsSpanned, IsRepresentative}
 use Rattle.axe_algebra.proofs.ProductLaws.{times_zero, times_unit, unit_at, unit_off}
 use Rattle.axe_algebra.proofs.FieldLaws.{zero-add, mul-zero}
 use Rattle.axe_algebra.proofs.Spanning.{span_same}
-use Rattle.axe_algebra.proofs.ElementNumbers.{element_neg, element_zero, entry-below}
+use Rattle.axe_algebra.proofs.ElementNumbers.{element_neg, element_zero, entry-below, same_number, zero-below}
 use Rattle.axe_algebra.proofs.ListVectors.{vector_of_added, IsInCoset, coset_of_itself, added_in_coset}
 use Rattle.axe_bits.specs.Supports.{restricted}
-use Rattle.axe_lane.specs.Entries.{AreZerosFrom, AreZerosBetween, IsNextNonzero}
+use Rattle.axe_lane.specs.Entries.{AreZerosBefore, AreZerosFrom, AreZerosBetween, IsNextNonzero}
 use Rattle.axe_field.specs.Order.{Order, IsElement}
 use Rattle.axe_field.specs.Arithmetic.{field_neg}
 use Rattle.axe_field.specs.NumberFields.{number_field, gf}
@@ -160,6 +160,13 @@ module _ (o : Order) (n : ℕ) (steps : List Step) (t : ℕ) (step : Step) (are 
 
   pivot_is : get_or (pivots steps) t 0 ≡ step.pivot
   pivot_is = pivot_of_steps steps t step below is
+
+  -- the row is 0 before the column of its pivot
+  pub zeros_before_pivot : (column : ℕ) → get_or (pivots steps) t 0 ≡ column → AreZerosBefore step.row.entries column
+  zeros_before_pivot column place j ahead =
+      same_number K (get_or step.row.entries j 0) 0 (entry-below K step.row.entries j at_t.row_over.elements) (zero-below K)
+      (ap (λ (x : Vector (gf o)). x j) (sym (row_of_steps o (λ (s : Step). s.row.entries) steps t step below is))
+      ∙ are.form.before t j inside (subst (λ k. j < k) (sym place) ahead) ∙ sym (element_zero K))
 
   row_spanned : IsSpanned K (inserted_rows steps) step.row.entries
   row_spanned =

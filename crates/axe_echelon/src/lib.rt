@@ -155,9 +155,9 @@ impl Echelon {
         prove!(row.len() == self.cols);
         let mut start = 0;
         while let Some(pivot) = self.pivots.next_pivot(row, start) {
-            // The pivot's row is 0 before it: so what was cleared stays 0.
+            // The pivot's row is 0 before it: so what was cleared stays 0, and is not looked at again.
             let step = &self.steps[self.pivots.row_of(pivot)];
-            row.cancel(pivot, &step.row);
+            row.cancel_from(pivot, &step.row);
             start = pivot + 1;
         }
     }
@@ -235,10 +235,10 @@ fn eliminate(steps: &[Step], pivots: &PivotTable, row: &mut Row, multipliers: &m
     prove!(row.len() == multipliers.len());
     let mut start = 0;
     while let Some(pivot) = pivots.next_pivot(row, start) {
-        // The pivot's row is 0 before it: so what was cleared stays 0.
+        // The pivot's row is 0 before it: so what was cleared stays 0, and is not looked at again.
         let index = pivots.row_of(pivot);
         let step = &steps[index];
-        let multiplier = row.cancel(pivot, &step.row);
+        let multiplier = row.cancel_from(pivot, &step.row);
         multipliers.set(index, multiplier);
         start = pivot + 1;
     }

@@ -173,9 +173,9 @@ impl Subspace {
         prove!(row.len() == self.cols);
         let mut start = 0;
         while let Some(pivot) = self.pivots.next_pivot(row, start) {
-            // The pivot's row is 0 before it: so what was cleared stays 0.
+            // The pivot's row is 0 before it: so what was cleared stays 0, and is not looked at again.
             let pivot_row = &self.rows[self.pivots.row_of(pivot)];
-            row.cancel(pivot, &pivot_row.row);
+            row.cancel_from(pivot, &pivot_row.row);
             start = pivot + 1;
         }
     }

@@ -2,7 +2,7 @@ use Rattle.std.proofs.Common.{◌<◌, sym, ◌∙◌, ap, arith}
 use Rattle.axe_echelon.specs.Echelons.{EchelonValue}
 use Rattle.axe_echelon.specs.Steps.{IsStep}
 use Rattle.axe_echelon.proofs.StepLaws.{over_of_row, is_row_of_over, step_at, pivot_of_steps, echelon_of_steps}
-use Rattle.axe_echelon.proofs.ClearingLaws.{IsFoundStep, IsClearing, reduced_before_none, found_step, room_of_found, place_of_found, clearing_of, reduce_next, reduced_all}
+use Rattle.axe_echelon.proofs.ClearingLaws.{IsFoundStep, IsClearing, reduced_before_none, found_step, room_of_found, place_of_found, clearing_of, zeros_before_pivot, reduce_next, reduced_all}
 use Rattle.axe_echelon.proofs.Echelon.reduce.Goals.{In-Some, After-row_of, After-index-step}
 use Rattle.axe_echelon.proofs.Echelon.reduce.Goals as goal
 
@@ -32,15 +32,21 @@ index-step-requires c = omega (arith, (found (goal.at.index-step-requires c).Aft
 at : (c : goal.After-index-step) → IsStep c.self.inside.field c.self.inside.cols c.index-step.result.now
 at c = step_at _ _ c.self.inside.steps.items c.row_of.result c.index-step.result.now c.self.invariant.are_steps (found c.before).within c.index-step.ensures
 
-pub cancel-requires-clause-index : goal.cancel-requires-clause-index
-cancel-requires-clause-index c = place_of_found _ c.loop-pivot.row.entries _ _ c.in-Some.ensures
+pub cancel_from-requires-clause-index : goal.cancel_from-requires-clause-index
+cancel_from-requires-clause-index c = place_of_found _ c.loop-pivot.row.entries _ _ c.in-Some.ensures
 
-pub cancel-requires-clause-field : goal.cancel-requires-clause-field
-cancel-requires-clause-field c = (at (goal.at.cancel-requires-clause-field c).After-index-step).row_field ∙ sym c.loop-pivot.invariant.so_far.clear.field
+pub cancel_from-requires-clause-field : goal.cancel_from-requires-clause-field
+cancel_from-requires-clause-field c = (at (goal.at.cancel_from-requires-clause-field c).After-index-step).row_field ∙ sym c.loop-pivot.invariant.so_far.clear.field
 
-pub cancel-requires-clause-fits : goal.cancel-requires-clause-fits
-cancel-requires-clause-fits c =
-    (at (goal.at.cancel-requires-clause-fits c).After-index-step).row_over.length_is ∙ sym c.loop-pivot.invariant.so_far.clear.over.length_is
+pub cancel_from-requires-clause-fits : goal.cancel_from-requires-clause-fits
+cancel_from-requires-clause-fits c =
+    (at (goal.at.cancel_from-requires-clause-fits c).After-index-step).row_over.length_is ∙ sym c.loop-pivot.invariant.so_far.clear.over.length_is
+
+pub cancel_from-requires-clause-zeros : goal.cancel_from-requires-clause-zeros
+cancel_from-requires-clause-zeros c =
+    let there = found (goal.at.cancel_from-requires-clause-zeros c).After-row_of in
+    zeros_before_pivot _ _ c.self.inside.steps.items c.row_of.result c.index-step.result.now c.self.invariant.are_steps there.within
+    c.index-step.ensures c.in-Some.pivot there.pivot
 
 pub overflow_add-start : goal.overflow_add-start
 overflow_add-start c = omega (arith, place (goal.at.overflow_add-start c).In-Some, c.self.invariant.are_steps.columns_fit)
@@ -51,21 +57,21 @@ loop-pivot-smaller c =
 
 pub loop-pivot-preserved : goal.loop-pivot-preserved
 loop-pivot-preserved c = record {
-  fits = omega (arith, place_of_found _ c.loop-pivot.row.entries _ _ c.in-Some.ensures, c.cancel.ensures.as_long);
+  fits = omega (arith, place_of_found _ c.loop-pivot.row.entries _ _ c.in-Some.ensures, c.cancel_from.ensures.as_long);
   so_far = reduce_next _ _ c.self.inside.steps.items c.self.inside.pivots c.loop-pivot.start c.in-Some.pivot c.row_of.result c.index-step.result.now
-      c.args.row.now c.loop-pivot.row c.cancel.new.self c.cancel.result c.self.invariant c.loop-pivot.invariant.so_far c.in-Some.ensures there
+      c.args.row.now c.loop-pivot.row c.cancel_from.new.self c.cancel_from.result c.self.invariant c.loop-pivot.invariant.so_far c.in-Some.ensures there
       c.index-step.ensures clearing;
 }
   where
     there : IsFoundStep c.self.inside.steps.items c.in-Some.pivot c.row_of.result
     there = found (goal.at.loop-pivot-preserved c).After-row_of
 
-    clearing : IsClearing c.self.inside.field c.self.inside.cols c.index-step.result.now c.loop-pivot.row c.cancel.new.self c.cancel.result
+    clearing : IsClearing c.self.inside.field c.self.inside.cols c.index-step.result.now c.loop-pivot.row c.cancel_from.new.self c.cancel_from.result
     clearing = clearing_of _ c.loop-pivot.row.order _ c.index-step.result.now _ _ _ c.in-Some.pivot c.loop-pivot.invariant.so_far.clear.field
         c.loop-pivot.invariant.so_far.clear.over
         (sym (pivot_of_steps c.self.inside.steps.items c.row_of.result c.index-step.result.now there.within c.index-step.ensures) ∙ there.pivot)
-        c.loop-pivot.invariant.so_far.clear.field c.cancel.ensures.element c.cancel.ensures.factor
-        c.cancel.ensures.sum c.cancel.ensures.as_long c.cancel.ensures.well_formed
+        c.loop-pivot.invariant.so_far.clear.field c.cancel_from.ensures.element c.cancel_from.ensures.factor
+        c.cancel_from.ensures.sum c.cancel_from.ensures.as_long c.cancel_from.ensures.well_formed
 
 pub returns-clause-representative : goal.returns-clause-representative
 returns-clause-representative c =

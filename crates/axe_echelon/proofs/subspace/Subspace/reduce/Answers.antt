@@ -4,7 +4,7 @@ use Rattle.axe_echelon.specs.Steps.{IsStep}
 use Rattle.axe_echelon.specs.Subspaces.{step_of, steps_of}
 use Rattle.axe_echelon.specs.declared.Step.{Step}
 use Rattle.axe_echelon.proofs.StepLaws.{over_of_row, is_row_of_over, step_at, pivot_of_steps, echelon_of_steps}
-use Rattle.axe_echelon.proofs.ClearingLaws.{IsFoundStep, IsClearing, reduced_before_none, found_step, room_of_found, place_of_found, clearing_of, reduce_next, reduced_all}
+use Rattle.axe_echelon.proofs.ClearingLaws.{IsFoundStep, IsClearing, reduced_before_none, found_step, room_of_found, place_of_found, clearing_of, zeros_before_pivot, reduce_next, reduced_all}
 use Rattle.axe_echelon.proofs.SubspaceLaws.{length-steps_from, step_of_row}
 use Rattle.axe_echelon.proofs.subspace.Subspace.reduce.Goals.{In-Some, After-row_of, After-index-pivot_row}
 use Rattle.axe_echelon.proofs.subspace.Subspace.reduce.Goals as goal
@@ -45,15 +45,22 @@ at : (c : goal.After-index-pivot_row) → IsStep c.self.inside.field c.self.insi
 at c = step_at _ _ (steps_of c.self.inside.field c.self.inside.cols c.self.inside.rows.items) c.row_of.result (step c) c.self.invariant.are_steps
     (found c.before).within (step_is c)
 
-pub cancel-requires-clause-index : goal.cancel-requires-clause-index
-cancel-requires-clause-index c = place_of_found _ c.loop-pivot.row.entries _ _ c.in-Some.ensures
+pub cancel_from-requires-clause-index : goal.cancel_from-requires-clause-index
+cancel_from-requires-clause-index c = place_of_found _ c.loop-pivot.row.entries _ _ c.in-Some.ensures
 
-pub cancel-requires-clause-field : goal.cancel-requires-clause-field
-cancel-requires-clause-field c = (at (goal.at.cancel-requires-clause-field c).After-index-pivot_row).row_field ∙ sym c.loop-pivot.invariant.so_far.clear.field
+pub cancel_from-requires-clause-field : goal.cancel_from-requires-clause-field
+cancel_from-requires-clause-field c = (at (goal.at.cancel_from-requires-clause-field c).After-index-pivot_row).row_field ∙ sym c.loop-pivot.invariant.so_far.clear.field
 
-pub cancel-requires-clause-fits : goal.cancel-requires-clause-fits
-cancel-requires-clause-fits c =
-    (at (goal.at.cancel-requires-clause-fits c).After-index-pivot_row).row_over.length_is ∙ sym c.loop-pivot.invariant.so_far.clear.over.length_is
+pub cancel_from-requires-clause-fits : goal.cancel_from-requires-clause-fits
+cancel_from-requires-clause-fits c =
+    (at (goal.at.cancel_from-requires-clause-fits c).After-index-pivot_row).row_over.length_is ∙ sym c.loop-pivot.invariant.so_far.clear.over.length_is
+
+pub cancel_from-requires-clause-zeros : goal.cancel_from-requires-clause-zeros
+cancel_from-requires-clause-zeros c =
+    let at_row = (goal.at.cancel_from-requires-clause-zeros c).After-index-pivot_row in
+    let there = found (goal.at.cancel_from-requires-clause-zeros c).After-row_of in
+    zeros_before_pivot _ _ (steps_of c.self.inside.field c.self.inside.cols c.self.inside.rows.items) c.row_of.result (step at_row) c.self.invariant.are_steps
+    there.within (step_is at_row) c.in-Some.pivot there.pivot
 
 pub overflow_add-start : goal.overflow_add-start
 overflow_add-start c = omega (arith, place (goal.at.overflow_add-start c).In-Some, c.self.invariant.are_steps.columns_fit)
@@ -69,13 +76,13 @@ loop-pivot-preserved c =
     let there : IsFoundStep steps c.in-Some.pivot c.row_of.result = found (goal.at.loop-pivot-preserved c).After-row_of in
     let pivot = sym (pivot_of_steps steps c.row_of.result (step at_row) there.within (step_is at_row)) ∙ there.pivot in
     let so_far = c.loop-pivot.invariant.so_far in
-    let clearing : IsClearing c.self.inside.field c.self.inside.cols (step at_row) c.loop-pivot.row c.cancel.new.self c.cancel.result =
+    let clearing : IsClearing c.self.inside.field c.self.inside.cols (step at_row) c.loop-pivot.row c.cancel_from.new.self c.cancel_from.result =
     clearing_of _ c.loop-pivot.row.order _ (step at_row) _ _ _ c.in-Some.pivot so_far.clear.field so_far.clear.over pivot so_far.clear.field
-    c.cancel.ensures.element c.cancel.ensures.factor c.cancel.ensures.sum c.cancel.ensures.as_long c.cancel.ensures.well_formed in
+    c.cancel_from.ensures.element c.cancel_from.ensures.factor c.cancel_from.ensures.sum c.cancel_from.ensures.as_long c.cancel_from.ensures.well_formed in
     record {
-      fits = omega (arith, place_of_found _ c.loop-pivot.row.entries _ _ c.in-Some.ensures, c.cancel.ensures.as_long);
+      fits = omega (arith, place_of_found _ c.loop-pivot.row.entries _ _ c.in-Some.ensures, c.cancel_from.ensures.as_long);
       so_far = reduce_next _ _ steps c.self.inside.pivots c.loop-pivot.start c.in-Some.pivot c.row_of.result (step at_row) c.args.row.now c.loop-pivot.row
-          c.cancel.new.self c.cancel.result c.self.invariant so_far c.in-Some.ensures there (step_is at_row) clearing;
+          c.cancel_from.new.self c.cancel_from.result c.self.invariant so_far c.in-Some.ensures there (step_is at_row) clearing;
     }
 
 pub returns-clause-representative : goal.returns-clause-representative
