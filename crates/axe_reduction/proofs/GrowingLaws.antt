@@ -1,7 +1,9 @@
 -- Reductions that grow row by row: a row that is cleared, and one more that is inserted.
-use Rattle.std.proofs.Common.{◌≡◌, ◌≢◌, ℕ, zero, suc, ◌+◌, ◌<◌, ◌≤◌, List, [], ◌∷◌, ◌++◌, length, get_or, map, take, drop, sym, ap, ap₂, subst, ◌∙◌, arith, length-append}
-use Rattle.std.specs.List.{All}
-use Rattle.std.proofs.lemmas.List.{ext_get_or, append-nil, take_all, drop_all, get_or_append_left, get_or-append-add, get_or-map, length-map, map-append}
+use Rattle.std.proofs.Common.{◌≡◌, ◌≢◌, ℕ, zero, suc, ◌+◌, ◌<◌, ◌≤◌, List, [], ◌∷◌, ◌++◌, length, get_or, map, take, drop, sym, ap, ap₂, subst, ◌∙◌, arith}
+use Rattle.std.specs.Prelude.{ltb}
+use Rattle.std.specs.List.{All, insert}
+use Rattle.std.proofs.lemmas.List.Sums.{count_by-le-length}
+use Rattle.std.proofs.lemmas.List.{ext_get_or, append-nil, take_all, drop_all, get_or-map, length-map, map-append}
 use Rattle.std.proofs.lemmas.List.Elements.{All-append}
 use Rattle.std.proofs.lemmas.List.FromFn.{map-range_with_len_more}
 use Rattle.axe_algebra.specs.Bridge.{vector_of, matrix_of}
@@ -18,7 +20,7 @@ use Rattle.axe_row.specs.Operations.{IsZeroVector}
 use Rattle.axe_matrix.specs.Limits.{most_rows}
 use Rattle.axe_reduction.specs.Augmented.{AugmentedValue, IsAugmented, AreAlike}
 use Rattle.axe_reduction.specs.AugmentedRows.{whole, cancelled, scaled_at, IsRowOver, IsRowLike, IsRowOf, AreReducedOver, AreReducedLike}
-use Rattle.axe_reduction.specs.AugmentedRows.{IsClearedBy, IsInsertedAt, IsReductionOfFirst}
+use Rattle.axe_reduction.specs.AugmentedRows.{count_below, IsClearedBy, IsInsertedAt, IsReductionOfFirst}
 use Rattle.axe_reduction.specs.Forms.{AreReducedRows, AreReduced, less_rows}
 use Rattle.axe_reduction.specs.Reductions.{IsReductionOf}
 use Rattle.axe_reduction.specs.declared.augmented_row.AugmentedRow.{AugmentedRow}
@@ -28,6 +30,7 @@ use Rattle.axe_reduction.proofs.AugmentedRowLaws.{over_like, like_over, whole_ov
 use Rattle.axe_reduction.proofs.ClearLaws.{minus_one-below}
 use Rattle.axe_reduction.proofs.InsertedRows.{less_none, less_more, no_rows_reduced, reduced_one, more_rest, more_reduced}
 use Rattle.axe_reduction.proofs.ReductionLaws.{minus_one-is, reduction_of_rows}
+use Rattle.axe_reduction.proofs.Reordered.{map-insert, All-insert, All-others, All-inserted, moved_are_reduced}
 
 -- ---- a row that is cleared
 
@@ -114,30 +117,30 @@ first_rows-more a n x is =
     ∙ ap (λ (row : List ℕ). listed n (λ i. get_or a.rows i []) ++ row ∷ []) (sym is)
 
 -- the rows of a list that was changed in place, with one more
-pub with_written : (pivot count : ℕ) (scaled : AugmentedRow) (before those now items : List AugmentedRow) → count ≡ length before → those ≡ before →
-    now ≡ map (cancelled pivot scaled) those → items ≡ take count (now ++ drop (length now) before) ++ scaled ∷ [] → items ≡ now ++ scaled ∷ []
-with_written pivot count scaled before those now items count_is those_is now_is is =
+pub inserted_at : (pivot count place : ℕ) (scaled : AugmentedRow) (before those now items : List AugmentedRow) → count ≡ length before → those ≡ before →
+    now ≡ map (cancelled pivot scaled) those → items ≡ insert (take count (now ++ drop (length now) before)) place scaled → items ≡ insert now place scaled
+inserted_at pivot count place scaled before those now items count_is those_is now_is is =
     let as_many : length now ≡ length before =
     ap (λ (l : List AugmentedRow). length l) now_is ∙ length-map those (cancelled pivot scaled) ∙ ap (λ (l : List AugmentedRow). length l) those_is in
     is
-    ∙ ap (λ l. l ++ scaled ∷ []) (ap (λ l. take count (now ++ l)) (drop_all (length now) before (omega (arith, as_many)))
+    ∙ ap (λ l. insert l place scaled) (ap (λ l. take count (now ++ l)) (drop_all (length now) before (omega (arith, as_many)))
     ∙ ap (take count) (append-nil now) ∙ take_all count now (omega (arith, as_many, count_is)))
 
 -- the reduced rows, cleared at the pivot of one more
-pub inserted_rows : (pivot : ℕ) (row scaled : AugmentedRow) (before those now items : List AugmentedRow) → scaled ≡ scaled_at pivot row →
-    those ≡ before → now ≡ map (cancelled pivot scaled) those → items ≡ now ++ scaled ∷ [] →
-    items ≡ map (cancelled pivot (scaled_at pivot row)) before ++ scaled_at pivot row ∷ []
-inserted_rows pivot row scaled before those now items scaled_is those_is now_is is =
-    is ∙ ap (λ l. l ++ scaled ∷ []) (now_is ∙ ap (map (cancelled pivot scaled)) those_is)
-    ∙ ap (λ (s : AugmentedRow). map (cancelled pivot s) before ++ s ∷ []) scaled_is
+pub inserted_rows : (pivot place there : ℕ) (row scaled : AugmentedRow) (before those now items : List AugmentedRow) → scaled ≡ scaled_at pivot row →
+    those ≡ before → now ≡ map (cancelled pivot scaled) those → items ≡ insert now place scaled → place ≡ there →
+    items ≡ insert (map (cancelled pivot (scaled_at pivot row)) before) there (scaled_at pivot row)
+inserted_rows pivot place there row scaled before those now items scaled_is those_is now_is is place_is =
+    is ∙ ap (λ l. insert l place scaled) (now_is ∙ ap (map (cancelled pivot scaled)) those_is)
+    ∙ ap₂ (λ (s : AugmentedRow) (i : ℕ). insert (map (cancelled pivot s) before) i s) scaled_is place_is
 
-pub inserted_alike : (row scaled : AugmentedRow) (now items : List AugmentedRow) → IsRowLike row scaled → All (IsRowLike scaled) now →
-    items ≡ now ++ scaled ∷ [] → All (IsRowLike row) items
-inserted_alike row scaled now items like each is =
-    subst (All (IsRowLike row)) (sym is) (All-append (IsRowLike row) now (scaled ∷ [])
+pub inserted_alike : (row scaled : AugmentedRow) (place : ℕ) (now items : List AugmentedRow) → place ≤ length now → IsRowLike row scaled →
+    All (IsRowLike scaled) now → items ≡ insert now place scaled → All (IsRowLike row) items
+inserted_alike row scaled place now items within like each is =
+    subst (All (IsRowLike row)) (sym is) (All-insert (IsRowLike row) now place scaled within (All-append (IsRowLike row) now (scaled ∷ [])
     (λ i d below. like_over row.left.order (length row.left.entries) (length row.left.entries + length row.right.entries) scaled (get_or now i d) like
     (each i d below))
-    (single_row (IsRowLike row) scaled like))
+    (single_row (IsRowLike row) scaled like)))
 
 -- its reduced rows are reduced over the field of a further row
 pub reduced_like : (a : AugmentedValue) (n : ℕ) (r : GrowingReduction) (row : AugmentedRow) → IsReductionOfFirst a n r → IsRowOf a row →
@@ -234,17 +237,20 @@ first_more_reduced a n pivot before after first row fine h copied over cleared l
   reduces = subst (λ u. AreReduced K a.left a.cols u after.pivots.items (map whole after.reduced.items) (map whole after.rest.items))
       (sym (first_rows-more a n (whole first) copied))
       (subst (λ (p : List ℕ). AreReduced K a.left a.cols u p (map whole after.reduced.items) (map whole after.rest.items)) (sym inserted.pivots)
-      (subst (λ (l : List (List ℕ)). AreReduced K a.left a.cols u (before.pivots.items ++ pivot ∷ []) l (map whole after.rest.items)) (sym now)
-      (subst (λ (l : List AugmentedRow). AreReduced K a.left a.cols u (before.pivots.items ++ pivot ∷ []) (map whole others ++ whole scaled ∷ []) (map whole l))
-      (sym inserted.rest)
+      (subst (λ (l : List (List ℕ)). AreReduced K a.left a.cols u (insert before.pivots.items place pivot) l (map whole after.rest.items)) (sym now)
+      (subst (λ (l : List AugmentedRow). AreReduced K a.left a.cols u (insert before.pivots.items place pivot) (insert (map whole others) place (whole scaled))
+      (map whole l)) (sym inserted.rest)
+      (moved_are_reduced K a.left a.cols place pivot u before.pivots.items (map whole others) (map whole before.rest.items) (whole scaled)
+      (omega (arith, within, as_many)) (omega (arith, pivot_count, as_many))
       (more_reduced K a.left a.cols (field_neg a.order 1) pivot (listed n (λ i. get_or a.rows i [])) (whole first) (whole row) (whole scaled)
       before.pivots.items (map whole before.reduced.items) (map whole before.rest.items) (map whole others) (minus_one-below a.order)
       (minus_one-is a.order) h.reduces (whole_over a.order a.left a.cols first over) (whole_over a.order a.left a.cols row row_over)
       (cleared_over a before.pivots.items before.reduced.items first row over cleared) single
-      (subst (IsMatrixOver K a.cols) now (wholes_over a.order a.left a.cols after.reduced.items reduced_over))
+      (subst (IsMatrixOver K a.cols) (map-append whole others (scaled ∷ []))
+      (wholes_over a.order a.left a.cols (others ++ scaled ∷ []) (All-append (IsRowOf a) others (scaled ∷ []) others_over (single_row (IsRowOf a) scaled scaled_over))))
       (wholes_over a.order a.left a.cols others others_over)
       (length-map others whole ∙ length-map before.reduced.items (cancelled pivot scaled) ∙ sym (length-map before.reduced.items whole))
-      others_at))));
+      others_at)))));
 }
   where
     K : NumberField
@@ -262,24 +268,33 @@ first_more_reduced a n pivot before after first row fine h copied over cleared l
     others : List AugmentedRow
     others = map (cancelled pivot scaled) before.reduced.items
 
-    now : map whole after.reduced.items ≡ map whole others ++ whole scaled ∷ []
-    now = ap (map whole) inserted.reduced ∙ map-append whole others (scaled ∷ [])
+    place : ℕ
+    place = count_below pivot before.pivots.items
 
-    reduced_over : All (IsRowOf a) after.reduced.items
-    reduced_over i d below = like_over a.order a.left a.cols row (get_or after.reduced.items i d) row_over (inserted.alike i d below)
+    as_many : length (map whole others) ≡ length before.reduced.items
+    as_many = length-map others whole ∙ length-map before.reduced.items (cancelled pivot scaled)
 
-    both_over : All (IsRowOf a) (others ++ scaled ∷ [])
-    both_over = subst (All (IsRowOf a)) inserted.reduced reduced_over
+    pivot_count : length before.pivots.items ≡ length before.reduced.items
+    pivot_count = h.reduces.pivot_count ∙ length-map before.reduced.items whole
+
+    within : place ≤ length before.reduced.items
+    within = omega (arith, count_by-le-length (λ number. ltb number pivot) before.pivots.items, pivot_count)
+
+    others_within : place ≤ length others
+    others_within = omega (arith, within, length-map before.reduced.items (cancelled pivot scaled))
+
+    now : map whole after.reduced.items ≡ insert (map whole others) place (whole scaled)
+    now = ap (map whole) inserted.reduced ∙ map-insert whole others place scaled
+
+    inserted_over : All (IsRowOf a) (insert others place scaled)
+    inserted_over = subst (All (IsRowOf a)) inserted.reduced
+        (λ i d below. like_over a.order a.left a.cols row (get_or after.reduced.items i d) row_over (inserted.alike i d below))
 
     others_over : All (IsRowOf a) others
-    others_over i d below =
-        subst (IsRowOf a) (get_or_append_left others (scaled ∷ []) d i below)
-        (both_over i d (omega (arith, below, length-append others (scaled ∷ []))))
+    others_over = All-others (IsRowOf a) others place scaled others_within inserted_over
 
     scaled_over : IsRowOf a scaled
-    scaled_over =
-        subst (IsRowOf a) (get_or-append-add others (scaled ∷ []) 0 scaled)
-        (both_over (length others + 0) scaled (omega (arith, length-append others (scaled ∷ []))))
+    scaled_over = All-inserted (IsRowOf a) others place scaled others_within inserted_over
 
     inside : pivot < a.left
     inside = omega (arith, leads.within, row_over.left_length)

@@ -11,6 +11,7 @@ pub mod InsertedRows
 pub mod JoinedLaws
 pub mod JoinedRows
 pub mod ReductionLaws
+pub mod Reordered
 pub mod RowReduction
 pub mod SolutionLaws
 pub mod SolutionLists

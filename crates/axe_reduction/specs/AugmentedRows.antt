@@ -1,5 +1,6 @@
 -- Rows of augmented matrices, and the reduction of the first few of them.
-use Rattle.std.specs.Prelude.{◌≡◌, ℕ, ◌+◌, ◌<◌, List, [], ◌∷◌, ◌++◌, length, map, slice_index, get_or, All}
+use Rattle.std.specs.List.{insert, count_by}
+use Rattle.std.specs.Prelude.{◌≡◌, ℕ, ◌+◌, ◌<◌, List, [], ◌++◌, length, map, slice_index, get_or, ltb, All}
 use Rattle.axe_algebra.specs.Bridge.{vector_of, matrix_of}
 use Rattle.axe_algebra.specs.Lists.{listed}
 use Rattle.axe_field.specs.Arithmetic.{field_neg, field_inv}
@@ -72,11 +73,16 @@ IsClearedBy pivots rows before after =
     (matrix_of (number_field before.left.order) (map whole rows))
     (vector_of (number_field before.left.order) (whole before))
 
--- with a further row, made 1 at its pivot, and the rows before it less their multiples of it that make them 0 there
+-- how many of some numbers are below another
+abbrev pub count_below : ℕ → List ℕ → ℕ
+count_below bound numbers = count_by (λ number. ltb number bound) numbers
+
+-- with a further row, made 1 at its pivot, at its place by its pivot, and the other rows less their multiples of it that
+-- make them 0 there
 pub record IsInsertedAt (pivot : ℕ) (row : AugmentedRow) (before after : GrowingReduction) : Type 0 where
-  pub reduced : after.reduced.items
-      ≡ map (cancelled pivot (scaled_at pivot row)) before.reduced.items ++ scaled_at pivot row ∷ []
-  pub pivots : after.pivots.items ≡ before.pivots.items ++ pivot ∷ []
+  pub reduced : after.reduced.items ≡ insert (map (cancelled pivot (scaled_at pivot row)) before.reduced.items)
+      (count_below pivot before.pivots.items) (scaled_at pivot row)
+  pub pivots : after.pivots.items ≡ insert before.pivots.items (count_below pivot before.pivots.items) pivot
   pub rest : after.rest.items ≡ before.rest.items
   pub alike : All (IsRowLike row) after.reduced.items
 

@@ -4,7 +4,7 @@ ghost use Rattle.std.specs.Prelude.{◌≡◌, ◌+◌, ◌<◌, None, length, A
 ghost use Rattle.axe_lane.specs.Entries.{IsFirstNonzero};
 ghost use Rattle.axe_row.specs.Refusals.{Answers};
 ghost use Rattle.axe_reduction.specs.AugmentedRows.{IsRowLike, AreReducedLike, IsClearedBy};
-ghost use Rattle.axe_reduction.specs.AugmentedRows.{IsInsertedAt, IsReductionOfFirst};
+ghost use Rattle.axe_reduction.specs.AugmentedRows.{count_below, IsInsertedAt, IsReductionOfFirst};
 ghost use Rattle.axe_reduction.specs.Reductions.{IsReductionOf};
 
 use crate::augmented::Augmented;
@@ -16,7 +16,8 @@ use std::alloc::Global;
 /// The reduction of the first of a few rows, which grows row by row.
 #[derive(Drop)]
 struct GrowingReduction {
-    /// The reduced rows: each is 1 at its pivot and 0 before it, and 0 at the pivots of the others.
+    /// The reduced rows: each is 1 at its pivot and 0 before it, and 0 at the pivots of the others. A further one goes
+    /// to its place in the ascending order of the pivots, so that pivots that are consecutive columns stand together.
     reduced: Vec<AugmentedRow>,
     /// The pivots of the reduced rows, in their order.
     pivots: Vec<usize>,
@@ -47,15 +48,24 @@ impl GrowingReduction {
         requires row { IsRowLike row row }
         requires pivot { IsFirstNonzero row.left.entries pivot }
         requires alike { All (IsRowLike row) self.old.reduced.items }
+        requires count { length self.old.pivots.items ≡ length self.old.reduced.items }
         ensures { Answers None (λ _. IsInsertedAt pivot row self.old self.new) result }
     {
         let mut row = row;
         row.scale_at(pivot);
         cancel_in_each(&mut self.reduced, pivot, &row);
-        self.reduced.push(row)?;
-        self.pivots.push(pivot)?;
+        let place = place_among(&self.pivots, pivot);
+        self.reduced.insert(place, row)?;
+        self.pivots.insert(place, pivot)?;
         Ok(())
     }
+}
+
+/// The place of a further pivot among others that are in ascending order: after the smaller ones.
+fn place_among(pivots: &[usize], pivot: usize) -> usize
+    ensures { result ≡ count_below pivot pivots.now }
+{
+    pivots.iter().filter(|other| **other < pivot).count()
 }
 
 /// Makes a row 0 at the pivots of reduced rows, by their multiples.

@@ -93,6 +93,7 @@ copy | 3: 20201122202221221112201112102222111220001100210210211012212110201122 |
 
 /// - `part`: a row, an index, a length, and so many entries from that index on;
 /// - `first_and_last`: a row, and its first and its last entry, as `select` gives them;
+/// - `runs`: a row of 67 entries or more, and those at columns 62 to 65, 1 to 3, and 66, as `select` gives them;
 /// - `copy_to`: a row, and its entries, which are copied to a slice.
 const PARTS: &str = "\
 part | 9: 13580 | 1 | 3 | 9: 358
@@ -103,6 +104,9 @@ part | 2: 000000000000000000000000000000000000000000000000000000000000001001 | 6
 first_and_last | 9: 1358 | 9: 18
 first_and_last | 4: 3012 | 4: 32
 first_and_last | 2: 00000000000000000000000000000000000000000000000000000000000000001 | 2: 01
+runs | 2: 1101000011010000110100010000000011000011011001011010111110110010110 | 2: 10111010
+runs | 3: 1002011002202100110011012021122111111001202110011222101222011222111 | 3: 22110021
+runs | 4: 2210322232222232132211123203132201131110311010213103323011202323020 | 4: 23022100
 copy_to | 9: 1358 | 9: 1358
 copy_to | 8: 76543210 | 8: 76543210
 copy_to | 2: 0110 | 2: 0110
@@ -304,6 +308,13 @@ fn selects_ends(rt: &impl Abort, alloc: Global, line: &str) -> Result<bool, Tabl
     is_row_answer(alloc, row.select(alloc, &[0, row.len() - 1]), wanted)
 }
 
+fn selects_runs(rt: &impl Abort, alloc: Global, line: &str) -> Result<bool, TableFault> {
+    let (row, wanted) = two_fields(line)?;
+    let row = row_of(alloc, row)?;
+    assert!(rt; row.len() >= 67);
+    is_row_answer(alloc, row.select(alloc, &[62, 63, 64, 65, 1, 2, 3, 66]), wanted)
+}
+
 fn copies_entries(alloc: Global, line: &str) -> Result<bool, TableFault> {
     let (row, wanted) = two_fields(line)?;
     let row = row_of(alloc, row)?;
@@ -396,6 +407,7 @@ pub(crate) fn answers(
         "is_zero" => tells_zero(alloc, line),
         "part" => takes_part(rt, alloc, line),
         "first_and_last" => selects_ends(rt, alloc, line),
+        "runs" => selects_runs(rt, alloc, line),
         "copy_to" => copies_entries(alloc, line),
         "copy" => copies(alloc, line),
         "add_scaled" => adds_multiple(alloc, line),
