@@ -2,7 +2,6 @@
 use Rattle.std.proofs.Common.{◌≡◌, ℕ, ◌+◌, ◌*◌, ◌%◌, ◌^◌, ◌<◌, ◌≤◌, List, [], ◌∷◌, length, get_or, set, replicate, cond, ltb, sym, refl, ap, subst, ◌∙◌, arith, inl, inr, lit<, lit≤, get_or-set_other, get_or-set_same}
 use Rattle.std.specs.List.{All}
 use Rattle.std.proofs.Math.Nat.{le_trans, mod-eq_of_lt, pow-le-pow_right}
-use Rattle.std.proofs.Math.Seq.{set-set}
 use Rattle.std.proofs.lemmas.Bool.{cases_eq}
 use Rattle.std.proofs.lemmas.List.{ext_get_or, get_or_default, get_or_past, get_or-replicate, length-replicate, length-set}
 use Rattle.std.proofs.lemmas.List.Elements.{All-replicate, All-set}
@@ -42,13 +41,17 @@ digits_of-plane_at (Bytes table) x = refl
 
 -- ---- an entry that was written
 
--- a copy of another entry, as a plane
-pub copied_entry : (to from : ℕ) (before after : PlaneTable) →
-    IsTable (prime_of_table before) (set (entries_of_table before) to (get_or (entries_of_table before) from [])) after →
-    IsTable (prime_of_table before) (set (entries_of_table before) to (digits_of (plane_at before from))) after
-copied_entry to from before after h = record {
+-- the sum of another entry and a plane, by that entry as a plane
+pub sum_with_entry : (to from f : ℕ) (b : List ℕ) (before after : PlaneTable) →
+    IsTable (prime_of_table before) (set (entries_of_table before) to
+    (digits_with_multiple (prime_of_table before) (get_or (entries_of_table before) from []) f b)) after →
+    IsTable (prime_of_table before) (set (entries_of_table before) to
+    (digits_with_multiple (prime_of_table before) (digits_of (plane_at before from)) f b)) after
+sum_with_entry to from f b before after h = record {
   prime = h.prime;
-  entries_are = h.entries_are ∙ ap (λ (d : List ℕ). set (entries_of_table before) to d) (sym (digits_of-plane_at before from));
+  entries_are =
+      h.entries_are ∙ ap (λ (d : List ℕ). set (entries_of_table before) to (digits_with_multiple (prime_of_table before) d f b))
+      (sym (digits_of-plane_at before from));
 }
 
 -- ---- a table of planes of one length

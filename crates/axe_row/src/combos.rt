@@ -190,8 +190,7 @@ impl Combos {
     {
         let constant = &row.constant;
         let Some(higher) = &row.higher else {
-            self.constant.copy_entry(to, from);
-            self.constant.add_to_entry(to, scalar, constant);
+            self.constant.put_sum(to, from, scalar, constant);
             return;
         };
         let (linear, quadratic) = (&higher.linear, &higher.quadratic);
@@ -316,14 +315,13 @@ fn put_multiples(
     quadratic: &Plane,
 )
     requires to { to < length (entries_of_table table.old) }
-    requires from { from < length (entries_of_table table.old) }
+    requires earlier { from < to }
     requires addable { AreAddable (plane_at table.old from) factors constant.now linear.now quadratic.now }
     ensures { IsTable (prime_of_table table.old) (slice_set (entries_of_table table.old) to
         (digits_with_multiples (prime_of_table table.old) (digits_of (plane_at table.old from)) factors
         (digits_of constant.now) (digits_of linear.now) (digits_of quadratic.now))) table.new }
 {
-    table.copy_entry(to, from);
-    table.add_to_entry(to, factors[0], constant);
+    table.put_sum(to, from, factors[0], constant);
     table.add_to_entry(to, factors[1], linear);
     table.add_to_entry(to, factors[2], quadratic);
 }

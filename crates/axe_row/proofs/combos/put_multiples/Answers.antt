@@ -1,36 +1,36 @@
 use Rattle.std.proofs.Common.{sym, ◌∙◌}
 use Rattle.axe_bits.proofs.DigitLaws.{length-digits_with_multiple, AreDigits-sum}
-use Rattle.axe_plane.proofs.TableLaws.{prime_of_table-positive}
+use Rattle.axe_plane.proofs.TableLaws.{prime_of_table-positive, written_fits, written_digits, written_more}
 use Rattle.axe_row.specs.Planes.{digits_with_multiples}
-use Rattle.axe_row.proofs.TablePlanes.{copied_entry, written_fits, written_digits, written_more}
+use Rattle.axe_row.proofs.TablePlanes.{sum_with_entry}
 use Rattle.axe_row.proofs.combos.put_multiples.Goals as goal
+
+pub add_to_entry-requires-clause-fits : goal.add_to_entry-requires-clause-fits
+add_to_entry-requires-clause-fits c nonzero =
+    let one = sum_with_entry _ _ _ _ _ _ c.put_sum.ensures in
+    written_fits _ _ _ _ _ _ c.requires.to one (c.requires.addable.linear.fits nonzero ∙ sym (length-digits_with_multiple _ _ _ _))
+
+pub add_to_entry-requires-clause-digits : goal.add_to_entry-requires-clause-digits
+add_to_entry-requires-clause-digits c =
+    let one = sum_with_entry _ _ _ _ _ _ c.put_sum.ensures in
+    written_digits _ _ _ _ _ c.requires.to one (AreDigits-sum _ _ _ _ (prime_of_table-positive c.args.table.now))
 
 pub add_to_entry-requires-2-clause-fits : goal.add_to_entry-requires-2-clause-fits
 add_to_entry-requires-2-clause-fits c nonzero =
-    let one = written_more _ _ _ _ _ _ _ _ c.requires.to (copied_entry _ _ _ _ c.copy_entry.ensures) c.add_to_entry.ensures in
-    written_fits _ _ _ _ _ _ c.requires.to one (c.requires.addable.linear.fits nonzero ∙ sym (length-digits_with_multiple _ _ _ _))
-
-pub add_to_entry-requires-2-clause-digits : goal.add_to_entry-requires-2-clause-digits
-add_to_entry-requires-2-clause-digits c =
-    let one = written_more _ _ _ _ _ _ _ _ c.requires.to (copied_entry _ _ _ _ c.copy_entry.ensures) c.add_to_entry.ensures in
-    written_digits _ _ _ _ _ c.requires.to one (AreDigits-sum _ _ _ _ (prime_of_table-positive c.args.table.now))
-
-pub add_to_entry-requires-3-clause-fits : goal.add_to_entry-requires-3-clause-fits
-add_to_entry-requires-3-clause-fits c nonzero =
-    let one = written_more _ _ _ _ _ _ _ _ c.requires.to (copied_entry _ _ _ _ c.copy_entry.ensures) c.add_to_entry.ensures in
-    let two = written_more _ _ _ _ _ _ _ _ c.requires.to one c.add_to_entry-2.ensures in
+    let one = sum_with_entry _ _ _ _ _ _ c.put_sum.ensures in
+    let two = written_more _ _ _ _ _ _ _ _ c.requires.to one c.add_to_entry.ensures in
     written_fits _ _ _ _ _ _ c.requires.to two
     (c.requires.addable.quadratic.fits nonzero ∙ sym (length-digits_with_multiple _ _ _ _ ∙ length-digits_with_multiple _ _ _ _))
 
-pub add_to_entry-requires-3-clause-digits : goal.add_to_entry-requires-3-clause-digits
-add_to_entry-requires-3-clause-digits c =
-    let one = written_more _ _ _ _ _ _ _ _ c.requires.to (copied_entry _ _ _ _ c.copy_entry.ensures) c.add_to_entry.ensures in
-    let two = written_more _ _ _ _ _ _ _ _ c.requires.to one c.add_to_entry-2.ensures in
+pub add_to_entry-requires-2-clause-digits : goal.add_to_entry-requires-2-clause-digits
+add_to_entry-requires-2-clause-digits c =
+    let one = sum_with_entry _ _ _ _ _ _ c.put_sum.ensures in
+    let two = written_more _ _ _ _ _ _ _ _ c.requires.to one c.add_to_entry.ensures in
     written_digits _ _ _ _ _ c.requires.to two (AreDigits-sum _ _ _ _ (prime_of_table-positive c.args.table.now))
 
 pub returns : goal.returns
 unfolding digits_with_multiples
 returns c =
-    let one = written_more _ _ _ _ _ _ _ _ c.requires.to (copied_entry _ _ _ _ c.copy_entry.ensures) c.add_to_entry.ensures in
-    let two = written_more _ _ _ _ _ _ _ _ c.requires.to one c.add_to_entry-2.ensures in
-    written_more _ _ _ _ _ _ _ _ c.requires.to two c.add_to_entry-3.ensures
+    let one = sum_with_entry _ _ _ _ _ _ c.put_sum.ensures in
+    let two = written_more _ _ _ _ _ _ _ _ c.requires.to one c.add_to_entry.ensures in
+    written_more _ _ _ _ _ _ _ _ c.requires.to two c.add_to_entry-2.ensures

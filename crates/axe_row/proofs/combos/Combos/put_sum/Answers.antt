@@ -1,69 +1,50 @@
-use Rattle.std.proofs.Common.{◌≡◌, ◌<◌, [], length, get_or, refl, sym, ap, subst, ◌∙◌, arith}
-use Rattle.std.proofs.lemmas.List.{length-set}
+use Rattle.std.proofs.Common.{◌≡◌, ◌<◌, length, refl, sym, ap, subst, ◌∙◌}
 use Rattle.axe_field.specs.Order.{degree_of}
 use Rattle.axe_field.specs.Planes.{matrix_of_multiplication}
 use Rattle.axe_bits.specs.Digits.{AreDigits}
 use Rattle.axe_plane.specs.Planes.{digits_of}
-use Rattle.axe_plane.specs.Tables.{entries_of_table, plane_at}
+use Rattle.axe_plane.specs.Tables.{plane_at, prime_of_table}
 use Rattle.axe_row.specs.HigherPlanes.{linear_of, quadratic_of}
 use Rattle.axe_row.proofs.KeptPlanes.{row_alone, kept_planes, kept_view, linear_is_empty, quadratic_is_empty, no_linear, no_quadratic, first_factor}
 use Rattle.axe_row.proofs.PrimeRows.{element_is_digit}
 use Rattle.axe_row.proofs.RowPlanes.{prime-positive}
 use Rattle.axe_row.proofs.PlaneSums.{column, addable_constant, addable_linear, addable_quadratic}
-use Rattle.axe_row.proofs.TablePlanes.{IsTableOfRows-of_planes, entry_within, earlier_within, copied_entry, written_fits, written_digits, written_more, put_alone, empty_put, put_rows, put_tables, table_summands, table_with_sum}
+use Rattle.axe_row.proofs.TablePlanes.{IsTableOfRows-of_planes, entry_within, digits_of-plane_at, sum_with_entry, put_alone, empty_put, put_rows, put_tables, table_summands, table_with_sum}
 use Rattle.axe_row.proofs.combos.Combos.put_sum.Goals as goal
 
 -- a row of one plane alone
-pub copy_entry-requires-clause-to : goal.copy_entry-requires-clause-to
-copy_entry-requires-clause-to c =
+pub put_sum-requires-clause-to : goal.put_sum-requires-clause-to
+put_sum-requires-clause-to c =
     let o = c.self.inside.field in
     let h = table_summands _ _ _ _ _ _ _ c.self.inside.constant c.self.inside.linear c.self.inside.quadratic c.row.inside.constant (linear_of c.row.inside.field c.row.inside.higher) (quadratic_of c.row.inside.field c.row.inside.higher)
     (matrix_of_multiplication o c.args.scalar) _ _ c.self.invariant c.row.invariant.planes c.self.view_is c.row.view_is c.requires.field
     c.requires.fits c.requires.element refl c.requires.earlier c.requires.within in
     entry_within _ _ _ _ _ h.tables.constant h.within
 
-pub copy_entry-requires-clause-from : goal.copy_entry-requires-clause-from
-copy_entry-requires-clause-from c =
-    let o = c.self.inside.field in
-    let h = table_summands _ _ _ _ _ _ _ c.self.inside.constant c.self.inside.linear c.self.inside.quadratic c.row.inside.constant (linear_of c.row.inside.field c.row.inside.higher) (quadratic_of c.row.inside.field c.row.inside.higher)
-    (matrix_of_multiplication o c.args.scalar) _ _ c.self.invariant c.row.invariant.planes c.self.view_is c.row.view_is c.requires.field
-    c.requires.fits c.requires.element refl c.requires.earlier c.requires.within in
-    earlier_within _ _ _ _ _ _ h.tables.constant h.earlier h.within
-
-pub add_to_entry-requires-clause-to : goal.add_to_entry-requires-clause-to
-add_to_entry-requires-clause-to c =
-    let o = c.self.inside.field in
-    let h = table_summands _ _ _ _ _ _ _ c.self.inside.constant c.self.inside.linear c.self.inside.quadratic c.row.inside.constant (linear_of c.row.inside.field c.row.inside.higher) (quadratic_of c.row.inside.field c.row.inside.higher)
-    (matrix_of_multiplication o c.args.scalar) _ _ c.self.invariant c.row.invariant.planes c.self.view_is c.row.view_is c.requires.field
-    c.requires.fits c.requires.element refl c.requires.earlier c.requires.within in
-    let inside = entry_within _ _ _ _ _ h.tables.constant h.within in
-    omega (arith, inside, ap length c.copy_entry.ensures.entries_are, length-set (entries_of_table c.self.inside.constant) c.args.to (get_or (entries_of_table c.self.inside.constant) c.args.from []))
-
-pub add_to_entry-requires-clause-factor : goal.add_to_entry-requires-clause-factor
-add_to_entry-requires-clause-factor c =
+pub put_sum-requires-clause-factor : goal.put_sum-requires-clause-factor
+put_sum-requires-clause-factor c =
     let o = c.self.inside.field in
     let h = table_summands _ _ _ _ _ _ _ c.self.inside.constant c.self.inside.linear c.self.inside.quadratic c.row.inside.constant (linear_of c.row.inside.field c.row.inside.higher) (quadratic_of c.row.inside.field c.row.inside.higher)
     (matrix_of_multiplication o c.args.scalar) _ _ c.self.invariant c.row.invariant.planes c.self.view_is c.row.view_is c.requires.field
     c.requires.fits c.requires.element refl c.requires.earlier c.requires.within in
     let one : degree_of o ≡ 1 = row_alone _ _ _ _ _ _ _ _ _ c.row.invariant c.self.view_is c.row.view_is c.requires.field c.in_default.is in
-    subst (λ p. c.args.scalar < p) (sym (c.copy_entry.ensures.prime ∙ h.tables.constant.prime)) (element_is_digit o c.args.scalar one h.summands.scalar)
+    subst (λ p. c.args.scalar < p) (sym h.tables.constant.prime) (element_is_digit o c.args.scalar one h.summands.scalar)
 
-pub add_to_entry-requires-clause-fits : goal.add_to_entry-requires-clause-fits
-add_to_entry-requires-clause-fits c =
+pub put_sum-requires-clause-fits : goal.put_sum-requires-clause-fits
+put_sum-requires-clause-fits c =
     let o = c.self.inside.field in
     let h = table_summands _ _ _ _ _ _ _ c.self.inside.constant c.self.inside.linear c.self.inside.quadratic c.row.inside.constant (linear_of c.row.inside.field c.row.inside.higher) (quadratic_of c.row.inside.field c.row.inside.higher)
     (matrix_of_multiplication o c.args.scalar) _ _ c.self.invariant c.row.invariant.planes c.self.view_is c.row.view_is c.requires.field
     c.requires.fits c.requires.element refl c.requires.earlier c.requires.within in
-    λ nonzero. written_fits _ _ _ _ _ _ (entry_within _ _ _ _ _ h.tables.constant h.within) (copied_entry _ _ _ _ c.copy_entry.ensures)
-    (h.summands.others.constant.long ∙ sym h.summands.planes.constant.long)
+    λ nonzero. h.summands.others.constant.long ∙ sym h.summands.planes.constant.long ∙ ap length (digits_of-plane_at c.self.inside.constant c.args.from)
 
-pub add_to_entry-requires-clause-digits : goal.add_to_entry-requires-clause-digits
-add_to_entry-requires-clause-digits c =
+pub put_sum-requires-clause-digits : goal.put_sum-requires-clause-digits
+put_sum-requires-clause-digits c =
     let o = c.self.inside.field in
     let h = table_summands _ _ _ _ _ _ _ c.self.inside.constant c.self.inside.linear c.self.inside.quadratic c.row.inside.constant (linear_of c.row.inside.field c.row.inside.higher) (quadratic_of c.row.inside.field c.row.inside.higher)
     (matrix_of_multiplication o c.args.scalar) _ _ c.self.invariant c.row.invariant.planes c.self.view_is c.row.view_is c.requires.field
     c.requires.fits c.requires.element refl c.requires.earlier c.requires.within in
-    written_digits _ _ _ _ _ (entry_within _ _ _ _ _ h.tables.constant h.within) (copied_entry _ _ _ _ c.copy_entry.ensures)
+    subst (AreDigits (prime_of_table c.self.inside.constant)) (digits_of-plane_at c.self.inside.constant c.args.from)
     (subst (λ p. AreDigits p (digits_of (plane_at c.self.inside.constant c.args.from))) (sym h.tables.constant.prime) h.summands.planes.constant.digits)
 
 pub invariant_of-self : goal.invariant_of-self
@@ -75,11 +56,10 @@ invariant_of-self c =
     let one : degree_of o ≡ 1 = row_alone _ _ _ _ _ _ _ _ _ c.row.invariant c.self.view_is c.row.view_is c.requires.field c.in_default.is in
     let linear = linear_is_empty _ _ _ _ c.row.invariant c.in_default.is in
     let quadratic = quadratic_is_empty _ _ _ _ c.row.invariant c.in_default.is in
-    let inside = entry_within _ _ _ _ _ h.tables.constant h.within in
     let first = first_factor _ _ one h.summands.scalar in
     let hc = put_alone _ _ c.args.from c.args.scalar c.self.inside.constant (column (matrix_of_multiplication o c.args.scalar) 0) c.row.inside.constant (linear_of c.row.inside.field c.row.inside.higher) (quadratic_of c.row.inside.field c.row.inside.higher) _
     (sym h.tables.constant.prime) (prime-positive o) first linear quadratic
-    (written_more _ _ _ _ _ _ _ _ inside (copied_entry _ _ _ _ c.copy_entry.ensures) c.add_to_entry.ensures) in
+    (sum_with_entry _ _ _ _ _ _ c.put_sum.ensures) in
     let hl = empty_put _ _ _ _ _ c.self.inside.linear (column (matrix_of_multiplication o c.args.scalar) 1) c.row.inside.constant (linear_of c.row.inside.field c.row.inside.higher) (quadratic_of c.row.inside.field c.row.inside.higher) h.tables.linear (no_linear _ _ one) h.earlier h.within in
     let hq = empty_put _ _ _ _ _ c.self.inside.quadratic (column (matrix_of_multiplication o c.args.scalar) 2) c.row.inside.constant (linear_of c.row.inside.field c.row.inside.higher) (quadratic_of c.row.inside.field c.row.inside.higher) h.tables.quadratic (no_quadratic _ _ one) h.earlier h.within in
     put_tables _ _ _ _ _ _ _ _ _ _ _ _ _ _ _ _ _ _ h hc hl hq
@@ -93,11 +73,10 @@ returns-in_default-clause-sum c =
     let one : degree_of o ≡ 1 = row_alone _ _ _ _ _ _ _ _ _ c.row.invariant c.self.view_is c.row.view_is c.requires.field c.in_default.is in
     let linear = linear_is_empty _ _ _ _ c.row.invariant c.in_default.is in
     let quadratic = quadratic_is_empty _ _ _ _ c.row.invariant c.in_default.is in
-    let inside = entry_within _ _ _ _ _ h.tables.constant h.within in
     let first = first_factor _ _ one h.summands.scalar in
     let hc = put_alone _ _ c.args.from c.args.scalar c.self.inside.constant (column (matrix_of_multiplication o c.args.scalar) 0) c.row.inside.constant (linear_of c.row.inside.field c.row.inside.higher) (quadratic_of c.row.inside.field c.row.inside.higher) _
     (sym h.tables.constant.prime) (prime-positive o) first linear quadratic
-    (written_more _ _ _ _ _ _ _ _ inside (copied_entry _ _ _ _ c.copy_entry.ensures) c.add_to_entry.ensures) in
+    (sum_with_entry _ _ _ _ _ _ c.put_sum.ensures) in
     let hl = empty_put _ _ _ _ _ c.self.inside.linear (column (matrix_of_multiplication o c.args.scalar) 1) c.row.inside.constant (linear_of c.row.inside.field c.row.inside.higher) (quadratic_of c.row.inside.field c.row.inside.higher) h.tables.linear (no_linear _ _ one) h.earlier h.within in
     let hq = empty_put _ _ _ _ _ c.self.inside.quadratic (column (matrix_of_multiplication o c.args.scalar) 2) c.row.inside.constant (linear_of c.row.inside.field c.row.inside.higher) (quadratic_of c.row.inside.field c.row.inside.higher) h.tables.quadratic (no_quadratic _ _ one) h.earlier h.within in
     table_with_sum _ _ _ _ _ _ _ c.self.inside.constant c.self.inside.linear c.self.inside.quadratic c.row.inside.constant (linear_of c.row.inside.field c.row.inside.higher) (quadratic_of c.row.inside.field c.row.inside.higher)
@@ -114,12 +93,6 @@ put_multiples-requires-clause-to c =
     c.requires.fits c.requires.element c.plane_matrix-m.ensures.value c.requires.earlier c.requires.within in
     entry_within _ _ _ _ _ h.tables.constant h.within
 
-pub put_multiples-requires-clause-from : goal.put_multiples-requires-clause-from
-put_multiples-requires-clause-from c =
-    let h = table_summands _ _ _ _ _ _ _ _ _ _ _ _ _ _ _ _ c.self.invariant (kept_planes _ _ _ _ c.row.invariant _ _ _ c.in-Some.is c.deref.ensures c.deref-2.ensures) c.self.view_is (kept_view _ c.row.inside.constant _ _ _ _ _ c.row.view_is c.in-Some.is c.deref.ensures c.deref-2.ensures) c.requires.field
-    c.requires.fits c.requires.element c.plane_matrix-m.ensures.value c.requires.earlier c.requires.within in
-    earlier_within _ _ _ _ _ _ h.tables.constant h.earlier h.within
-
 pub put_multiples-requires-clause-addable : goal.put_multiples-requires-clause-addable
 put_multiples-requires-clause-addable c =
     let h = table_summands _ _ _ _ _ _ _ _ _ _ _ _ _ _ _ _ c.self.invariant (kept_planes _ _ _ _ c.row.invariant _ _ _ c.in-Some.is c.deref.ensures c.deref-2.ensures) c.self.view_is (kept_view _ c.row.inside.constant _ _ _ _ _ c.row.view_is c.in-Some.is c.deref.ensures c.deref-2.ensures) c.requires.field
@@ -132,12 +105,6 @@ put_multiples-requires-2-clause-to c =
     c.requires.fits c.requires.element c.plane_matrix-m.ensures.value c.requires.earlier c.requires.within in
     entry_within _ _ _ _ _ h.tables.linear h.within
 
-pub put_multiples-requires-2-clause-from : goal.put_multiples-requires-2-clause-from
-put_multiples-requires-2-clause-from c =
-    let h = table_summands _ _ _ _ _ _ _ _ _ _ _ _ _ _ _ _ c.self.invariant (kept_planes _ _ _ _ c.row.invariant _ _ _ c.in-Some.is c.deref.ensures c.deref-2.ensures) c.self.view_is (kept_view _ c.row.inside.constant _ _ _ _ _ c.row.view_is c.in-Some.is c.deref.ensures c.deref-2.ensures) c.requires.field
-    c.requires.fits c.requires.element c.plane_matrix-m.ensures.value c.requires.earlier c.requires.within in
-    earlier_within _ _ _ _ _ _ h.tables.linear h.earlier h.within
-
 pub put_multiples-requires-2-clause-addable : goal.put_multiples-requires-2-clause-addable
 put_multiples-requires-2-clause-addable c =
     let h = table_summands _ _ _ _ _ _ _ _ _ _ _ _ _ _ _ _ c.self.invariant (kept_planes _ _ _ _ c.row.invariant _ _ _ c.in-Some.is c.deref.ensures c.deref-2.ensures) c.self.view_is (kept_view _ c.row.inside.constant _ _ _ _ _ c.row.view_is c.in-Some.is c.deref.ensures c.deref-2.ensures) c.requires.field
@@ -149,12 +116,6 @@ put_multiples-requires-3-clause-to c =
     let h = table_summands _ _ _ _ _ _ _ _ _ _ _ _ _ _ _ _ c.self.invariant (kept_planes _ _ _ _ c.row.invariant _ _ _ c.in-Some.is c.deref.ensures c.deref-2.ensures) c.self.view_is (kept_view _ c.row.inside.constant _ _ _ _ _ c.row.view_is c.in-Some.is c.deref.ensures c.deref-2.ensures) c.requires.field
     c.requires.fits c.requires.element c.plane_matrix-m.ensures.value c.requires.earlier c.requires.within in
     entry_within _ _ _ _ _ h.tables.quadratic h.within
-
-pub put_multiples-requires-3-clause-from : goal.put_multiples-requires-3-clause-from
-put_multiples-requires-3-clause-from c =
-    let h = table_summands _ _ _ _ _ _ _ _ _ _ _ _ _ _ _ _ c.self.invariant (kept_planes _ _ _ _ c.row.invariant _ _ _ c.in-Some.is c.deref.ensures c.deref-2.ensures) c.self.view_is (kept_view _ c.row.inside.constant _ _ _ _ _ c.row.view_is c.in-Some.is c.deref.ensures c.deref-2.ensures) c.requires.field
-    c.requires.fits c.requires.element c.plane_matrix-m.ensures.value c.requires.earlier c.requires.within in
-    earlier_within _ _ _ _ _ _ h.tables.quadratic h.earlier h.within
 
 pub put_multiples-requires-3-clause-addable : goal.put_multiples-requires-3-clause-addable
 put_multiples-requires-3-clause-addable c =
