@@ -42,6 +42,12 @@ pub answers_if_ok : {T : Type 0} (result : Result T Refusal) (P Q : T → Type 0
 answers_if_ok (Ok value) P Q h more = more
 answers_if_ok (Err refusal) P Q h more = h
 
+-- an answer that says more by what else holds of the value
+pub answers_with : {T : Type 0} (result : Result T Refusal) (P Q R : T → Type 0) → Answers None P result → IfOk result Q →
+    ((value : T) → P value → Q value → R value) → Answers None R result
+answers_with (Ok value) P Q R h also more = more value h also
+answers_with (Err refusal) P Q R h also more = h
+
 -- ---- refusals that are told by a callee
 
 -- a value that there is was not refused

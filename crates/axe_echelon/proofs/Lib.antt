@@ -16,6 +16,9 @@ pub mod SomeMatrix
 pub mod SubspaceLaws
 pub mod WholeSpace
 pub mod OrthogonalLaws
+pub mod MirroredLaws
+pub mod MirroredBases
+pub mod MirroredLists
 pub mod PivotsOfRows
 pub mod OrthogonalRows
 pub mod RowSpaces

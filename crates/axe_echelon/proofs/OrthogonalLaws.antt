@@ -1,17 +1,17 @@
 -- Vectors that are orthogonal to some rows: one for each column that is no pivot of them, and that these span all.
-use Rattle.std.specs.Prelude.{◌≡◌, ◌≢◌, ℕ, zero, suc, ◌<◌, ◌≤◌, ◌⊎◌}
+use Rattle.std.specs.Prelude.{◌≡◌, ◌≢◌, ℕ, zero, suc, ◌+◌, ◌<◌, ◌≤◌, ◌⊎◌}
 use Rattle.axe_algebra.specs.Field.{Field}
 use Rattle.axe_algebra.specs.Vectors.{Vector, Matrix, HasLength, HasRowsOfLength, zero_vector, unit_vector, add_vectors, scale, dot}
 use Rattle.axe_algebra.specs.Spans.{InSpan}
-use Rattle.axe_algebra.specs.Reduced.{LeadsAt, IsPivot, IsReducedBasis, IsReducedBasisOf}
+use Rattle.axe_algebra.specs.Reduced.{LeadsAt, IsPivot, IsAscendingListOf, IsReducedBasis}
 use Rattle.axe_algebra.specs.Irreducible.{InAnnihilator}
 use Rattle.axe_algebra.proofs.FieldLaws.{zero-add, zero-mul, one-mul, mul-zero, neg-mul, neg-zero, same_of_difference}
 use Rattle.axe_algebra.proofs.Sums.{sum_same, sum_one}
 use Rattle.axe_algebra.proofs.ProductLaws.{dot-at, unit_at, unit_off}
-use Rattle.axe_algebra.proofs.Spanning.{span_row, span_zero, span_add, span_scale, span_length, span_within}
+use Rattle.axe_algebra.proofs.Spanning.{span_row, span_zero, span_add, span_scale, span_length}
 use Rattle.axe_algebra.proofs.Spaces.{space_has_span}
 use Rattle.axe_algebra.proofs.Annihilators.{dot-add, dot-scale, dot-unit, annihilator_of_span, annihilator_within, annihilator_is_space}
-use Rattle.axe_algebra.proofs.ReducedBases.{place_or_none, reduced_basis, reduced_spans, reduced_of_same_span}
+use Rattle.axe_algebra.proofs.ReducedBases.{place_or_none, reduced_basis, reduced_spans}
 use Rattle.axe_algebra.proofs.FreeColumns.{pivot_or_not}
 use Rattle.axe_echelon.proofs.FormLaws.{below_or_at}
 use mathlib.Core.Logic.{inl, inr}
@@ -34,6 +34,52 @@ pub record IsOrthogonalFrom (F : Field) (n r : ℕ) (w : Matrix F) (column i : �
 pub record IsOrthogonalUpTo (F : Field) (r : ℕ) (w : Matrix F) (m : ℕ) (b : Matrix F) (pivots : ℕ → ℕ) (column i : ℕ) (x : Vector F) : Type 0 where
   pub at_pivots : (t : ℕ) → t < i → x (pivots t) ≡ F.neg (b t column)
   pub others : (j : ℕ) → ((t : ℕ) → t < i → pivots t ≢ j) → x j ≡ unit_vector F column j
+
+-- of m ascending pivots the first i are those before a column
+pub record ArePlacesBefore (m : ℕ) (pivots : ℕ → ℕ) (column i : ℕ) : Type 0 where
+  pub few : i ≤ m
+  pub before : (t : ℕ) → t < i → pivots t < column
+  pub after : (t : ℕ) → i ≤ t → t < m → column ≤ pivots t
+
+pub no_places : (m : ℕ) (pivots : ℕ → ℕ) → ArePlacesBefore m pivots 0 0
+no_places m pivots = record { few = omega arith; before = λ t none. absurd (omega arith); after = λ t above below. omega arith }
+
+module _ (P : ℕ → Type 0) (m : ℕ) (pivots : ℕ → ℕ) (ascending : IsAscendingListOf P m pivots) (column i : ℕ)
+    (places : ArePlacesBefore m pivots column i) where
+  -- the next of them is the column, where that is one
+  pub place_of_pivot : P column → (i < m) × (pivots i ≡ column)
+  place_of_pivot is = found (ascending.all column is)
+    where
+      found : (t : ℕ) × (t < m) × (pivots t ≡ column) → (i < m) × (pivots i ≡ column)
+      found (t, below, e) = at (ℕ_discrete t i)
+        where
+          at : Dec (t ≡ i) → (i < m) × (pivots i ≡ column)
+          at (yes same) = (omega (arith, same, below), ap pivots (sym same) ∙ e)
+          at (no other) = by_order (dec_lt t i)
+            where
+              by_order : Dec (t < i) → (i < m) × (pivots i ≡ column)
+              by_order (yes earlier) = absurd (omega (arith, places.before t earlier, e))
+              by_order (no later) =
+                  absurd (omega (arith, ascending.ascending i t (omega (arith, later, other)) below, places.after i (omega arith) (omega (arith, later, other, below)), e))
+
+  pub places_more : P column → ArePlacesBefore m pivots (column + 1) (i + 1)
+  places_more is = from (place_of_pivot is)
+    where
+      from : (i < m) × (pivots i ≡ column) → ArePlacesBefore m pivots (column + 1) (i + 1)
+      from (below, e) = record {
+        few = omega (arith, below);
+        before = λ t less. below_or_at (λ t. pivots t < column + 1) i (λ t earlier. let b = places.before t earlier in omega (arith, b)) (omega (arith, e)) t (omega (arith, less));
+        after = λ t above inside. omega (arith, ascending.ascending i t (omega (arith, above)) inside, e);
+      }
+
+  pub places_same : ¬ (P column) → ArePlacesBefore m pivots (column + 1) i
+  places_same none = record {
+    few = places.few;
+    before = λ t less. let b = places.before t less in omega (arith, b);
+    after = λ t above inside.
+        let other : pivots t ≢ column = λ e. none (subst P e (ascending.each t inside)) in
+        let from = places.after t above inside in omega (arith, other, from);
+  }
 
 -- some vector of the span of s rows of z is the unit vector of a column at the columns that are no pivots of w
 pub record IsReached (F : Field) (r : ℕ) (w : Matrix F) (s : ℕ) (z : Matrix F) (column : ℕ) : Type 0 where
@@ -137,16 +183,43 @@ module _ (F : Field) (n : ℕ) where
           ∙ sym (ap F.neg none_there ∙ neg-zero F))
           (λ j other. refl)
 
-      -- a row of the basis leads at its pivot
-      pub leads_at_pivot : (i p : ℕ) → i < m → LeadsAt F (b i) p → p ≡ basis.pivots i
-      leads_at_pivot i p inside leads = found (basis.are_pivots.all p (record { vector = b i; in_span = basis.in_span i inside; leads = leads }))
+      -- a row of the basis is 0 before its pivot
+      zero_before_pivot : (t i : ℕ) → t < m → ((k : ℕ) → k < i → b t k ≡ F.zero) → i < basis.pivots t → b t i ≡ F.zero
+      zero_before_pivot t i inside before ahead = at (F.is_discrete (b t i) F.zero)
         where
-          found : (t : ℕ) × (t < m) × (basis.pivots t ≡ p) → p ≡ basis.pivots i
-          found (t, below, e) = cases (ℕ_discrete t i)
+          found : b t i ≢ F.zero → (s : ℕ) × (s < m) × (basis.pivots s ≡ i) → b t i ≡ F.zero
+          found nonzero (s, below, e) = ap (b t) (sym e) ∙ basis.zero s t below inside (λ same. omega (arith, ahead, e, ap basis.pivots same))
+
+          at : Dec (b t i ≡ F.zero) → b t i ≡ F.zero
+          at (yes none_there) = none_there
+          at (no nonzero) = found nonzero (basis.are_pivots.all i (record {
+            vector = b t;
+            in_span = basis.in_span t inside;
+            leads = record { nonzero = nonzero; before = before };
+          }))
+
+      zeros_before_pivot : (t c : ℕ) → t < m → c ≤ basis.pivots t → (k : ℕ) → k < c → b t k ≡ F.zero
+      zeros_before_pivot t zero inside up_to k before = absurd (omega arith)
+      zeros_before_pivot t (suc c) inside up_to k before = below_or_at (λ k. b t k ≡ F.zero) c (zeros_before_pivot t c inside (omega arith))
+          (zero_before_pivot t c inside (zeros_before_pivot t c inside (omega arith)) (omega arith)) k before
+
+      -- so nothing is to be set for the rows with later pivots
+      pub basis_rest : (i : ℕ) (x : Vector F) → IsOrthogonalUpTo F r w m b basis.pivots column i x → ArePlacesBefore m basis.pivots column i →
+          IsOrthogonalUpTo F r w m b basis.pivots column m x
+      basis_rest i x so_far places = record {
+        at_pivots = λ t below. at t below (dec_lt t i);
+        others = λ j outside. so_far.others j (λ t before. outside t (omega (arith, before, places.few)));
+      }
+        where
+          at : (t : ℕ) → t < m → Dec (t < i) → x (basis.pivots t) ≡ F.neg (b t column)
+          at t below (yes before) = so_far.at_pivots t before
+          at t below (no later) =
+              so_far.others (basis.pivots t) (λ s ahead. apart s t (omega (arith, ahead, places.few)) below (omega (arith, ahead, later)))
+              ∙ unit_off F column (basis.pivots t) other
+              ∙ sym (ap F.neg (zeros_before_pivot t (suc column) below (omega (arith, other, places.after t (omega (arith, later)) below)) column (omega arith)) ∙ neg-zero F)
             where
-              cases : Dec (t ≡ i) → p ≡ basis.pivots i
-              cases (yes same) = sym e ∙ ap basis.pivots same
-              cases (no other) = absurd (leads.nonzero (ap (b i) (sym e) ∙ basis.zero t i below inside other))
+              other : column ≢ basis.pivots t
+              other same = none (subst (IsPivot F r w) (sym same) (basis.are_pivots.each t below))
 
       pub basis_all : (x : Vector F) → column < n → IsOrthogonalUpTo F r w m b basis.pivots column m x → HasLength F n x →
           IsOrthogonalUnit F n r w column x
@@ -312,10 +385,3 @@ module _ (F : Field) (n : ℕ) where
               same : x ≡ y.vector
               same = fun_ext λ j. same_of_difference F (x j) (y.vector j)
                   (ap (F.add (x j)) (sym (negative j)) ∙ ap (λ (v : Vector F). v j) difference)
-
-      pub orthogonal_basis : HasRowsOfLength F n z → (m : ℕ) (b : Matrix F) → IsReducedBasis F s z m b → IsReducedBasisOf F (InAnnihilator F n r w) m b
-      orthogonal_basis lengths m b basis = record {
-        forth = λ x in_b. space_has_span F (InAnnihilator F n r w) (annihilator_is_space F n r w) s z each x (span_within F m b s z x basis.in_span in_b);
-        back = λ x within. span_within F s z m b x (reduced_spans F n s z m b lengths basis).forth (orthogonal_spanned x within);
-        reduced = reduced_of_same_span F s z m b m b (reduced_spans F n s z m b lengths basis) basis;
-      }

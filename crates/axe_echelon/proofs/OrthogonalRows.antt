@@ -1,7 +1,7 @@
 -- The vector of a column that is orthogonal to a space, as its entries are set one by one.
-use Rattle.std.specs.Prelude.{◌≡◌, ◌≢◌, ℕ, suc, ◌+◌, ◌<◌, ◌≤◌, List, [], length, get_or, set}
+use Rattle.std.specs.Prelude.{◌≡◌, ◌≢◌, ℕ, suc, ◌+◌, ◌-◌, ◌<◌, ◌≤◌, List, [], length, get_or, set, reverse}
 use Rattle.std.proofs.Common.{add-one}
-use Rattle.std.proofs.lemmas.List.{length-set, get_or-set_other, get_or-set_same}
+use Rattle.std.proofs.lemmas.List.{length-reverse, length-set, get_or-set_other, get_or-set_same}
 use Rattle.axe_algebra.specs.NumberField.{NumberField}
 use Rattle.axe_algebra.specs.Field.{Field}
 use Rattle.axe_algebra.specs.Vectors.{Vector, HasRowsOfLength, unit_vector, sum, dot}
@@ -20,12 +20,15 @@ use Rattle.axe_field.specs.NumberFields.{number_field, gf}
 use Rattle.axe_lane.specs.Entries.{IsFirstNonzero}
 use Rattle.axe_row.specs.Rows.{RowValue, IsRow}
 use Rattle.axe_row.specs.Operations.{dot_product}
-use Rattle.axe_matrix.specs.Matrices.{MatrixValue, IsMatrix, row_of}
+use Rattle.axe_matrix.specs.Matrices.{MatrixValue, IsMatrix}
 use Rattle.axe_echelon.specs.Echelons.{EchelonValue, IsEchelon, IsReducedMatrix}
+use Rattle.axe_echelon.specs.Mirrored.{mirrored, mirrored_row}
 use Rattle.axe_echelon.specs.Orthogonal.{IsPivotOfRow, IsOrthogonalVector}
 use Rattle.axe_echelon.proofs.EliminationLaws.{zero_entry}
 use Rattle.axe_echelon.proofs.InverseLaws.{matrix_over}
-use Rattle.axe_echelon.proofs.OrthogonalLaws.{IsOrthogonalUnit, IsOrthogonalFrom, IsOrthogonalUpTo, orthogonal_start, orthogonal_more, orthogonal_all, basis_start, basis_more, basis_same, leads_at_pivot, basis_all}
+use Rattle.axe_echelon.proofs.OrthogonalLaws.{IsOrthogonalUnit, IsOrthogonalFrom, IsOrthogonalUpTo, orthogonal_start, orthogonal_more, orthogonal_all, ArePlacesBefore, basis_start, basis_more, basis_same, basis_rest, basis_all}
+use Rattle.axe_echelon.proofs.MirroredLaws.{mirrored-unit}
+use Rattle.axe_echelon.proofs.MirroredLists.{reverse-set, vector_of_reverse, is_row_mirrored}
 use Rattle.axe_echelon.proofs.StepLaws.{over_of_row, below_of_element, negative_of}
 use mathlib.Core.Path.{sym, ◌∙◌, ap, subst}
 use native.Mathlib.Omega.{arith}
@@ -157,39 +160,51 @@ module _ (e : EchelonValue) (h : IsEchelon e) (column : ℕ) (inside : column < 
     over = subst (λ o. IsMatrixOver (number_field o) e.cols m.rows) reduced.field
         (subst (λ n. IsMatrixOver (number_field m.order) n m.rows) reduced.columns (matrix_over m well_formed))
 
-    pub by_basis_start : (v : RowValue) → v ≡ record { order = e.order; entries = unit_row e.cols column } → IsRow v → IsVectorUpTo e m column 0 v
-    by_basis_start v is is_row = unit_with v _ is is_row
-        (λ x same basis. basis_start F e.cols (length e.rows) (matrix_of K e.rows) column (length m.rows) (matrix_of K m.rows) basis.basis rows none x same)
+    -- the vector stands in the opposite order: at first it is the unit vector of the mirrored place
+    pub by_basis_start : (v : RowValue) → v ≡ record { order = e.order; entries = unit_row e.cols (e.cols - 1 - column) } → IsRow v →
+        IsVectorUpTo e m column 0 (mirrored_row v)
+    by_basis_start v is is_row = record {
+      field = field;
+      over = over_of_row e.order e.cols (mirrored_row v) field (is_row_mirrored v is_row) (length-reverse v.entries ∙ long);
+      fits = λ basis. basis_start F e.cols (length e.rows) (matrix_of K e.rows) column (length m.rows) (matrix_of K m.rows) basis.basis rows none
+          (vector_of K (reverse v.entries))
+          (vector_of_reverse K e.cols v.entries long
+          ∙ ap (λ (r : RowValue). mirrored F e.cols (vector_of K r.entries)) is
+          ∙ ap (mirrored F e.cols) (vector_of_unit_row K e.cols (e.cols - 1 - column) (omega (arith, inside)))
+          ∙ mirrored-unit F e.cols column inside);
+    }
+      where
+        field : v.order ≡ e.order
+        field = ap (λ (r : RowValue). r.order) is
 
-    pub by_basis_more : (i p number c : ℕ) (row v next : RowValue) (q : Order) → IsVectorUpTo e m column i v → i < length m.rows →
-        row ≡ row_of m i → number ≡ get_or row.entries column 0 → IsFirstNonzero row.entries p → q ≡ e.order → c ≡ field_neg q number →
-        next ≡ record { order = v.order; entries = set v.entries p c } → IsRow next → IsVectorUpTo e m column (i + 1) next
-    by_basis_more i p number c row v next q up_to below row_is number_is first same_field c_is is is_row =
-        set_with _ _ v next p number c q up_to place same_field
-        (subst (λ a. a < K.order) (sym at_column) (entry-below K (get_or m.rows i []) column row_over_field.elements)) c_is is is_row
+        long : length v.entries ≡ e.cols
+        long = ap (λ (r : RowValue). length r.entries) is ∙ listed_length e.cols _
+
+    -- the entry at one more pivot, which is set at the mirrored place
+    pub by_basis_more : (i p number c : ℕ) (v next : RowValue) (q : Order) → IsVectorUpTo e m column i (mirrored_row v) → i < length m.rows →
+        ((basis : IsReducedMatrix e m) → basis.basis.pivots i ≡ p) → p < e.cols → number ≡ entry m.rows i column → q ≡ e.order → c ≡ field_neg q number →
+        next ≡ record { order = v.order; entries = set v.entries (e.cols - 1 - p) c } → IsRow next → IsVectorUpTo e m column (i + 1) (mirrored_row next)
+    by_basis_more i p number c v next q up_to below pivot place at_column same_field c_is is is_row =
+        set_with _ _ (mirrored_row v) (mirrored_row next) p number c q up_to place same_field
+        (subst (λ a. a < K.order) (sym at_column) (entry-below K (get_or m.rows i []) column row_over_field.elements)) c_is mirrored_is
+        (is_row_mirrored next is_row)
         (λ y at others basis.
-        let pivot : p ≡ basis.basis.pivots i = leads_at_pivot F e.cols (length e.rows) (matrix_of K e.rows) column (length m.rows) (matrix_of K m.rows)
-        basis.basis rows none i p below (leads_at_first K e.cols (get_or m.rows i []) p row_over_field leads) in
         subst (λ k. IsOrthogonalUpTo F (length e.rows) (matrix_of K e.rows) (length m.rows) (matrix_of K m.rows) basis.basis.pivots column k y) (sym (add-one i))
-        (basis_more F e.cols (length e.rows) (matrix_of K e.rows) column (length m.rows) (matrix_of K m.rows) basis.basis rows none i (vector_of K v.entries) y
-        (up_to.fits basis) below (ap y (sym pivot) ∙ at ∙ ap F.neg (ap (element K) at_column))
-        (λ j other. others j (λ same. other (same ∙ pivot)))))
+        (basis_more F e.cols (length e.rows) (matrix_of K e.rows) column (length m.rows) (matrix_of K m.rows) basis.basis rows none i
+        (vector_of K (reverse v.entries)) y (up_to.fits basis) below (ap y (pivot basis) ∙ at ∙ ap F.neg (ap (element K) at_column))
+        (λ j other. others j (λ same. other (same ∙ sym (pivot basis))))))
       where
         row_over_field : IsVectorOver K e.cols (get_or m.rows i [])
         row_over_field = row_over K e.cols m.rows i over below
 
-        at_column : number ≡ entry m.rows i column
-        at_column = number_is ∙ ap (λ (r : RowValue). get_or r.entries column 0) row_is
+        mirrored_is : mirrored_row next ≡ record { order = v.order; entries = set (reverse v.entries) p c }
+        mirrored_is = ap mirrored_row is
+            ∙ ap (λ (l : List ℕ). record { order = v.order; entries = l })
+            (reverse-set v.entries e.cols p c (sym (length-reverse v.entries) ∙ up_to.over.length_is) place)
 
-        leads : IsFirstNonzero (get_or m.rows i []) p
-        leads = subst (λ (r : RowValue). IsFirstNonzero r.entries p) row_is first
-
-        place : p < e.cols
-        place = omega (arith, leads.within, row_over_field.length_is)
-
-    pub by_basis_same : (i number : ℕ) (row v : RowValue) → IsVectorUpTo e m column i v → i < length m.rows → row ≡ row_of m i →
-        number ≡ get_or row.entries column 0 → number ≡ 0 → IsVectorUpTo e m column (i + 1) v
-    by_basis_same i number row v up_to below row_is number_is none_there = record {
+    pub by_basis_same : (i number : ℕ) (v : RowValue) → IsVectorUpTo e m column i v → i < length m.rows → number ≡ entry m.rows i column → number ≡ 0 →
+        IsVectorUpTo e m column (i + 1) v
+    by_basis_same i number v up_to below at_column none_there = record {
       field = up_to.field;
       over = up_to.over;
       fits = λ basis.
@@ -197,15 +212,17 @@ module _ (e : EchelonValue) (h : IsEchelon e) (column : ℕ) (inside : column < 
           (sym (add-one i))
           (basis_same F e.cols (length e.rows) (matrix_of K e.rows) column (length m.rows) (matrix_of K m.rows) basis.basis rows none i (vector_of K v.entries)
           (up_to.fits basis) below
-          (ap (element K) (ap (λ (r : RowValue). get_or r.entries column 0) (sym row_is) ∙ sym number_is ∙ none_there) ∙ element_zero K));
+          (ap (element K) (sym at_column ∙ none_there) ∙ element_zero K));
     }
 
-    pub by_basis_all : (i : ℕ) (v : RowValue) → IsVectorUpTo e m column i v → i ≡ length m.rows → IsOrthogonalVector e column v
-    by_basis_all i v up_to done = vector_of_unit v none (record {
+    -- the rows with later pivots are 0 at the column
+    pub by_basis_all : (i : ℕ) (v : RowValue) → IsVectorUpTo e m column i v → ArePlacesBefore (length m.rows) reduced.basis.pivots column i →
+        IsOrthogonalVector e column v
+    by_basis_all i v up_to places = vector_of_unit v none (record {
       field = up_to.field;
       over = up_to.over;
       fits = basis_all F e.cols (length e.rows) (matrix_of K e.rows) column (length m.rows) (matrix_of K m.rows) reduced.basis rows none (vector_of K v.entries) inside
-          (subst (λ k. IsOrthogonalUpTo F (length e.rows) (matrix_of K e.rows) (length m.rows) (matrix_of K m.rows) reduced.basis.pivots column k (vector_of K v.entries))
-          done (up_to.fits reduced))
+          (basis_rest F e.cols (length e.rows) (matrix_of K e.rows) column (length m.rows) (matrix_of K m.rows) reduced.basis rows none i (vector_of K v.entries)
+          (up_to.fits reduced) places)
           (vector_length K e.cols v.entries up_to.over.length_is);
     })

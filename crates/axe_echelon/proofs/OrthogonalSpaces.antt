@@ -1,77 +1,156 @@
--- The space of all vectors that are orthogonal to a space.
-use Rattle.std.specs.Prelude.{◌≡◌, ℕ, ◌+◌, ◌<◌, ◌≤◌, [], ◌∷◌, ◌++◌, length, get_or, Bool, true}
+-- The vectors that are orthogonal to a space when they are read from the last entry to the first, as they are made for one
+-- column after the other.
+use Rattle.std.specs.Prelude.{◌≡◌, ℕ, suc, ◌+◌, ◌<◌, ◌≤◌, List, [], ◌∷◌, ◌++◌, length, get_or}
+use Rattle.std.proofs.lemmas.List.{get_or_append_left, get_or_push, length_push, length-reverse}
 use Rattle.axe_algebra.specs.NumberField.{NumberField}
 use Rattle.axe_algebra.specs.Field.{Field}
-use Rattle.axe_algebra.specs.Vectors.{unit_vector}
-use Rattle.axe_algebra.specs.Bridge.{vector_of, matrix_of}
-use Rattle.axe_algebra.specs.Irreducible
-use Rattle.axe_algebra.specs.Lists.{IsMatrixOver}
-use Rattle.axe_algebra.specs.SpansOfLists.{IsSpanned, IsPivot, IsReducedBasis, HaveSameSpan, IsInAnnihilator}
-use Rattle.axe_algebra.proofs.Annihilators.{annihilator_is_space}
-use Rattle.axe_algebra.proofs.ListEntries.{rows_length}
-use Rattle.axe_algebra.proofs.ListSpans.{row_spanned}
-use Rattle.axe_algebra.proofs.ProductLaws.{unit_at, unit_off}
-use Rattle.axe_algebra.proofs.Spanning.{span_within}
+use Rattle.axe_algebra.specs.Vectors.{Vector}
+use Rattle.axe_algebra.specs.Bridge.{matrix_of}
+use Rattle.axe_algebra.specs.SpansOfLists.{IsPivot}
+use Rattle.axe_algebra.proofs.ListEntries.{rows_length, vector_length}
 use Rattle.axe_field.specs.NumberFields.{number_field, gf}
 use Rattle.axe_row.specs.Rows.{RowValue}
 use Rattle.axe_matrix.specs.Matrices.{MatrixValue}
-use Rattle.axe_echelon.specs.Echelons.{EchelonValue, IsEchelon, IsReducedMatrix}
-use Rattle.axe_echelon.specs.Orthogonal.{IsOrthogonalToSpace, IsOrthogonalVector}
-use Rattle.axe_echelon.specs.Subspaces.{SpansOneMore}
+use Rattle.axe_echelon.specs.Echelons.{EchelonValue, IsEchelon}
+use Rattle.axe_echelon.specs.Mirrored.{mirrored}
+use Rattle.axe_echelon.specs.Orthogonal.{IsOrthogonalToSpace, IsMirroredVector}
 use Rattle.axe_echelon.proofs.FormLaws.{below_or_at}
-use Rattle.axe_echelon.proofs.OrthogonalLaws.{IsReached, orthogonal_basis}
-use Rattle.axe_echelon.proofs.RowSpaces.{grown_span, stays_spanned, is_spanned, each_grown}
-use mathlib.Core.Path.{sym, ◌∙◌, ap, subst}
+use Rattle.axe_echelon.proofs.MirroredBases.{IsUnitOrthogonal, mirrored_basis}
+use Rattle.axe_echelon.proofs.MirroredLists.{vector_of_reverse}
+use mathlib.Core.Path.{refl, sym, ◌∙◌, ap, subst}
 use native.Mathlib.Omega.{arith}
 use native.Mathlib.Decide.{ℕ_discrete}
 
--- ---- the space of all vectors that are orthogonal to a space
+-- the rows are the vectors for the columns from a bound on that are no pivots, from the last to the first
+pub record IsOrthogonalDownTo (e : EchelonValue) (bound : ℕ) (m : MatrixValue) : Type 0 where
+  pub field : m.order ≡ e.order
+  pub width : m.cols ≡ e.cols
+  pub columns : List ℕ
+  pub as_many : length columns ≡ length m.rows
+  pub few : length m.rows + bound ≤ e.cols
+  pub descending : (s t : ℕ) → s < t → t < length m.rows → get_or columns t 0 < get_or columns s 0
+  pub above : (t : ℕ) → t < length m.rows → bound ≤ get_or columns t 0
+  pub inside : (t : ℕ) → t < length m.rows → get_or columns t 0 < e.cols
+  pub free : (t : ℕ) → t < length m.rows → ¬ (IsPivot (number_field e.order) e.rows (get_or columns t 0))
+  pub rows : (t : ℕ) → t < length m.rows → IsMirroredVector e (get_or columns t 0) (record { order = e.order; entries = get_or m.rows t [] })
+  pub all : (j : ℕ) → bound ≤ j → j < e.cols → ¬ (IsPivot (number_field e.order) e.rows j) → (t : ℕ) × (t < length m.rows) × (get_or columns t 0 ≡ j)
 
--- the rows of `null` are orthogonal to those of e, and each column before a bound that is no pivot of e is reached by them
-pub record IsOrthogonalSoFar (e : EchelonValue) (bound : ℕ) (null : EchelonValue) : Type 0 where
-  pub field : null.order ≡ e.order
-  pub columns : null.cols ≡ e.cols
-  pub each : (t : ℕ) → t < length null.rows → IsInAnnihilator (number_field e.order) e.cols e.rows (get_or null.rows t [])
-  pub reached : (j : ℕ) → j < bound → ¬ (IsPivot (number_field e.order) e.rows j) →
-      IsReached (gf e.order) (length e.rows) (matrix_of (number_field e.order) e.rows) (length null.rows) (matrix_of (number_field e.order) null.rows) j
-  pub well_formed : IsEchelon null
-
-pub orthogonal_none : (e null : EchelonValue) → null ≡ record { order = e.order; cols = e.cols; rows = [] } → IsEchelon null → IsOrthogonalSoFar e 0 null
-orthogonal_none e null is h = record {
-  field = ap (λ (x : EchelonValue). x.order) is;
-  columns = ap (λ (x : EchelonValue). x.cols) is;
-  each = λ t below. absurd (omega (arith, below, ap (λ (x : EchelonValue). length x.rows) is));
-  reached = λ j below free. absurd (omega arith);
-  well_formed = h;
-}
-
--- a pivot
-pub orthogonal_pivot : (e : EchelonValue) (column : ℕ) (null : EchelonValue) → IsOrthogonalSoFar e column null →
-    IsPivot (number_field e.order) e.rows column → IsOrthogonalSoFar e (column + 1) null
-orthogonal_pivot e column null so_far pivot = record {
-  field = so_far.field;
-  columns = so_far.columns;
-  each = so_far.each;
-  reached = λ j below free. at j below free (ℕ_discrete j column);
-  well_formed = so_far.well_formed;
+pub orthogonal_none : (e : EchelonValue) (bound : ℕ) (m : MatrixValue) → m ≡ record { order = e.order; cols = e.cols; rows = [] } → bound ≡ e.cols →
+    IsOrthogonalDownTo e bound m
+orthogonal_none e bound m is whole = record {
+  field = ap (λ (x : MatrixValue). x.order) is;
+  width = ap (λ (x : MatrixValue). x.cols) is;
+  columns = [];
+  as_many = sym none;
+  few = omega (arith, none, whole);
+  descending = λ s t first inside. absurd (omega (arith, none));
+  above = λ t inside. absurd (omega (arith, none));
+  inside = λ t inside. absurd (omega (arith, none));
+  free = λ t inside. absurd (omega (arith, none));
+  rows = λ t inside. absurd (omega (arith, none));
+  all = λ j past below. absurd (omega (arith, whole));
 }
   where
-    at : (j : ℕ) → j < column + 1 → ¬ (IsPivot (number_field e.order) e.rows j) → Dec (j ≡ column) →
-        IsReached (gf e.order) (length e.rows) (matrix_of (number_field e.order) e.rows) (length null.rows) (matrix_of (number_field e.order) null.rows) j
-    at j below free (yes same) = absurd (free (subst (IsPivot (number_field e.order) e.rows) (sym same) pivot))
-    at j below free (no other) = so_far.reached j (omega (arith, other)) free
+    none : length m.rows ≡ 0
+    none = ap (λ (x : MatrixValue). length x.rows) is
+
+-- a pivot
+pub orthogonal_pivot : (e : EchelonValue) (column bound : ℕ) (m : MatrixValue) → bound ≡ suc column → IsOrthogonalDownTo e bound m →
+    IsPivot (number_field e.order) e.rows column → IsOrthogonalDownTo e column m
+orthogonal_pivot e column bound m next so_far pivot = record {
+  field = so_far.field;
+  width = so_far.width;
+  columns = so_far.columns;
+  as_many = so_far.as_many;
+  few = omega (arith, so_far.few, next);
+  descending = so_far.descending;
+  above = λ t inside. omega (arith, so_far.above t inside, next);
+  inside = so_far.inside;
+  free = so_far.free;
+  rows = so_far.rows;
+  all = λ j past below free. at j past below free (ℕ_discrete j column);
+}
+  where
+    at : (j : ℕ) → column ≤ j → j < e.cols → ¬ (IsPivot (number_field e.order) e.rows j) → Dec (j ≡ column) →
+        (t : ℕ) × (t < length m.rows) × (get_or so_far.columns t 0 ≡ j)
+    at j past below free (yes same) = absurd (free (subst (IsPivot (number_field e.order) e.rows) (sym same) pivot))
+    at j past below free (no other) = so_far.all j (omega (arith, past, other, next)) below free
 
 -- a column that is no pivot, and its vector
-pub orthogonal_column : (e : EchelonValue) (column : ℕ) (null next : EchelonValue) (v : RowValue) (new : Bool) → IsOrthogonalSoFar e column null →
-    IsOrthogonalVector e column v → SpansOneMore new null v.entries next →
-    (¬ (IsSpanned (number_field null.order) null.rows v.entries) → new ≡ true) → IsEchelon next → IsOrthogonalSoFar e (column + 1) next
-orthogonal_column e column null next v new so_far vector one_more exactly h = record {
-  field = one_more.field ∙ so_far.field;
-  columns = one_more.columns ∙ so_far.columns;
-  each = each_grown K null.rows next.rows v.entries same (Irreducible.InAnnihilator F e.cols (length e.rows) (matrix_of K e.rows))
-      (annihilator_is_space F e.cols (length e.rows) (matrix_of K e.rows)) so_far.each vector.orthogonal;
-  reached = λ j below free. below_or_at Reaches column (λ j before free. longer j (so_far.reached j before free)) last j (omega arith) free;
-  well_formed = h;
+pub orthogonal_column : (e : EchelonValue) (column bound : ℕ) (m next : MatrixValue) (v : RowValue) → bound ≡ suc column → IsOrthogonalDownTo e bound m →
+    ¬ (IsPivot (number_field e.order) e.rows column) → IsMirroredVector e column v →
+    next ≡ record { order = m.order; cols = m.cols; rows = m.rows ++ v.entries ∷ [] } → IsOrthogonalDownTo e column next
+orthogonal_column e column bound m next v one_less so_far none vector is = record {
+  field = ap (λ (x : MatrixValue). x.order) is ∙ so_far.field;
+  width = ap (λ (x : MatrixValue). x.cols) is ∙ so_far.width;
+  columns = columns;
+  as_many = omega (arith, length_push so_far.columns column, so_far.as_many, more);
+  few = omega (arith, more, so_far.few, one_less);
+  descending = λ s t first inside. below_or_at (λ t. s < t → get_or columns t 0 < get_or columns s 0) (length m.rows)
+      (λ t below before. rw (column_before s (omega arith), column_before t below) (so_far.descending s t before below))
+      (λ before. rw (column_before s before, column_last) (let b = so_far.above s before in omega (arith, b, one_less))) t (omega (arith, inside, more)) first;
+  above = λ t inside. below_or_at (λ t. column ≤ get_or columns t 0) (length m.rows)
+      (λ t below. rw (column_before t below) (let b = so_far.above t below in omega (arith, b, one_less))) (rw column_last (omega arith)) t (omega (arith, inside, more));
+  inside = λ t inside. below_or_at (λ t. get_or columns t 0 < e.cols) (length m.rows)
+      (λ t below. rw (column_before t below) (so_far.inside t below)) (rw column_last (omega (arith, so_far.few, one_less))) t (omega (arith, inside, more));
+  free = λ t inside. below_or_at (λ t. ¬ (IsPivot (number_field e.order) e.rows (get_or columns t 0))) (length m.rows)
+      (λ t below. rw (column_before t below) (so_far.free t below)) (rw column_last none) t (omega (arith, inside, more));
+  rows = λ t inside. below_or_at (λ t. IsMirroredVector e (get_or columns t 0) (record { order = e.order; entries = get_or next.rows t [] })) (length m.rows)
+      (λ t below. pair (sym (column_before t below)) (sym (row_before t below)) (so_far.rows t below))
+      (pair (sym column_last) (sym row_last) (own_field vector)) t (omega (arith, inside, more));
+  all = λ j past below free. at j past below free (ℕ_discrete j column);
+}
+  where
+    columns : List ℕ
+    columns = so_far.columns ++ column ∷ []
+
+    more : length next.rows ≡ suc (length m.rows)
+    more = ap (λ (x : MatrixValue). length x.rows) is ∙ (let grown : length (m.rows ++ v.entries ∷ []) ≡ suc (length m.rows) = omega (arith, length_push m.rows v.entries) in grown)
+
+    column_before : (t : ℕ) → t < length m.rows → get_or columns t 0 ≡ get_or so_far.columns t 0
+    column_before t below = get_or_append_left so_far.columns (column ∷ []) 0 t (omega (arith, below, so_far.as_many))
+
+    column_last : get_or columns (length m.rows) 0 ≡ column
+    column_last = get_or_push so_far.columns column 0 (length m.rows) so_far.as_many
+
+    row_before : (t : ℕ) → t < length m.rows → get_or next.rows t [] ≡ get_or m.rows t []
+    row_before t below = ap (λ (x : MatrixValue). get_or x.rows t []) is ∙ get_or_append_left m.rows (v.entries ∷ []) [] t below
+
+    row_last : get_or next.rows (length m.rows) [] ≡ v.entries
+    row_last = ap (λ (x : MatrixValue). get_or x.rows (length m.rows) []) is ∙ get_or_push m.rows v.entries [] (length m.rows) refl
+
+    pair : {a b : ℕ} {x y : List ℕ} → a ≡ b → x ≡ y → IsMirroredVector e a (record { order = e.order; entries = x }) →
+        IsMirroredVector e b (record { order = e.order; entries = y })
+    pair {a} {b} {x} {y} same_column same_row at_a =
+        subst (λ k. IsMirroredVector e k (record { order = e.order; entries = y })) same_column
+        (subst (λ u. IsMirroredVector e a (record { order = e.order; entries = u })) same_row at_a)
+
+    own_field : IsMirroredVector e column v → IsMirroredVector e column (record { order = e.order; entries = v.entries })
+    own_field p = record { field = refl; over = p.over; orthogonal = p.orthogonal; one = p.one; zeros = p.zeros }
+
+    at : (j : ℕ) → column ≤ j → j < e.cols → ¬ (IsPivot (number_field e.order) e.rows j) → Dec (j ≡ column) →
+        (t : ℕ) × (t < length next.rows) × (get_or columns t 0 ≡ j)
+    at j past below free (yes same) = (length m.rows, omega (arith, more), column_last ∙ sym same)
+    at j past below free (no other) = from (so_far.all j (omega (arith, past, other, one_less)) below free)
+      where
+        from : (t : ℕ) × (t < length m.rows) × (get_or so_far.columns t 0 ≡ j) → (t : ℕ) × (t < length next.rows) × (get_or columns t 0 ≡ j)
+        from (t, within, found) = (t, omega (arith, within, more), column_before t within ∙ found)
+
+-- all columns
+pub orthogonal_whole : (e : EchelonValue) (bound : ℕ) (m : MatrixValue) → IsEchelon e → IsOrthogonalDownTo e bound m → bound ≡ 0 → IsOrthogonalToSpace e m
+orthogonal_whole e bound m h so_far whole = record {
+  field = so_far.field;
+  columns = so_far.width;
+  basis = mirrored_basis F e.cols (length e.rows) (matrix_of K e.rows) (rows_length K e.cols e.rows h.over) (length m.rows) (matrix_of K m.rows)
+      (λ t. get_or so_far.columns t 0)
+      (record {
+        descending = so_far.descending;
+        inside = so_far.inside;
+        free = so_far.free;
+        all = λ j below free. so_far.all j (omega (arith, whole)) below free;
+      })
+      (λ t below. vector_length K e.cols (get_or m.rows t []) (long t below))
+      (λ t below. unit t below (so_far.rows t below));
 }
   where
     K : NumberField
@@ -80,45 +159,13 @@ orthogonal_column e column null next v new so_far vector one_more exactly h = re
     F : Field
     F = gf e.order
 
-    Reaches : ℕ → Type 0
-    Reaches j = ¬ (IsPivot K e.rows j) → IsReached F (length e.rows) (matrix_of K e.rows) (length next.rows) (matrix_of K next.rows) j
+    long : (t : ℕ) → t < length m.rows → length (get_or m.rows t []) ≡ e.cols
+    long t below = sym (length-reverse (get_or m.rows t [])) ∙ (so_far.rows t below).over.length_is
 
-    same : HaveSameSpan K (null.rows ++ v.entries ∷ []) next.rows
-    same = grown_span e.order null next v.entries new so_far.field one_more so_far.well_formed
-        (vector.over.length_is ∙ sym so_far.columns) exactly
-
-    longer : (j : ℕ) → IsReached F (length e.rows) (matrix_of K e.rows) (length null.rows) (matrix_of K null.rows) j →
-        IsReached F (length e.rows) (matrix_of K e.rows) (length next.rows) (matrix_of K next.rows) j
-    longer j reached = record {
-      vector = reached.vector;
-      in_span = span_within F (length null.rows) (matrix_of K null.rows) (length next.rows) (matrix_of K next.rows) reached.vector
-          (λ t below. stays_spanned K null.rows next.rows v.entries same (get_or null.rows t []) (row_spanned K null.rows t below)) reached.in_span;
-      free = reached.free;
-    }
-
-    last : Reaches column
-    last none = record {
-      vector = vector_of K v.entries;
-      in_span = is_spanned K null.rows next.rows v.entries same;
-      free = λ j free. at j free (ℕ_discrete j column);
-    }
-      where
-        at : (j : ℕ) → ¬ (IsPivot K e.rows j) → Dec (j ≡ column) → vector_of K v.entries j ≡ unit_vector F column j
-        at j free (yes e) = ap (vector_of K v.entries) e ∙ vector.one ∙ sym (ap (unit_vector F column) e ∙ unit_at F column)
-        at j free (no other) = vector.zeros j free other ∙ sym (unit_off F column j (λ e. other (sym e)))
-
--- all columns
-pub orthogonal_whole : (e : EchelonValue) (bound : ℕ) (null : EchelonValue) (m : MatrixValue) → IsEchelon e → IsOrthogonalSoFar e bound null →
-    e.cols ≤ bound → IsReducedMatrix null m → IsOrthogonalToSpace e m
-orthogonal_whole e bound null m h so_far whole reduced = record {
-  field = reduced.field ∙ so_far.field;
-  columns = reduced.columns ∙ so_far.columns;
-  basis = orthogonal_basis (gf e.order) e.cols (length e.rows) (matrix_of K e.rows) (rows_length K e.cols e.rows h.over) (length null.rows)
-      (matrix_of K null.rows) so_far.each (λ j below free. so_far.reached j (omega arith) free)
-      (rows_length K e.cols null.rows (subst (λ o. IsMatrixOver (number_field o) e.cols null.rows) so_far.field
-      (subst (λ n. IsMatrixOver (number_field null.order) n null.rows) so_far.columns so_far.well_formed.over)))
-      (length m.rows) (matrix_of K m.rows) (subst (λ o. IsReducedBasis (number_field o) null.rows m.rows) so_far.field reduced.basis);
-}
-  where
-    K : NumberField
-    K = number_field e.order
+    unit : (t : ℕ) → t < length m.rows → IsMirroredVector e (get_or so_far.columns t 0) (record { order = e.order; entries = get_or m.rows t [] }) →
+        IsUnitOrthogonal (gf e.order) e.cols (length e.rows) (matrix_of (number_field e.order) e.rows) (get_or so_far.columns t 0)
+        (mirrored (gf e.order) e.cols (matrix_of (number_field e.order) m.rows t))
+    unit t below vector = subst (λ (x : Vector (gf e.order)).
+        IsUnitOrthogonal (gf e.order) e.cols (length e.rows) (matrix_of (number_field e.order) e.rows) (get_or so_far.columns t 0) x)
+        (vector_of_reverse (number_field e.order) e.cols (get_or m.rows t []) (long t below))
+        (record { within = vector.orthogonal; one = vector.one; zeros = vector.zeros })

@@ -40,14 +40,14 @@ module _ (K : NumberField) (rows next : List (List ℕ)) (v : List ℕ) (same : 
   F = field_of K
 
   -- what was spanned stays spanned, and the vector is
-  pub stays_spanned : (u : List ℕ) → IsSpanned K rows u → IsSpanned K next u
+  stays_spanned : (u : List ℕ) → IsSpanned K rows u → IsSpanned K next u
   stays_spanned u spanned = spanned_within K (rows ++ v ∷ []) next u same (appended_spans K rows v u spanned)
 
-  pub is_spanned : IsSpanned K next v
+  is_spanned : IsSpanned K next v
   is_spanned = spanned_within K (rows ++ v ∷ []) next v same (appended_row_spanned K rows v)
 
   -- a space that has the rows and the vector has the rows of the grown span
-  pub each_grown : (P : Vector F → Type 0) → IsSpace F P → ((t : ℕ) → t < length rows → P (matrix_of K rows t)) → P (vector_of K v) →
+  each_grown : (P : Vector F → Type 0) → IsSpace F P → ((t : ℕ) → t < length rows → P (matrix_of K rows t)) → P (vector_of K v) →
       (t : ℕ) → t < length next → P (matrix_of K next t)
   each_grown P space before last t below =
       space_has_span F P space (length (rows ++ v ∷ [])) (matrix_of K (rows ++ v ∷ []))

@@ -1,5 +1,5 @@
 -- The space of the vectors that are orthogonal to rows is the null space of their transpose.
-use Rattle.std.specs.Prelude.{◌≡◌, ℕ, ◌<◌, List, length, Option, Some, None, Result, Ok}
+use Rattle.std.specs.Prelude.{◌≡◌, ℕ, ◌<◌, List, length, Option, Some, None, Ok}
 use Rattle.axe_algebra.specs.NumberField.{NumberField}
 use Rattle.axe_algebra.specs.Field.{Field}
 use Rattle.axe_algebra.specs.Vectors.{Vector, Matrix, zero_vector, transposed, times, dot}
@@ -15,15 +15,17 @@ use Rattle.axe_algebra.proofs.ListEntries
 use Rattle.axe_algebra.proofs.ListEntries.{table_length, row_past}
 use Rattle.axe_algebra.proofs.ListProducts.{matrix_of_transpose, transpose_over}
 use Rattle.axe_algebra.proofs.ProductLaws.{times-at, dot-at, dot_comm}
+use Rattle.axe_field.specs.Order.{Order}
 use Rattle.axe_field.specs.NumberFields.{number_field, gf}
 use Rattle.axe_row.specs.Refusals.{Answers}
 use Rattle.axe_row.specs.declared.refusals.Refusal.{Refusal}
 use Rattle.axe_matrix.specs.Matrices.{MatrixValue, IsMatrix, transposed_matrix, transpose_refusal}
 use Rattle.axe_matrix.proofs.MatrixLaws.{same_matrix}
-use Rattle.axe_echelon.specs.Echelons.{EchelonValue, IsRowSpace, null_space_refusal, IsNullSpaceMatrix}
+use Rattle.axe_echelon.specs.Echelons.{EchelonValue, IsRowSpace, IsNullSpaceMatrix}
+use Rattle.axe_echelon.specs.Mirrored.{mirrored, IsMirrored, IsOrthogonalMirrored}
 use Rattle.axe_echelon.specs.Orthogonal.{IsOrthogonalToSpace}
-use Rattle.axe_echelon.proofs.Exits.{answers_more}
 use Rattle.axe_echelon.proofs.InverseLaws.{matrix_over}
+use Rattle.axe_echelon.proofs.MirroredLaws.{orthogonal_of_mirrored, mirrored_of_orthogonal}
 use mathlib.Core.Path.{refl, sym, ◌∙◌, ap, subst, fun_ext}
 use native.Mathlib.Omega.{arith}
 use native.Mathlib.Decide.{dec_lt}
@@ -73,30 +75,56 @@ module _ (K : NumberField) where
     reduced = orthogonal.reduced;
   })
 
-  -- it is the same for rows of one span
-  pub annihilator_of_same_span : (n : ℕ) (rows others basis : List (List ℕ)) → HaveSameSpan K rows others → IsAnnihilatorBasis K n others basis →
-      IsAnnihilatorBasis K n rows basis
-  annihilator_of_same_span n rows others basis same orthogonal = record {
-    forth = λ x in_span. annihilator_within F n (length rows) (matrix_of K rows) (length others) (matrix_of K others) same.forth x (orthogonal.forth x in_span);
-    back = λ x within. orthogonal.back x (annihilator_within F n (length others) (matrix_of K others) (length rows) (matrix_of K rows) same.back x within);
-    reduced = orthogonal.reduced;
-  }
-
--- the space that is orthogonal to the span of rows
-pub orthogonal_to_rows : (m basis : MatrixValue) (e : EchelonValue) → IsRowSpace m e → IsOrthogonalToSpace e basis →
-    IsAnnihilatorBasis (number_field m.order) m.cols m.rows basis.rows
-orthogonal_to_rows m basis e space orthogonal =
-    annihilator_of_same_span (number_field m.order) m.cols m.rows e.rows basis.rows space.same
-    (subst (λ o. IsAnnihilatorBasis (number_field o) m.cols e.rows basis.rows) space.field
-    (subst (λ n. IsAnnihilatorBasis (number_field e.order) n e.rows basis.rows) space.columns orthogonal.basis))
-
-pub null_space_of_transpose : (m basis : MatrixValue) (e : EchelonValue) → IsMatrix m → IsRowSpace m e → IsOrthogonalToSpace e basis →
-    IsNullSpaceMatrix (transposed_matrix m) basis
-null_space_of_transpose m basis e h space orthogonal = record {
-  field = orthogonal.field ∙ space.field;
-  columns = orthogonal.columns ∙ space.columns ∙ sym (length-transpose m.cols m.rows);
-  basis_of_null_space = null_space_by_annihilator (number_field m.order) m.cols m.rows basis.rows (matrix_over m h) (orthogonal_to_rows m basis e space orthogonal);
+-- the vectors that are orthogonal to rows, by others that have the span of the rows read from the last entry to the first
+annihilator_by_mirrored : (o : Order) (n : ℕ) (rows turned others basis : List (List ℕ)) →
+    matrix_of (number_field o) turned ≡ (λ t. mirrored (gf o) n (matrix_of (number_field o) rows t)) → length turned ≡ length rows →
+    HaveSameSpan (number_field o) turned others →
+    Reduced.IsReducedBasisOf (gf o) (IsOrthogonalMirrored (gf o) n (length others) (matrix_of (number_field o) others)) (length basis)
+    (matrix_of (number_field o) basis) → IsAnnihilatorBasis (number_field o) n rows basis
+annihilator_by_mirrored o n rows turned others basis is count same orthogonal = record {
+  forth = λ x in_span. orthogonal_of_mirrored (gf o) n (length rows) (matrix_of K rows) x (to_rows x (orthogonal.forth x in_span));
+  back = λ x within. orthogonal.back x (from_rows x (mirrored_of_orthogonal (gf o) n (length rows) (matrix_of K rows) x within));
+  reduced = orthogonal.reduced;
 }
+  where
+    K : NumberField
+    K = number_field o
+
+    to_rows : (x : Vector (gf o)) → IsOrthogonalMirrored (gf o) n (length others) (matrix_of K others) x →
+        IsOrthogonalMirrored (gf o) n (length rows) (λ t. mirrored (gf o) n (matrix_of K rows t)) x
+    to_rows x given = record {
+      length = given.length;
+      orthogonal = subst (λ (a : Matrix (gf o)). Irreducible.InAnnihilator (gf o) n (length rows) a (mirrored (gf o) n x)) is
+          (subst (λ k. Irreducible.InAnnihilator (gf o) n k (matrix_of K turned) (mirrored (gf o) n x)) count
+          (annihilator_within (gf o) n (length turned) (matrix_of K turned) (length others) (matrix_of K others) same.forth (mirrored (gf o) n x) given.orthogonal));
+    }
+
+    from_rows : (x : Vector (gf o)) → IsOrthogonalMirrored (gf o) n (length rows) (λ t. mirrored (gf o) n (matrix_of K rows t)) x →
+        IsOrthogonalMirrored (gf o) n (length others) (matrix_of K others) x
+    from_rows x given = record {
+      length = given.length;
+      orthogonal = annihilator_within (gf o) n (length others) (matrix_of K others) (length turned) (matrix_of K turned) same.back (mirrored (gf o) n x)
+          (subst (λ k. Irreducible.InAnnihilator (gf o) n k (matrix_of K turned) (mirrored (gf o) n x)) (sym count)
+          (subst (λ (a : Matrix (gf o)). Irreducible.InAnnihilator (gf o) n (length rows) a (mirrored (gf o) n x)) (sym is) given.orthogonal));
+    }
+
+module _ (m turned basis : MatrixValue) (e : EchelonValue) (h : IsMatrixOver (number_field m.order) m.cols m.rows) (mirrored_rows : IsMirrored m turned)
+    (space : IsRowSpace turned e) (orthogonal : IsOrthogonalToSpace e basis) where
+  pub orthogonal_to_rows : IsAnnihilatorBasis (number_field m.order) m.cols m.rows basis.rows
+  orthogonal_to_rows =
+      annihilator_by_mirrored m.order m.cols m.rows turned.rows e.rows basis.rows mirrored_rows.rows mirrored_rows.count
+      (subst (λ o. HaveSameSpan (number_field o) turned.rows e.rows) mirrored_rows.field space.same)
+      (subst (λ o. Reduced.IsReducedBasisOf (gf o) (IsOrthogonalMirrored (gf o) m.cols (length e.rows) (matrix_of (number_field o) e.rows))
+      (length basis.rows) (matrix_of (number_field o) basis.rows)) (space.field ∙ mirrored_rows.field)
+      (subst (λ n. Reduced.IsReducedBasisOf (gf e.order) (IsOrthogonalMirrored (gf e.order) n (length e.rows) (matrix_of (number_field e.order) e.rows))
+      (length basis.rows) (matrix_of (number_field e.order) basis.rows)) (space.columns ∙ mirrored_rows.columns) orthogonal.basis))
+
+  pub null_space_of_transpose : IsNullSpaceMatrix (transposed_matrix m) basis
+  null_space_of_transpose = record {
+    field = orthogonal.field ∙ space.field ∙ mirrored_rows.field;
+    columns = orthogonal.columns ∙ space.columns ∙ mirrored_rows.columns ∙ sym (length-transpose m.cols m.rows);
+    basis_of_null_space = null_space_by_annihilator (number_field m.order) m.cols m.rows basis.rows h orthogonal_to_rows;
+  }
 
 -- the transpose of the transpose is the matrix
 pub twice_transposed : (m : MatrixValue) → IsMatrix m → transposed_matrix (transposed_matrix m) ≡ m
@@ -114,20 +142,24 @@ twice_transposed m h = same_matrix (transposed_matrix (transposed_matrix m)) m r
     over : IsMatrixOver K (length m.rows) (transpose m.cols m.rows)
     over = transpose_over K m.cols m.rows (matrix_over m h)
 
-pub null_space_by_columns : (m columns basis : MatrixValue) → IsMatrix m → columns ≡ transposed_matrix m → IsNullSpaceMatrix (transposed_matrix columns) basis →
-    IsNullSpaceMatrix m basis
-null_space_by_columns m columns basis h is null =
-    subst (λ (x : MatrixValue). IsNullSpaceMatrix x basis) (ap transposed_matrix is ∙ twice_transposed m h) null
+-- the null space, by the columns
+pub null_space_by_columns : (m turned basis : MatrixValue) (e : EchelonValue) → IsMatrix m → IsMirrored (transposed_matrix m) turned → IsRowSpace turned e →
+    IsOrthogonalToSpace e basis → IsNullSpaceMatrix m basis
+null_space_by_columns m turned basis e h mirrored_rows space orthogonal =
+    subst (λ (x : MatrixValue). IsNullSpaceMatrix x basis) (twice_transposed m h)
+    (null_space_of_transpose (transposed_matrix m) turned basis e (transpose_over (number_field m.order) m.cols m.rows (matrix_over m h)) mirrored_rows space orthogonal)
 
--- where the transpose was not refused, the null space is not
-answers_where_accepted : {S T : Type 0} (why : Option Refusal) (P : S → Type 0) (Q : T → Type 0) (value : S) (result : Result T Refusal) →
-    Answers why P (Ok value) → (P value → Answers None Q result) → Answers why Q result
-answers_where_accepted (Some refusal) P Q value result refused more = cc
-answers_where_accepted None P Q value result accepted more = more accepted
+-- what is answered is the transpose
+pub transposed_value : (m columns : MatrixValue) → Answers (transpose_refusal m) (λ transpose. transpose ≡ transposed_matrix m) (Ok columns) →
+    columns ≡ transposed_matrix m
+transposed_value m columns answers = value (transpose_refusal m) answers
+  where
+    value : (why : Option Refusal) → Answers why (λ transpose. transpose ≡ transposed_matrix m) (Ok columns) → columns ≡ transposed_matrix m
+    value (Some refusal) refused = cc
+    value None is = is
 
-pub null_space_answer : (m columns : MatrixValue) (result : Result MatrixValue Refusal) → IsMatrix m →
-    Answers (transpose_refusal m) (λ transpose. transpose ≡ transposed_matrix m) (Ok columns) →
-    Answers None (IsNullSpaceMatrix (transposed_matrix columns)) result → Answers (null_space_refusal m) (IsNullSpaceMatrix m) result
-null_space_answer m columns result h transpose answer =
-    answers_where_accepted (transpose_refusal m) (λ transpose. transpose ≡ transposed_matrix m) (IsNullSpaceMatrix m) columns result transpose
-    (λ is. answers_more result _ _ answer (λ basis null. null_space_by_columns m columns basis h is null))
+-- the rows are the columns of the transpose
+pub mirrored_by_columns : (m columns turned : MatrixValue) → IsMatrix m → columns ≡ transposed_matrix m → IsMirrored (transposed_matrix columns) turned →
+    IsMirrored m turned
+mirrored_by_columns m columns turned h is mirrored_rows =
+    subst (λ (x : MatrixValue). IsMirrored x turned) (ap transposed_matrix is ∙ twice_transposed m h) mirrored_rows

@@ -4,4 +4,5 @@ pub mod PivotTables
 pub mod Steps
 pub mod Inserted
 pub mod Subspaces
+pub mod Mirrored
 pub mod Orthogonal

@@ -1,4 +1,9 @@
 //! Null spaces of matrices, and the spaces of all vectors that are orthogonal to given rows.
+//!
+//! To each column that is no pivot of a space belongs the vector that is orthogonal to the space, 1 at this column, and
+//! 0 at all others that are no pivots. The last entry other than 0 of a vector that is orthogonal to a space is at no
+//! pivot: so this vector is 0 after its column, and all of them, read from the last entry to the first, are a reduced
+//! basis. Therefore the rows that are given are read so in the first place.
 
 ghost use Rattle.std.specs.Prelude.{◌<◌, None, IfOk};
 ghost use Rattle.axe_algebra.specs.SpansOfLists.{IsAnnihilatorBasis, IsPivot};
@@ -6,10 +11,11 @@ ghost use Rattle.axe_field.specs.NumberFields.{number_field};
 ghost use Rattle.axe_row.specs.Refusals.{Answers};
 ghost use Rattle.axe_matrix.specs.Matrices.{IsMatrix, transposed_matrix};
 ghost use Rattle.axe_echelon.specs.Echelons.{null_space_refusal, IsNullSpaceMatrix, IsReducedMatrix};
-ghost use Rattle.axe_echelon.specs.Orthogonal.{IsOrthogonalToSpace, IsOrthogonalVector};
+ghost use Rattle.axe_echelon.specs.Orthogonal.{IsOrthogonalToSpace, IsOrthogonalVector, IsMirroredVector};
 ghost use Rattle.axe_echelon.specs.Orthogonal.{IsReducedBasisOrNone};
 
 use super::{Subspace, row_space};
+use crate::mirrors::{mirrored_columns, mirrored_matrix, mirrored_row};
 use axe_matrix::{Matrix, Refusal, Row};
 use std::alloc::Global;
 
@@ -23,11 +29,12 @@ pub fn null_space(alloc: Global, matrix: &Matrix) -> Result<Matrix, Refusal>
     ensures basis { Answers (null_space_refusal matrix.now) (IsNullSpaceMatrix matrix.now) result }
     ensures well_formed { IfOk result IsMatrix }
 {
-    // `cols` is called for what it ensures beside the number: that the matrix is one.
-    prove!(matrix.cols() > 0);
+    if matrix.rows() == 0 {
+        return Err(Refusal::NoRows);
+    }
     // The entries of `v X` are the dot products of v with the columns of X.
-    let columns = matrix.transpose(alloc)?;
-    orthogonal_space(alloc, &columns)
+    let space = row_space(alloc, &mirrored_columns(alloc, matrix)?)?;
+    orthogonal_to(alloc, &space)
 }
 
 /// The reduced basis of the space of all vectors that are orthogonal to the rows of a matrix: that have dot product 0
@@ -38,25 +45,26 @@ pub fn orthogonal_space(alloc: Global, rows: &Matrix) -> Result<Matrix, Refusal>
         IsAnnihilatorBasis (number_field rows.now.order) rows.now.cols rows.now.rows basis.rows) }
     ensures well_formed { IfOk result IsMatrix }
 {
-    let space = row_space(alloc, rows)?;
+    let space = row_space(alloc, &mirrored_matrix(alloc, rows)?)?;
     orthogonal_to(alloc, &space)
 }
 
-/// The reduced basis of the space of all vectors that are orthogonal to a space. Such a vector is the combination of
-/// one vector for each column that is no pivot of the space, with its entries there as coefficients.
+/// The reduced basis of all vectors that are orthogonal to a space when they are read from the last entry to the first:
+/// one vector for each column that is no pivot of the space, from the last of them to the first.
 fn orthogonal_to(alloc: Global, space: &Subspace) -> Result<Matrix, Refusal>
     ensures basis { Answers None (IsOrthogonalToSpace space.now) result }
     ensures well_formed { Answers None IsMatrix result }
 {
     let reduced = reduced_where_many(alloc, space)?;
-    let mut orthogonal = Subspace::zero(alloc, *space.field(), space.cols());
-    for column in 0..space.cols() {
-        if !space.is_pivot(column) {
-            let vector = orthogonal_vector(alloc, space, &reduced, column)?;
-            orthogonal.insert(vector)?;
+    let mut orthogonal = Matrix::empty(alloc, *space.field(), space.cols());
+    for column in (0..space.cols()).rev() {
+        if space.is_pivot(column) {
+            continue;
         }
+        let vector = orthogonal_vector(alloc, space, &reduced, column)?;
+        orthogonal.append(vector)?;
     }
-    orthogonal.reduced(alloc)
+    Ok(orthogonal)
 }
 
 /// The reduced basis of a space, where many vectors are to be made that are orthogonal to it: then it costs less than
@@ -71,7 +79,8 @@ fn reduced_where_many(alloc: Global, space: &Subspace) -> Result<Option<Matrix>,
     Ok(Some(space.reduced(alloc)?))
 }
 
-/// The vector orthogonal to a space that is 1 at a column that is no pivot of the space, and 0 at all others of them.
+/// The vector orthogonal to a space that is 1 at a column that is no pivot of the space, and 0 at all others of them,
+/// read from the last entry to the first.
 fn orthogonal_vector(
     alloc: Global,
     space: &Subspace,
@@ -81,15 +90,16 @@ fn orthogonal_vector(
     requires reduced { IsReducedBasisOrNone space.now reduced.now }
     requires within { column < space.now.cols }
     requires no_pivot { ¬ (IsPivot (number_field space.now.order) space.now.rows column) }
-    ensures { Answers None (IsOrthogonalVector space.now column) result }
+    ensures { Answers None (IsMirroredVector space.now column) result }
 {
     match reduced {
         Some(basis) => vector_by_basis(alloc, space, basis, column),
-        None => vector_by_rows(alloc, space, column),
+        None => mirrored_row(alloc, &vector_by_rows(alloc, space, column)?),
     }
 }
 
-/// This vector by the rows of the space's echelon form.
+/// The vector orthogonal to a space that is 1 at a column that is no pivot of the space, and 0 at all others of them,
+/// by the rows of the space's echelon form.
 fn vector_by_rows(alloc: Global, space: &Subspace, column: usize) -> Result<Row, Refusal>
     requires within { column < space.now.cols }
     requires no_pivot { ¬ (IsPivot (number_field space.now.order) space.now.rows column) }
@@ -106,7 +116,7 @@ fn vector_by_rows(alloc: Global, space: &Subspace, column: usize) -> Result<Row,
     Ok(vector)
 }
 
-/// This vector by the reduced basis of the space.
+/// The same vector by the reduced basis of the space, read from the last entry to the first.
 fn vector_by_basis(
     alloc: Global,
     space: &Subspace,
@@ -116,18 +126,21 @@ fn vector_by_basis(
     requires basis { IsReducedMatrix space.now basis.now }
     requires within { column < space.now.cols }
     requires no_pivot { ¬ (IsPivot (number_field space.now.order) space.now.rows column) }
-    ensures { Answers None (IsOrthogonalVector space.now column) result }
+    ensures { Answers None (IsMirroredVector space.now column) result }
 {
     let field = *space.field();
-    let mut vector = Row::unit(alloc, field, space.cols(), column)?;
-    for index in 0..basis.rows() {
-        let row = basis.row(index);
-        let entry = row.get(column);
-        if entry != 0 {
-            // The first entry of a row other than 0 stands at its pivot, where all other rows are 0.
-            if let Some(pivot) = row.first_nonzero() {
-                vector.set(pivot, field.neg(entry));
+    let last = basis.cols() - 1;
+    let mut vector = Row::unit(alloc, field, basis.cols(), last - column)?;
+    let mut index = 0;
+    // A row of the basis is 1 at its pivot, where all others are 0, and 0 before it: so rows with later pivots are 0 at
+    // the column.
+    for pivot in 0..column {
+        if space.is_pivot(pivot) {
+            let entry = basis.get(index, column);
+            if entry != 0 {
+                vector.set(last - pivot, field.neg(entry));
             }
+            index += 1;
         }
     }
     Ok(vector)

@@ -1,42 +1,86 @@
-use Rattle.std.proofs.Common.{◌≡◌, ◌<◌, length, ◌∙◌, arith}
+use Rattle.std.proofs.Common.{◌≡◌, ◌-◌, ◌<◌, length, set, ◌∙◌, subst, Bool, true, false, arith}
 use Rattle.axe_algebra.specs.Lists.{unit_row}
-use Rattle.axe_lane.specs.Entries.{IsFirstNonzero}
-use Rattle.axe_row.specs.Operations.{IsZeroVector}
+use Rattle.axe_algebra.specs.SpansOfLists.{IsPivot}
+use Rattle.axe_field.specs.NumberFields.{number_field}
+use Rattle.axe_echelon.specs.Echelons.{IsReducedMatrix}
+use Rattle.axe_echelon.specs.Mirrored.{mirrored_row}
+use Rattle.axe_echelon.proofs.OrthogonalLaws.{ArePlacesBefore, no_places, place_of_pivot, places_more, places_same}
 use Rattle.axe_echelon.proofs.OrthogonalRows.{by_basis_start, by_basis_more, by_basis_same, by_basis_all}
-use Rattle.axe_echelon.proofs.null_spaces.vector_by_basis.Goals.{then-entry-ne0+in-Some, then-entry-ne0+in_default, else-entry-ne0}
+use Rattle.axe_echelon.proofs.null_spaces.vector_by_basis.Goals.{then-is_pivot, then-entry-ne0, else-entry-ne0, else-is_pivot}
 use Rattle.axe_echelon.proofs.null_spaces.vector_by_basis.Goals as goal
 
-pub loop-index-init : goal.loop-index-init
-loop-index-init c =
-    let unit : c.in_ok-vector.vector ≡ record { order = c.args.space.now.order; entries = unit_row c.args.space.now.cols c.args.column } =
-    rw (← c.field.ensures.order, ← c.cols.ensures.count) c.in_ok-vector.ensures.unit in
-    by_basis_start c.args.space.now c.cols.ensures.well_formed c.args.column c.requires.within c.args.basis.now c.rows-index-end.ensures.well_formed
-    c.requires.basis c.requires.no_pivot c.in_ok-vector.vector unit c.in_ok-vector.ensures.well_formed
+not_both : (b : Bool) → b ≡ true → b ≡ false → ⊥
+not_both b t f = cc
 
-pub loop-index-preserved : goal.loop-index-preserved
-loop-index-preserved c =
-    let below : c.loop-index.index < length c.args.basis.now.rows = omega (arith, c.loop-index-test.true, c.rows-index-end.ensures.count) in
-    elim c.if-entry-ne0.branch [
-      | then-entry-ne0+in-Some w ↦
-          let first : IsFirstNonzero c.row-row.result.now.entries w.in-Some.pivot = rw w.in-Some.is at w.first_nonzero.ensures in
-          rw w.vector-is (by_basis_more c.args.space.now c.cols.ensures.well_formed c.args.column c.requires.within c.args.basis.now
-          c.rows-index-end.ensures.well_formed c.requires.basis c.requires.no_pivot c.loop-index.index w.in-Some.pivot c.get-entry.result w.neg.result
-          c.row-row.result.now c.loop-index.vector w.set.new.self c.field.result.now c.loop-index.invariant below c.row-row.ensures.value
-          c.get-entry.ensures.entry first c.field.ensures.order w.neg.ensures.value w.set.ensures.replaced w.set.ensures.well_formed)
-      | then-entry-ne0+in_default w ↦
-          let inside : c.args.column < length c.row-row.result.now.entries =
-          omega (arith, c.requires.within, c.row-row.ensures.as_long, c.requires.basis.columns) in
-          let zeros : IsZeroVector c.row-row.result.now.entries = rw w.in_default.is at w.first_nonzero.ensures in
-          absurd (w.if-entry-ne0.true (c.get-entry.ensures.entry ∙ zeros c.args.column 0 inside))
-      | else-entry-ne0 w ↦
-          rw w.vector-is (by_basis_same c.args.space.now c.cols.ensures.well_formed c.args.column c.requires.within c.args.basis.now
-          c.rows-index-end.ensures.well_formed c.requires.basis c.requires.no_pivot c.loop-index.index c.get-entry.result
-          c.row-row.result.now c.loop-index.vector c.loop-index.invariant below c.row-row.ensures.value c.get-entry.ensures.entry w.if-entry-ne0.false)
+pub loop-pivot-init : goal.loop-pivot-init
+loop-pivot-init c = record {
+  places = λ reduced. no_places (length c.args.basis.now.rows) reduced.basis.pivots;
+  vector =
+      let last : c.cols-last.result ≡ c.args.space.now.cols = c.cols-last.ensures.count ∙ c.requires.basis.columns in
+      let cols : c.cols.result ≡ c.args.space.now.cols = c.cols.ensures.count ∙ c.requires.basis.columns in
+      let unit : c.in_ok-vector.vector ≡
+      record { order = c.args.space.now.order; entries = unit_row c.args.space.now.cols (c.args.space.now.cols - 1 - c.args.column) } =
+      c.in_ok-vector.ensures.unit ∙ (λ t. record { order = c.field.ensures.order t; entries = unit_row (cols t) (last t - 1 - c.args.column) }) in
+      by_basis_start c.args.space.now c.field.ensures.well_formed c.args.column c.requires.within c.args.basis.now c.cols-last.ensures.well_formed
+      c.requires.basis c.requires.no_pivot c.in_ok-vector.vector unit c.in_ok-vector.ensures.well_formed;
+}
+
+pub get-entry-requires-clause-row : goal.get-entry-requires-clause-row
+get-entry-requires-clause-row c =
+    (place_of_pivot (IsPivot (number_field c.args.space.now.order) c.args.space.now.rows) (length c.args.basis.now.rows) c.requires.basis.basis.pivots
+    c.requires.basis.basis.are_pivots c.loop-pivot.pivot c.loop-pivot.index (c.loop-pivot.invariant.places c.requires.basis)
+    (c.is_pivot.ensures.0 c.if-is_pivot.true)).0
+
+pub overflow_add-index : goal.overflow_add-index
+overflow_add-index c =
+    let below : c.loop-pivot.index < length c.args.basis.now.rows =
+    (place_of_pivot (IsPivot (number_field c.args.space.now.order) c.args.space.now.rows) (length c.args.basis.now.rows) c.requires.basis.basis.pivots
+    c.requires.basis.basis.are_pivots c.loop-pivot.pivot c.loop-pivot.index (c.loop-pivot.invariant.places c.requires.basis)
+    (c.is_pivot.ensures.0 c.if-is_pivot.true)).0 in
+    omega (arith, below, c.cols-last.ensures.well_formed.rows_fit)
+
+pub loop-pivot-preserved : goal.loop-pivot-preserved
+loop-pivot-preserved c =
+    elim c.if-is_pivot.branch [
+      | then-is_pivot w ↦
+          let is_pivot : IsPivot (number_field c.args.space.now.order) c.args.space.now.rows c.loop-pivot.pivot = c.is_pivot.ensures.0 w.if-is_pivot.true in
+          let inside : c.loop-pivot.pivot < c.args.space.now.cols = omega (arith, c.loop-pivot-test.true, c.requires.within) in
+          let place : (reduced : IsReducedMatrix c.args.space.now c.args.basis.now) →
+          (c.loop-pivot.index < length c.args.basis.now.rows) × (reduced.basis.pivots c.loop-pivot.index ≡ c.loop-pivot.pivot) =
+          λ reduced. place_of_pivot (IsPivot (number_field c.args.space.now.order) c.args.space.now.rows) (length c.args.basis.now.rows) reduced.basis.pivots
+          reduced.basis.are_pivots c.loop-pivot.pivot c.loop-pivot.index (c.loop-pivot.invariant.places reduced) is_pivot in
+          record {
+            places = λ reduced. rw w.index-is (places_more (IsPivot (number_field c.args.space.now.order) c.args.space.now.rows) (length c.args.basis.now.rows)
+                reduced.basis.pivots reduced.basis.are_pivots c.loop-pivot.pivot c.loop-pivot.index (c.loop-pivot.invariant.places reduced) is_pivot);
+            vector = elim w.if-entry-ne0.branch [
+              | then-entry-ne0 w' ↦
+                  let last : c.cols-last.result ≡ c.args.space.now.cols = c.cols-last.ensures.count ∙ c.requires.basis.columns in
+                  let set_there : w'.set.new.self ≡
+                  record { order = c.loop-pivot.vector.order; entries = set c.loop-pivot.vector.entries (c.args.space.now.cols - 1 - c.loop-pivot.pivot) w'.neg.result } =
+                  rw (← last) w'.set.ensures.replaced in
+                  rw (w.vector-is, w'.vector-is, w.index-is) (by_basis_more c.args.space.now c.field.ensures.well_formed c.args.column c.requires.within
+                  c.args.basis.now c.cols-last.ensures.well_formed c.requires.basis c.requires.no_pivot c.loop-pivot.index c.loop-pivot.pivot
+                  w.get-entry.result w'.neg.result c.loop-pivot.vector w'.set.new.self c.field.result.now c.loop-pivot.invariant.vector
+                  (place c.requires.basis).0 (λ reduced. (place reduced).1) inside w.get-entry.ensures.value c.field.ensures.order w'.neg.ensures.value
+                  set_there w'.set.ensures.well_formed)
+              | else-entry-ne0 w' ↦
+                  rw (w.vector-is, w'.vector-is, w.index-is) (by_basis_same c.args.space.now c.field.ensures.well_formed c.args.column c.requires.within
+                  c.args.basis.now c.cols-last.ensures.well_formed c.requires.basis c.requires.no_pivot c.loop-pivot.index w.get-entry.result
+                  (mirrored_row c.loop-pivot.vector) c.loop-pivot.invariant.vector (place c.requires.basis).0 w.get-entry.ensures.value w'.if-entry-ne0.false)
+            ];
+          }
+      | else-is_pivot w ↦ record {
+        places = λ reduced. rw w.index-is (places_same (IsPivot (number_field c.args.space.now.order) c.args.space.now.rows) (length c.args.basis.now.rows)
+            reduced.basis.pivots reduced.basis.are_pivots c.loop-pivot.pivot c.loop-pivot.index (c.loop-pivot.invariant.places reduced)
+            (λ pivot. not_both c.is_pivot.result (c.is_pivot.ensures.1 pivot) w.if-is_pivot.false));
+        vector = rw (w.vector-is, w.index-is) c.loop-pivot.invariant.vector;
+      }
     ]
 
 pub returns : goal.returns
 returns c =
-    let all : c.loop-index.index ≡ length c.args.basis.now.rows =
-    omega (arith, c.loop-index-test.false, c.rows-index-end.ensures.count, c.loop-index.auto.index-end) in
-    by_basis_all c.args.space.now c.cols.ensures.well_formed c.args.column c.requires.within c.args.basis.now c.rows-index-end.ensures.well_formed
-    c.requires.basis c.requires.no_pivot c.loop-index.index c.loop-index.vector c.loop-index.invariant all
+    let whole : c.loop-pivot.pivot ≡ c.args.column = omega (arith, c.loop-pivot-test.false, c.loop-pivot.auto.pivot-end) in
+    by_basis_all c.args.space.now c.field.ensures.well_formed c.args.column c.requires.within c.args.basis.now c.cols-last.ensures.well_formed
+    c.requires.basis c.requires.no_pivot c.loop-pivot.index (mirrored_row c.loop-pivot.vector) c.loop-pivot.invariant.vector
+    (subst (λ k. ArePlacesBefore (length c.args.basis.now.rows) c.requires.basis.basis.pivots k c.loop-pivot.index) whole
+    (c.loop-pivot.invariant.places c.requires.basis))

@@ -1,0 +1,159 @@
+-- Rows and matrices whose entries stand in the opposite order, as vectors read from the last entry to the first.
+use Rattle.std.specs.Prelude.{◌≡◌, ℕ, ◌+◌, ◌-◌, ◌<◌, ◌≤◌, List, [], length, get_or, set, reverse}
+use Rattle.std.specs.Prelude.{None, Result, IfOk}
+use Rattle.std.specs.List.{All}
+use Rattle.std.proofs.lemmas.List.{length-reverse, length-set, get_or-reverse, get_or-set_same, get_or-set_other}
+use Rattle.std.proofs.lemmas.List.Elements.{All-from_get_or, All-get_or}
+use Rattle.std.proofs.lemmas.Grind.{same_number_lists}
+use Rattle.axe_algebra.specs.NumberField.{NumberField}
+use Rattle.axe_algebra.specs.Vectors.{Matrix, transposed}
+use Rattle.axe_algebra.specs.Bridge.{field_of, element, vector_of, matrix_of}
+use Rattle.axe_algebra.specs.Lists.{IsVectorOver, IsMatrixOver}
+use Rattle.axe_algebra.specs.ListArithmetic.{transpose}
+use Rattle.axe_algebra.proofs.ListEntries.{vector_length, row_past}
+use Rattle.axe_algebra.proofs.ListProducts.{matrix_of_transpose}
+use Rattle.axe_field.specs.Order.{IsElement}
+use Rattle.axe_field.specs.NumberFields.{number_field, gf}
+use Rattle.axe_row.specs.Rows.{RowValue, IsRow}
+use Rattle.axe_row.specs.Refusals.{Answers}
+use Rattle.axe_row.specs.declared.refusals.Refusal.{Refusal}
+use Rattle.axe_matrix.specs.Matrices.{MatrixValue, IsMatrix, transposed_matrix, transpose_refusal}
+use Rattle.axe_matrix.proofs.TransposeLaws.{transpose_refusal-none}
+use Rattle.axe_echelon.specs.Mirrored.{mirrored, mirrored_row, reversed_matrix, IsMirrored}
+use Rattle.axe_echelon.proofs.Exits.{answers_with}
+use Rattle.axe_echelon.proofs.InverseLaws.{matrix_over}
+use Rattle.axe_echelon.proofs.MirroredLaws.{same_as_mirrored}
+use Rattle.axe_echelon.proofs.Transposes.{length-transpose}
+use mathlib.Core.Path.{sym, ◌∙◌, ap, subst, fun_ext}
+use native.Mathlib.Omega.{arith}
+use native.Mathlib.Decide.{ℕ_discrete}
+
+-- ---- lists in the opposite order
+
+-- what holds of each element holds of each of them
+pub All-reverse : {X : Type 0} (P : X → Type 0) (xs : List X) (d : X) → All P xs → All P (reverse xs)
+All-reverse P xs d each = All-from_get_or P (reverse xs) d (λ k below.
+    let inside : k < length xs = omega (arith, below, length-reverse xs) in
+    subst P (sym (get_or-reverse xs k d inside)) (All-get_or P xs (length xs - 1 - k) d (omega (arith, inside)) each))
+
+-- an entry is set at the mirrored place
+pub reverse-set : (entries : List ℕ) (n p c : ℕ) → length entries ≡ n → p < n → reverse (set entries (n - 1 - p) c) ≡ set (reverse entries) p c
+reverse-set entries n p c long inside = same_number_lists (reverse (set entries (n - 1 - p) c)) (set (reverse entries) p c)
+    (length-reverse (set entries (n - 1 - p) c) ∙ length-set entries (n - 1 - p) c ∙ sym (length-set (reverse entries) p c ∙ length-reverse entries))
+    (λ k below. at k (omega (arith, below, long, length-reverse (set entries (n - 1 - p) c), length-set entries (n - 1 - p) c)) (ℕ_discrete p k))
+  where
+    turned : (k : ℕ) → k < n → get_or (reverse (set entries (n - 1 - p) c)) k 0 ≡ get_or (set entries (n - 1 - p) c) (n - 1 - k) 0
+    turned k below = get_or-reverse (set entries (n - 1 - p) c) k 0 (omega (arith, below, long, length-set entries (n - 1 - p) c))
+        ∙ ap (λ l. get_or (set entries (n - 1 - p) c) (l - 1 - k) 0) (length-set entries (n - 1 - p) c ∙ long)
+
+    at : (k : ℕ) → k < n → Dec (p ≡ k) → get_or (reverse (set entries (n - 1 - p) c)) k 0 ≡ get_or (set (reverse entries) p c) k 0
+    at k below (yes same) = turned k below
+        ∙ ap (λ j. get_or (set entries (n - 1 - p) c) (n - 1 - j) 0) (sym same)
+        ∙ get_or-set_same entries (n - 1 - p) c 0 (omega (arith, inside, long))
+        ∙ sym (ap (λ j. get_or (set (reverse entries) p c) j 0) (sym same)
+        ∙ get_or-set_same (reverse entries) p c 0 (omega (arith, inside, long, length-reverse entries)))
+    at k below (no other) = turned k below
+        ∙ get_or-set_other entries (n - 1 - p) (n - 1 - k) c 0 (λ same. other (omega (arith, same, inside, below)))
+        ∙ sym (get_or-set_other (reverse entries) p k c 0 (λ same. other (sym same))
+        ∙ get_or-reverse entries k 0 (omega (arith, below, long)) ∙ ap (λ l. get_or entries (l - 1 - k) 0) long)
+
+-- ---- rows
+
+pub vector_of_reverse : (K : NumberField) (n : ℕ) (entries : List ℕ) → length entries ≡ n →
+    vector_of K (reverse entries) ≡ mirrored (field_of K) n (vector_of K entries)
+vector_of_reverse K n entries long = same_as_mirrored (field_of K) n (vector_of K entries) (vector_of K (reverse entries))
+    (vector_length K n (reverse entries) (length-reverse entries ∙ long))
+    (λ j below. ap (element K) (get_or-reverse entries j 0 (omega (arith, below, long)) ∙ ap (λ k. get_or entries (k - 1 - j) 0) long))
+
+pub is_row_mirrored : (row : RowValue) → IsRow row → IsRow (mirrored_row row)
+is_row_mirrored row h = record { elements = All-reverse (IsElement row.order) row.entries 0 h.elements }
+
+-- ---- the row that is filled from its last entry on
+
+-- the last entries are the first ones of the other row
+pub record IsMirroredUpTo (row : RowValue) (i : ℕ) (other : RowValue) : Type 0 where
+  pub field : other.order ≡ row.order
+  pub long : length other.entries ≡ length row.entries
+  pub done : (j : ℕ) → j < i → j < length row.entries → get_or other.entries (length row.entries - 1 - j) 0 ≡ get_or row.entries j 0
+
+pub mirrored_more : (row other next : RowValue) (i p : ℕ) → IsMirroredUpTo row i other → i < length row.entries → p ≡ length row.entries - 1 - i →
+    next ≡ record { order = other.order; entries = set other.entries p (get_or row.entries i 0) } → IsMirroredUpTo row (i + 1) next
+mirrored_more row other next i p so_far below place is = record {
+  field = ap (λ (r : RowValue). r.order) is ∙ so_far.field;
+  long = ap (λ (r : RowValue). length r.entries) is ∙ length-set other.entries p (get_or row.entries i 0) ∙ so_far.long;
+  done = λ j before inside. ap (λ (r : RowValue). get_or r.entries (length row.entries - 1 - j) 0) is ∙ at j before inside (ℕ_discrete j i);
+}
+  where
+    at : (j : ℕ) → j < i + 1 → j < length row.entries → Dec (j ≡ i) →
+        get_or (set other.entries p (get_or row.entries i 0)) (length row.entries - 1 - j) 0 ≡ get_or row.entries j 0
+    at j before inside (yes same) =
+        ap (λ k. get_or (set other.entries p (get_or row.entries i 0)) k 0) (let here : length row.entries - 1 - j ≡ p = omega (arith, same, place) in here)
+        ∙ get_or-set_same other.entries p (get_or row.entries i 0) 0 (omega (arith, place, below, so_far.long))
+        ∙ ap (λ k. get_or row.entries k 0) (sym same)
+    at j before inside (no other_place) =
+        get_or-set_other other.entries p (length row.entries - 1 - j) (get_or row.entries i 0) 0
+        (λ same. other_place (omega (arith, same, place, inside, below)))
+        ∙ so_far.done j (omega (arith, other_place)) inside
+
+pub mirrored_all : (row other : RowValue) (i : ℕ) → IsMirroredUpTo row i other → length row.entries ≤ i → other ≡ mirrored_row row
+mirrored_all row other i so_far all = λ t. record { order = so_far.field t; entries = entries t }
+  where
+    entries : other.entries ≡ reverse row.entries
+    entries = same_number_lists other.entries (reverse row.entries) (so_far.long ∙ sym (length-reverse row.entries)) (λ k below.
+        let inside : k < length row.entries = omega (arith, below, so_far.long) in
+        ap (λ j. get_or other.entries j 0) (let back : k ≡ length row.entries - 1 - (length row.entries - 1 - k) = omega (arith, inside) in back)
+        ∙ so_far.done (length row.entries - 1 - k) (omega (arith, inside, all)) (omega (arith, inside))
+        ∙ sym (get_or-reverse row.entries k 0 inside))
+
+-- ---- matrices
+
+-- the columns of the matrix with its rows in the opposite order
+pub columns_mirrored : (m other : MatrixValue) → IsMatrix m → other ≡ transposed_matrix (reversed_matrix m) → IsMatrix other → IsMirrored (transposed_matrix m) other
+columns_mirrored m other h is well_formed = record {
+  field = ap (λ (x : MatrixValue). x.order) is;
+  columns = ap (λ (x : MatrixValue). x.cols) is ∙ length-reverse m.rows;
+  count = ap (λ (x : MatrixValue). length x.rows) is ∙ length-transpose m.cols (reverse m.rows) ∙ sym (length-transpose m.cols m.rows);
+  rows = ap (λ (x : MatrixValue). matrix_of K x.rows) is ∙ matrix_of_transpose K m.cols (reverse m.rows) over_reverse ∙ fun_ext λ t. column t;
+  well_formed = well_formed;
+}
+  where
+    K : NumberField
+    K = number_field m.order
+
+    over_reverse : IsMatrixOver K m.cols (reverse m.rows)
+    over_reverse = All-reverse (IsVectorOver K m.cols) m.rows [] (matrix_over m h)
+
+    column : (t : ℕ) → transposed (gf m.order) (matrix_of K (reverse m.rows)) t ≡
+        mirrored (gf m.order) (length m.rows) (matrix_of K (transpose m.cols m.rows) t)
+    column t = same_as_mirrored (gf m.order) (length m.rows) (transposed (gf m.order) (matrix_of K m.rows) t) (λ j. matrix_of K (reverse m.rows) j t)
+        (λ j past. row_past K (reverse m.rows) j (omega (arith, past, length-reverse m.rows)) t)
+        (λ j below. ap (λ (row : List ℕ). element K (get_or row t 0)) (get_or-reverse m.rows j [] below))
+        ∙ ap (λ (a : Matrix (gf m.order)). mirrored (gf m.order) (length m.rows) (a t)) (sym (matrix_of_transpose K m.cols m.rows (matrix_over m h)))
+
+-- so they are what a transpose gives, where there are rows
+pub columns_answer : (m reversed : MatrixValue) (result : Result MatrixValue Refusal) → IsMatrix m → 0 < length m.rows → reversed ≡ reversed_matrix m →
+    Answers (transpose_refusal reversed) (λ transpose. transpose ≡ transposed_matrix reversed) result → IfOk result IsMatrix →
+    Answers None (IsMirrored (transposed_matrix m)) result
+columns_answer m reversed result h some is answers well_formed =
+    answers_with result (λ transpose. transpose ≡ transposed_matrix (reversed_matrix m)) IsMatrix (IsMirrored (transposed_matrix m))
+    (subst (λ why. Answers why (λ transpose. transpose ≡ transposed_matrix (reversed_matrix m)) result)
+    (transpose_refusal-none (reversed_matrix m) (λ none. omega (arith, some, none, length-reverse m.rows)))
+    (subst (λ (x : MatrixValue). Answers (transpose_refusal x) (λ transpose. transpose ≡ transposed_matrix x) result) is answers))
+    well_formed (λ other transposed_is matrix. columns_mirrored m other h transposed_is matrix)
+
+-- there is nothing to read without rows
+pub mirrored_without_rows : (m other : MatrixValue) → length m.rows ≡ 0 → other ≡ m → IsMatrix other → IsMirrored m other
+mirrored_without_rows m other none is well_formed = record {
+  field = ap (λ (x : MatrixValue). x.order) is;
+  columns = ap (λ (x : MatrixValue). x.cols) is;
+  count = ap (λ (x : MatrixValue). length x.rows) is;
+  rows = ap (λ (x : MatrixValue). matrix_of K x.rows) is ∙ fun_ext λ t.
+      same_as_mirrored (gf m.order) m.cols (matrix_of K m.rows t) (matrix_of K m.rows t) (λ j past. empty t j) (λ j below. empty t j ∙ sym (empty t (m.cols - 1 - j)));
+  well_formed = well_formed;
+}
+  where
+    K : NumberField
+    K = number_field m.order
+
+    empty : (t j : ℕ) → matrix_of K m.rows t j ≡ (gf m.order).zero
+    empty t j = row_past K m.rows t (omega (arith, none)) j

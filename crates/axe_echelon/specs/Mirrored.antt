@@ -1,0 +1,42 @@
+-- Vectors read from the last entry to the first.
+use Rattle.std.specs.Prelude.{◌≡◌, ℕ, ◌-◌, ◌<◌, length, reverse}
+use Rattle.axe_algebra.specs.Field.{Field}
+use Rattle.axe_algebra.specs.Vectors.{Vector, Matrix, HasLength}
+use Rattle.axe_algebra.specs.Bridge.{matrix_of}
+use Rattle.axe_algebra.specs.Irreducible.{InAnnihilator}
+use Rattle.axe_field.specs.NumberFields.{number_field, gf}
+use Rattle.axe_row.specs.Rows.{RowValue}
+use Rattle.axe_matrix.specs.Matrices.{MatrixValue, IsMatrix}
+use native.Mathlib.Decide.{dec_lt}
+
+-- entry j of a vector of length n whose entries are read from the last to the first, by whether there is one
+unfoldable pub mirrored_entry : (F : Field) (n : ℕ) (x : Vector F) (j : ℕ) → Dec (j < n) → F.Element
+mirrored_entry F n x j (yes inside) = x (n - 1 - j)
+mirrored_entry F n x j (no past) = F.zero
+
+-- a vector of length n, read from the last entry to the first
+unfoldable pub mirrored : (F : Field) → ℕ → Vector F → Vector F
+unfolding mirrored_entry
+mirrored F n x = λ j. mirrored_entry F n x j (dec_lt j n)
+
+-- a row vector with its entries in the opposite order
+abbrev pub mirrored_row : RowValue → RowValue
+mirrored_row row = record { order = row.order; entries = reverse row.entries }
+
+-- a matrix with its rows in the opposite order
+abbrev pub reversed_matrix : MatrixValue → MatrixValue
+reversed_matrix m = record { order = m.order; cols = m.cols; rows = reverse m.rows }
+
+-- the other matrix has the rows of m, each read from the last entry to the first
+pub record IsMirrored (m other : MatrixValue) : Type 0 where
+  pub field : other.order ≡ m.order
+  pub columns : other.cols ≡ m.cols
+  pub count : length other.rows ≡ length m.rows
+  pub rows : matrix_of (number_field m.order) other.rows ≡
+      (λ t. mirrored (gf m.order) m.cols (matrix_of (number_field m.order) m.rows t))
+  pub well_formed : IsMatrix other
+
+-- x has length n, and is orthogonal to r rows of w when it is read from the last entry to the first
+pub record IsOrthogonalMirrored (F : Field) (n r : ℕ) (w : Matrix F) (x : Vector F) : Type 0 where
+  pub length : HasLength F n x
+  pub orthogonal : InAnnihilator F n r w (mirrored F n x)
