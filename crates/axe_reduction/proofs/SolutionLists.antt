@@ -1,6 +1,6 @@
 -- The reduction of a matrix beside the identity, as rows over the field; inverses from it.
 use Rattle.std.specs.Prelude.{◌≡◌, ℕ, ◌+◌, ◌<◌, ◌≤◌, List, [], ◌++◌, length, get_or}
-use Rattle.std.specs.List.{Contains}
+use Rattle.std.specs.List.{All, Contains}
 use Rattle.std.proofs.lemmas.List.{length-append, get_or_append_left, get_or-append-add}
 use Rattle.std.proofs.lemmas.List.Elements.{Contains-get_or, All-from_get_or}
 use Rattle.axe_algebra.specs.NumberField.{NumberField}
@@ -187,6 +187,12 @@ all_columns m r h square of_rows whole j below =
   where
     from : (t : ℕ) × (t < m.cols) × (get_or r.pivots.items t 0 ≡ j) → Contains r.pivots.items j
     from (t, inside, e) = subst (Contains r.pivots.items) e (Contains-get_or r.pivots.items t 0 (omega (arith, inside, whole, square)))
+
+-- each of them is one of so many columns
+pub pivots_small : (m : MatrixValue) (r : Reduction) → length m.rows ≡ m.cols → IsReductionOf (beside_identity m) r →
+    length r.pivots.items ≡ length m.rows → All (λ pivot. pivot < length r.pivots.items) r.pivots.items
+pivots_small m r square of_rows whole =
+    subst (λ k. All (λ pivot. pivot < k) r.pivots.items) (of_rows.reduced_alike.left ∙ sym square ∙ sym whole) of_rows.are_reduced.left
 
 -- the right parts of the reduced rows are as many as the pivots, and have a column for each row of the matrix
 pub reduced_count : (m : MatrixValue) (r : Reduction) (rows : MatrixValue) → IsReductionOf (beside_identity m) r → rows ≡ right_part r.reduced rows.cols →

@@ -1,12 +1,15 @@
 -- Rows in the order of their pivots, one by one.
-use Rattle.std.specs.Prelude.{◌≡◌, ℕ, ◌+◌, ◌<◌, List, [], ◌∷◌, ◌++◌, length, get_or}
-use Rattle.std.proofs.lemmas.List.{length-append, get_or_append_left, get_or-append-add}
+use Rattle.std.proofs.Common.{set, inl, inr, get_or-set_same, get_or-set_other}
+use Rattle.std.specs.Prelude.{◌≡◌, ◌≢◌, ◌≤◌, ℕ, ◌+◌, ◌<◌, List, [], ◌∷◌, ◌++◌, length, get_or}
+use Rattle.std.proofs.lemmas.List.{length-set, length-append, get_or_append_left, get_or-append-add}
+use Rattle.std.proofs.lemmas.Bool.{cases_eq}
+use Rattle.std.proofs.lemmas.List.Elements.{All-contains, All-from_get_or}
 use Rattle.axe_field.specs.Order.{Order}
 use Rattle.axe_row.specs.Rows.{RowValue}
 use Rattle.axe_matrix.specs.Matrices.{MatrixValue, row_of}
-use Rattle.axe_reduction.specs.Solutions.{IsRowAtPivot, AreRowsByPivot}
+use Rattle.axe_reduction.specs.Solutions.{ArePlacesOf, IsRowAtPivot, AreRowsByPivot}
 use mathlib.Core.Path.{sym, ◌∙◌, ap, subst}
-use native.Mathlib.Decide.{ℕ_discrete}
+use native.Mathlib.Decide.{dec_lt, ℕ_discrete}
 use native.Mathlib.Omega.{arith}
 
 pub rows_none : (pivots : List ℕ) (m sorted : MatrixValue) (o : Order) (n : ℕ) → o ≡ m.order → n ≡ m.cols →
@@ -47,3 +50,46 @@ rows_more pivots m j place sorted next row so_far within found row_is is = recor
     }
     at i below (no other) =
         subst (IsRowAtPivot pivots m.rows i) (sym (before i (omega (arith, below, other)))) (so_far.rows i (omega (arith, below, other)))
+
+-- ---- places of numbers in a list of them
+
+-- where the first numbers stand is known
+pub record ArePlacedBelow (numbers : List ℕ) (until : ℕ) (places : List ℕ) : Type 0 where
+  pub count : length places ≡ length numbers
+  pub within : (k : ℕ) → k < until → get_or places (get_or numbers k 0) 0 < length numbers
+  pub found : (k : ℕ) → k < until → get_or numbers (get_or places (get_or numbers k 0) 0) 0 ≡ get_or numbers k 0
+
+pub placed_more : (numbers places : List ℕ) (t number : ℕ) → t < length numbers → number ≡ get_or numbers t 0 → number < length numbers →
+    ArePlacedBelow numbers t places → ArePlacedBelow numbers (t + 1) (set places number t)
+placed_more numbers places t number below at small h = record {
+  count = length-set places number t ∙ h.count;
+  within = λ k before. elim (cases_eq (get_or numbers k 0) number) [
+    | inl same ↦ omega (arith, here k same, below)
+    | inr other ↦ omega (arith, there k other, h.within k (earlier k before other))
+  ];
+  found = λ k before. elim (cases_eq (get_or numbers k 0) number) [
+    | inl same ↦ ap (λ j. get_or numbers j 0) (here k same) ∙ sym at ∙ sym same
+    | inr other ↦ ap (λ j. get_or numbers j 0) (there k other) ∙ h.found k (earlier k before other)
+  ];
+}
+  where
+    here : (k : ℕ) → get_or numbers k 0 ≡ number → get_or (set places number t) (get_or numbers k 0) 0 ≡ t
+    here k same = ap (λ j. get_or (set places number t) j 0) same ∙ get_or-set_same places number t 0 (omega (arith, small, h.count))
+
+    there : (k : ℕ) → get_or numbers k 0 ≢ number → get_or (set places number t) (get_or numbers k 0) 0 ≡ get_or places (get_or numbers k 0) 0
+    there k other = get_or-set_other places number (get_or numbers k 0) t 0 other
+
+    earlier : (k : ℕ) → k < t + 1 → get_or numbers k 0 ≢ number → k < t
+    earlier k before other = elim (dec_lt k t) [
+      | yes less ↦ less
+      | no last ↦ let same : k ≡ t = omega (arith, before, last) in absurd (other (ap (λ j. get_or numbers j 0) same ∙ sym at))
+    ]
+
+pub placed_all : (numbers places : List ℕ) (n : ℕ) → length numbers ≤ n → ArePlacedBelow numbers n places → ArePlacesOf numbers places
+placed_all numbers places n all h = record {
+  count = h.count;
+  within = λ number. All-contains (λ number. get_or places number 0 < length numbers) numbers number
+      (All-from_get_or (λ number. get_or places number 0 < length numbers) numbers 0 (λ k below. h.within k (omega arith)));
+  found = λ number. All-contains (λ number. get_or numbers (get_or places number 0) 0 ≡ number) numbers number
+      (All-from_get_or (λ number. get_or numbers (get_or places number 0) 0 ≡ number) numbers 0 (λ k below. h.found k (omega arith)));
+}

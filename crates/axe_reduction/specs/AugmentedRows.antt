@@ -77,8 +77,8 @@ IsClearedBy pivots rows before after =
 abbrev pub count_below : ℕ → List ℕ → ℕ
 count_below bound numbers = count_by (λ number. ltb number bound) numbers
 
--- with a further row, made 1 at its pivot, at its place by its pivot, and the other rows less their multiples of it that
--- make them 0 there
+-- with a further row, made 1 at its pivot and put at its place by that, and the other rows less their multiples of it
+-- that make them 0 there
 pub record IsInsertedAt (pivot : ℕ) (row : AugmentedRow) (before after : GrowingReduction) : Type 0 where
   pub reduced : after.reduced.items ≡ insert (map (cancelled pivot (scaled_at pivot row)) before.reduced.items)
       (count_below pivot before.pivots.items) (scaled_at pivot row)

@@ -1,5 +1,6 @@
 -- Inverses of matrices.
-use Rattle.std.specs.Prelude.{◌≡◌, ℕ, ◌<◌, List, [], length, get_or}
+use Rattle.std.specs.List.{Contains}
+use Rattle.std.specs.Prelude.{◌≡◌, ℕ, ◌<◌, List, [], length, get_or, slice_index}
 use Rattle.axe_algebra.specs.Lists.{IsSquareOver}
 use Rattle.axe_algebra.specs.ListArithmetic.{IsInverse}
 use Rattle.axe_field.specs.NumberFields.{number_field}
@@ -22,6 +23,12 @@ pub record IsRowAtPivot (pivots : List ℕ) (rows : List (List ℕ)) (j : ℕ) (
   pub within : place < length pivots
   pub pivot : get_or pivots place 0 ≡ j
   pub same : row ≡ get_or rows place []
+
+-- a list of numbers below its length, and one as long, which has at each index that is one of them a place of it
+pub record ArePlacesOf (numbers places : List ℕ) : Type 0 where
+  pub count : length places ≡ length numbers
+  pub within : (number : ℕ) → Contains numbers number → slice_index places number < length numbers
+  pub found : (number : ℕ) → Contains numbers number → slice_index numbers (slice_index places number) ≡ number
 
 -- `sorted` has n rows, and row j of them is the row of m whose pivot is j
 pub record AreRowsByPivot (pivots : List ℕ) (m : MatrixValue) (n : ℕ) (sorted : MatrixValue) : Type 0 where

@@ -1,12 +1,13 @@
 //! Inverses.
 
-ghost use Rattle.std.specs.Prelude.{◌≡◌, ◌<◌, ◌≤◌, ℕ, None, IfOk, IfSome, MatchOption, length, slice_index_or};
+ghost use Rattle.std.specs.Prelude.{◌≡◌, ◌<◌, ◌≤◌, ℕ, None, IfOk, IfSome, MatchOption, length, All};
 ghost use Rattle.std.specs.List.{Contains};
 ghost use Rattle.axe_row.specs.Refusals.{Answers};
 ghost use Rattle.axe_matrix.specs.Matrices.{IsMatrix, identity_matrix};
 ghost use Rattle.axe_reduction.specs.Augmented.{augmented};
 ghost use Rattle.axe_reduction.specs.Reductions.{IsReductionOf};
-ghost use Rattle.axe_reduction.specs.Solutions.{AreRowsByPivot, IsInverseMatrix, IsInvertibleMatrix};
+ghost use Rattle.axe_reduction.specs.Solutions.{ArePlacesOf, AreRowsByPivot};
+ghost use Rattle.axe_reduction.specs.Solutions.{IsInverseMatrix, IsInvertibleMatrix};
 
 use crate::augmented::Augmented;
 use crate::reduction::{Reduction, reduction_of};
@@ -39,29 +40,31 @@ pub fn inverse_of(alloc: Global, matrix: &Matrix) -> Result<Option<Matrix>, Refu
 /// The rows of a matrix in the order of their pivots, which are all of the columns.
 fn rows_by_pivot(alloc: Global, rows: &Matrix, pivots: &[usize]) -> Result<Matrix, Refusal>
     requires count { length pivots.now ≡ length rows.now.rows }
+    requires small { All (λ pivot. pivot < length pivots.now) pivots.now }
     requires all { (column : ℕ) → column < rows.now.cols → Contains pivots.now column }
     ensures sorted { Answers None (AreRowsByPivot pivots.now rows.now rows.now.cols) result }
     ensures well_formed { IfOk result IsMatrix }
 {
+    let places = places_of(alloc, pivots)?;
     let mut sorted = Matrix::empty(alloc, *rows.field(), rows.cols());
     for column in 0..rows.cols() {
-        let row = rows.row(place_of(pivots, column)).copy(alloc)?;
+        let row = rows.row(places[column]).copy(alloc)?;
         sorted.append(row)?;
     }
     Ok(sorted)
 }
 
-/// A place of a number in a list that has it.
-fn place_of(numbers: &[usize], number: usize) -> usize
-    requires { Contains numbers.now number }
-    ensures within { result < length numbers.now }
-    ensures found { slice_index_or numbers.now result 0 ≡ number }
+/// For each number that a list contains, at that index, its last place there; all are less than the list's length.
+fn places_of(alloc: Global, numbers: &[usize]) -> Result<Vec<usize>, Refusal>
+    requires { All (λ number. number < length numbers.now) numbers.now }
+    ensures { Answers None (λ places. ArePlacesOf numbers.now places.items) result }
 {
-    let Some(place) = numbers.iter().position(|candidate| *candidate == number) else {
-        // The list contains the number.
-        unreachable!()
-    };
-    place
+    let mut places = Vec::new(alloc);
+    places.resize(numbers.len(), 0)?;
+    for (place, number) in numbers.iter().enumerate() {
+        places[*number] = place;
+    }
+    Ok(places)
 }
 
 /// The reduction of a matrix beside the identity.

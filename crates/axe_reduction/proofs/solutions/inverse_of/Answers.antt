@@ -1,6 +1,6 @@
-use Rattle.std.proofs.Common.{◌≡◌, length, sym, ap, ◌∙◌, subst, arith, ℕ, List}
-use Rattle.std.specs.List.{Contains}
-use Rattle.axe_reduction.proofs.SolutionLists.{no_inverse_of_fewer, reduced_count, columns_of_right, all_columns, inverse_by_pivots}
+use Rattle.std.proofs.Common.{◌≡◌, ◌<◌, length, sym, ap, ◌∙◌, subst, arith, ℕ, List}
+use Rattle.std.specs.List.{All, Contains}
+use Rattle.axe_reduction.proofs.SolutionLists.{no_inverse_of_fewer, reduced_count, columns_of_right, all_columns, pivots_small, inverse_by_pivots}
 use Rattle.axe_reduction.proofs.solutions.inverse_of.Goals as goal
 
 pub returns-then-len-rows-clause-inverse : goal.returns-then-len-rows-clause-inverse
@@ -11,6 +11,12 @@ pub rows_by_pivot-requires-clause-count : goal.rows_by_pivot-requires-clause-cou
 rows_by_pivot-requires-clause-count c =
     ap (λ (l : List ℕ). length l) c.deref.ensures.value
     ∙ reduced_count c.args.matrix.now c.in_ok-reduction.reduction c.into_right.result c.in_ok-reduction.ensures c.into_right.ensures.right
+
+pub rows_by_pivot-requires-clause-small : goal.rows_by_pivot-requires-clause-small
+rows_by_pivot-requires-clause-small c =
+    subst (λ (l : List ℕ). All (λ pivot. pivot < length l) l) (sym c.deref.ensures.value)
+    (pivots_small c.args.matrix.now c.in_ok-reduction.reduction c.requires c.in_ok-reduction.ensures
+    (omega (arith, c.len.ensures, c.in_ok-reduction.reduction.pivots.ok.0, c.if-len-rows.false, c.rows-2.ensures.count)))
 
 pub rows_by_pivot-requires-clause-all : goal.rows_by_pivot-requires-clause-all
 rows_by_pivot-requires-clause-all c column below =

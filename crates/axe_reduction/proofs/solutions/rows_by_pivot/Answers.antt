@@ -1,4 +1,7 @@
-use Rattle.std.proofs.Common.{length, sym, ap, ◌∙◌, subst, arith}
+use Rattle.std.specs.List.{Contains}
+use Rattle.std.proofs.Common.{◌≡◌, ◌<◌, get_or, length, sym, ap, ◌∙◌, subst, arith}
+use Rattle.std.proofs.lemmas.List.{get_or_default}
+use Rattle.std.proofs.lemmas.List.Elements.{All-contains}
 use Rattle.axe_row.specs.Rows.{RowValue}
 use Rattle.axe_reduction.specs.Solutions.{AreRowsByPivot}
 use Rattle.axe_reduction.proofs.SolutionRows.{rows_none, rows_more}
@@ -30,12 +33,23 @@ append-requires-clause-room c =
     )
 
 pub loop-column-preserved : goal.loop-column-preserved
-loop-column-preserved c = record {
-  so_far = rows_more c.args.pivots.now c.args.rows.now c.loop-column.column c.place_of.result c.loop-column.sorted c.append.new.self c.in_ok-row.row
-      c.loop-column.invariant.so_far c.place_of.ensures.within c.place_of.ensures.found (c.in_ok-row.ensures.copied ∙ c.row.ensures.value)
-      c.in_ok-append.ensures.appended;
-  well_formed = c.append.ensures.well_formed;
-}
+loop-column-preserved c =
+    let contained : Contains c.args.pivots.now c.loop-column.column =
+    c.requires.all c.loop-column.column (omega (arith, c.loop-column-test.true, c.loop-column.auto.column-end, c.cols-column-end.ensures.count)) in
+    let place : get_or c.in_ok-places.places.items c.loop-column.column 0 ≡ c.index.result.now =
+    get_or_default c.in_ok-places.places.items c.loop-column.column 0 c.index.result.now (omega (
+      arith,
+      All-contains (λ pivot. pivot < length c.args.pivots.now) c.args.pivots.now c.loop-column.column c.requires.small contained,
+      c.in_ok-places.ensures.count,
+    ))
+    ∙ sym c.index.ensures in
+    record {
+      so_far = rows_more c.args.pivots.now c.args.rows.now c.loop-column.column c.index.result.now c.loop-column.sorted c.append.new.self c.in_ok-row.row
+          c.loop-column.invariant.so_far (subst (λ p. p < length c.args.pivots.now) place (c.in_ok-places.ensures.within c.loop-column.column contained))
+          (ap (λ p. get_or c.args.pivots.now p 0) (sym place) ∙ c.in_ok-places.ensures.found c.loop-column.column contained)
+          (c.in_ok-row.ensures.copied ∙ c.row.ensures.value) c.in_ok-append.ensures.appended;
+      well_formed = c.append.ensures.well_formed;
+    }
 
 pub returns-clause-sorted : goal.returns-clause-sorted
 returns-clause-sorted c =
