@@ -8,13 +8,30 @@ use std::alloc::Global;
 use std::process::Abort;
 
 /// - `add_to`: two rows, an index, and the row there of the table of their combinations, added to zeros;
-/// - `piece_numbers`: a row, a scalar, a size, and the numbers of its first four pieces of that size.
+/// - `piece_numbers`: a row, a scalar, a size, and the numbers of its first four pieces of that size;
+/// - `numbers_from`: a row, a size, an index, and the numbers of its four pieces of that size from there on.
 const TABLES: &str = "\
 add_to | 3: 12 | 3: 01 | 7 | 3: 22
 add_to | 2: 110 | 2: 011 | 3 | 2: 101
 add_to | 2: 110 | 2: 011 | 0 | 2: 000
 piece_numbers | 3: 12012 | 2 | 2 | 7 2 1 0
 piece_numbers | 2: 1011011100000001 | 1 | 4 | 11 7 0 1
+piece_numbers | 2: 1101000011010000110100010000000011000011 | 1 | 5 | 26 3 8 13
+piece_numbers | 2: 011001011010111110110010 | 1 | 6 | 25 26 62 50
+piece_numbers | 2: 110111010000011111011010011011 | 1 | 7 | 110 65 123 38
+piece_numbers | 2: 01110001100010011110001100010011 | 1 | 8 | 113 137 227 19
+piece_numbers | 2: 001101011111111001011001110 | 1 | 8 | 53 254 89 6
+piece_numbers | 3: 12220112221112211202 | 1 | 5 | 159 134 125 128
+piece_numbers | 3: 01211211122211121 | 1 | 5 | 49 203 229 7
+piece_numbers | 3: 21102111202001112022 | 2 | 5 | 154 237 89 193
+numbers_from | 2: 1110010011000110000000011100110011101101000101100000011110011011010000001100 | 8 | 40 | 22 7 155 64
+numbers_from | 2: 100110110011000100001101110000001110101001000001101000010111110000101000011100 | 7 | 50 | 66 124 20 28
+numbers_from | 2: 0011001011000111000101100011001101010101100000111111100101000111011000111011 | 6 | 60 | 29 35 11 0
+numbers_from | 2: 101001010001100100111011111100101110011001000010100011001000110100110110011 | 5 | 66 | 27 3 0 0
+numbers_from | 2: 1100000101110100111110001001010110011011101011010010010100011110110111100101 | 4 | 64 | 13 14 5 0
+numbers_from | 3: 0200000021121021012202212022101212202022202022200221012100000002011011220012 | 5 | 55 | 81 6 112 217
+numbers_from | 4: 0012202103000311101112001300233323120011 | 4 | 25 | 194 254 216 5
+numbers_from | 9: 6755632180516385441262585626321547105034 | 2 | 35 | 5 3 4 0
 ";
 
 fn adds_combination(rt: &impl Abort, alloc: Global, line: &str) -> Result<bool, TableFault> {
@@ -49,8 +66,16 @@ fn numbers_pieces(rt: &impl Abort, alloc: Global, line: &str) -> Result<bool, Ta
     let size = number_of(size)?;
     let row = row_of(alloc, row)?;
     let scalar = element_in(row.field(), scalar)?;
-    assert!(rt; size <= 4);
+    assert!(rt; size <= 8);
     are_numbers(&row.piece_numbers(scalar, size, 0), wanted)
+}
+
+fn numbers_later_pieces(rt: &impl Abort, alloc: Global, line: &str) -> Result<bool, TableFault> {
+    let (row, size, at, wanted) = four_fields(line)?;
+    let (size, at) = (number_of(size)?, number_of(at)?);
+    let row = row_of(alloc, row)?;
+    assert!(rt; size <= 8 && at <= 4096);
+    are_numbers(&row.piece_numbers(1, size, at), wanted)
 }
 
 /// Whether a call answers what its line says.
@@ -63,6 +88,7 @@ pub(crate) fn answers(
     match call {
         "add_to" => adds_combination(rt, alloc, line),
         "piece_numbers" => numbers_pieces(rt, alloc, line),
+        "numbers_from" => numbers_later_pieces(rt, alloc, line),
         _ => Err(TableFault::NotWritten),
     }
 }

@@ -4,7 +4,7 @@ ghost use Rattle.axe_lane.specs.Bytes.{AreBelow};
 
 use axe_lane::{
     add_scaled_bytes, add4_bytes, any_nonzero, bits_of_bytes, dot_bytes, first_byte, first_set,
-    parity_and, scale_bytes, xor_into, xor4_into,
+    parity_and, put_xor, scale_bytes, xor_into, xor4_into,
 };
 use std::alloc::{AllocError, Global};
 use std::process::Abort;
@@ -154,8 +154,11 @@ fn words_are_combined(rt: &impl Abort, alloc: Global, len: usize) -> Result<bool
     assert!(rt; right.len() == sum.len());
     xor_into(&mut sum, &right);
     assert!(rt; right.len() == left.len());
+    let mut put = words_of(alloc, len, 29)?;
+    assert!(rt; put.len() == left.len());
+    put_xor(&mut put, &left, &right);
     let parity = parity_and(&left, &right);
-    let mut is_right = sum.len() == len;
+    let mut is_right = sum.len() == len && put == sum;
     let mut common = 0u32;
     for ((x, y), added) in left.iter().zip(&right).zip(&sum) {
         is_right = is_right && *added == *x ^ *y;
