@@ -101,24 +101,28 @@ fn next_four(row: &Row, start: usize) -> Option<[usize; 4]>
     requires { start ≤ length row.now.entries }
     ensures { IfSome result (AreNextFour row.now.entries start) }
 {
-    if let Some(four) = four_in_word(row.support_word(start / WORD), start) {
+    let word = row.support_word(start / WORD);
+    if let Some(four) = four_in_word(word, start) {
         return Some(four);
     }
-    next_four_by_entries(row, start)
+    next_four_by_entries(row, start, word)
 }
 
 /// The indices of the next four entries of a row other than 0 from an index on, one after another, or `None` where
-/// there are fewer. It stands apart so that `next_four` is short where one word has all four.
+/// there are fewer. The word of the row's support in which the index stands is given. It stands apart so that
+/// `next_four` is short where one word has all four.
 #[inline(never)]
-fn next_four_by_entries(row: &Row, start: usize) -> Option<[usize; 4]>
-    requires { start ≤ length row.now.entries }
+fn next_four_by_entries(row: &Row, start: usize, word: u64) -> Option<[usize; 4]>
+    requires start { start ≤ length row.now.entries }
+    requires word { IsSupportWord row.now.entries (start / 64) word }
     ensures { IfSome result (AreNextFour row.now.entries start) }
 {
     // `len` is called for what it says of the length: that it is a number of the machine, so that no sum below wraps.
     prove!(start <= row.len());
-    let first = row.next_nonzero(start)?;
-    let second = row.next_nonzero(first + 1)?;
-    let third = row.next_nonzero(second + 1)?;
-    let fourth = row.next_nonzero(third + 1)?;
+    let mut word = word;
+    let first = next_entry(row, start, &mut word)?;
+    let second = next_entry(row, first + 1, &mut word)?;
+    let third = next_entry(row, second + 1, &mut word)?;
+    let fourth = next_entry(row, third + 1, &mut word)?;
     Some([first, second, third, fourth])
 }
