@@ -1,6 +1,6 @@
 //! Echelon forms: rows that are inserted, reduced and taken apart, null spaces, and inverses.
 use crate::tables::{Topic, each_call};
-use axe_echelon::{Echelon, Subspace, inverse, null_space, row_space, span_of};
+use axe_echelon::{Echelon, Subspace, inverse, null_space, orthogonal_space, row_space, span_of};
 use axe_matrix::{Matrix, Row};
 use axe_test_values::{
     TableFault, field_of, four_fields, is_matrix, is_row, matrix_of, number_of, row_of_shape,
@@ -45,12 +45,16 @@ row_space | 3: 000/012/021 | 3: 012
 row_space | 2: 0x3 | 2: 0x3
 ";
 
-/// A matrix, and its null space or its inverse.
+/// A matrix, and its null space, the space orthogonal to its rows, or its inverse.
 const NULL_SPACES_AND_INVERSES: &str = "\
 null_space | 2: 10/01 | 2: 0x2
 null_space | 2: 10/10 | 2: 11
 null_space | 2: 0x2 | the matrix has no rows
 null_space | 3: 12/21/00/11 | 3: 1100/0010
+null_space | 5: 1/2/0/3 | 5: 1003/0101/0010
+orthogonal_space | 2: 110 | 2: 110/001
+orthogonal_space | 3: 112/021 | 3: 011
+orthogonal_space | 2: 0x2 | 2: 10/01
 inverse | 3: 12/01 | 3: 11/01
 inverse | 5: 11111/01111/00111/00011/00001 | 5: 14000/01400/00140/00014/00001
 inverse | 5: 00001/00011/00111/01111/11111 | 5: 00041/00410/04100/41000/10000
@@ -143,6 +147,7 @@ fn gives_matrix(alloc: Global, call: &str, line: &str) -> Result<bool, TableFaul
     let answer = match call {
         "row_space" => row_space(alloc, &matrix)?.reduced(alloc),
         "null_space" => null_space(alloc, &matrix),
+        "orthogonal_space" => orthogonal_space(alloc, &matrix),
         _ => inverse(alloc, &matrix),
     };
     is_matrix(alloc, answer, wanted)
@@ -158,7 +163,9 @@ pub(crate) fn answers(alloc: Global, call: &str, line: &str) -> Result<bool, Tab
         "reduce" => reduces(alloc, line),
         "reduced" => finds_reduced_basis(alloc, line),
         "subspace" => finds_subspace(alloc, line),
-        "row_space" | "null_space" | "inverse" => gives_matrix(alloc, call, line),
+        "row_space" | "null_space" | "orthogonal_space" | "inverse" => gives_matrix(
+            alloc, call, line,
+        ),
         _ => Err(TableFault::NotWritten),
     }
 }
