@@ -163,9 +163,8 @@ pub(crate) fn answers(alloc: Global, call: &str, line: &str) -> Result<bool, Tab
         "reduce" => reduces(alloc, line),
         "reduced" => finds_reduced_basis(alloc, line),
         "subspace" => finds_subspace(alloc, line),
-        "row_space" | "null_space" | "orthogonal_space" | "inverse" => gives_matrix(
-            alloc, call, line,
-        ),
+        "row_space" | "null_space" => gives_matrix(alloc, call, line),
+        "orthogonal_space" | "inverse" => gives_matrix(alloc, call, line),
         _ => Err(TableFault::NotWritten),
     }
 }
