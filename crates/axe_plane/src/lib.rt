@@ -208,7 +208,7 @@ impl Plane {
     }
 
     /// Adds a multiple of another plane, whose digits before an index are 0, as [`Plane::add_scaled`] does: the digits
-    /// before the index stay, and are not looked at.
+    /// before the index stay, and no word or byte before that of the index is looked at.
     #[inline]
     pub fn add_scaled_from(&mut self, start: usize, factor: u8, other: &Plane)
         requires within { factor ≢ 0 → start ≤ length (digits_of self.old) }
@@ -253,7 +253,7 @@ impl Plane {
     }
 
     /// Adds a multiple of another plane, whose digits before the index are 0, as [`Plane::cancel`] does: the digits
-    /// before the index stay, and are not looked at.
+    /// before the index stay, and no word or byte before that of the index is looked at.
     #[inline]
     pub fn cancel_from(&mut self, index: usize, other: &Plane) -> u8
         requires within { index ≤ length (digits_of self.old) }

@@ -31,7 +31,7 @@ impl Row {
     }
 
     /// Adds a multiple of a row whose entries before the index are 0, as [`Row::cancel`] does: the entries before the
-    /// index stay, and are not looked at.
+    /// index stay, and no word or byte before that of the index is looked at.
     #[inline]
     pub fn cancel_from(&mut self, index: usize, other: &Row) -> u8
         requires index { index < length self.old.entries }
