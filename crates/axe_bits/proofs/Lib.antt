@@ -11,6 +11,7 @@ pub mod NumberSums
 pub mod PieceDigits
 pub mod PieceBits
 pub mod TurnedPieces
+pub mod BaseThree
 pub mod PieceLaws
 pub mod EndLaws
 pub mod TableLaws

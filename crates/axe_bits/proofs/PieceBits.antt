@@ -9,7 +9,6 @@ use Rattle.axe_algebra.specs.Lists.{listed}
 use Rattle.axe_algebra.proofs.ListEntries.{listed_length, listed_at}
 use Rattle.axe_bits.specs.Bits.{bit_of, bits}
 use Rattle.axe_bits.specs.Digits.{number_bound, number_from}
-use Rattle.axe_bits.specs.Packed.{number_of_piece}
 use Rattle.axe_bits.proofs.BitLaws.{plane_long, get_or-bits, bit_at-shifted}
 use Rattle.axe_bits.proofs.PieceDigits.{with_values, with_values-same, with_values-small, number_of_first, count_from, number_from-values}
 
@@ -93,12 +92,12 @@ number_of_shifted b size at p n word number words self is inside low same =
     let there : at + (p + i) ≡ at + p + i = omega arith in
     bit_at-shifted word p i ∙ same (p + i) here ∙ ap (bit_of words) there)
 
--- the same where the number is in base 2
-pub number_of_part : (b size at p e n word number : ℕ) (words self : List ℕ) → b ≡ 2 → bits n words ≡ self → e ≡ at + p → at + (p + size) ≤ n →
-    p + size ≤ 64 → ((i : ℕ) → i < 64 → bit_at word i ≡ bit_of words (at + i)) → number ≡ number_of_piece word p size →
-    number ≡ number_from b size e self
-number_of_part b size at p e n word number words self two is place inside low same part =
-    number_of_shifted 2 size at p n word number words self is inside low same
-    (part ∙ number_of_listed 2 (λ j. bit_at word (p + j)) size ∙ with_values-same 2 _ _ size (λ j _. sym (bit_at-shifted word p j))
-    ∙ sym (number_of_listed 2 (bit_at (word / 2 ^ p)) size))
-    ∙ ap₂ (λ q a. number_from q size a self) (sym two) (sym place)
+-- the same where the base and the place are known by what they equal
+pub number_of_part : (b q size at p e n word number : ℕ) (words self : List ℕ) → b ≡ q → bits n words ≡ self → e ≡ at + p → at + (p + size) ≤ n →
+    p + size ≤ 64 → ((i : ℕ) → i < 64 → bit_at word i ≡ bit_of words (at + i)) →
+    number ≡ number_with_digits q (listed size (λ j. bit_at word (p + j))) → number ≡ number_from b size e self
+number_of_part b q size at p e n word number words self base is place inside low same part =
+    number_of_shifted q size at p n word number words self is inside low same
+    (part ∙ number_of_listed q (λ j. bit_at word (p + j)) size ∙ with_values-same q _ _ size (λ j _. sym (bit_at-shifted word p j))
+    ∙ sym (number_of_listed q (bit_at (word / 2 ^ p)) size))
+    ∙ ap₂ (λ r a. number_from r size a self) (sym base) (sym place)

@@ -10,6 +10,7 @@ ghost use Rattle.axe_bits.specs.Bits.{bit_of, bits, HoldsBits};
 ghost use Rattle.axe_bits.specs.Digits.{AreSmallSums, digits_at, numbers_with_multiple};
 ghost use Rattle.axe_bits.specs.Digits.{number_from, numbers_from, number_bound};
 
+use crate::base_three::in_base_three;
 use crate::packed::numbers_of_pieces;
 use crate::parts::{WORD, add_spread, gathered, lowest, spread, word_from};
 use axe_lane::{bits_of_bytes, first_set};
@@ -141,7 +142,8 @@ pub(crate) fn numbers_in(
     numbers_by_digits(words, len, base, size, at)
 }
 
-/// The numbers that [`numbers_in`] gives, digit by digit. It stands apart so that they are read in few steps in base 2.
+/// The numbers that [`numbers_in`] gives, digit by digit, but in base 3 by those in base 2. It stands apart so that they
+/// are read in few steps in base 2.
 #[inline(never)]
 pub(crate) fn numbers_by_digits(
     words: &[u64],
@@ -166,6 +168,15 @@ pub(crate) fn numbers_by_digits(
         ];
     }
     let word = word_from(words, at);
+    if base == 3 {
+        let pieces = numbers_of_pieces(word, size);
+        return [
+            in_base_three(pieces[0]),
+            in_base_three(pieces[1]),
+            in_base_three(pieces[2]),
+            in_base_three(pieces[3]),
+        ];
+    }
     [
         number_of_bits(word, base, size),
         number_of_bits(word >> size, base, size),

@@ -2,6 +2,7 @@
 //! tables of many such lists.
 #![tactic(auto)]
 
+mod base_three;
 mod bit_table;
 mod bits;
 mod blocks;
