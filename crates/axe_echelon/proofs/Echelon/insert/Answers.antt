@@ -1,10 +1,11 @@
 use Rattle.std.proofs.Common.{◌≡◌, length, ap, sym, ◌∙◌, arith, refl, true≢false}
+use Rattle.axe_row.specs.Rows.{RowValue}
 use Rattle.axe_row.specs.declared.refusals.Refusal.TheVariants.{Memory}
 use Rattle.axe_echelon.specs.Steps.{IsNextStep, AreSteps, echelon_of, echelon_rows}
 use Rattle.axe_echelon.proofs.Exits.{no_memory, in_any_case}
 use Rattle.axe_echelon.proofs.StepLaws.{echelon_of_steps}
 use Rattle.axe_echelon.proofs.PivotLaws.{same_table}
-use Rattle.axe_echelon.proofs.MoreStepsLaws.{tabled_by_step}
+use Rattle.axe_echelon.proofs.MoreStepsLaws.{tabled_by_step, echelon_of_more}
 use Rattle.axe_echelon.proofs.EliminationLaws.{full_echelon_spans, row_is_spanned, row_is_outside, step_of_new_row}
 use Rattle.axe_echelon.proofs.Echelon.insert.Goals as goal
 
@@ -68,6 +69,11 @@ returns-clause-exactly c =
     c.eliminate.new.multipliers c.in_ok-rest.ensures.copied c.in_ok-rest.ensures.well_formed c.requires.field c.requires.fits c.eliminate.ensures
     c.in-Some.pivot c.in-Some.ensures in
     (λ _. outside, λ _. refl)
+
+pub returns-clause-inserted : goal.returns-clause-inserted
+returns-clause-inserted c =
+    echelon_of_more c.self.inside.field c.self.inside.cols c.self.inside.steps.items c.push.new.self.items c.next_step-step.result c.args.row.entries
+    c.args.self.now c.in_ok-push.ensures.items (ap (λ (r : RowValue). r.entries) c.next_step-step.ensures.inserted) c.self.view_is
 
 pub returns-clause-well_formed : goal.returns-clause-well_formed
 returns-clause-well_formed c = echelon_of_steps _ _ _ (invariant_of-self-2 c).are_steps
