@@ -1,5 +1,5 @@
 use Rattle.std.proofs.Common.{◌≡◌, ◌-◌, suc, Bool, true, false, arith}
-use Rattle.axe_echelon.proofs.OrthogonalSpaces.{orthogonal_column, orthogonal_whole}
+use Rattle.axe_echelon.proofs.OrthogonalSpaces.{orthogonal_pivot, orthogonal_column, orthogonal_whole}
 use Rattle.axe_echelon.proofs.null_spaces.orthogonal_to.Goals as goal
 
 not_both : (b : Bool) → b ≡ true → b ≡ false → ⊥
@@ -15,6 +15,19 @@ loop-column-preserved c =
       reduced = c.loop-column.invariant.reduced;
       well_formed = c.append.ensures.well_formed;
     }
+
+pub loop-column-preserved-then-is_pivot : goal.loop-column-preserved-then-is_pivot
+loop-column-preserved-then-is_pivot c =
+    let left : c.loop-column.column ≡ suc (c.loop-column.column - 1) = omega (arith, c.loop-column-test.true) in
+    record {
+      so_far = orthogonal_pivot c.args.space.now (c.loop-column.column - 1) c.loop-column.column c.loop-column.orthogonal left
+          c.loop-column.invariant.so_far (c.is_pivot.ensures.0 c.if-is_pivot.true);
+      reduced = c.loop-column.invariant.reduced;
+      well_formed = c.loop-column.invariant.well_formed;
+    }
+
+pub orthogonal_vector-requires-clause-no_pivot : goal.orthogonal_vector-requires-clause-no_pivot
+orthogonal_vector-requires-clause-no_pivot c = λ pivot. not_both c.is_pivot.result (c.is_pivot.ensures.1 pivot) c.if-is_pivot.false
 
 pub returns-clause-basis : goal.returns-clause-basis
 returns-clause-basis c =
