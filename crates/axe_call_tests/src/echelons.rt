@@ -3,8 +3,8 @@ use crate::tables::{Topic, each_call};
 use axe_echelon::{Echelon, Subspace, inverse, null_space, orthogonal_space, row_space, span_of};
 use axe_matrix::{Matrix, Row};
 use axe_test_values::{
-    TableFault, field_of, four_fields, is_matrix, is_row, matrix_of, number_of, row_of_shape,
-    three_fields, truth_of, two_fields,
+    TableFault, field_of, first_field, is_matrix, is_row, matrix_of, number_of, one_field,
+    row_of_shape, three_fields, truth_of, two_fields,
 };
 use std::alloc::Global;
 
@@ -62,65 +62,64 @@ inverse | 3: 10/10 | the matrix has no inverse
 inverse | 3: 000/000 | the matrix is not square
 ";
 
-/// The echelon form in which each row of a matrix was inserted.
-fn form_of(alloc: Global, text: &str) -> Result<Echelon, TableFault> {
-    let matrix = matrix_of(alloc, text)?;
-    Ok(span_of(alloc, &matrix)?)
-}
-
-fn inserts(alloc: Global, line: &str) -> Result<bool, TableFault> {
-    let (rows, row, new, rank) = four_fields(line)?;
-    let new = truth_of(new)?;
-    let rank = number_of(rank)?;
-    let mut form = form_of(alloc, rows)?;
+fn inserts(alloc: Global, form: &mut Echelon, line: &str) -> Result<bool, TableFault> {
+    let (row, new, rank) = three_fields(line)?;
     let row = row_of_shape(alloc, row, form.field(), form.cols())?;
-    Ok(form.insert(row)? == new && form.rank() == rank)
+    let is_new = form.insert(row)?;
+    Ok(is_new == truth_of(new)? && form.rank() == number_of(rank)?)
 }
 
-fn describes(alloc: Global, line: &str) -> Result<bool, TableFault> {
-    let (rows, order, rank, columns) = four_fields(line)?;
+fn describes(form: &Echelon, line: &str) -> Result<bool, TableFault> {
+    let (order, rank, columns) = three_fields(line)?;
     let field = field_of(order)?;
     let rank = number_of(rank)?;
     let columns = number_of(columns)?;
-    let form = form_of(alloc, rows)?;
     Ok(form.field() == &field && form.rank() == rank && form.cols() == columns)
 }
 
-fn tells_pivots(alloc: Global, line: &str) -> Result<bool, TableFault> {
-    let (rows, column, wanted) = three_fields(line)?;
-    let column = number_of(column)?;
-    let wanted = truth_of(wanted)?;
-    let form = form_of(alloc, rows)?;
-    Ok(form.is_pivot(column) == wanted)
+fn tells_pivots(form: &Echelon, line: &str) -> Result<bool, TableFault> {
+    let (column, wanted) = two_fields(line)?;
+    Ok(form.is_pivot(number_of(column)?) == truth_of(wanted)?)
 }
 
 /// Whether coordinates are those that are written so, or there are none and `none` is written.
-fn are_coordinates(alloc: Global, answer: Option<Row>, text: &str) -> Result<bool, TableFault> {
+fn are_coordinates(alloc: Global, answer: Option<&Row>, text: &str) -> Result<bool, TableFault> {
     match answer {
-        Some(coordinates) => is_row(alloc, &coordinates, text),
+        Some(coordinates) => is_row(alloc, coordinates, text),
         None => Ok(text == "none"),
     }
 }
 
-fn takes_apart(alloc: Global, line: &str) -> Result<bool, TableFault> {
-    let (rows, row, wanted) = three_fields(line)?;
-    let form = form_of(alloc, rows)?;
+fn takes_apart(alloc: Global, form: &Echelon, line: &str) -> Result<bool, TableFault> {
+    let (row, wanted) = two_fields(line)?;
     let row = row_of_shape(alloc, row, form.field(), form.cols())?;
-    are_coordinates(alloc, form.coordinates(alloc, &row)?, wanted)
+    let coordinates = form.coordinates(alloc, &row)?;
+    are_coordinates(alloc, coordinates.as_ref(), wanted)
 }
 
-fn reduces(alloc: Global, line: &str) -> Result<bool, TableFault> {
-    let (rows, row, wanted) = three_fields(line)?;
-    let form = form_of(alloc, rows)?;
+fn reduces(alloc: Global, form: &Echelon, line: &str) -> Result<bool, TableFault> {
+    let (row, wanted) = two_fields(line)?;
     let mut row = row_of_shape(alloc, row, form.field(), form.cols())?;
     form.reduce(&mut row);
     is_row(alloc, &row, wanted)
 }
 
-fn finds_reduced_basis(alloc: Global, line: &str) -> Result<bool, TableFault> {
-    let (rows, wanted) = two_fields(line)?;
-    let form = form_of(alloc, rows)?;
-    is_matrix(alloc, form.reduced(alloc), wanted)
+/// The calls that are given rows which are inserted into an echelon form one after the other.
+fn answers_of_form(
+    alloc: Global,
+    call: &str,
+    form: &mut Echelon,
+    line: &str,
+) -> Result<bool, TableFault> {
+    match call {
+        "insert" => inserts(alloc, form, line),
+        "shape" => describes(form, line),
+        "is_pivot" => tells_pivots(form, line),
+        "coordinates" => takes_apart(alloc, form, line),
+        "reduce" => reduces(alloc, form, line),
+        "reduced" => is_matrix(alloc, form.reduced(alloc), one_field(line)?),
+        _ => Err(TableFault::NotWritten),
+    }
 }
 
 /// The subspace into which each row of a matrix was inserted.
@@ -133,39 +132,25 @@ fn subspace_of(alloc: Global, rows: &Matrix) -> Result<Subspace, TableFault> {
     Ok(space)
 }
 
-fn finds_subspace(alloc: Global, line: &str) -> Result<bool, TableFault> {
-    let (rows, wanted) = two_fields(line)?;
-    let rows = matrix_of(alloc, rows)?;
-    let space = subspace_of(alloc, &rows)?;
-    is_matrix(alloc, space.reduced(alloc), wanted)
-}
-
-/// The calls that are given a matrix and answer one.
-fn gives_matrix(alloc: Global, call: &str, line: &str) -> Result<bool, TableFault> {
-    let (matrix, wanted) = two_fields(line)?;
-    let matrix = matrix_of(alloc, matrix)?;
-    let answer = match call {
-        "row_space" => row_space(alloc, &matrix)?.reduced(alloc),
-        "null_space" => null_space(alloc, &matrix),
-        "orthogonal_space" => orthogonal_space(alloc, &matrix),
-        _ => inverse(alloc, &matrix),
+/// The basis of the space that a call gives of a matrix.
+fn gives_basis(alloc: Global, call: &str, rows: &Matrix, line: &str) -> Result<bool, TableFault> {
+    let space = match call {
+        "row_space" => row_space(alloc, rows)?,
+        _ => subspace_of(alloc, rows)?,
     };
-    is_matrix(alloc, answer, wanted)
+    is_matrix(alloc, space.reduced(alloc), one_field(line)?)
 }
 
 /// Whether a call answers what its line says.
 pub(crate) fn answers(alloc: Global, call: &str, line: &str) -> Result<bool, TableFault> {
+    let (rows, line) = first_field(line)?;
+    let rows = matrix_of(alloc, rows)?;
     match call {
-        "insert" => inserts(alloc, line),
-        "shape" => describes(alloc, line),
-        "is_pivot" => tells_pivots(alloc, line),
-        "coordinates" => takes_apart(alloc, line),
-        "reduce" => reduces(alloc, line),
-        "reduced" => finds_reduced_basis(alloc, line),
-        "subspace" => finds_subspace(alloc, line),
-        "row_space" | "null_space" => gives_matrix(alloc, call, line),
-        "orthogonal_space" | "inverse" => gives_matrix(alloc, call, line),
-        _ => Err(TableFault::NotWritten),
+        "null_space" => is_matrix(alloc, null_space(alloc, &rows), one_field(line)?),
+        "orthogonal_space" => is_matrix(alloc, orthogonal_space(alloc, &rows), one_field(line)?),
+        "inverse" => is_matrix(alloc, inverse(alloc, &rows), one_field(line)?),
+        "row_space" | "subspace" => gives_basis(alloc, call, &rows, line),
+        _ => answers_of_form(alloc, call, &mut span_of(alloc, &rows)?, line),
     }
 }
 

@@ -1,10 +1,10 @@
 //! Matrices: their entries, copies and blocks, sums, products and transposes.
 use crate::tables::{Topic, each_call};
-use axe_matrix::{MAX_COLUMNS, MAX_ROWS, Matrix};
+use axe_matrix::{MAX_COLUMNS, MAX_ROWS, Matrix, Refusal};
 use axe_test_values::{
     TableFault, element_in, field_of, first_field, four_fields, is_matrix, is_row, is_row_answer,
-    matrix_of, number_of, range_of, row_of_shape, small_number_of, three_fields, truth_of,
-    two_fields, zeros,
+    matrix_of, number_of, one_field, range_of, row_of_shape, small_number_of, three_fields,
+    truth_of, two_fields, zeros,
 };
 use std::alloc::Global;
 use std::process::Abort;
@@ -97,39 +97,42 @@ add_product | 8: 26/76/16/04/35/36/64/10/17/51/06/40/66/00/75/31/63/37/63/50/57/
 add_product | 9: 07/58/14/06/31/83/26/14/02/22/53/07/54/31/44/17/75/04/52/53/58/63/16/72/38/26/07/00/77/15/71/38/32/27/20/84/83/47/13/72/03/40/27/18/14/47/36/35/38/25/74/54/54/13/86/76/45/04/73/05/47/65/52/17/24/35/17/11/28/64/26/47/48/85/08/20/22/26/76/56/34/20/22/74/28/03/38/02/24/15/72/78/65/57/02/48/54/10/18/85/86/56/17/27/67/18/33/08/53/35/37/81/83/76/12/11/76/68/05/00/46/85/66/03/54/20/05/80 | 5 | 9: 12845142826/13638708557/61543662085/45631583367/46211021850/61817804132/41272284062/11450038175/65170851762/65173272565/08158374770/55864635626/01867836258/21155261528/50241473506/13270648563/57176886056/00468727834/88878341614/42516114657/63286236347/85138544161/04372120331/61668836144/03477808556/63636181817/42364060610/08101852735/13300232826/84440130881/36640836233/55531266312/08572412255/54062482128/76174805335/87017866670/37204808737/47563844853/38742658307/38001042820/35653642171/17337853580/22235284845/32762651827/37124504482/74386417547/67416778666/50078283340/13067284747/18850023578/84877032242/22572854334/81035230142/04584811283/65474677457/67586470228/83545341236/06220135304/17413308536/33484087738/11404201268/18417738158/14031147511/28538131115/54425176864/65211321544/83265087413/52554348756/70134541362/71272623301/10333286062/10386660442/62814616261/34441763755/04827674877/10761177413/17434405041/34172167558/66440836534/74854364402/11618537113/03078481761/85664843751/08378577483/75417148366/75763328518/75457578128/44431020572/53772767366/78773464068/04247601732/50708781641/06113462856/47571383882/64738552755/48450017544/20407104288/12256873625/82175211611/18324074375/14825612328/74265848584/26062044444/14755128802/88287874434/76661465438/70240141322/74763672305/74723634037/71464241618/57318720241/82443765278/22243320884/47713776071/20672423451/01542586318/20184350850/81803774672/33443345186/87752517148/41354388364/44166102502/18832032572/02746266426/10014186550/11325473670/41267771114/47203022084 | 9: 10/31/06/06/66/11/51/68/84/68/40 | 9: 77/60/78/01/17/35/64/10/74/53/88/67/44/35/04/74/61/48/10/88/72/81/80/40/54/68/25/71/80/23/23/36/24/35/37/66/73/23/38/10/36/06/02/40/07/45/85/18/53/73/00/27/65/44/50/11/87/52/14/44/26/74/15/20/46/38/86/26/34/27/16/40/22/52/68/06/72/67/28/07/41/87/06/07/33/35/84/23/11/05/67/31/02/74/74/65/34/85/34/34/75/85/86/88/68/11/30/55/37/75/20/86/10/20/42/15/16/76/48/60/50/81/08/04/75/07/66/77
 ";
 
-fn describes(alloc: Global, line: &str) -> Result<bool, TableFault> {
-    let (matrix, order, rows, columns) = four_fields(line)?;
+/// Whether a matrix is the one that is written so.
+fn is_now(alloc: Global, matrix: &Matrix, text: &str) -> Result<bool, TableFault> {
+    Ok(matrix.same(&matrix_of(alloc, text)?))
+}
+
+fn describes(matrix: &Matrix, line: &str) -> Result<bool, TableFault> {
+    let (order, rows, columns) = three_fields(line)?;
     let order = small_number_of(order)?;
     let rows = number_of(rows)?;
     let columns = number_of(columns)?;
-    let matrix = matrix_of(alloc, matrix)?;
     Ok(matrix.field().order() == order && matrix.rows() == rows && matrix.cols() == columns)
 }
 
-fn gets(rt: &impl Abort, alloc: Global, line: &str) -> Result<bool, TableFault> {
-    let (matrix, row, column, wanted) = four_fields(line)?;
+fn gets(rt: &impl Abort, matrix: &Matrix, line: &str) -> Result<bool, TableFault> {
+    let (row, column, wanted) = three_fields(line)?;
     let row = number_of(row)?;
     let column = number_of(column)?;
-    let wanted = small_number_of(wanted)?;
-    let matrix = matrix_of(alloc, matrix)?;
     assert!(rt; row < matrix.rows() && column < matrix.cols());
-    Ok(matrix.get(row, column) == wanted)
+    Ok(matrix.get(row, column) == small_number_of(wanted)?)
 }
 
-fn gives_row(rt: &impl Abort, alloc: Global, line: &str) -> Result<bool, TableFault> {
-    let (matrix, index, wanted) = three_fields(line)?;
+fn gives_row(
+    rt: &impl Abort,
+    alloc: Global,
+    matrix: &Matrix,
+    line: &str,
+) -> Result<bool, TableFault> {
+    let (index, wanted) = two_fields(line)?;
     let index = number_of(index)?;
-    let matrix = matrix_of(alloc, matrix)?;
     assert!(rt; index < matrix.rows());
     is_row(alloc, matrix.row(index), wanted)
 }
 
-fn compares(alloc: Global, line: &str) -> Result<bool, TableFault> {
-    let (left, right, wanted) = three_fields(line)?;
-    let wanted = truth_of(wanted)?;
-    let left = matrix_of(alloc, left)?;
-    let right = matrix_of(alloc, right)?;
-    Ok(left.same(&right) == wanted)
+fn compares(alloc: Global, matrix: &Matrix, line: &str) -> Result<bool, TableFault> {
+    let (other, wanted) = two_fields(line)?;
+    Ok(is_now(alloc, matrix, other)? == truth_of(wanted)?)
 }
 
 fn makes_identity(rt: &impl Abort, alloc: Global, line: &str) -> Result<bool, TableFault> {
@@ -146,59 +149,88 @@ fn makes_zero(alloc: Global, line: &str) -> Result<bool, TableFault> {
     is_matrix(alloc, Ok(zero), wanted)
 }
 
-fn appends(rt: &impl Abort, alloc: Global, line: &str) -> Result<bool, TableFault> {
-    let (matrix, row, wanted) = three_fields(line)?;
-    let mut matrix = matrix_of(alloc, matrix)?;
-    let row = row_of_shape(alloc, row, matrix.field(), matrix.cols())?;
+fn appends(
+    rt: &impl Abort,
+    alloc: Global,
+    matrix: &mut Matrix,
+    line: &str,
+) -> Result<bool, TableFault> {
+    let (row, wanted) = two_fields(line)?;
     assert!(rt; matrix.rows() < MAX_ROWS);
+    let row = row_of_shape(alloc, row, matrix.field(), matrix.cols())?;
     matrix.append(row)?;
-    is_matrix(alloc, Ok(matrix), wanted)
+    is_now(alloc, matrix, wanted)
 }
 
-fn appends_matrix(rt: &impl Abort, alloc: Global, line: &str) -> Result<bool, TableFault> {
-    let (matrix, other, wanted) = three_fields(line)?;
-    let mut matrix = matrix_of(alloc, matrix)?;
-    let other = matrix_of(alloc, other)?;
+/// Puts the rows of a matrix below those of another, which is of the same shape.
+fn append_matrix(rt: &impl Abort, matrix: &mut Matrix, other: Matrix) -> Result<(), Refusal> {
     assert!(rt; other.field() == matrix.field());
     assert!(rt; other.cols() == matrix.cols());
     assert!(rt; matrix.rows() + other.rows() <= MAX_ROWS);
-    matrix.append_matrix(other)?;
-    is_matrix(alloc, Ok(matrix), wanted)
+    matrix.append_matrix(other)
+}
+
+fn appends_matrix(
+    rt: &impl Abort,
+    alloc: Global,
+    matrix: &mut Matrix,
+    line: &str,
+) -> Result<bool, TableFault> {
+    let (other, wanted) = two_fields(line)?;
+    append_matrix(rt, matrix, matrix_of(alloc, other)?)?;
+    is_now(alloc, matrix, wanted)
 }
 
 fn splits(alloc: Global, line: &str) -> Result<bool, TableFault> {
     let (matrix, count, wanted_first, wanted_after) = four_fields(line)?;
-    let matrix = matrix_of(alloc, matrix)?;
-    let (first, after) = matrix.split(alloc, number_of(count)?)?;
-    Ok(is_matrix(alloc, Ok(first), wanted_first)? && is_matrix(alloc, Ok(after), wanted_after)?)
+    let count = number_of(count)?;
+    let (first, after) = matrix_of(alloc, matrix)?.split(alloc, count)?;
+    Ok(is_now(alloc, &first, wanted_first)? && is_now(alloc, &after, wanted_after)?)
 }
 
-fn takes_block(rt: &impl Abort, alloc: Global, line: &str) -> Result<bool, TableFault> {
-    let (matrix, rows, columns, wanted) = four_fields(line)?;
-    let (row, last_row) = range_of(rows)?;
-    let (column, last_column) = range_of(columns)?;
-    let matrix = matrix_of(alloc, matrix)?;
+/// The block of these rows and columns.
+fn block_of(
+    rt: &impl Abort,
+    alloc: Global,
+    matrix: &Matrix,
+    rows: (usize, usize),
+    columns: (usize, usize),
+) -> Result<Matrix, Refusal> {
+    let (row, last_row) = rows;
+    let (column, last_column) = columns;
     assert!(rt; row <= last_row && last_row <= matrix.rows());
     assert!(rt; column < last_column && last_column <= matrix.cols());
-    let block = matrix.block(alloc, row, last_row - row, column, last_column - column);
+    matrix.block(alloc, row, last_row - row, column, last_column - column)
+}
+
+fn takes_block(
+    rt: &impl Abort,
+    alloc: Global,
+    matrix: &Matrix,
+    line: &str,
+) -> Result<bool, TableFault> {
+    let (rows, columns, wanted) = three_fields(line)?;
+    let block = block_of(rt, alloc, matrix, range_of(rows)?, range_of(columns)?);
     is_matrix(alloc, block, wanted)
 }
 
 /// The calls that are given a matrix and answer one.
-fn gives_matrix(alloc: Global, call: &str, line: &str) -> Result<bool, TableFault> {
-    let (matrix, wanted) = two_fields(line)?;
-    let matrix = matrix_of(alloc, matrix)?;
+fn gives_matrix(
+    alloc: Global,
+    call: &str,
+    matrix: &Matrix,
+    line: &str,
+) -> Result<bool, TableFault> {
     let answer = match call {
         "copy" => matrix.copy(alloc),
         _ => matrix.transpose(alloc),
     };
-    is_matrix(alloc, answer, wanted)
+    is_matrix(alloc, answer, one_field(line)?)
 }
 
 /// The calls that are given two matrices and answer one.
-fn combines(alloc: Global, call: &str, line: &str) -> Result<bool, TableFault> {
-    let (left, right, wanted) = three_fields(line)?;
-    let left = matrix_of(alloc, left)?;
+fn combines(alloc: Global, call: &str, left: &Matrix, line: &str) -> Result<bool, TableFault> {
+    let (right, wanted) = two_fields(line)?;
     let right = matrix_of(alloc, right)?;
     let answer = match call {
         "mul" => left.mul(alloc, &right),
@@ -207,37 +239,78 @@ fn combines(alloc: Global, call: &str, line: &str) -> Result<bool, TableFault> {
     is_matrix(alloc, answer, wanted)
 }
 
-fn adds_square(rt: &impl Abort, alloc: Global, line: &str) -> Result<bool, TableFault> {
-    let (matrix, scalar, wanted) = three_fields(line)?;
-    let matrix = matrix_of(alloc, matrix)?;
-    let scalar = element_in(matrix.field(), scalar)?;
-    assert!(rt; matrix.rows() == matrix.cols());
-    let mut sum = matrix.copy(alloc)?;
-    sum.add_product(alloc, scalar, &matrix, &matrix)?;
-    is_matrix(alloc, Ok(sum), wanted)
-}
-
-fn adds_product(rt: &impl Abort, alloc: Global, line: &str) -> Result<bool, TableFault> {
-    let (sum, line) = first_field(line)?;
-    let (scalar, left, right, wanted) = four_fields(line)?;
-    let mut sum = matrix_of(alloc, sum)?;
-    let scalar = element_in(sum.field(), scalar)?;
-    let left = matrix_of(alloc, left)?;
-    let right = matrix_of(alloc, right)?;
+/// Adds the multiple of the product of two matrices to a matrix, all of shapes that fit.
+fn add_product(
+    rt: &impl Abort,
+    alloc: Global,
+    sum: &mut Matrix,
+    scalar: &str,
+    left: &Matrix,
+    right: &Matrix,
+) -> Result<(), TableFault> {
     assert!(rt; left.field() == sum.field());
     assert!(rt; right.field() == sum.field());
     assert!(rt; left.rows() == sum.rows());
     assert!(rt; left.cols() == right.rows());
     assert!(rt; right.cols() == sum.cols());
-    sum.add_product(alloc, scalar, &left, &right)?;
-    is_matrix(alloc, Ok(sum), wanted)
+    let scalar = element_in(sum.field(), scalar)?;
+    Ok(sum.add_product(alloc, scalar, left, right)?)
 }
 
-fn maps_vector(alloc: Global, line: &str) -> Result<bool, TableFault> {
-    let (matrix, vector, wanted) = three_fields(line)?;
-    let matrix = matrix_of(alloc, matrix)?;
+fn adds_square(
+    rt: &impl Abort,
+    alloc: Global,
+    matrix: &mut Matrix,
+    line: &str,
+) -> Result<bool, TableFault> {
+    let (scalar, wanted) = two_fields(line)?;
+    let old = matrix.copy(alloc)?;
+    add_product(rt, alloc, matrix, scalar, &old, &old)?;
+    is_now(alloc, matrix, wanted)
+}
+
+fn adds_product(
+    rt: &impl Abort,
+    alloc: Global,
+    sum: &mut Matrix,
+    line: &str,
+) -> Result<bool, TableFault> {
+    let (scalar, left, right, wanted) = four_fields(line)?;
+    let left = matrix_of(alloc, left)?;
+    let right = matrix_of(alloc, right)?;
+    add_product(rt, alloc, sum, scalar, &left, &right)?;
+    is_now(alloc, sum, wanted)
+}
+
+fn maps_vector(alloc: Global, matrix: &Matrix, line: &str) -> Result<bool, TableFault> {
+    let (vector, wanted) = two_fields(line)?;
     let vector = row_of_shape(alloc, vector, matrix.field(), matrix.rows())?;
     is_row_answer(alloc, matrix.vec_mul(alloc, &vector), wanted)
+}
+
+/// The calls that are given a matrix first.
+fn answers_of_matrix(
+    rt: &impl Abort,
+    alloc: Global,
+    call: &str,
+    matrix: &mut Matrix,
+    line: &str,
+) -> Result<bool, TableFault> {
+    match call {
+        "shape" => describes(matrix, line),
+        "get" => gets(rt, matrix, line),
+        "row" => gives_row(rt, alloc, matrix, line),
+        "same" => compares(alloc, matrix, line),
+        "append" => appends(rt, alloc, matrix, line),
+        "append_matrix" => appends_matrix(rt, alloc, matrix, line),
+        "block" => takes_block(rt, alloc, matrix, line),
+        "copy" | "transpose" => gives_matrix(alloc, call, matrix, line),
+        "mul" | "add" => combines(alloc, call, matrix, line),
+        "add_square" => adds_square(rt, alloc, matrix, line),
+        "add_product" => adds_product(rt, alloc, matrix, line),
+        "vec_mul" => maps_vector(alloc, matrix, line),
+        _ => Err(TableFault::NotWritten),
+    }
 }
 
 /// Whether a call answers what its line says.
@@ -248,22 +321,13 @@ pub(crate) fn answers(
     line: &str,
 ) -> Result<bool, TableFault> {
     match call {
-        "shape" => describes(alloc, line),
-        "get" => gets(rt, alloc, line),
-        "row" => gives_row(rt, alloc, line),
-        "same" => compares(alloc, line),
         "identity" => makes_identity(rt, alloc, line),
         "zero" => makes_zero(alloc, line),
-        "append" => appends(rt, alloc, line),
-        "append_matrix" => appends_matrix(rt, alloc, line),
         "split" => splits(alloc, line),
-        "block" => takes_block(rt, alloc, line),
-        "copy" | "transpose" => gives_matrix(alloc, call, line),
-        "mul" | "add" => combines(alloc, call, line),
-        "add_square" => adds_square(rt, alloc, line),
-        "add_product" => adds_product(rt, alloc, line),
-        "vec_mul" => maps_vector(alloc, line),
-        _ => Err(TableFault::NotWritten),
+        _ => {
+            let (matrix, line) = first_field(line)?;
+            answers_of_matrix(rt, alloc, call, &mut matrix_of(alloc, matrix)?, line)
+        }
     }
 }
 
