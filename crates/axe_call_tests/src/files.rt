@@ -3,7 +3,7 @@ use crate::tables::{Topic, each_call};
 use axe_file::{FileFault, read_packed, read_text, write_packed, write_text};
 use axe_matrix::Matrix;
 use axe_test_values::{
-    TableFault, bytes_of_hex, bytes_of_text, is_fault, is_matrix, matrix_of, two_fields,
+    TableFault, bytes_of_hex, bytes_of_text, is_fault, is_same_matrix, matrix_of, two_fields,
 };
 use std::alloc::Global;
 
@@ -74,12 +74,12 @@ write_text | matrix field=3 rows=2 cols=81\\n\
 /// Whether an answer is the matrix or the fault that is written so.
 fn is_read(
     alloc: Global,
-    answer: Result<Matrix, FileFault>,
+    answer: &Result<Matrix, FileFault>,
     text: &str,
 ) -> Result<bool, TableFault> {
     match answer {
-        Ok(matrix) => is_matrix(alloc, Ok(matrix), text),
-        Err(fault) => Ok(is_fault(alloc, &fault, text)?),
+        Ok(matrix) => is_same_matrix(alloc, matrix, text),
+        Err(fault) => is_fault(alloc, fault, text),
     }
 }
 
@@ -94,7 +94,7 @@ fn is_written(answer: Result<Vec<u8>, FileFault>, bytes: &[u8]) -> bool {
 fn reads_packed(alloc: Global, line: &str) -> Result<bool, TableFault> {
     let (bytes, wanted) = two_fields(line)?;
     let bytes = bytes_of_hex(alloc, bytes)?;
-    is_read(alloc, read_packed(alloc, &bytes), wanted)
+    is_read(alloc, &read_packed(alloc, &bytes), wanted)
 }
 
 fn writes_packed(alloc: Global, line: &str) -> Result<bool, TableFault> {
@@ -107,7 +107,7 @@ fn writes_packed(alloc: Global, line: &str) -> Result<bool, TableFault> {
 fn reads_text(alloc: Global, line: &str) -> Result<bool, TableFault> {
     let (text, wanted) = two_fields(line)?;
     let text = bytes_of_text(alloc, text)?;
-    is_read(alloc, read_text(alloc, &text), wanted)
+    is_read(alloc, &read_text(alloc, &text), wanted)
 }
 
 /// What is written for the matrix of a text.

@@ -92,14 +92,16 @@ fn memory_keeps_files_by_name(rt: HostRuntime) -> Result<(), TableFault> {
     Ok(())
 }
 
+/// Whether a call failed.
+fn has_failed<T: Drop>(answer: &Result<T, FolderFault>) -> bool {
+    matches!(answer, Err(FolderFault::Device))
+}
+
 /// Asserts that each call on a folder fails.
 fn assert_failing(rt: &impl Abort, folder: &mut FusedFolder, name: &str) {
-    let removed = folder.remove(name);
-    assert!(rt; matches!(removed, Err(FolderFault::Device)));
-    let put = folder.put(name, b"three");
-    assert!(rt; matches!(put, Err(FolderFault::Device)));
-    let got = folder.get(name, 3);
-    assert!(rt; matches!(got, Err(FolderFault::Device)));
+    assert!(rt; has_failed(&folder.remove(name)));
+    assert!(rt; has_failed(&folder.put(name, b"three")));
+    assert!(rt; has_failed(&folder.get(name, 3)));
 }
 
 #[test]
@@ -116,8 +118,7 @@ fn a_fuse_passes_three_calls_and_no_more(rt: HostRuntime) -> Result<(), TableFau
 fn the_first_put_that_fails_may_be_torn(rt: HostRuntime) {
     for (tears, left) in [(true, Some(b"th".as_slice())), (false, None)] {
         let mut folder = FusedFolder::new(MemFolder::new(rt.alloc()), 0, tears);
-        let put = folder.put("A", b"three");
-        assert!(rt; matches!(put, Err(FolderFault::Device)));
+        assert!(rt; has_failed(&folder.put("A", b"three")));
         assert_failing(&rt, &mut folder, "A");
         assert!(rt; folder.bytes("A") == left);
     }
@@ -146,8 +147,7 @@ fn a_directory_has_no_file_of_a_bad_name(rt: HostRuntime) -> Result<(), Fail> {
     for name in BAD_NAMES {
         let got = folder.get(name, 3);
         assert!(rt; matches!(got, Err(FolderFault::Missing)), "get {name}");
-        let put = folder.put(name, b"two");
-        assert!(rt; matches!(put, Err(FolderFault::Device)), "put {name}");
+        assert!(rt; has_failed(&folder.put(name, b"two")), "put {name}");
         assert!(rt; folder.remove(name).is_ok(), "remove {name}");
     }
     let kept = fs::read(&rt, "axe_call_tests_names/within/A")?;

@@ -1,10 +1,13 @@
 //! Matrices: their entries, copies and blocks, sums, products and transposes.
+
+ghost use Rattle.std.specs.Prelude.{◌≡◌, length};
+
 use crate::tables::{Topic, each_call};
 use axe_matrix::{MAX_COLUMNS, MAX_ROWS, Matrix, Refusal};
 use axe_test_values::{
     TableFault, element_in, field_of, first_field, four_fields, is_matrix, is_row, is_row_answer,
-    matrix_of, number_of, one_field, range_of, row_of_shape, small_number_of, three_fields,
-    truth_of, two_fields, zeros,
+    is_same_matrix, matrix_of, number_of, one_field, range_of, row_of_shape, small_number_of,
+    three_fields, truth_of, two_fields, zeros,
 };
 use std::alloc::Global;
 use std::process::Abort;
@@ -97,11 +100,6 @@ add_product | 8: 26/76/16/04/35/36/64/10/17/51/06/40/66/00/75/31/63/37/63/50/57/
 add_product | 9: 07/58/14/06/31/83/26/14/02/22/53/07/54/31/44/17/75/04/52/53/58/63/16/72/38/26/07/00/77/15/71/38/32/27/20/84/83/47/13/72/03/40/27/18/14/47/36/35/38/25/74/54/54/13/86/76/45/04/73/05/47/65/52/17/24/35/17/11/28/64/26/47/48/85/08/20/22/26/76/56/34/20/22/74/28/03/38/02/24/15/72/78/65/57/02/48/54/10/18/85/86/56/17/27/67/18/33/08/53/35/37/81/83/76/12/11/76/68/05/00/46/85/66/03/54/20/05/80 | 5 | 9: 12845142826/13638708557/61543662085/45631583367/46211021850/61817804132/41272284062/11450038175/65170851762/65173272565/08158374770/55864635626/01867836258/21155261528/50241473506/13270648563/57176886056/00468727834/88878341614/42516114657/63286236347/85138544161/04372120331/61668836144/03477808556/63636181817/42364060610/08101852735/13300232826/84440130881/36640836233/55531266312/08572412255/54062482128/76174805335/87017866670/37204808737/47563844853/38742658307/38001042820/35653642171/17337853580/22235284845/32762651827/37124504482/74386417547/67416778666/50078283340/13067284747/18850023578/84877032242/22572854334/81035230142/04584811283/65474677457/67586470228/83545341236/06220135304/17413308536/33484087738/11404201268/18417738158/14031147511/28538131115/54425176864/65211321544/83265087413/52554348756/70134541362/71272623301/10333286062/10386660442/62814616261/34441763755/04827674877/10761177413/17434405041/34172167558/66440836534/74854364402/11618537113/03078481761/85664843751/08378577483/75417148366/75763328518/75457578128/44431020572/53772767366/78773464068/04247601732/50708781641/06113462856/47571383882/64738552755/48450017544/20407104288/12256873625/82175211611/18324074375/14825612328/74265848584/26062044444/14755128802/88287874434/76661465438/70240141322/74763672305/74723634037/71464241618/57318720241/82443765278/22243320884/47713776071/20672423451/01542586318/20184350850/81803774672/33443345186/87752517148/41354388364/44166102502/18832032572/02746266426/10014186550/11325473670/41267771114/47203022084 | 9: 10/31/06/06/66/11/51/68/84/68/40 | 9: 77/60/78/01/17/35/64/10/74/53/88/67/44/35/04/74/61/48/10/88/72/81/80/40/54/68/25/71/80/23/23/36/24/35/37/66/73/23/38/10/36/06/02/40/07/45/85/18/53/73/00/27/65/44/50/11/87/52/14/44/26/74/15/20/46/38/86/26/34/27/16/40/22/52/68/06/72/67/28/07/41/87/06/07/33/35/84/23/11/05/67/31/02/74/74/65/34/85/34/34/75/85/86/88/68/11/30/55/37/75/20/86/10/20/42/15/16/76/48/60/50/81/08/04/75/07/66/77
 ";
 
-/// Whether a matrix is the one that is written so.
-fn is_now(alloc: Global, matrix: &Matrix, text: &str) -> Result<bool, TableFault> {
-    Ok(matrix.same(&matrix_of(alloc, text)?))
-}
-
 fn describes(matrix: &Matrix, line: &str) -> Result<bool, TableFault> {
     let (order, rows, columns) = three_fields(line)?;
     let order = small_number_of(order)?;
@@ -132,7 +130,7 @@ fn gives_row(
 
 fn compares(alloc: Global, matrix: &Matrix, line: &str) -> Result<bool, TableFault> {
     let (other, wanted) = two_fields(line)?;
-    Ok(is_now(alloc, matrix, other)? == truth_of(wanted)?)
+    Ok(is_same_matrix(alloc, matrix, other)? == truth_of(wanted)?)
 }
 
 fn makes_identity(rt: &impl Abort, alloc: Global, line: &str) -> Result<bool, TableFault> {
@@ -159,7 +157,7 @@ fn appends(
     assert!(rt; matrix.rows() < MAX_ROWS);
     let row = row_of_shape(alloc, row, matrix.field(), matrix.cols())?;
     matrix.append(row)?;
-    is_now(alloc, matrix, wanted)
+    is_same_matrix(alloc, matrix, wanted)
 }
 
 /// Puts the rows of a matrix below those of another, which is of the same shape.
@@ -178,14 +176,14 @@ fn appends_matrix(
 ) -> Result<bool, TableFault> {
     let (other, wanted) = two_fields(line)?;
     append_matrix(rt, matrix, matrix_of(alloc, other)?)?;
-    is_now(alloc, matrix, wanted)
+    is_same_matrix(alloc, matrix, wanted)
 }
 
 fn splits(alloc: Global, line: &str) -> Result<bool, TableFault> {
     let (matrix, count, wanted_first, wanted_after) = four_fields(line)?;
     let count = number_of(count)?;
     let (first, after) = matrix_of(alloc, matrix)?.split(alloc, count)?;
-    Ok(is_now(alloc, &first, wanted_first)? && is_now(alloc, &after, wanted_after)?)
+    Ok(is_same_matrix(alloc, &first, wanted_first)? && is_same_matrix(alloc, &after, wanted_after)?)
 }
 
 /// The block of these rows and columns.
@@ -239,6 +237,21 @@ fn combines(alloc: Global, call: &str, left: &Matrix, line: &str) -> Result<bool
     is_matrix(alloc, answer, wanted)
 }
 
+/// Asserts that a multiple of the product of two matrices can be added to a matrix.
+fn assert_fitting(rt: &impl Abort, sum: &Matrix, left: &Matrix, right: &Matrix)
+    ensures left_field { left.now.order ≡ sum.now.order }
+    ensures right_field { right.now.order ≡ sum.now.order }
+    ensures rows { length left.now.rows ≡ length sum.now.rows }
+    ensures inner { left.now.cols ≡ length right.now.rows }
+    ensures columns { right.now.cols ≡ sum.now.cols }
+{
+    assert!(rt; left.field() == sum.field());
+    assert!(rt; right.field() == sum.field());
+    assert!(rt; left.rows() == sum.rows());
+    assert!(rt; left.cols() == right.rows());
+    assert!(rt; right.cols() == sum.cols());
+}
+
 /// Adds the multiple of the product of two matrices to a matrix, all of shapes that fit.
 fn add_product(
     rt: &impl Abort,
@@ -248,11 +261,7 @@ fn add_product(
     left: &Matrix,
     right: &Matrix,
 ) -> Result<(), TableFault> {
-    assert!(rt; left.field() == sum.field());
-    assert!(rt; right.field() == sum.field());
-    assert!(rt; left.rows() == sum.rows());
-    assert!(rt; left.cols() == right.rows());
-    assert!(rt; right.cols() == sum.cols());
+    assert_fitting(rt, sum, left, right);
     let scalar = element_in(sum.field(), scalar)?;
     Ok(sum.add_product(alloc, scalar, left, right)?)
 }
@@ -266,7 +275,7 @@ fn adds_square(
     let (scalar, wanted) = two_fields(line)?;
     let old = matrix.copy(alloc)?;
     add_product(rt, alloc, matrix, scalar, &old, &old)?;
-    is_now(alloc, matrix, wanted)
+    is_same_matrix(alloc, matrix, wanted)
 }
 
 fn adds_product(
@@ -279,7 +288,7 @@ fn adds_product(
     let left = matrix_of(alloc, left)?;
     let right = matrix_of(alloc, right)?;
     add_product(rt, alloc, sum, scalar, &left, &right)?;
-    is_now(alloc, sum, wanted)
+    is_same_matrix(alloc, sum, wanted)
 }
 
 fn maps_vector(alloc: Global, matrix: &Matrix, line: &str) -> Result<bool, TableFault> {

@@ -1,5 +1,5 @@
 //! Reports: read, refused and written; names of constituents.
-use axe_report::{Report, ReportFault, constituent_name, read_report, write_report};
+use axe_report::{Report, ReportFactor, ReportFault, constituent_name, read_report, write_report};
 use std::alloc::{AllocError, Global};
 use std::process::Abort;
 
@@ -90,6 +90,11 @@ fn refused_at(answer: Result<Report, ReportFault>) -> Option<usize> {
     }
 }
 
+/// Whether a factor has this name, dimension and multiplicity.
+fn is_factor(factor: &ReportFactor, name: &str, dim: usize, multiplicity: usize) -> bool {
+    factor.name() == name && factor.dim() == dim && factor.multiplicity() == multiplicity
+}
+
 #[test]
 fn a_report_gives_its_fields(rt: HostRuntime) -> Result<(), ReportFault> {
     let report = read_report(rt.alloc(), REPORT.as_bytes())?;
@@ -98,12 +103,8 @@ fn a_report_gives_its_fields(rt: HostRuntime) -> Result<(), ReportFault> {
     assert!(&rt; header.seed == 1 && header.words == 400);
     let factors = report.factors();
     assert!(&rt; factors.len() == 2);
-    assert!(&rt;
-        factors[0].name() == "2a" && factors[0].dim() == 2 && factors[0].multiplicity() == 1
-    );
-    assert!(&rt;
-        factors[1].name() == "1a" && factors[1].dim() == 1 && factors[1].multiplicity() == 1
-    );
+    assert!(&rt; is_factor(&factors[0], "2a", 2, 1));
+    assert!(&rt; is_factor(&factors[1], "1a", 1, 1));
     assert!(&rt; report.series() == [0u16, 1].as_slice());
     Ok(())
 }

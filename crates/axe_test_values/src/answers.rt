@@ -24,6 +24,11 @@ pub fn is_row_answer(
     is_row(alloc, &answer?, text)
 }
 
+/// Whether a matrix is the one that is written so.
+pub fn is_same_matrix(alloc: Global, matrix: &Matrix, text: &str) -> Result<bool, TableFault> {
+    Ok(matrix.same(&matrix_of(alloc, text)?))
+}
+
 /// Whether an answer is the matrix or the refusal that is written so.
 pub fn is_matrix(
     alloc: Global,
@@ -31,7 +36,7 @@ pub fn is_matrix(
     text: &str,
 ) -> Result<bool, TableFault> {
     match answer {
-        Ok(matrix) => Ok(matrix.same(&matrix_of(alloc, text)?)),
+        Ok(matrix) => is_same_matrix(alloc, &matrix, text),
         Err(refusal) => is_fault(alloc, &refusal, text),
     }
 }

@@ -31,7 +31,7 @@ mod fields;
 mod matrices;
 mod numbers;
 
-pub use answers::{is_fault, is_matrix, is_row, is_row_answer};
+pub use answers::{is_fault, is_matrix, is_row, is_row_answer, is_same_matrix};
 pub use bytes::{bytes_of_hex, bytes_of_text};
 pub use fault::TableFault;
 pub use fields::{first_field, four_fields, is_remark, one_field, three_fields, two_fields};
