@@ -7,7 +7,7 @@ use axe_action::{
 };
 use axe_matrix::{Matrix, Refusal};
 use axe_spin::Module;
-use axe_test_values::{TableFault, is_matrix, matrix_of, three_fields, two_fields};
+use axe_test_values::{TableFault, first_field, is_matrix, matrix_of, one_field, two_fields};
 use std::alloc::Global;
 use std::process::Abort;
 
@@ -91,30 +91,60 @@ fn module_from(
     }
 }
 
-fn acts(rt: &impl Abort, alloc: Global, call: &str, line: &str) -> Result<bool, TableFault> {
-    let (module, rows, wanted) = three_fields(line)?;
-    let module = module_of(alloc, module)?;
-    let rows = matrix_of(alloc, rows)?;
-    is_module(alloc, module_from(rt, alloc, call, &module, &rows), wanted)
-}
-
-fn transposes(alloc: Global, line: &str) -> Result<bool, TableFault> {
-    let (module, wanted) = two_fields(line)?;
-    let module = module_of(alloc, module)?;
-    is_module(alloc, dual(alloc, &module), wanted)
-}
-
-fn annihilates(alloc: Global, line: &str) -> Result<bool, TableFault> {
+fn acts(
+    rt: &impl Abort,
+    alloc: Global,
+    call: &str,
+    module: &Module,
+    line: &str,
+) -> Result<bool, TableFault> {
     let (rows, wanted) = two_fields(line)?;
     let rows = matrix_of(alloc, rows)?;
-    is_matrix(alloc, annihilator(alloc, &rows), wanted)
+    is_module(alloc, module_from(rt, alloc, call, module, &rows), wanted)
 }
 
-fn extends(rt: &impl Abort, alloc: Global, line: &str) -> Result<bool, TableFault> {
+/// The calls that are given a module first.
+fn answers_of_module(
+    rt: &impl Abort,
+    alloc: Global,
+    call: &str,
+    line: &str,
+) -> Result<bool, TableFault> {
+    let (module, line) = first_field(line)?;
+    let module = module_of(alloc, module)?;
+    match call {
+        "sub_action" | "quotient_action" | "basis_action" => acts(rt, alloc, call, &module, line),
+        "conjugate" | "conjugate_copy" => acts(rt, alloc, call, &module, line),
+        "dual" => is_module(alloc, dual(alloc, &module), one_field(line)?),
+        _ => Err(TableFault::NotWritten),
+    }
+}
+
+/// What a call answers that is given rows alone.
+fn matrix_from(
+    rt: &impl Abort,
+    alloc: Global,
+    call: &str,
+    rows: &Matrix,
+) -> Result<Matrix, Refusal> {
+    match call {
+        "annihilator" => annihilator(alloc, rows),
+        _ => {
+            assert_independent(rt, alloc, rows)?;
+            extend_basis(alloc, rows)
+        }
+    }
+}
+
+fn gives_matrix(
+    rt: &impl Abort,
+    alloc: Global,
+    call: &str,
+    line: &str,
+) -> Result<bool, TableFault> {
     let (rows, wanted) = two_fields(line)?;
     let rows = matrix_of(alloc, rows)?;
-    assert_independent(rt, alloc, &rows)?;
-    is_matrix(alloc, extend_basis(alloc, &rows), wanted)
+    is_matrix(alloc, matrix_from(rt, alloc, call, &rows), wanted)
 }
 
 /// Whether a call answers what its line says.
@@ -125,12 +155,8 @@ pub(crate) fn answers(
     line: &str,
 ) -> Result<bool, TableFault> {
     match call {
-        "sub_action" | "quotient_action" | "basis_action" => acts(rt, alloc, call, line),
-        "conjugate" | "conjugate_copy" => acts(rt, alloc, call, line),
-        "dual" => transposes(alloc, line),
-        "annihilator" => annihilates(alloc, line),
-        "extend_basis" => extends(rt, alloc, line),
-        _ => Err(TableFault::NotWritten),
+        "annihilator" | "extend_basis" => gives_matrix(rt, alloc, call, line),
+        _ => answers_of_module(rt, alloc, call, line),
     }
 }
 

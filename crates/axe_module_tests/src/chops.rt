@@ -8,7 +8,7 @@ use axe_chop::{ChopFault, Chopped, chop, report_of};
 use axe_matrix::Refusal;
 use axe_report::{ReportFault, write_report};
 use axe_spin::Module;
-use axe_test_values::{TableFault, four_fields, is_matrix};
+use axe_test_values::{TableFault, four_fields, is_same_matrix};
 use std::alloc::{AllocError, Global};
 use std::process::Abort;
 
@@ -73,15 +73,20 @@ const OPEN: &str = "\
 const IDENTITY: &str = "\
 2: 1000000000/0100000000/0010000000/0001000000/0000100000/0000010000/0000001000/0000000100/0000000010/0000000001";
 
+/// Puts a word behind the words of a text.
+fn push_word(words: &mut String, word: &str) -> Result<(), AllocError> {
+    if !words.is_empty() {
+        words.push_str(" ")?;
+    }
+    words.push_str(word)
+}
+
 /// The names of the constituents, from the bottom.
 fn names(alloc: Global, chopped: &Chopped) -> Result<String, AllocError> {
     let mut names = String::new(alloc);
     for &place in &chopped.series {
         if let Some((name, _)) = chopped.factors.get_index(usize::from(place)) {
-            if !names.is_empty() {
-                names.push_str(" ")?;
-            }
-            names.push_str(name.as_str())?;
+            push_word(&mut names, name.as_str())?;
         }
     }
     Ok(names)
@@ -91,10 +96,8 @@ fn names(alloc: Global, chopped: &Chopped) -> Result<String, AllocError> {
 fn multiplicities(alloc: Global, chopped: &Chopped) -> Result<String, AllocError> {
     let mut numbers = String::new(alloc);
     for factor in chopped.factors.values() {
-        if !numbers.is_empty() {
-            numbers.push_str(" ")?;
-        }
-        numbers.push_str(format!(in alloc; "{}", factor.multiplicity)?.as_str())?;
+        let number = format!(in alloc; "{}", factor.multiplicity)?;
+        push_word(&mut numbers, number.as_str())?;
     }
     Ok(numbers)
 }
@@ -102,25 +105,25 @@ fn multiplicities(alloc: Global, chopped: &Chopped) -> Result<String, AllocError
 /// Whether a composition series is the one that is written so.
 fn is_series(
     alloc: Global,
-    chopped: Chopped,
+    chopped: &Chopped,
     series: &str,
     counts: &str,
     basis: &str,
 ) -> Result<bool, TableFault> {
-    if names(alloc, &chopped)?.as_str() != series {
+    if names(alloc, chopped)?.as_str() != series {
         return Ok(false);
     }
-    if multiplicities(alloc, &chopped)?.as_str() != counts {
+    if multiplicities(alloc, chopped)?.as_str() != counts {
         return Ok(false);
     }
-    is_matrix(alloc, Ok(chopped.basis), basis)
+    is_same_matrix(alloc, &chopped.basis, basis)
 }
 
 fn chops(alloc: Global, line: &str) -> Result<bool, TableFault> {
     let (module, series, counts, basis) = four_fields(line)?;
     let module = module_of(alloc, module)?;
     match chop(alloc, &module, SEED, WORDS) {
-        Ok(chopped) => is_series(alloc, chopped, series, counts, basis),
+        Ok(chopped) => is_series(alloc, &chopped, series, counts, basis),
         Err(ChopFault::Undecided { .. }) => Ok(false),
         Err(ChopFault::Memory) => Err(TableFault::Refused(Refusal::Memory)),
     }
@@ -179,7 +182,7 @@ fn a_section_may_stay_undecided(rt: HostRuntime) -> Result<(), TableFault> {
         Ok(_) => panic!(&rt; "decided"),
         Err(ChopFault::Undecided { basis, offset, dim }) => {
             assert!(&rt; offset == 0 && dim == 10);
-            assert!(&rt; is_matrix(rt.alloc(), Ok(basis), IDENTITY)?);
+            assert!(&rt; is_same_matrix(rt.alloc(), &basis, IDENTITY)?);
             Ok(())
         }
         Err(ChopFault::Memory) => Err(TableFault::Refused(Refusal::Memory)),

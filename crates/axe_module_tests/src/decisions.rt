@@ -6,7 +6,8 @@ use axe_matrix::{Matrix, Refusal, Row};
 use axe_norton::{At, MAX_WORDS, Verdict, decide, decide_at};
 use axe_spin::Module;
 use axe_test_values::{
-    TableFault, four_fields, is_matrix, is_row, number_of, small_number_of, three_fields,
+    TableFault, first_field, is_row, is_same_matrix, number_of, small_number_of, three_fields,
+    two_fields,
 };
 use axe_word::{Term, Word};
 use std::alloc::Global;
@@ -33,9 +34,9 @@ decide_at | 2: 01/11 | 0 | open
 ";
 
 /// Whether the reduced basis of a submodule is the one that is written so.
-fn is_space(alloc: Global, space: Matrix, text: &str) -> Result<bool, TableFault> {
+fn is_space(alloc: Global, space: &Matrix, text: &str) -> Result<bool, TableFault> {
     match text.split_once(": ") {
-        Some(("reducible", wanted)) => is_matrix(alloc, Ok(space), wanted),
+        Some(("reducible", wanted)) => is_same_matrix(alloc, space, wanted),
         _ => Ok(false),
     }
 }
@@ -55,17 +56,26 @@ fn words_of(text: &str) -> Result<u32, TableFault> {
     text.parse::<u32>().map_err(|_| TableFault::NotWritten)
 }
 
-fn decides(rt: &impl Abort, alloc: Global, line: &str) -> Result<bool, TableFault> {
-    let (module, seed, words, wanted) = four_fields(line)?;
+/// Whether a verdict is the one that is written so.
+fn is_verdict(alloc: Global, verdict: &Verdict, text: &str) -> Result<bool, TableFault> {
+    match verdict {
+        Verdict::Irreducible { word, vector } => is_proof(alloc, *word, vector, text),
+        Verdict::Reducible(space) => is_space(alloc, space, text),
+        Verdict::Undecided => Ok(text == "undecided"),
+    }
+}
+
+fn decides(
+    rt: &impl Abort,
+    alloc: Global,
+    module: &Module,
+    line: &str,
+) -> Result<bool, TableFault> {
+    let (seed, words, wanted) = three_fields(line)?;
     let seed = number_of(seed)? as u64;
     let words = words_of(words)?;
     assert!(rt; words <= MAX_WORDS);
-    let module = module_of(alloc, module)?;
-    match decide(alloc, &module, seed, words)? {
-        Verdict::Irreducible { word, vector } => is_proof(alloc, word, &vector, wanted),
-        Verdict::Reducible(space) => is_space(alloc, space, wanted),
-        Verdict::Undecided => Ok(wanted == "undecided"),
-    }
+    is_verdict(alloc, &decide(alloc, module, seed, words)?, wanted)
 }
 
 /// What the word says that is a generator of a module.
@@ -84,15 +94,19 @@ fn said_by_generator(
     decide_at(alloc, module, &word)
 }
 
-fn says(rt: &impl Abort, alloc: Global, line: &str) -> Result<bool, TableFault> {
-    let (module, number, wanted) = three_fields(line)?;
-    let number = small_number_of(number)?;
-    let module = module_of(alloc, module)?;
-    match said_by_generator(rt, alloc, &module, number)? {
-        At::Irreducible(vector) => is_proof(alloc, 0, &vector, wanted),
-        At::Reducible(space) => is_space(alloc, space, wanted),
-        At::Left => Ok(wanted == "open"),
+/// Whether what a word says is what is written so.
+fn is_said(alloc: Global, said: &At, text: &str) -> Result<bool, TableFault> {
+    match said {
+        At::Irreducible(vector) => is_proof(alloc, 0, vector, text),
+        At::Reducible(space) => is_space(alloc, space, text),
+        At::Left => Ok(text == "open"),
     }
+}
+
+fn says(rt: &impl Abort, alloc: Global, module: &Module, line: &str) -> Result<bool, TableFault> {
+    let (number, wanted) = two_fields(line)?;
+    let said = said_by_generator(rt, alloc, module, small_number_of(number)?)?;
+    is_said(alloc, &said, wanted)
 }
 
 /// Whether a call answers what its line says.
@@ -102,9 +116,11 @@ pub(crate) fn answers(
     call: &str,
     line: &str,
 ) -> Result<bool, TableFault> {
+    let (module, line) = first_field(line)?;
+    let module = module_of(alloc, module)?;
     match call {
-        "decide" => decides(rt, alloc, line),
-        "decide_at" => says(rt, alloc, line),
+        "decide" => decides(rt, alloc, &module, line),
+        "decide_at" => says(rt, alloc, &module, line),
         _ => Err(TableFault::NotWritten),
     }
 }

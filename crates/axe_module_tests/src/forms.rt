@@ -6,7 +6,9 @@ use axe_iso::{Form, form_of, matches};
 use axe_matrix::Matrix;
 use axe_norton::{Verdict, decide};
 use axe_spin::Module;
-use axe_test_values::{TableFault, four_fields, is_matrix, number_of, three_fields};
+use axe_test_values::{
+    TableFault, first_field, is_same_matrix, number_of, three_fields, two_fields,
+};
 use std::alloc::Global;
 use std::process::Abort;
 
@@ -48,34 +50,37 @@ fn form_by_word_0(rt: &impl Abort, alloc: Global, module: &Module) -> Result<For
     }
 }
 
-fn forms(rt: &impl Abort, alloc: Global, line: &str) -> Result<bool, TableFault> {
-    let (module, matrices, basis, nullity) = four_fields(line)?;
-    let module = module_of(alloc, module)?;
-    let form = form_by_word_0(rt, alloc, &module)?;
+/// Whether the matrices, the basis and the nullity of a form by word 0 are those of a line.
+fn is_form(alloc: Global, form: &Form, line: &str) -> Result<bool, TableFault> {
+    let (matrices, basis, nullity) = three_fields(line)?;
     Ok(
         form.seed() == SEED
             && form.word() == 0
             && form.nullity() == number_of(nullity)?
             && is_module(alloc, form.matrices().copy(alloc), matrices)?
-            && is_matrix(alloc, form.basis().copy(alloc), basis)?,
+            && is_same_matrix(alloc, form.basis(), basis)?,
     )
 }
 
 /// Whether a match is the one that is written so.
-fn is_match(alloc: Global, found: Option<Matrix>, text: &str) -> Result<bool, TableFault> {
+fn is_match(alloc: Global, found: &Option<Matrix>, text: &str) -> Result<bool, TableFault> {
     match found {
-        Some(isomorphism) => is_matrix(alloc, Ok(isomorphism), text),
+        Some(isomorphism) => is_same_matrix(alloc, isomorphism, text),
         None => Ok(text == "none"),
     }
 }
 
-fn matches_form(rt: &impl Abort, alloc: Global, line: &str) -> Result<bool, TableFault> {
-    let (formed, module, wanted) = three_fields(line)?;
-    let form = form_by_word_0(rt, alloc, &module_of(alloc, formed)?)?;
+fn matches_form(
+    rt: &impl Abort,
+    alloc: Global,
+    form: &Form,
+    line: &str,
+) -> Result<bool, TableFault> {
+    let (module, wanted) = two_fields(line)?;
     let module = module_of(alloc, module)?;
     assert!(rt; module.field().order() == form.matrices().field().order());
     assert!(rt; module.gens() == form.matrices().gens());
-    is_match(alloc, matches(alloc, &form, &module)?, wanted)
+    is_match(alloc, &matches(alloc, form, &module)?, wanted)
 }
 
 /// Whether a call answers what its line says.
@@ -85,9 +90,11 @@ pub(crate) fn answers(
     call: &str,
     line: &str,
 ) -> Result<bool, TableFault> {
+    let (module, line) = first_field(line)?;
+    let form = form_by_word_0(rt, alloc, &module_of(alloc, module)?)?;
     match call {
-        "form_of" => forms(rt, alloc, line),
-        "matches" => matches_form(rt, alloc, line),
+        "form_of" => is_form(alloc, &form, line),
+        "matches" => matches_form(rt, alloc, &form, line),
         _ => panic!(rt; "no such call: {call}"),
     }
 }

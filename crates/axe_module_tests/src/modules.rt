@@ -3,8 +3,8 @@ use crate::tables::{Topic, each_call};
 use crate::values::{is_module, module_of, module_with};
 use axe_spin::Module;
 use axe_test_values::{
-    TableFault, four_fields, is_fault, is_matrix, number_of, small_number_of, three_fields,
-    two_fields,
+    TableFault, first_field, is_fault, is_matrix, number_of, one_field, small_number_of,
+    three_fields, two_fields,
 };
 use std::alloc::Global;
 use std::process::Abort;
@@ -53,29 +53,43 @@ fn has_shape(module: &Module, shape: (u8, usize, usize)) -> bool {
     module.field().order() == order && module.dim() == dimension && module.gens() == generators
 }
 
-fn describes(alloc: Global, line: &str) -> Result<bool, TableFault> {
-    let (module, order, dimension, generators) = four_fields(line)?;
+fn describes(alloc: Global, module: &Module, line: &str) -> Result<bool, TableFault> {
+    let (order, dimension, generators) = three_fields(line)?;
     let shape = (
         small_number_of(order)?,
         number_of(dimension)?,
         number_of(generators)?,
     );
-    let module = module_of(alloc, module)?;
-    Ok(has_shape(&module, shape) && has_shape(&module.copy(alloc)?, shape))
+    Ok(has_shape(module, shape) && has_shape(&module.copy(alloc)?, shape))
 }
 
-fn gives_generator(rt: &impl Abort, alloc: Global, line: &str) -> Result<bool, TableFault> {
-    let (module, index, wanted) = three_fields(line)?;
+fn gives_generator(
+    rt: &impl Abort,
+    alloc: Global,
+    module: &Module,
+    line: &str,
+) -> Result<bool, TableFault> {
+    let (index, wanted) = two_fields(line)?;
     let index = number_of(index)?;
-    let module = module_of(alloc, module)?;
     assert!(rt; index < module.gens());
     is_matrix(alloc, module.generator(index).copy(alloc), wanted)
 }
 
-fn copies(alloc: Global, line: &str) -> Result<bool, TableFault> {
-    let (module, wanted) = two_fields(line)?;
+/// The calls that are given a module.
+fn answers_of_module(
+    rt: &impl Abort,
+    alloc: Global,
+    call: &str,
+    line: &str,
+) -> Result<bool, TableFault> {
+    let (module, line) = first_field(line)?;
     let module = module_of(alloc, module)?;
-    is_module(alloc, module.copy(alloc), wanted)
+    match call {
+        "shape" => describes(alloc, &module, line),
+        "copy" => is_module(alloc, module.copy(alloc), one_field(line)?),
+        "generator" => gives_generator(rt, alloc, &module, line),
+        _ => Err(TableFault::NotWritten),
+    }
 }
 
 /// Whether a call answers what its line says.
@@ -87,10 +101,7 @@ pub(crate) fn answers(
 ) -> Result<bool, TableFault> {
     match call {
         "new" => is_refused(alloc, line),
-        "shape" => describes(alloc, line),
-        "copy" => copies(alloc, line),
-        "generator" => gives_generator(rt, alloc, line),
-        _ => Err(TableFault::NotWritten),
+        _ => answers_of_module(rt, alloc, call, line),
     }
 }
 

@@ -1,9 +1,11 @@
 //! Generated spaces and standard bases, in modules that were worked through by hand.
 use crate::tables::{Topic, each_call};
 use crate::values::module_of;
-use axe_spin::{first_nonzero_row, generate, standard_basis, standard_rows};
+use axe_matrix::Matrix;
+use axe_spin::{Module, first_nonzero_row, generate, standard_basis, standard_rows};
 use axe_test_values::{
-    TableFault, is_matrix, is_row, matrix_of, row_of_shape, three_fields, two_fields,
+    TableFault, first_field, is_fault, is_matrix, is_row, is_same_matrix, matrix_of, row_of_shape,
+    two_fields,
 };
 use std::alloc::Global;
 use std::process::Abort;
@@ -53,23 +55,30 @@ standard_rows | 2: 01/10 | 3: 00 | the operands are over different fields
 ";
 
 /// The calls that are given a module and a seed.
-fn spins(alloc: Global, call: &str, line: &str) -> Result<bool, TableFault> {
-    let (module, seed, wanted) = three_fields(line)?;
-    let module = module_of(alloc, module)?;
-    let seed = matrix_of(alloc, seed)?;
+fn spins(
+    alloc: Global,
+    call: &str,
+    module: &Module,
+    seed: &Matrix,
+    wanted: &str,
+) -> Result<bool, TableFault> {
     let answer = match call {
-        "generate" => generate(alloc, &module, &seed),
-        _ => standard_rows(alloc, &module, &seed),
+        "generate" => generate(alloc, module, seed),
+        _ => standard_rows(alloc, module, seed),
     };
     is_matrix(alloc, answer, wanted)
 }
 
-fn finds_standard_basis(rt: &impl Abort, alloc: Global, line: &str) -> Result<bool, TableFault> {
-    let (module, vector, wanted) = three_fields(line)?;
-    let module = module_of(alloc, module)?;
+fn finds_standard_basis(
+    rt: &impl Abort,
+    alloc: Global,
+    module: &Module,
+    line: &str,
+) -> Result<bool, TableFault> {
+    let (vector, wanted) = two_fields(line)?;
     let vector = row_of_shape(alloc, vector, module.field(), module.dim())?;
     assert!(rt; !vector.is_zero());
-    is_matrix(alloc, standard_basis(alloc, &module, &vector), wanted)
+    is_matrix(alloc, standard_basis(alloc, module, &vector), wanted)
 }
 
 fn finds_first_nonzero_row(alloc: Global, line: &str) -> Result<bool, TableFault> {
@@ -81,13 +90,46 @@ fn finds_first_nonzero_row(alloc: Global, line: &str) -> Result<bool, TableFault
     }
 }
 
-fn checks_rows(alloc: Global, line: &str) -> Result<bool, TableFault> {
-    let (module, rows, wanted) = three_fields(line)?;
-    let module = module_of(alloc, module)?;
+fn checks_rows(
+    alloc: Global,
+    module: &Module,
+    rows: &Matrix,
+    wanted: &str,
+) -> Result<bool, TableFault> {
+    match module.check_rows(rows) {
+        Ok(()) => is_same_matrix(alloc, rows, wanted),
+        Err(refusal) => is_fault(alloc, &refusal, wanted),
+    }
+}
+
+/// The calls that are given a module and rows.
+fn answers_of_rows(
+    alloc: Global,
+    call: &str,
+    module: &Module,
+    line: &str,
+) -> Result<bool, TableFault> {
+    let (rows, wanted) = two_fields(line)?;
     let rows = matrix_of(alloc, rows)?;
-    match module.check_rows(&rows) {
-        Ok(()) => is_matrix(alloc, Ok(rows), wanted),
-        Err(refusal) => is_matrix(alloc, Err(refusal), wanted),
+    match call {
+        "generate" | "standard_rows" => spins(alloc, call, module, &rows, wanted),
+        "check_rows" => checks_rows(alloc, module, &rows, wanted),
+        _ => Err(TableFault::NotWritten),
+    }
+}
+
+/// The calls that are given a module first.
+fn answers_of_module(
+    rt: &impl Abort,
+    alloc: Global,
+    call: &str,
+    line: &str,
+) -> Result<bool, TableFault> {
+    let (module, line) = first_field(line)?;
+    let module = module_of(alloc, module)?;
+    match call {
+        "standard_basis" => finds_standard_basis(rt, alloc, &module, line),
+        _ => answers_of_rows(alloc, call, &module, line),
     }
 }
 
@@ -99,11 +141,8 @@ pub(crate) fn answers(
     line: &str,
 ) -> Result<bool, TableFault> {
     match call {
-        "generate" | "standard_rows" => spins(alloc, call, line),
-        "standard_basis" => finds_standard_basis(rt, alloc, line),
         "first_nonzero_row" => finds_first_nonzero_row(alloc, line),
-        "check_rows" => checks_rows(alloc, line),
-        _ => Err(TableFault::NotWritten),
+        _ => answers_of_module(rt, alloc, call, line),
     }
 }
 
