@@ -51,8 +51,8 @@ pub fn basis_action(alloc: Global, module: &Module, rows: &Matrix) -> Result<Mod
     action_over(alloc, module, rows)
 }
 
-/// Columns at which the entries of the vectors of the span of a matrix's rows are their coordinates over these rows: the
-/// pivots, where the rows are the reduced basis of a span that is not everything. Else `None`.
+/// Columns at which the entries of the vectors of the span of a matrix's rows are their coordinates over these rows:
+/// the pivots, where the rows are the reduced basis of a span that is not everything. Else `None`.
 fn coordinate_columns(alloc: Global, rows: &Matrix) -> Result<Option<Vec<usize>>, Refusal>
     ensures columns { Answers None (λ found. IfSome found (λ columns.
         AreCoordinateColumns (number_field rows.now.order) rows.now.cols rows.now.rows columns.items)) result }

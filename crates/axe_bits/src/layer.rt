@@ -142,8 +142,8 @@ pub(crate) fn numbers_in(
     numbers_by_digits(words, len, base, size, at)
 }
 
-/// The numbers that [`numbers_in`] gives, digit by digit, but in base 3 by those in base 2. It stands apart so that they
-/// are read in few steps in base 2.
+/// The numbers that [`numbers_in`] gives, digit by digit, but in base 3 by those in base 2. It stands apart so that
+/// they are read in few steps in base 2.
 #[inline(never)]
 pub(crate) fn numbers_by_digits(
     words: &[u64],

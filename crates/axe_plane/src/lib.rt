@@ -272,7 +272,7 @@ impl Plane {
 
     /// Adds the multiple of another plane by the negative of the digit at an index, and gives that factor. The other
     /// plane's digits before `start` are 0.
-    #[inline]
+    #[inline(always)]
     fn cancel_where_zeros(&mut self, index: usize, start: usize, other: &Plane) -> u8
         requires within { start ≤ length (digits_of self.old) }
         requires prime { prime_of_plane other.now ≡ prime_of_plane self.old }
