@@ -312,7 +312,11 @@ fn selects_runs(rt: &impl Abort, alloc: Global, line: &str) -> Result<bool, Tabl
     let (row, wanted) = two_fields(line)?;
     let row = row_of(alloc, row)?;
     assert!(rt; row.len() >= 67);
-    is_row_answer(alloc, row.select(alloc, &[62, 63, 64, 65, 1, 2, 3, 66]), wanted)
+    is_row_answer(
+        alloc,
+        row.select(alloc, &[62, 63, 64, 65, 1, 2, 3, 66]),
+        wanted,
+    )
 }
 
 fn copies_entries(alloc: Global, line: &str) -> Result<bool, TableFault> {
