@@ -37,7 +37,7 @@ pub(crate) fn columns_of(
     ensures entries { Answers None (λ entries. entries ≡ matrix_at columns.now matrix.now) result }
     ensures well_formed { IfOk result IsMatrix }
 {
-    let mut entries = Matrix::empty(alloc, *matrix.field(), columns.len());
+    let mut entries = Matrix::with_capacity(alloc, *matrix.field(), columns.len(), matrix.rows())?;
     for index in 0..matrix.rows() {
         let row = matrix.row(index).select(alloc, columns)?;
         entries.append(row)?;

@@ -70,7 +70,7 @@ fn units_modulo(alloc: Global, span: &Echelon, columns: &[usize]) -> Result<Matr
     requires some_column { 1 ≤ length columns.now }
     ensures { Answers None (HasUnitsModulo span.now columns.now) result }
 {
-    let mut units = Matrix::empty(alloc, *span.field(), columns.len());
+    let mut units = Matrix::with_capacity(alloc, *span.field(), columns.len(), span.cols())?;
     for column in 0..span.cols() {
         let row = unit_modulo(alloc, span, columns, column)?;
         units.append(row)?;
@@ -173,7 +173,7 @@ fn rows_at(alloc: Global, matrix: &Matrix, indices: &[usize]) -> Result<Matrix, 
     requires indices_fit { length indices.now ≤ most_rows }
     ensures { Answers None (HasRowsAt matrix.now indices.now (length indices.now)) result }
 {
-    let mut chosen = Matrix::empty(alloc, *matrix.field(), matrix.cols());
+    let mut chosen = Matrix::with_capacity(alloc, *matrix.field(), matrix.cols(), indices.len())?;
     for index in indices {
         let row = matrix.row(*index).copy(alloc)?;
         chosen.append(row)?;

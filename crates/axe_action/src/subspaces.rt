@@ -175,7 +175,7 @@ fn generator_action(
         (RefusedAs NotInvariant (¬ (HasImagesIn generator.now rows.now.rows rows.now.rows))) result }
 {
     let images = rows.mul(alloc, generator)?;
-    let mut action = Matrix::empty(alloc, *span.field(), span.rank());
+    let mut action = Matrix::with_capacity(alloc, *span.field(), span.rank(), images.rows())?;
     for index in 0..images.rows() {
         let Some(coefficients) = span.coordinates(alloc, images.row(index))? else {
             return Err(Refusal::NotInvariant);

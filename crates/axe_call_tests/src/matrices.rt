@@ -182,7 +182,7 @@ fn appends_matrix(
 fn splits(alloc: Global, line: &str) -> Result<bool, TableFault> {
     let (matrix, count, wanted_first, wanted_after) = four_fields(line)?;
     let count = number_of(count)?;
-    let (first, after) = matrix_of(alloc, matrix)?.split(alloc, count)?;
+    let (first, after) = matrix_of(alloc, matrix)?.split(count)?;
     Ok(is_same_matrix(alloc, &first, wanted_first)? && is_same_matrix(alloc, &after, wanted_after)?)
 }
 
@@ -365,7 +365,7 @@ const ONES: &str = "3: 111111111111111111111111111111111111111111111111111111111
 
 /// The matrix of 64 rows and columns over the field of three elements whose entries are all 1.
 fn ones(alloc: Global) -> Result<Matrix, TableFault> {
-    let mut ones = Matrix::empty(alloc, field_of("3")?, 64);
+    let mut ones = Matrix::with_capacity(alloc, field_of("3")?, 64, 64)?;
     for _ in 0..64 {
         let row = row_of_shape(alloc, ONES, ones.field(), ones.cols())?;
         if ones.rows() >= MAX_ROWS {

@@ -190,7 +190,7 @@ impl Echelon {
         ensures matrix_well_formed { Answers None IsMatrix result }
         ensures well_formed { IsEchelon self.now }
     {
-        let mut reduced = Matrix::empty(alloc, *self.field(), self.cols());
+        let mut reduced = Matrix::with_capacity(alloc, *self.field(), self.cols(), self.rank())?;
         for column in 0..self.cols() {
             if self.is_pivot(column) {
                 let row = self.pivot_row(alloc, column)?;

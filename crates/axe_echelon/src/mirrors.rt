@@ -35,7 +35,7 @@ fn reversed(alloc: Global, matrix: &Matrix) -> Result<Matrix, Refusal>
     ensures reversed { Answers None (λ reversed. reversed ≡ reversed_matrix matrix.now) result }
     ensures well_formed { IsMatrix matrix.now }
 {
-    let mut reversed = Matrix::empty(alloc, *matrix.field(), matrix.cols());
+    let mut reversed = Matrix::with_capacity(alloc, *matrix.field(), matrix.cols(), matrix.rows())?;
     for index in (0..matrix.rows()).rev() {
         let row = matrix.row(index).copy(alloc)?;
         reversed.append(row)?;

@@ -199,7 +199,7 @@ impl Subspace {
         ensures basis { Answers None (IsReducedMatrix self.now) result }
         ensures matrix_well_formed { Answers None IsMatrix result }
     {
-        let mut reduced = Matrix::empty(alloc, *self.field(), self.cols());
+        let mut reduced = Matrix::with_capacity(alloc, *self.field(), self.cols(), self.dim())?;
         for column in 0..self.cols() {
             if self.is_pivot(column) {
                 let row = self.pivot_row(alloc, column)?;

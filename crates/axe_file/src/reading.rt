@@ -177,7 +177,12 @@ fn matrix_of(alloc: Global, header: &Header, bytes: &[u8]) -> Result<Matrix, Fil
     } else {
         marks_of_bytes(alloc, layout)?
     };
-    let mut matrix = Matrix::empty(alloc, layout.field, layout.columns);
+    let mut matrix = Matrix::with_capacity(
+        alloc,
+        layout.field,
+        layout.columns,
+        header.rows,
+    ).map_err(|_refusal| FileFault::Memory)?;
     for index in 0..header.rows {
         let start = HEADER_LENGTH + index * layout.width;
         let row = row_of(alloc, layout, &table, &bytes[start..start + layout.width])?;

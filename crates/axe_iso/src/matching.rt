@@ -59,7 +59,7 @@ fn followed_basis(
     ensures { Answers None (λ basis. MatchOption basis (¬ (HasStandardMatrices «module».now point.entries matrices.now))
         (IsBasisWithMatrices «module».now point matrices.now)) result }
 {
-    let mut basis = Matrix::empty(alloc, *module.field(), module.dim());
+    let mut basis = Matrix::with_capacity(alloc, *module.field(), module.dim(), module.dim())?;
     basis.append(point)?;
     for source in 0..module.dim() {
         if !follow_row(alloc, matrices, module, &mut basis, source)? {

@@ -1,4 +1,4 @@
--- Rows that move from one matrix to another: those of a list that is split, and those that are appended.
+-- Rows that move from one matrix to another: those of a matrix that is split, and those that are appended.
 use Rattle.std.proofs.Common.{◌≡◌, ℕ, ◌+◌, ◌<◌, ◌≤◌, List, All, [], ◌∷◌, ◌++◌, length, take, drop, subst, inl, inr, refl, sym, ap, ◌∙◌, arith, length-append}
 use Rattle.std.proofs.lemmas.List.{append-nil, append_assoc, length-drop, length-take, take_all, drop_all, take-map, drop-map, map-append}
 use Rattle.std.proofs.lemmas.List.Elements.{All-append, All-take, All-drop}
@@ -9,54 +9,6 @@ use Rattle.axe_row.specs.Rows.{RowValue}
 use Rattle.axe_matrix.specs.Limits.{most_rows}
 use Rattle.axe_matrix.specs.Matrices.{MatrixValue, IsMatrix}
 use Rattle.axe_matrix.specs.RowLists.{matrix_from_rows, MakeMatrix}
-
--- the items so far in two lists, the second of which gets none before the first has `count`
-pub record ArePartsOf {A : Type 0} (items : List A) (count : ℕ) (first after : List A) : Type 0 where
-  pub all : first ++ after ≡ items
-  pub short : length first ≤ count
-  pub in_turn : length first < count → after ≡ []
-
-pub parts_of_none : {A : Type 0} (count : ℕ) → ArePartsOf {A = A} [] count [] []
-parts_of_none count = record { all = refl; short = omega arith; in_turn = λ _. refl }
-
-pub parts_with_first : {A : Type 0} (items : List A) (count : ℕ) (first after : List A) (x : A) → ArePartsOf items count first after →
-    length first < count → ArePartsOf (items ++ x ∷ []) count (first ++ x ∷ []) after
-parts_with_first items count first after x h room = record {
-  all = rw (h.in_turn room) (append-nil (first ++ x ∷ [])) ∙ ap (λ l. l ++ x ∷ [])
-      (sym (append-nil first) ∙ ap (λ l. first ++ l) (sym (h.in_turn room)) ∙ h.all);
-  short = omega (arith, length-append first (x ∷ []));
-  in_turn = λ _. h.in_turn room;
-}
-
-pub parts_with_after : {A : Type 0} (items : List A) (count : ℕ) (first after : List A) (x : A) → ArePartsOf items count first after →
-    count ≤ length first → ArePartsOf (items ++ x ∷ []) count first (after ++ x ∷ [])
-parts_with_after items count first after x h full = record {
-  all = sym (append_assoc first after (x ∷ [])) ∙ ap (λ l. l ++ x ∷ []) h.all;
-  short = h.short;
-  in_turn = λ room. absurd (omega (arith, room, full));
-}
-
-pub first_part : {A : Type 0} (items : List A) (count : ℕ) (first after : List A) → ArePartsOf items count first after → first ≡ take count items
-first_part items count first after h =
-    elim (cases_lt (length first) count) [
-      | inl room ↦
-          let all : first ≡ items = sym (append-nil first) ∙ ap (λ l. first ++ l) (sym (h.in_turn room)) ∙ h.all in
-          all ∙ sym (take_all count items (omega (arith, ap length all, room)))
-      | inr full ↦
-          let is : length first ≡ count = omega (arith, h.short, full) in
-          sym (take-append_seam first after) ∙ ap (λ n. take n (first ++ after)) is ∙ ap (take count) h.all
-    ]
-
-pub part_after : {A : Type 0} (items : List A) (count : ℕ) (first after : List A) → ArePartsOf items count first after → after ≡ drop count items
-part_after items count first after h =
-    elim (cases_lt (length first) count) [
-      | inl room ↦
-          let all : first ≡ items = sym (append-nil first) ∙ ap (λ l. first ++ l) (sym (h.in_turn room)) ∙ h.all in
-          h.in_turn room ∙ sym (drop_all count items (omega (arith, ap length all, room)))
-      | inr full ↦
-          let is : length first ≡ count = omega (arith, h.short, full) in
-          sym (drop-append_seam first after) ∙ ap (λ n. drop n (first ++ after)) is ∙ ap (drop count) h.all
-    ]
 
 -- ---- matrices of some of the rows, and of more
 

@@ -69,6 +69,24 @@ impl Matrix {
         }
     }
 
+    /// The matrix without rows, whose list of rows has memory for so many: it does not grow before there are more of
+    /// them.
+    pub fn with_capacity(
+        alloc: Global,
+        field: Field,
+        cols: usize,
+        rows: usize,
+    ) -> Result<Matrix, Refusal>
+        requires some_column { 1 ≤ cols }
+        requires columns_fit { cols ≤ most_columns }
+        requires rows_fit { rows ≤ most_rows }
+        ensures no_rows { Answers None (λ matrix. matrix ≡ record { order = field; cols = cols; rows = [] }) result }
+        ensures well_formed { IfOk result IsMatrix }
+    {
+        let rows = Vec::with_capacity(alloc, rows)?;
+        Ok(Matrix { field, cols, rows })
+    }
+
     /// Appends a row of as many entries as the matrix has columns, over its field. For want of memory the row is handed
     /// back, and the matrix is unchanged.
     pub fn push_row(&mut self, row: Row) -> Result<(), Row>

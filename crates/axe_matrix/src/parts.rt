@@ -19,7 +19,7 @@ impl Matrix {
         ensures zeros { Answers None (λ matrix. matrix ≡ zero_matrix field rows cols) result }
         ensures well_formed { IfOk result IsMatrix }
     {
-        let mut matrix = Matrix::empty(alloc, field, cols);
+        let mut matrix = Matrix::with_capacity(alloc, field, cols, rows)?;
         for index in 0..rows {
             let row = Row::zero(alloc, field, cols)?;
             matrix.append(row)?;
@@ -35,7 +35,7 @@ impl Matrix {
         ensures identity { Answers None (λ matrix. matrix ≡ identity_matrix field rows) result }
         ensures well_formed { IfOk result IsMatrix }
     {
-        let mut matrix = Matrix::empty(alloc, field, rows);
+        let mut matrix = Matrix::with_capacity(alloc, field, rows, rows)?;
         for index in 0..rows {
             let row = Row::unit(alloc, field, rows, index)?;
             matrix.append(row)?;
@@ -48,7 +48,7 @@ impl Matrix {
         ensures copied { Answers None (λ copy. copy ≡ self.now) result }
         ensures well_formed { IfOk result IsMatrix }
     {
-        let mut copy = Matrix::empty(alloc, *self.field(), self.cols());
+        let mut copy = Matrix::with_capacity(alloc, *self.field(), self.cols(), self.rows())?;
         for index in 0..self.rows() {
             let row = self.row(index).copy(alloc)?;
             copy.append(row)?;
@@ -93,12 +93,14 @@ impl Matrix {
     }
 
     /// The first `count` rows, or all where there are no more, and those after them. The rows move, and none is copied.
-    pub fn split(self, alloc: Global, count: usize) -> Result<(Matrix, Matrix), Refusal>
+    pub fn split(self, count: usize) -> Result<(Matrix, Matrix), Refusal>
         ensures parts { Answers None (λ parts. AreSplit self count parts.0 parts.1) result }
         ensures well_formed { IfOk result (λ parts. IsMatrix parts.0 × IsMatrix parts.1) }
     {
         let Matrix { field, cols, rows } = self;
-        let (first, after) = split_rows(alloc, rows, count)?;
+        let mut first = rows;
+        let kept = first.len().min(count);
+        let after = first.split_off(kept)?;
         let first = Matrix {
             field,
             cols,
@@ -127,28 +129,11 @@ impl Matrix {
         ensures block { Answers None (λ block. block ≡ matrix_block self.now row rows column cols) result }
         ensures well_formed { IfOk result IsMatrix }
     {
-        let mut block = Matrix::empty(alloc, *self.field(), cols);
+        let mut block = Matrix::with_capacity(alloc, *self.field(), cols, rows)?;
         for index in 0..rows {
             let part = self.row(row + index).part(alloc, column, cols)?;
             block.append(part)?;
         }
         Ok(block)
     }
-}
-
-/// The first `count` rows of a list, or all where there are no more, and those after them.
-fn split_rows(alloc: Global, rows: Vec<Row>, count: usize) -> Result<(Vec<Row>, Vec<Row>), Refusal>
-    ensures { Answers None
-        (λ parts. (parts.0.items ≡ take count rows.items) × (parts.1.items ≡ drop count rows.items)) result }
-{
-    let mut first = Vec::new(alloc);
-    let mut after = Vec::new(alloc);
-    for row in rows {
-        if first.len() < count {
-            first.push(row)?;
-        } else {
-            after.push(row)?;
-        }
-    }
-    Ok((first, after))
 }

@@ -1,15 +1,17 @@
 //! What a word says of a module, and what words of a seed decide.
 
-ghost use Rattle.std.specs.Prelude.{◌≡◌, ◌<◌, ◌≤◌, length, None};
+ghost use Rattle.std.specs.Prelude.{◌≡◌, ◌<◌, ◌≤◌, length, IsTrue, None};
 ghost use Rattle.axe_row.specs.Refusals.{Answers};
 ghost use Rattle.axe_matrix.specs.Matrices.{IsMatrix};
 ghost use Rattle.axe_echelon.specs.Echelons.{IsNullSpaceMatrix};
 ghost use Rattle.axe_spin.specs.Modules.{IsModule};
 ghost use Rattle.axe_word.specs.Words.{IsWordIn};
 ghost use Rattle.axe_norton.specs.Searches.{IsSquareIn, IsDualOrNone};
+ghost use Rattle.axe_norton.specs.Spaces.{IsIrreducibleModule};
 ghost use Rattle.axe_norton.specs.Verdicts.{Tells, Says, IsTrueOf, Decides, IsTrueVerdict};
 
-use crate::spaces::{first_proper_space, transposed_space};
+use crate::others::is_known_irreducible;
+use crate::spaces::{transposed_space, tried_space};
 use crate::verdicts::{At, Verdict};
 use crate::{MAX_WORDS, MOST_POINTS};
 use axe_echelon::null_space;
@@ -49,7 +51,7 @@ pub fn decide(alloc: Global, module: &Module, seed: u64, words: u32) -> Result<V
     let mut transposes = None;
     for number in 0..words + 1 {
         let word = nth_word(seed, number, order, gens);
-        match test_word(alloc, module, &word, &mut transposes)? {
+        match test_word_of_seed(alloc, module, &word, seed, number, &mut transposes)? {
             At::Irreducible(vector) => {
                 return Ok(Verdict::Irreducible {
                     word: number,
@@ -78,17 +80,43 @@ fn test_word(
 {
     let value = word.value(alloc, module)?;
     let null = null_space(alloc, &value)?;
-    test_matrix(alloc, module, &value, &null, transposes)
+    test_matrix(alloc, module, &value, &null, false, transposes)
 }
 
-/// What a square matrix, the value of a word, and its null space tell of a module.
-fn test_matrix(
+/// What a word of a seed says of a module, as [`test_word`] tells it. The words after its number may be asked first
+/// whether the module is irreducible, so that not all of many points need be tried.
+fn test_word_of_seed(
+    alloc: Global,
+    module: &Module,
+    word: &Word,
+    seed: u64,
+    number: u32,
+    transposes: &mut Option<Module>,
+) -> Result<At, Refusal>
+    requires word { IsWordIn «module».now word.now }
+    requires number { number ≤ MAX_WORDS }
+    requires dual { IsDualOrNone «module».now transposes.old }
+    ensures says { Answers None (Says «module».now word.now) result }
+    ensures holds { Answers None (IsTrueOf «module».now) result }
+    ensures dual { IsDualOrNone «module».now transposes.new }
+{
+    let value = word.value(alloc, module)?;
+    let null = null_space(alloc, &value)?;
+    let irreducible = is_known_irreducible(alloc, module, &null, seed, number, transposes)?;
+    test_matrix(alloc, module, &value, &null, irreducible, transposes)
+}
+
+/// What a square matrix, the value of a word, and its null space tell of a module, which may be known to be
+/// irreducible.
+pub(crate) fn test_matrix(
     alloc: Global,
     module: &Module,
     value: &Matrix,
     null: &Matrix,
+    irreducible: bool,
     transposes: &mut Option<Module>,
 ) -> Result<At, Refusal>
+    requires irreducible { IsTrue irreducible → IsIrreducibleModule «module».now }
     requires square { IsSquareIn «module».now value.now }
     requires null { IsNullSpaceMatrix value.now null.now }
     requires null_well_formed { IsMatrix null.now }
@@ -101,7 +129,7 @@ fn test_matrix(
     if null.rows() == 0 {
         return Ok(At::Left);
     }
-    if let Some(space) = first_proper_space(alloc, module, null, few)? {
+    if let Some(space) = tried_space(alloc, module, null, few, irreducible)? {
         return Ok(At::Reducible(space));
     }
     if let Some(space) = transposed_space(alloc, module, value, transposes)? {

@@ -3,6 +3,7 @@
 
 mod decisions;
 pub mod laws;
+mod others;
 mod spaces;
 mod verdicts;
 

@@ -9,7 +9,7 @@ ghost use Rattle.axe_matrix.specs.Matrices.{IsMatrix};
 ghost use Rattle.axe_reduction.specs.Solutions.{IsInvertibleMatrix};
 ghost use Rattle.axe_action.specs.Actions.{dual_module};
 ghost use Rattle.axe_word.specs.PointsOfMatrix.{points_of};
-ghost use Rattle.axe_norton.specs.Spaces.{HasFewPoints};
+ghost use Rattle.axe_norton.specs.Spaces.{HasFewPoints, IsIrreducibleModule};
 ghost use Rattle.axe_norton.specs.Searches.{IsReducedIn, IsSquareIn, FindsProper, FindsFirstOf, FindsFirst};
 ghost use Rattle.axe_norton.specs.Searches.{IsTransposedPointRow, FindsTransposed, IsDualOrNone};
 
@@ -42,9 +42,33 @@ pub(crate) fn proper_space(
     }
 }
 
+/// What the first tried point of a space that generates a proper space generates, or `None` where each tried point
+/// generates everything, as in a module that is known to be irreducible, where none need be tried.
+pub(crate) fn tried_space(
+    alloc: Global,
+    module: &Module,
+    basis: &Matrix,
+    few: bool,
+    irreducible: bool,
+) -> Result<Option<Matrix>, Refusal>
+    requires basis { IsReducedIn «module».now basis.now }
+    requires well_formed { IsMatrix basis.now }
+    requires some_row { 0 < length basis.now.rows }
+    requires few { IsTrue few ↔ HasFewPoints basis.now }
+    requires irreducible { IsTrue irreducible → IsIrreducibleModule «module».now }
+    ensures { Answers None (FindsFirst «module».now basis.now) result }
+{
+    // `dim` is called for what it ensures beside the number: that the module is one.
+    prove!(basis.cols() == module.dim());
+    if irreducible {
+        return Ok(None);
+    }
+    first_proper_space(alloc, module, basis, few)
+}
+
 /// What the first of the points of a space that generates a proper space in a module generates, as its reduced basis,
 /// or `None` where all generate everything. Where there are many points the first alone is tried.
-pub(crate) fn first_proper_space(
+fn first_proper_space(
     alloc: Global,
     module: &Module,
     basis: &Matrix,

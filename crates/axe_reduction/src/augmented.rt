@@ -72,7 +72,7 @@ impl Augmented {
         ensures entries { Answers None (λ entries. entries ≡ entries_at_columns self.now columns.now) result }
         ensures well_formed { IfOk result IsMatrix }
     {
-        let mut entries = Matrix::empty(alloc, *self.field(), columns.len());
+        let mut entries = Matrix::with_capacity(alloc, *self.field(), columns.len(), self.rows())?;
         for index in 0..self.rows() {
             let row = self.left.row(index).select(alloc, columns)?;
             entries.append(row)?;
@@ -81,19 +81,15 @@ impl Augmented {
     }
 
     /// The first `count` rows, and those after them. The rows move, and none is copied.
-    pub(crate) fn split(
-        self,
-        alloc: Global,
-        count: usize,
-    ) -> Result<(Augmented, Augmented), Refusal>
+    pub(crate) fn split(self, count: usize) -> Result<(Augmented, Augmented), Refusal>
         requires { count ≤ length self.rows }
         ensures first { Answers None (λ parts. parts.0 ≡ some_rows self 0 count) result }
         ensures after { Answers None (λ parts. parts.1 ≡ some_rows self count (length self.rows - count)) result }
         ensures well_formed { IfOk result (λ parts. IsAugmented parts.0 × IsAugmented parts.1) }
     {
         let Augmented { left, right } = self;
-        let (left, left_after) = left.split(alloc, count)?;
-        let (right, right_after) = right.split(alloc, count)?;
+        let (left, left_after) = left.split(count)?;
+        let (right, right_after) = right.split(count)?;
         let first = Augmented { left, right };
         let after = Augmented {
             left: left_after,
@@ -162,8 +158,18 @@ impl Augmented {
         ensures rows { Answers None (λ made. made ≡ record self.now { rows = map whole rows.items }) result }
         ensures well_formed { IfOk result IsAugmented }
     {
-        let mut left = Matrix::empty(alloc, *self.left.field(), self.left.cols());
-        let mut right = Matrix::empty(alloc, *self.right.field(), self.right.cols());
+        let mut left = Matrix::with_capacity(
+            alloc,
+            *self.left.field(),
+            self.left.cols(),
+            rows.len(),
+        )?;
+        let mut right = Matrix::with_capacity(
+            alloc,
+            *self.right.field(),
+            self.right.cols(),
+            rows.len(),
+        )?;
         for row in rows {
             left.append(row.left)?;
             right.append(row.right)?;

@@ -82,7 +82,7 @@ pub(crate) fn reduction_of(alloc: Global, rows: Augmented) -> Result<Reduction, 
         return reduction_of_few(alloc, &rows);
     }
     let half = rows.rows() / 2;
-    let (first, second) = rows.split(alloc, half)?;
+    let (first, second) = rows.split(half)?;
     let first = reduction_of(alloc, first)?;
     let second = first.clear(alloc, second)?;
     let second = reduction_of(alloc, second)?;

@@ -46,7 +46,7 @@ fn rows_by_pivot(alloc: Global, rows: &Matrix, pivots: &[usize]) -> Result<Matri
     ensures well_formed { IfOk result IsMatrix }
 {
     let places = places_of(alloc, pivots)?;
-    let mut sorted = Matrix::empty(alloc, *rows.field(), rows.cols());
+    let mut sorted = Matrix::with_capacity(alloc, *rows.field(), rows.cols(), rows.cols())?;
     for column in 0..rows.cols() {
         let row = rows.row(places[column]).copy(alloc)?;
         sorted.append(row)?;

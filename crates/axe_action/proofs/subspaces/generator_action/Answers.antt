@@ -11,8 +11,8 @@ use Rattle.axe_action.proofs.Images.{images_accepted, images_made, image_row, im
 use Rattle.axe_action.proofs.SubRows.{form_over, action_row_of, image_outside, action_rows_more, action_images}
 use Rattle.axe_action.proofs.subspaces.generator_action.Goals as goal
 
-pub empty-action-requires-clause-columns_fit : goal.empty-action-requires-clause-columns_fit
-empty-action-requires-clause-columns_fit c =
+pub with_capacity-requires-clause-columns_fit : goal.with_capacity-requires-clause-columns_fit
+with_capacity-requires-clause-columns_fit c =
     let formed : IsEchelon c.args.span.now = c.rank.ensures.well_formed in
     let few : length c.args.span.now.rows ≤ c.args.span.now.cols =
     independent_rows_are_few (number_field c.args.span.now.order) c.args.span.now.cols c.args.span.now.rows formed.over formed.independent in

@@ -6,7 +6,7 @@ use Rattle.axe_matrix.proofs.PartialMatrices.{IsPartialMatrix-none, IsPartialMat
 use Rattle.axe_matrix.proofs.Matrix.block.Goals as goal
 
 pub loop-index-init : goal.loop-index-init
-loop-index-init c = IsPartialMatrix-none _ _ _ _ _ _ c.empty-block.ensures.no_rows c.empty-block.ensures.well_formed c.field.ensures.order refl
+loop-index-init c = IsPartialMatrix-none _ _ _ _ _ _ c.in_ok-block.ensures.no_rows c.in_ok-block.ensures.well_formed c.field.ensures.order refl
 
 pub append-requires-clause-fits : goal.append-requires-clause-fits
 append-requires-clause-fits c =

@@ -6,7 +6,7 @@ use Rattle.axe_matrix.proofs.PartialMatrices.{IsPartialMatrix-none, IsPartialMat
 use Rattle.axe_matrix.proofs.Matrix.copy.Goals as goal
 
 pub loop-index-init : goal.loop-index-init
-loop-index-init c = IsPartialMatrix-none _ _ _ _ _ _ c.empty-copy.ensures.no_rows c.empty-copy.ensures.well_formed c.field.ensures.order c.cols.ensures.count
+loop-index-init c = IsPartialMatrix-none _ _ _ _ _ _ c.in_ok-copy.ensures.no_rows c.in_ok-copy.ensures.well_formed c.field.ensures.order c.cols.ensures.count
 
 pub append-requires-clause-fits : goal.append-requires-clause-fits
 append-requires-clause-fits c =

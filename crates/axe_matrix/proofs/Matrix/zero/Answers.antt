@@ -5,7 +5,7 @@ use Rattle.axe_matrix.proofs.PartialMatrices.{IsPartialMatrix-none, IsPartialMat
 use Rattle.axe_matrix.proofs.Matrix.zero.Goals as goal
 
 pub loop-index-init : goal.loop-index-init
-loop-index-init c = IsPartialMatrix-none _ _ _ _ _ _ c.empty-matrix.ensures.no_rows c.empty-matrix.ensures.well_formed refl refl
+loop-index-init c = IsPartialMatrix-none _ _ _ _ _ _ c.in_ok-matrix.ensures.no_rows c.in_ok-matrix.ensures.well_formed refl refl
 
 pub append-requires-clause-fits : goal.append-requires-clause-fits
 append-requires-clause-fits c =

@@ -12,7 +12,7 @@ loop-number-preserved c = record {
       (let e : c.loop-number.number + 1 ≡ suc c.loop-number.number = omega arith in e) c.loop-number.invariant.before
       (word_drawn c.args.module.now c.args.seed c.loop-number.number _ _ c.nth_word-word.result c.nth_word-word.ensures.drawn (cc) (cc))
       (rw c.in-Left.is at c.in_ok-vector.ensures.says);
-  dual = c.test_word.ensures.dual;
+  dual = c.test_word_of_seed.ensures.dual;
 }
 
 pub returns-clause-holds : goal.returns-clause-holds

@@ -10,12 +10,12 @@ returns-then-rows-eq0-clause-tells c =
     left_without_rows c.args.module.now c.args.value.now c.args.null.now c.requires.square c.requires.null c.requires.null_well_formed
     (sym c.rows-2.ensures.count ∙ c.if-rows-eq0.true)
 
-pub first_proper_space-requires-clause-basis : goal.first_proper_space-requires-clause-basis
-first_proper_space-requires-clause-basis c =
+pub tried_space-requires-clause-basis : goal.tried_space-requires-clause-basis
+tried_space-requires-clause-basis c =
     null_in_module c.args.module.now c.args.value.now c.args.null.now c.requires.square c.requires.null c.requires.null_well_formed
 
-pub first_proper_space-requires-clause-few : goal.first_proper_space-requires-clause-few
-first_proper_space-requires-clause-few c =
+pub tried_space-requires-clause-few : goal.tried_space-requires-clause-few
+tried_space-requires-clause-few c =
     few_is_few c.args.null.now c.order.result c.rows.result c.few_points-few.result
     (c.order.ensures.value ∙ ap order_number (c.field.ensures.order ∙ sym (c.requires.null.field ∙ c.requires.square.field)))
     c.rows.ensures.count c.few_points-few.ensures

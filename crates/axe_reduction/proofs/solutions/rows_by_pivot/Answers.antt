@@ -9,8 +9,8 @@ use Rattle.axe_reduction.proofs.solutions.rows_by_pivot.Goals as goal
 
 pub loop-column-init : goal.loop-column-init
 loop-column-init c = record {
-  so_far = rows_none c.args.pivots.now c.args.rows.now c.empty-sorted.result _ _ c.field.ensures.order c.cols.ensures.count c.empty-sorted.ensures.no_rows;
-  well_formed = c.empty-sorted.ensures.well_formed;
+  so_far = rows_none c.args.pivots.now c.args.rows.now c.in_ok-sorted.sorted _ _ c.field.ensures.order c.cols.ensures.count c.in_ok-sorted.ensures.no_rows;
+  well_formed = c.in_ok-sorted.ensures.well_formed;
 }
 
 pub append-requires-clause-field : goal.append-requires-clause-field

@@ -6,9 +6,9 @@ use Rattle.axe_reduction.proofs.augmented.Augmented.entries_at.Goals as goal
 
 pub loop-index-init : goal.loop-index-init
 loop-index-init c =
-    let empty = c.empty-entries.ensures.no_rows in
+    let empty = c.in_ok-entries.ensures.no_rows in
     IsExtended-none _ _ _ _ _ (ap (λ (m : MatrixValue). m.order) empty ∙ c.field.ensures.order) (ap (λ (m : MatrixValue). m.cols) empty)
-    (ap (λ (m : MatrixValue). m.rows) empty) c.empty-entries.ensures.well_formed
+    (ap (λ (m : MatrixValue). m.rows) empty) c.in_ok-entries.ensures.well_formed
 
 pub row-requires : goal.row-requires
 row-requires c =

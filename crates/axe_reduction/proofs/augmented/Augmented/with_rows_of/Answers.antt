@@ -15,6 +15,9 @@ loop-row-preserved c = record {
       c.append-in-loop-row.ensures.well_formed;
 }
 
+pub invariant_of-result : goal.invariant_of-result
+invariant_of-result c = rows-AreBeside c.args.self.now c.loop-row.yielded c.loop-row.left c.loop-row.right c.loop-row.invariant.parts
+
 pub returns-clause-rows : goal.returns-clause-rows
 returns-clause-rows c =
     let all : c.loop-row.yielded ≡ c.args.rows.items =
