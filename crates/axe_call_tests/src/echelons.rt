@@ -1,6 +1,8 @@
 //! Echelon forms: rows that are inserted, reduced and taken apart, null spaces, and inverses.
 use crate::tables::{Topic, each_call};
-use axe_echelon::{Echelon, Subspace, inverse, null_space, orthogonal_space, row_space, span_of};
+use axe_echelon::{
+    Echelon, Subspace, inverse, null_space, orthogonal_point, orthogonal_space, row_space, span_of,
+};
 use axe_matrix::{Matrix, Row};
 use axe_test_values::{
     TableFault, field_of, first_field, is_matrix, is_row, matrix_of, number_of, one_field,
@@ -45,7 +47,7 @@ row_space | 3: 000/012/021 | 3: 012
 row_space | 2: 0x3 | 2: 0x3
 ";
 
-/// A matrix, and its null space, the space orthogonal to its rows, or its inverse.
+/// A matrix, and its null space, the space orthogonal to its rows, the first point of that space, or its inverse.
 const NULL_SPACES_AND_INVERSES: &str = "\
 null_space | 2: 10/01 | 2: 0x2
 null_space | 2: 10/10 | 2: 11
@@ -55,6 +57,10 @@ null_space | 5: 1/2/0/3 | 5: 1003/0101/0010
 orthogonal_space | 2: 110 | 2: 110/001
 orthogonal_space | 3: 112/021 | 3: 011
 orthogonal_space | 2: 0x2 | 2: 10/01
+orthogonal_point | 2: 110 | 2: 001
+orthogonal_point | 3: 112/021 | 3: 011
+orthogonal_point | 2: 0x2 | 2: 01
+orthogonal_point | 5: 13/01 | none
 inverse | 3: 12/01 | 3: 11/01
 inverse | 5: 11111/01111/00111/00011/00001 | 5: 14000/01400/00140/00014/00001
 inverse | 5: 00001/00011/00111/01111/11111 | 5: 00041/00410/04100/41000/10000
@@ -141,6 +147,14 @@ fn gives_basis(alloc: Global, call: &str, rows: &Matrix, line: &str) -> Result<b
     is_matrix(alloc, space.reduced(alloc), one_field(line)?)
 }
 
+fn gives_point(alloc: Global, rows: &Matrix, line: &str) -> Result<bool, TableFault> {
+    let wanted = one_field(line)?;
+    match orthogonal_point(alloc, rows)? {
+        Some(point) => is_row(alloc, &point, wanted),
+        None => Ok(wanted == "none"),
+    }
+}
+
 /// Whether a call answers what its line says.
 pub(crate) fn answers(alloc: Global, call: &str, line: &str) -> Result<bool, TableFault> {
     let (rows, line) = first_field(line)?;
@@ -148,6 +162,7 @@ pub(crate) fn answers(alloc: Global, call: &str, line: &str) -> Result<bool, Tab
     match call {
         "null_space" => is_matrix(alloc, null_space(alloc, &rows), one_field(line)?),
         "orthogonal_space" => is_matrix(alloc, orthogonal_space(alloc, &rows), one_field(line)?),
+        "orthogonal_point" => gives_point(alloc, &rows, line),
         "inverse" => is_matrix(alloc, inverse(alloc, &rows), one_field(line)?),
         "row_space" | "subspace" => gives_basis(alloc, call, &rows, line),
         _ => answers_of_form(alloc, call, &mut span_of(alloc, &rows)?, line),

@@ -3,7 +3,7 @@
 ghost use Rattle.std.specs.Prelude.{◌≡◌, length};
 
 use crate::tables::{Topic, each_call};
-use axe_matrix::{MAX_COLUMNS, MAX_ROWS, Matrix, Refusal};
+use axe_matrix::{MAX_COLUMNS, MAX_ROWS, Matrix, Refusal, Row};
 use axe_test_values::{
     TableFault, element_in, field_of, first_field, four_fields, is_matrix, is_row, is_row_answer,
     is_same_matrix, matrix_of, number_of, one_field, range_of, row_of_shape, small_number_of,
@@ -33,6 +33,8 @@ same | 2: 010/100/001 | 2: 010/001/100 | no
 /// - `append`: a matrix, a row, and the matrix with the row below its own;
 /// - `append_matrix`: a matrix, another, and the matrix with the rows of the other below its own;
 /// - `split`: a matrix, how many rows, the matrix of so many first rows, and that of those after them;
+/// - `reverse`: a matrix, and the matrix with its rows in the opposite order;
+/// - `into_rows`: a matrix, and the matrix into which its rows move one by one;
 /// - `copy`: a matrix, and its copy;
 /// - `block`: a matrix, rows and columns, and the block of these.
 const MADE: &str = "\
@@ -45,11 +47,16 @@ append_matrix | 3: 12 | 3: 0x2 | 3: 12
 split | 3: 12/01/22 | 1 | 3: 12 | 3: 01/22
 split | 3: 12/01 | 0 | 3: 0x2 | 3: 12/01
 split | 3: 12/01 | 3 | 3: 12/01 | 3: 0x2
+reverse | 3: 12/01/22 | 3: 22/01/12
+reverse | 2: 0x2 | 2: 0x2
+into_rows | 3: 12/01/22 | 3: 12/01/22
+into_rows | 2: 0x2 | 2: 0x2
 copy | 2: 10/01 | 2: 10/01
 block | 2: 01/11 | 1..2 | 0..2 | 2: 11
 ";
 
 /// - `mul`, `add`: two matrices, and their product or sum;
+/// - `add_to_diagonal`: a square matrix, a scalar, and the matrix with the scalar added to each entry of the diagonal;
 /// - `add_square`: a matrix, a scalar, and the sum of the matrix and of the multiple of its square;
 /// - `transpose`: a matrix, and its transpose;
 /// - `vec_mul`: a matrix, a vector, and the image of the vector.
@@ -57,6 +64,9 @@ const ARITHMETIC: &str = "\
 mul | 2: 11/01 | 2: 10/11 | 2: 01/11
 mul | 2: 11111 | 2: 1/1/1/1/1 | 2: 1
 add | 3: 12/01 | 3: 12/01 | 3: 21/02
+add_to_diagonal | 3: 12/01 | 2 | 3: 02/00
+add_to_diagonal | 4: 01/23 | 3 | 4: 31/20
+add_to_diagonal | 7: 456/123/000 | 0 | 7: 456/123/000
 add_square | 3: 12/01 | 2 | 3: 01/00
 add_square | 2: 11/01 | 1 | 2: 01/00
 add_square | 2: 11/01 | 0 | 2: 11/01
@@ -186,6 +196,29 @@ fn splits(alloc: Global, line: &str) -> Result<bool, TableFault> {
     Ok(is_same_matrix(alloc, &first, wanted_first)? && is_same_matrix(alloc, &after, wanted_after)?)
 }
 
+fn reverses(alloc: Global, matrix: &mut Matrix, line: &str) -> Result<bool, TableFault> {
+    matrix.reverse();
+    is_same_matrix(alloc, matrix, one_field(line)?)
+}
+
+/// Moves a row below those of a matrix, which has its shape.
+fn append_row(rt: &impl Abort, matrix: &mut Matrix, row: Row) -> Result<(), Refusal> {
+    assert!(rt; row.field() == matrix.field());
+    assert!(rt; row.len() == matrix.cols());
+    assert!(rt; matrix.rows() < MAX_ROWS);
+    matrix.append(row)
+}
+
+fn moves_rows(rt: &impl Abort, alloc: Global, line: &str) -> Result<bool, TableFault> {
+    let (matrix, wanted) = two_fields(line)?;
+    let matrix = matrix_of(alloc, matrix)?;
+    let mut moved = Matrix::empty(alloc, *matrix.field(), matrix.cols());
+    for row in matrix.into_rows() {
+        append_row(rt, &mut moved, row)?;
+    }
+    is_same_matrix(alloc, &moved, wanted)
+}
+
 /// The block of these rows and columns.
 fn block_of(
     rt: &impl Abort,
@@ -266,6 +299,19 @@ fn add_product(
     Ok(sum.add_product(alloc, scalar, left, right)?)
 }
 
+fn adds_to_diagonal(
+    rt: &impl Abort,
+    alloc: Global,
+    matrix: &mut Matrix,
+    line: &str,
+) -> Result<bool, TableFault> {
+    let (scalar, wanted) = two_fields(line)?;
+    let scalar = element_in(matrix.field(), scalar)?;
+    assert!(rt; matrix.rows() == matrix.cols());
+    matrix.add_to_diagonal(scalar);
+    is_same_matrix(alloc, matrix, wanted)
+}
+
 fn adds_square(
     rt: &impl Abort,
     alloc: Global,
@@ -312,9 +358,11 @@ fn answers_of_matrix(
         "same" => compares(alloc, matrix, line),
         "append" => appends(rt, alloc, matrix, line),
         "append_matrix" => appends_matrix(rt, alloc, matrix, line),
+        "reverse" => reverses(alloc, matrix, line),
         "block" => takes_block(rt, alloc, matrix, line),
         "copy" | "transpose" => gives_matrix(alloc, call, matrix, line),
         "mul" | "add" => combines(alloc, call, matrix, line),
+        "add_to_diagonal" => adds_to_diagonal(rt, alloc, matrix, line),
         "add_square" => adds_square(rt, alloc, matrix, line),
         "add_product" => adds_product(rt, alloc, matrix, line),
         "vec_mul" => maps_vector(alloc, matrix, line),
@@ -333,6 +381,7 @@ pub(crate) fn answers(
         "identity" => makes_identity(rt, alloc, line),
         "zero" => makes_zero(alloc, line),
         "split" => splits(alloc, line),
+        "into_rows" => moves_rows(rt, alloc, line),
         _ => {
             let (matrix, line) = first_field(line)?;
             answers_of_matrix(rt, alloc, call, &mut matrix_of(alloc, matrix)?, line)

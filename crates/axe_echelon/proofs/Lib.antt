@@ -24,3 +24,5 @@ pub mod OrthogonalRows
 pub mod RowSpaces
 pub mod OrthogonalSpaces
 pub mod Transposes
+pub mod OrthogonalPoints
+pub mod ZeroMatrices

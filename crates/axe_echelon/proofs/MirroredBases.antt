@@ -36,7 +36,7 @@ pub record AreFreeDescending (F : Field) (n r : ℕ) (w : Matrix F) (s : ℕ) (c
 
 module _ (F : Field) (n r : ℕ) (w : Matrix F) (rows : HasRowsOfLength F n w) where
   -- the last entry other than 0 of a vector that is orthogonal to rows is at no pivot of them
-  last_at_no_pivot : (x : Vector F) (p : ℕ) → InAnnihilator F n r w x → IsPivot F r w p → ((i : ℕ) → p < i → x i ≡ F.zero) → x p ≡ F.zero
+  pub last_at_no_pivot : (x : Vector F) (p : ℕ) → InAnnihilator F n r w x → IsPivot F r w p → ((i : ℕ) → p < i → x i ≡ F.zero) → x p ≡ F.zero
   last_at_no_pivot x p within pivot after = at (dec_lt p n)
     where
       b : Vector F
@@ -56,7 +56,7 @@ module _ (F : Field) (n r : ℕ) (w : Matrix F) (rows : HasRowsOfLength F n w) w
           pivot.leads.nonzero
 
   -- so such a vector that is 0 at all columns but one that are no pivots is 0 after it
-  zero_after : (column : ℕ) (x : Vector F) → IsUnitOrthogonal F n r w column x → (d p : ℕ) → n ≤ d + p → column < p → x p ≡ F.zero
+  pub zero_after : (column : ℕ) (x : Vector F) → IsUnitOrthogonal F n r w column x → (d p : ℕ) → n ≤ d + p → column < p → x p ≡ F.zero
   zero_after column x unit zero p past above = unit.within.length p (omega arith)
   zero_after column x unit (suc d) p far above =
       by_pivot (pivot_or_not F n r w rows p) (λ i later. zero_after column x unit d i (omega arith) (omega arith))

@@ -1,9 +1,7 @@
 -- Rows and matrices whose entries stand in the opposite order, as vectors read from the last entry to the first.
 use Rattle.std.specs.Prelude.{◌≡◌, ℕ, ◌+◌, ◌-◌, ◌<◌, ◌≤◌, List, [], length, get_or, set, reverse}
 use Rattle.std.specs.Prelude.{None, Result, IfOk}
-use Rattle.std.specs.List.{All}
 use Rattle.std.proofs.lemmas.List.{length-reverse, length-set, get_or-reverse, get_or-set_same, get_or-set_other}
-use Rattle.std.proofs.lemmas.List.Elements.{All-from_get_or, All-get_or}
 use Rattle.std.proofs.lemmas.Grind.{same_number_lists}
 use Rattle.axe_algebra.specs.NumberField.{NumberField}
 use Rattle.axe_algebra.specs.Vectors.{Matrix, transposed}
@@ -17,9 +15,10 @@ use Rattle.axe_field.specs.NumberFields.{number_field, gf}
 use Rattle.axe_row.specs.Rows.{RowValue, IsRow}
 use Rattle.axe_row.specs.Refusals.{Answers}
 use Rattle.axe_row.specs.declared.refusals.Refusal.{Refusal}
-use Rattle.axe_matrix.specs.Matrices.{MatrixValue, IsMatrix, transposed_matrix, transpose_refusal}
+use Rattle.axe_matrix.specs.Matrices.{MatrixValue, IsMatrix, reversed_matrix, transposed_matrix, transpose_refusal}
+use Rattle.axe_matrix.proofs.ReversedRows.{All-reverse}
 use Rattle.axe_matrix.proofs.TransposeLaws.{transpose_refusal-none}
-use Rattle.axe_echelon.specs.Mirrored.{mirrored, mirrored_row, reversed_matrix, IsMirrored}
+use Rattle.axe_echelon.specs.Mirrored.{mirrored, mirrored_row, IsMirrored}
 use Rattle.axe_echelon.proofs.Exits.{answers_with}
 use Rattle.axe_echelon.proofs.InverseLaws.{matrix_over}
 use Rattle.axe_echelon.proofs.MirroredLaws.{same_as_mirrored}
@@ -29,12 +28,6 @@ use native.Mathlib.Omega.{arith}
 use native.Mathlib.Decide.{ℕ_discrete}
 
 -- ---- lists in the opposite order
-
--- what holds of each element holds of each of them
-pub All-reverse : {X : Type 0} (P : X → Type 0) (xs : List X) (d : X) → All P xs → All P (reverse xs)
-All-reverse P xs d each = All-from_get_or P (reverse xs) d (λ k below.
-    let inside : k < length xs = omega (arith, below, length-reverse xs) in
-    subst P (sym (get_or-reverse xs k d inside)) (All-get_or P xs (length xs - 1 - k) d (omega (arith, inside)) each))
 
 -- an entry is set at the mirrored place
 pub reverse-set : (entries : List ℕ) (n p c : ℕ) → length entries ≡ n → p < n → reverse (set entries (n - 1 - p) c) ≡ set (reverse entries) p c

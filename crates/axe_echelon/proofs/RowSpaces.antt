@@ -1,5 +1,7 @@
 -- The row space of a matrix, as its rows are inserted into a subspace.
 use Rattle.std.specs.Prelude.{◌≡◌, ℕ, ◌+◌, ◌<◌, ◌≤◌, List, [], ◌∷◌, ◌++◌, length, get_or, Bool, true, false}
+use Rattle.std.proofs.Math.Seq.{get_or-append_seam}
+use Rattle.std.proofs.lemmas.List.{append_assoc, get_or-map, length-append, length-map}
 use Rattle.axe_algebra.specs.NumberField.{NumberField}
 use Rattle.axe_algebra.specs.Field.{Field}
 use Rattle.axe_algebra.specs.Vectors.{Vector}
@@ -13,6 +15,7 @@ use Rattle.axe_field.specs.Order.{Order}
 use Rattle.axe_field.specs.NumberFields.{number_field, gf}
 use Rattle.axe_row.specs.Rows.{RowValue}
 use Rattle.axe_matrix.specs.Matrices.{MatrixValue}
+use Rattle.axe_matrix.specs.RowLists.{AreRowsOf}
 use Rattle.axe_echelon.specs.Echelons.{EchelonValue, IsEchelon, IsRowSpace}
 use Rattle.axe_echelon.specs.Subspaces.{SpansOneMore}
 use Rattle.axe_echelon.proofs.FormLaws.{below_or_at}
@@ -105,3 +108,52 @@ row_space_whole m i e first whole = record {
   same = same_span_by_rows (number_field m.order) m.rows e.rows (λ t below. first.forth t (omega arith)) first.back;
   well_formed = first.well_formed;
 }
+
+-- ---- the rows themselves, one after the other
+
+-- those that were taken, and those that are left
+module _ (m : MatrixValue) (done left rest : List RowValue) (row : RowValue) (rows : AreRowsOf m (done ++ left)) (next_is : left ≡ row ∷ rest) where
+  -- the row stands after those that were taken
+  abbrev here : get_or (done ++ left) (length done) row ≡ row
+  here = ap (λ l. get_or (done ++ l) (length done) row) next_is ∙ get_or-append_seam done row rest row
+
+  abbrev inside : length done < length (done ++ left)
+  inside = omega (arith, length-append done left, ap (λ (l : List RowValue). length l) next_is)
+
+  -- one row more is taken
+  pub rows_more : AreRowsOf m (done ++ row ∷ [] ++ rest)
+  rows_more = subst (AreRowsOf m) (ap (λ l. done ++ l) next_is ∙ sym (append_assoc done (row ∷ []) rest)) rows
+
+  -- the row can be inserted: it is over the field, and has an entry in each column
+  pub next_field : row.order ≡ m.order
+  next_field = subst (λ (r : RowValue). r.order ≡ m.order) here (rows.one_field (length done) row inside)
+
+  pub next_long : length row.entries ≡ m.cols
+  next_long = subst (λ (r : RowValue). length r.entries ≡ m.cols) here (rows.as_long (length done) row inside)
+
+  -- it is the matrix's row at this index
+  next_below : length done < length m.rows
+  next_below = omega (arith, inside, length-map (done ++ left) (λ (r : RowValue). r.entries), ap (λ (l : List (List ℕ)). length l) rows.entries)
+
+  next_at : row.entries ≡ get_or m.rows (length done) []
+  next_at = ap (λ (r : RowValue). r.entries) (sym here) ∙ sym (get_or-map (λ r. r.entries) (done ++ left) (length done) row [] inside)
+      ∙ ap (λ (l : List (List ℕ)). get_or l (length done) []) rows.entries
+
+  -- the space with the row
+  pub space_more : (e next : EchelonValue) (new : Bool) → IsRowSpaceOfFirst m (length done) e → SpansOneMore new e row.entries next →
+      (¬ (IsSpanned (number_field e.order) e.rows row.entries) → new ≡ true) → IsEchelon next → IsRowSpaceOfFirst m (length (done ++ row ∷ [])) next
+  space_more e next new first one_more exactly h =
+      subst (λ i. IsRowSpaceOfFirst m i next) (sym (length-append done (row ∷ [])))
+      (row_space_more m (length done) e next row new first next_below next_at (next_long ∙ sym first.columns) one_more exactly h)
+
+-- all are taken
+pub space_whole : (m : MatrixValue) (done left : List RowValue) (e : EchelonValue) → AreRowsOf m (done ++ left) → left ≡ [] →
+    IsRowSpaceOfFirst m (length done) e → IsRowSpace m e
+space_whole m done left e rows none first = row_space_whole m (length done) e first
+    (omega (
+      arith,
+      length-append done left,
+      ap (λ (l : List RowValue). length l) none,
+      length-map (done ++ left) (λ (r : RowValue). r.entries),
+      ap (λ (l : List (List ℕ)). length l) rows.entries,
+    ))

@@ -96,8 +96,10 @@ matrix_of_rows_over o n rows some columns_fit rows_fit over = record {
   elements = λ i d below. (over i d below).elements;
 }
 
-pub some_null_space : (m : MatrixValue) → IsMatrix m → 1 ≤ length m.rows → (basis : MatrixValue) × (IsNullSpaceMatrix m basis × IsMatrix basis)
-some_null_space m well some = from (null_space_basis F m.cols n A (rows_length K m.cols m.rows (matrix_over m well)))
+-- rows of one length have a null space matrix, also where that length is 0
+pub null_space_of_rows : (m : MatrixValue) → Lists.IsMatrixOver (number_field m.order) m.cols m.rows → 1 ≤ length m.rows → length m.rows ≤ most_columns →
+    (basis : MatrixValue) × (IsNullSpaceMatrix m basis × IsMatrix basis)
+null_space_of_rows m rows_over some few = from (null_space_basis F m.cols n A (rows_length K m.cols m.rows rows_over))
   where
     K : NumberField
     K = number_field m.order
@@ -117,12 +119,15 @@ some_null_space m well some = from (null_space_basis F m.cols n A (rows_length K
       record { order = m.order; cols = n; rows = basis },
       (
         record { field = refl; columns = refl; basis_of_null_space = reduced },
-        matrix_of_rows_over m.order n basis some (omega (arith, well.rows_fit)) (omega (arith, well.rows_fit, few_rows K n basis over reduced.reduced)) over,
+        matrix_of_rows_over m.order n basis some few (omega (arith, few, few_rows K n basis over reduced.reduced)) over,
       ),
     )
 
     from : (r : ℕ) × (b : Matrix F) × SpansNullSpace F n A r b → (basis : MatrixValue) × (IsNullSpaceMatrix m basis × IsMatrix basis)
     from (r, b, spans) = of_list (null_basis_of K n A r b spans)
+
+pub some_null_space : (m : MatrixValue) → IsMatrix m → 1 ≤ length m.rows → (basis : MatrixValue) × (IsNullSpaceMatrix m basis × IsMatrix basis)
+some_null_space m well some = null_space_of_rows m (matrix_over m well) some (omega (arith, well.rows_fit))
 
 -- ---- inverses
 

@@ -75,45 +75,70 @@ module _ (K : NumberField) where
     reduced = orthogonal.reduced;
   })
 
--- the vectors that are orthogonal to rows, by others that have the span of the rows read from the last entry to the first
-annihilator_by_mirrored : (o : Order) (n : ℕ) (rows turned others basis : List (List ℕ)) →
-    matrix_of (number_field o) turned ≡ (λ t. mirrored (gf o) n (matrix_of (number_field o) rows t)) → length turned ≡ length rows →
-    HaveSameSpan (number_field o) turned others →
-    Reduced.IsReducedBasisOf (gf o) (IsOrthogonalMirrored (gf o) n (length others) (matrix_of (number_field o) others)) (length basis)
-    (matrix_of (number_field o) basis) → IsAnnihilatorBasis (number_field o) n rows basis
-annihilator_by_mirrored o n rows turned others basis is count same orthogonal = record {
-  forth = λ x in_span. orthogonal_of_mirrored (gf o) n (length rows) (matrix_of K rows) x (to_rows x (orthogonal.forth x in_span));
-  back = λ x within. orthogonal.back x (from_rows x (mirrored_of_orthogonal (gf o) n (length rows) (matrix_of K rows) x within));
-  reduced = orthogonal.reduced;
-}
-  where
-    K : NumberField
-    K = number_field o
+  annihilator_by_null_space : (n : ℕ) (rows basis : List (List ℕ)) → IsMatrixOver K n rows → IsNullSpaceBasis K (transpose n rows) basis →
+      IsAnnihilatorBasis K n rows basis
+  annihilator_by_null_space n rows basis over null = record {
+    forth = λ x in_span. annihilated_of_null n rows x over (by_columns.forth x in_span);
+    back = λ x within. by_columns.back x (null_of_annihilated n rows x over within);
+    reduced = null.reduced;
+  }
+    where
+      by_columns : Reduced.IsReducedBasisOf F (Spans.IsNullVector F n (matrix_of K (transpose n rows))) (length basis) (matrix_of K basis)
+      by_columns = subst (λ k. Reduced.IsReducedBasisOf F (Spans.IsNullVector F k (matrix_of K (transpose n rows))) (length basis) (matrix_of K basis))
+          (length-transpose n rows) null
 
-    to_rows : (x : Vector (gf o)) → IsOrthogonalMirrored (gf o) n (length others) (matrix_of K others) x →
-        IsOrthogonalMirrored (gf o) n (length rows) (λ t. mirrored (gf o) n (matrix_of K rows t)) x
-    to_rows x given = record {
-      length = given.length;
-      orthogonal = subst (λ (a : Matrix (gf o)). Irreducible.InAnnihilator (gf o) n (length rows) a (mirrored (gf o) n x)) is
-          (subst (λ k. Irreducible.InAnnihilator (gf o) n k (matrix_of K turned) (mirrored (gf o) n x)) count
-          (annihilator_within (gf o) n (length turned) (matrix_of K turned) (length others) (matrix_of K others) same.forth (mirrored (gf o) n x) given.orthogonal));
-    }
+-- rows, and others that have the span of the rows read from the last entry to the first
+module _ (o : Order) (n : ℕ) (rows turned others : List (List ℕ))
+    (is : matrix_of (number_field o) turned ≡ (λ t. mirrored (gf o) n (matrix_of (number_field o) rows t))) (count : length turned ≡ length rows)
+    (same : HaveSameSpan (number_field o) turned others) where
+  -- the vectors that are orthogonal to those when they are read so are orthogonal to the rows
+  orthogonal_to_own : (x : Vector (gf o)) → IsOrthogonalMirrored (gf o) n (length others) (matrix_of (number_field o) others) x →
+      Irreducible.InAnnihilator (gf o) n (length rows) (matrix_of (number_field o) rows) x
+  orthogonal_to_own x given = orthogonal_of_mirrored (gf o) n (length rows) (matrix_of (number_field o) rows) x (record {
+    length = given.length;
+    orthogonal = subst (λ (a : Matrix (gf o)). Irreducible.InAnnihilator (gf o) n (length rows) a (mirrored (gf o) n x)) is
+        (subst (λ k. Irreducible.InAnnihilator (gf o) n k (matrix_of (number_field o) turned) (mirrored (gf o) n x)) count
+        (annihilator_within (gf o) n (length turned) (matrix_of (number_field o) turned) (length others) (matrix_of (number_field o) others) same.forth
+        (mirrored (gf o) n x) given.orthogonal));
+  })
 
-    from_rows : (x : Vector (gf o)) → IsOrthogonalMirrored (gf o) n (length rows) (λ t. mirrored (gf o) n (matrix_of K rows t)) x →
-        IsOrthogonalMirrored (gf o) n (length others) (matrix_of K others) x
-    from_rows x given = record {
-      length = given.length;
-      orthogonal = annihilator_within (gf o) n (length others) (matrix_of K others) (length turned) (matrix_of K turned) same.back (mirrored (gf o) n x)
-          (subst (λ k. Irreducible.InAnnihilator (gf o) n k (matrix_of K turned) (mirrored (gf o) n x)) (sym count)
-          (subst (λ (a : Matrix (gf o)). Irreducible.InAnnihilator (gf o) n (length rows) a (mirrored (gf o) n x)) (sym is) given.orthogonal));
-    }
+  -- and the other way round
+  orthogonal_to_others : (x : Vector (gf o)) → Irreducible.InAnnihilator (gf o) n (length rows) (matrix_of (number_field o) rows) x →
+      IsOrthogonalMirrored (gf o) n (length others) (matrix_of (number_field o) others) x
+  orthogonal_to_others x within = record {
+    length = within.length;
+    orthogonal = annihilator_within (gf o) n (length others) (matrix_of (number_field o) others) (length turned) (matrix_of (number_field o) turned) same.back
+        (mirrored (gf o) n x)
+        (subst (λ k. Irreducible.InAnnihilator (gf o) n k (matrix_of (number_field o) turned) (mirrored (gf o) n x)) (sym count)
+        (subst (λ (a : Matrix (gf o)). Irreducible.InAnnihilator (gf o) n (length rows) a (mirrored (gf o) n x)) (sym is)
+        (mirrored_of_orthogonal (gf o) n (length rows) (matrix_of (number_field o) rows) x within).orthogonal));
+  }
+
+  -- so they have one reduced basis
+  annihilator_by_mirrored : (basis : List (List ℕ)) →
+      Reduced.IsReducedBasisOf (gf o) (IsOrthogonalMirrored (gf o) n (length others) (matrix_of (number_field o) others)) (length basis)
+      (matrix_of (number_field o) basis) → IsAnnihilatorBasis (number_field o) n rows basis
+  annihilator_by_mirrored basis orthogonal = record {
+    forth = λ x in_span. orthogonal_to_own x (orthogonal.forth x in_span);
+    back = λ x within. orthogonal.back x (orthogonal_to_others x within);
+    reduced = orthogonal.reduced;
+  }
+
+  mirrored_by_annihilator : (basis : List (List ℕ)) → IsAnnihilatorBasis (number_field o) n rows basis →
+      Reduced.IsReducedBasisOf (gf o) (IsOrthogonalMirrored (gf o) n (length others) (matrix_of (number_field o) others)) (length basis)
+      (matrix_of (number_field o) basis)
+  mirrored_by_annihilator basis orthogonal = record {
+    forth = λ x in_span. orthogonal_to_others x (orthogonal.forth x in_span);
+    back = λ x given. orthogonal.back x (orthogonal_to_own x given);
+    reduced = orthogonal.reduced;
+  }
 
 module _ (m turned basis : MatrixValue) (e : EchelonValue) (h : IsMatrixOver (number_field m.order) m.cols m.rows) (mirrored_rows : IsMirrored m turned)
     (space : IsRowSpace turned e) (orthogonal : IsOrthogonalToSpace e basis) where
   pub orthogonal_to_rows : IsAnnihilatorBasis (number_field m.order) m.cols m.rows basis.rows
   orthogonal_to_rows =
-      annihilator_by_mirrored m.order m.cols m.rows turned.rows e.rows basis.rows mirrored_rows.rows mirrored_rows.count
-      (subst (λ o. HaveSameSpan (number_field o) turned.rows e.rows) mirrored_rows.field space.same)
+      annihilator_by_mirrored m.order m.cols m.rows turned.rows e.rows mirrored_rows.rows mirrored_rows.count
+      (subst (λ o. HaveSameSpan (number_field o) turned.rows e.rows) mirrored_rows.field space.same) basis.rows
       (subst (λ o. Reduced.IsReducedBasisOf (gf o) (IsOrthogonalMirrored (gf o) m.cols (length e.rows) (matrix_of (number_field o) e.rows))
       (length basis.rows) (matrix_of (number_field o) basis.rows)) (space.field ∙ mirrored_rows.field)
       (subst (λ n. Reduced.IsReducedBasisOf (gf e.order) (IsOrthogonalMirrored (gf e.order) n (length e.rows) (matrix_of (number_field e.order) e.rows))
@@ -125,6 +150,21 @@ module _ (m turned basis : MatrixValue) (e : EchelonValue) (h : IsMatrixOver (nu
     columns = orthogonal.columns ∙ space.columns ∙ mirrored_rows.columns ∙ sym (length-transpose m.cols m.rows);
     basis_of_null_space = null_space_by_annihilator (number_field m.order) m.cols m.rows basis.rows h orthogonal_to_rows;
   }
+
+-- the null space of the transpose is the space of these vectors
+pub orthogonal_of_null_space : (m turned basis : MatrixValue) (e : EchelonValue) → IsMatrixOver (number_field m.order) m.cols m.rows → IsMirrored m turned →
+    IsRowSpace turned e → IsNullSpaceMatrix (transposed_matrix m) basis → IsOrthogonalToSpace e basis
+orthogonal_of_null_space m turned basis e h mirrored_rows space null = record {
+  field = null.field ∙ sym (space.field ∙ mirrored_rows.field);
+  columns = null.columns ∙ length-transpose m.cols m.rows ∙ sym (space.columns ∙ mirrored_rows.columns);
+  basis = subst (λ o. Reduced.IsReducedBasisOf (gf o) (IsOrthogonalMirrored (gf o) e.cols (length e.rows) (matrix_of (number_field o) e.rows))
+      (length basis.rows) (matrix_of (number_field o) basis.rows)) (sym (space.field ∙ mirrored_rows.field))
+      (subst (λ n. Reduced.IsReducedBasisOf (gf m.order) (IsOrthogonalMirrored (gf m.order) n (length e.rows) (matrix_of (number_field m.order) e.rows))
+      (length basis.rows) (matrix_of (number_field m.order) basis.rows)) (sym (space.columns ∙ mirrored_rows.columns))
+      (mirrored_by_annihilator m.order m.cols m.rows turned.rows e.rows mirrored_rows.rows mirrored_rows.count
+      (subst (λ o. HaveSameSpan (number_field o) turned.rows e.rows) mirrored_rows.field space.same) basis.rows
+      (annihilator_by_null_space (number_field m.order) m.cols m.rows basis.rows h null.basis_of_null_space)));
+}
 
 -- the transpose of the transpose is the matrix
 pub twice_transposed : (m : MatrixValue) → IsMatrix m → transposed_matrix (transposed_matrix m) ≡ m

@@ -6,3 +6,4 @@ pub mod Inserted
 pub mod Subspaces
 pub mod Mirrored
 pub mod Orthogonal
+pub mod OrthogonalPoints

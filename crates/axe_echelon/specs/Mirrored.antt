@@ -23,10 +23,6 @@ mirrored F n x = λ j. mirrored_entry F n x j (dec_lt j n)
 abbrev pub mirrored_row : RowValue → RowValue
 mirrored_row row = record { order = row.order; entries = reverse row.entries }
 
--- a matrix with its rows in the opposite order
-abbrev pub reversed_matrix : MatrixValue → MatrixValue
-reversed_matrix m = record { order = m.order; cols = m.cols; rows = reverse m.rows }
-
 -- the other matrix has the rows of m, each read from the last entry to the first
 pub record IsMirrored (m other : MatrixValue) : Type 0 where
   pub field : other.order ≡ m.order

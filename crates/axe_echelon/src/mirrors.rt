@@ -2,8 +2,8 @@
 
 ghost use Rattle.std.specs.Prelude.{◌≡◌, ◌<◌, length, None};
 ghost use Rattle.axe_row.specs.Refusals.{Answers};
-ghost use Rattle.axe_matrix.specs.Matrices.{IsMatrix, transposed_matrix};
-ghost use Rattle.axe_echelon.specs.Mirrored.{mirrored_row, reversed_matrix, IsMirrored};
+ghost use Rattle.axe_matrix.specs.Matrices.{IsMatrix, reversed_matrix, transposed_matrix};
+ghost use Rattle.axe_echelon.specs.Mirrored.{mirrored_row, IsMirrored};
 
 use axe_matrix::{Matrix, Refusal, Row};
 use std::alloc::Global;
@@ -16,8 +16,9 @@ pub(crate) fn mirrored_matrix(alloc: Global, matrix: &Matrix) -> Result<Matrix, 
     if matrix.rows() == 0 {
         return matrix.copy(alloc);
     }
-    let columns = matrix.transpose(alloc)?;
-    mirrored_columns(alloc, &columns)
+    let mut columns = matrix.transpose(alloc)?;
+    columns.reverse();
+    columns.transpose(alloc)
 }
 
 /// The columns of a matrix as rows, each read from the last entry to the first. To turn the order of rows round costs

@@ -5,17 +5,19 @@
 //! pivot: so this vector is 0 after its column, and all of them, read from the last entry to the first, are a reduced
 //! basis. Therefore the rows that are given are read so in the first place.
 
-ghost use Rattle.std.specs.Prelude.{◌<◌, None, IfOk};
+ghost use Rattle.std.specs.Prelude.{◌<◌, ◌↔◌, None, All, IsTrue, IfOk};
 ghost use Rattle.axe_algebra.specs.SpansOfLists.{IsAnnihilatorBasis, IsPivot};
 ghost use Rattle.axe_field.specs.NumberFields.{number_field};
+ghost use Rattle.axe_row.specs.Operations.{IsZeroVector};
 ghost use Rattle.axe_row.specs.Refusals.{Answers};
 ghost use Rattle.axe_matrix.specs.Matrices.{IsMatrix, transposed_matrix};
 ghost use Rattle.axe_echelon.specs.Echelons.{null_space_refusal, IsNullSpaceMatrix, IsReducedMatrix};
 ghost use Rattle.axe_echelon.specs.Orthogonal.{IsOrthogonalToSpace, IsOrthogonalVector, IsMirroredVector};
 ghost use Rattle.axe_echelon.specs.Orthogonal.{IsReducedBasisOrNone};
 
-use super::{Subspace, row_space};
+use super::Subspace;
 use crate::mirrors::{mirrored_columns, mirrored_matrix, mirrored_row};
+use crate::spans::space_of_rows;
 use axe_matrix::{Matrix, Refusal, Row};
 use std::alloc::Global;
 
@@ -32,9 +34,25 @@ pub fn null_space(alloc: Global, matrix: &Matrix) -> Result<Matrix, Refusal>
     if matrix.rows() == 0 {
         return Err(Refusal::NoRows);
     }
+    // All vectors are in the null space of a zero matrix.
+    if is_zero(matrix) {
+        return Matrix::identity(alloc, *matrix.field(), matrix.rows());
+    }
     // The entries of `v X` are the dot products of v with the columns of X.
-    let space = row_space(alloc, &mirrored_columns(alloc, matrix)?)?;
+    let space = space_of_rows(alloc, mirrored_columns(alloc, matrix)?)?;
     orthogonal_to(alloc, &space)
+}
+
+/// Whether each row of a matrix is zero.
+pub(crate) fn is_zero(matrix: &Matrix) -> bool
+    ensures { IsTrue result ↔ All IsZeroVector matrix.now.rows }
+{
+    for index in 0..matrix.rows() {
+        if !matrix.row(index).is_zero() {
+            return false;
+        }
+    }
+    true
 }
 
 /// The reduced basis of the space of all vectors that are orthogonal to the rows of a matrix: that have dot product 0
@@ -45,7 +63,7 @@ pub fn orthogonal_space(alloc: Global, rows: &Matrix) -> Result<Matrix, Refusal>
         IsAnnihilatorBasis (number_field rows.now.order) rows.now.cols rows.now.rows basis.rows) }
     ensures well_formed { IfOk result IsMatrix }
 {
-    let space = row_space(alloc, &mirrored_matrix(alloc, rows)?)?;
+    let space = space_of_rows(alloc, mirrored_matrix(alloc, rows)?)?;
     orthogonal_to(alloc, &space)
 }
 
@@ -81,7 +99,7 @@ fn reduced_where_many(alloc: Global, space: &Subspace) -> Result<Option<Matrix>,
 
 /// The vector orthogonal to a space that is 1 at a column that is no pivot of the space, and 0 at all others of them,
 /// read from the last entry to the first.
-fn orthogonal_vector(
+pub(crate) fn orthogonal_vector(
     alloc: Global,
     space: &Subspace,
     reduced: &Option<Matrix>,

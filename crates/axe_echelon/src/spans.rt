@@ -34,3 +34,14 @@ pub fn row_space(alloc: Global, matrix: &Matrix) -> Result<Subspace, Refusal>
     }
     Ok(space)
 }
+
+/// The row space of a matrix whose rows move into it: none is copied, and those that are not new are dropped.
+pub(crate) fn space_of_rows(alloc: Global, matrix: Matrix) -> Result<Subspace, Refusal>
+    ensures { Answers None (IsRowSpace matrix) result }
+{
+    let mut space = Subspace::zero(alloc, *matrix.field(), matrix.cols());
+    for row in matrix.into_rows() {
+        space.insert(row)?;
+    }
+    Ok(space)
+}

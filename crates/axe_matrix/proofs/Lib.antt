@@ -7,6 +7,7 @@ mod RowListLaws
 mod PartialMatrices
 mod RowWrites
 pub mod MultipleLaws
+mod DiagonalLaws
 mod TermSums
 mod BlockLaws
 mod TableLaws
@@ -18,6 +19,7 @@ pub mod ProductRows
 mod ScaledFactors
 mod Appending
 mod SplitRows
+pub mod ReversedRows
 mod EntryWrites
 mod CoefficientWrites
 mod TransposedBlocks

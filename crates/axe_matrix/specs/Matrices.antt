@@ -1,5 +1,5 @@
 -- Matrices over one of the seven fields.
-use Rattle.std.specs.Prelude.{◌≡◌, ℕ, ◌+◌, ◌<◌, ◌≤◌, ◌==◌, ◌&&◌, not, List, [], ◌++◌, length, take, drop}
+use Rattle.std.specs.Prelude.{◌≡◌, ℕ, ◌+◌, ◌<◌, ◌≤◌, ◌==◌, ◌&&◌, not, List, [], ◌++◌, length, take, drop, reverse}
 use Rattle.std.specs.Prelude.{slice_index_or, All}
 use Rattle.std.specs.Prelude.{Option, Some, None, if◌then◌else◌}
 use Rattle.axe_algebra.specs.Lists.{entry, listed, table}
@@ -71,6 +71,10 @@ zero_matrix order rows cols = record { order = order; cols = cols; rows = table 
 -- the identity matrix of n rows: 1 where row and column agree, 0 elsewhere (any linear algebra text)
 abbrev pub identity_matrix : Order → ℕ → MatrixValue
 identity_matrix order n = record { order = order; cols = n; rows = identity n }
+
+-- a matrix with its rows in the opposite order
+abbrev pub reversed_matrix : MatrixValue → MatrixValue
+reversed_matrix m = record { order = m.order; cols = m.cols; rows = reverse m.rows }
 
 -- the block of a matrix that has so many rows from a row on, and so many columns from a column on: its entry i, j is
 -- the matrix's entry row + i, column + j

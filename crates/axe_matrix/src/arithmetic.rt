@@ -73,7 +73,7 @@ impl Matrix {
     }
 
     /// Makes an element the entry at a row and a column; all other entries stay.
-    fn put_entry(&mut self, row: usize, column: usize, element: u8)
+    pub(super) fn put_entry(&mut self, row: usize, column: usize, element: u8)
         requires row { row < length self.old.rows }
         requires column { column < self.old.cols }
         requires element { IsElement self.old.order element }

@@ -4,7 +4,7 @@ ghost use Rattle.std.specs.Prelude.{◌≡◌, ◌<◌, length, slice_index_or, 
 ghost use Rattle.axe_field.specs.NumberFields.{number_field};
 ghost use Rattle.axe_field.specs.Order.{IsElement};
 ghost use Rattle.axe_row.specs.Operations.{sum_with_multiple};
-ghost use Rattle.axe_matrix.specs.Matrices.{IsMatrix};
+ghost use Rattle.axe_matrix.specs.Matrices.{IsMatrix, identity_matrix};
 ghost use Rattle.axe_matrix.specs.Multiples.{matrix_with_multiple};
 
 use super::{Matrix, Row};
@@ -22,6 +22,20 @@ impl Matrix {
     {
         for index in 0..self.rows() {
             self.add_to_row(index, scalar, other.row(index));
+        }
+    }
+
+    /// Adds an element to each entry of the diagonal of a square matrix: adds that multiple of the identity matrix. It
+    /// takes no memory.
+    pub fn add_to_diagonal(&mut self, scalar: u8)
+        requires square { length self.old.rows ≡ self.old.cols }
+        requires element { IsElement self.old.order scalar }
+        ensures sum { self.new ≡ matrix_with_multiple self.old scalar (identity_matrix self.old.order self.old.cols) }
+        ensures well_formed { IsMatrix self.new }
+    {
+        for index in 0..self.rows() {
+            let sum = self.field().add(self.get(index, index), scalar);
+            self.put_entry(index, index, sum);
         }
     }
 

@@ -1,10 +1,12 @@
-//! The zero matrix, the identity matrix, copies, blocks, and rows that move from one matrix to another.
+//! The zero matrix, the identity matrix, copies, blocks, and rows that move: within a matrix, from one to another, and
+//! out of it.
 
 ghost use Rattle.std.specs.Prelude.{◌≡◌, ◌+◌, ◌<◌, ◌≤◌, ◌++◌, length, take, drop, None, IfOk, OnErr};
 ghost use Rattle.axe_row.specs.Refusals.{Answers};
 ghost use Rattle.axe_matrix.specs.Limits.{most_rows, most_columns};
 ghost use Rattle.axe_matrix.specs.Matrices.{IsMatrix, AreSplit, HasFirstRows, zero_matrix, identity_matrix};
-ghost use Rattle.axe_matrix.specs.Matrices.{matrix_block};
+ghost use Rattle.axe_matrix.specs.Matrices.{matrix_block, reversed_matrix};
+ghost use Rattle.axe_matrix.specs.RowLists.{AreRowsOf};
 
 use super::{Matrix, Refusal, Row};
 use axe_field::Field;
@@ -112,6 +114,23 @@ impl Matrix {
             rows: after,
         };
         Ok((first, after))
+    }
+
+    /// Puts the rows into the opposite order. They move in place, which takes no memory.
+    pub fn reverse(&mut self)
+        ensures reversed { self.new ≡ reversed_matrix self.old }
+        ensures well_formed { IsMatrix self.new }
+    {
+        self.rows.reverse();
+    }
+
+    /// The rows themselves, in their order. They move, and none is copied: this takes no memory.
+    pub fn into_rows(self) -> Vec<Row>
+        ensures rows { AreRowsOf self result.items }
+        ensures well_formed { IsMatrix self }
+    {
+        let Matrix { rows, .. } = self;
+        rows
     }
 
     /// The block of `rows` rows from row `row` on, and of `cols` columns from column `column` on.

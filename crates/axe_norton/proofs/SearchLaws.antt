@@ -1,5 +1,5 @@
 -- The steps of the test: seeds of one row, first points, and what points generate.
-use Rattle.std.specs.Prelude.{◌≡◌, ◌≢◌, ℕ, ◌<◌, ◌⊎◌, List, [], ◌∷◌, ◌++◌, length, Option, Some, None, Result, Ok, Err, Bool, false, IsTrue}
+use Rattle.std.specs.Prelude.{◌≡◌, ◌≢◌, ℕ, ◌-◌, ◌<◌, ◌⊎◌, List, [], ◌∷◌, ◌++◌, length, Option, Some, None, Result, Ok, Err, Bool, false, IsTrue}
 use Rattle.std.proofs.lemmas.Bool.{ne_eqb, eq-eqb}
 use Rattle.axe_algebra.specs.Vectors.{Matrix, zero_vector}
 use Rattle.axe_algebra.specs.Spans
@@ -27,6 +27,7 @@ use Rattle.axe_row.specs.declared.refusals.Refusal.{Refusal}
 use Rattle.axe_matrix.specs.Matrices.{MatrixValue, IsMatrix, transposed_matrix}
 use Rattle.axe_reduction.specs.Solutions.{IsInvertibleMatrix}
 use Rattle.axe_echelon.specs.Echelons.{EchelonValue, IsReducedMatrix, IsNullSpaceMatrix, null_space_refusal}
+use Rattle.axe_echelon.specs.OrthogonalPoints.{IsOrthogonalPoint}
 use Rattle.axe_echelon.proofs.InverseLaws.{matrix_over}
 use Rattle.axe_echelon.proofs.EliminationLaws.{vector_of_zero_row}
 use Rattle.axe_spin.specs.Modules.{ModuleValue, IsModule}
@@ -35,6 +36,7 @@ use Rattle.axe_spin.proofs.GeneratedLaws.{some_nonzero, generated_matrix}
 use Rattle.axe_spin.proofs.SpaceLaws.{space_over}
 use Rattle.axe_action.specs.Actions.{dual_module, IsAnnihilatorMatrix}
 use Rattle.axe_word.specs.PointsOfMatrix.{points_of, IsReduced}
+use Rattle.axe_word.proofs.PointSums.{last_row_is_first_point}
 use Rattle.axe_norton.specs.Spaces.{IsIrreducibleModule, GeneratesModule, GeneratesProper, one_row, point_of, HasFewPoints, IsTried, TriedGenerate, TransposedPoint, TransposeGenerates, IsTransposedSpace}
 use Rattle.axe_norton.specs.Searches.{IsReducedIn, IsSquareIn, FindsProper, FindsFirstOf, FindsFirst, IsTransposedPointRow}
 use Rattle.axe_norton.proofs.PointLaws.{point_is, some_point}
@@ -245,6 +247,17 @@ transposed_row_is matrix null v square singular is well_formed same = record {
   field = ap (λ (r : RowValue). r.order) same ∙ is.field;
   first = ap (λ (r : RowValue). r.entries) same;
 }
+
+-- the first point of the space of all vectors that are orthogonal to the rows is that
+pub orthogonal_point_is : (matrix : MatrixValue) (v : RowValue) → IsSquareOver (number_field matrix.order) matrix.cols matrix.rows → ¬ (IsInvertibleMatrix matrix) →
+    IsOrthogonalPoint matrix (Some v) → IsTransposedPointRow matrix v
+orthogonal_point_is matrix v square singular point = transposed_row_is matrix point.basis v square singular point.is_basis point.well_formed
+    (point.first.1 ∙ last_row_is_first_point point.basis (length point.basis.rows - 1) point.well_formed point.first.0 refl)
+
+-- and there is one where the matrix is singular
+pub some_orthogonal_point : (matrix : MatrixValue) → IsSquareOver (number_field matrix.order) matrix.cols matrix.rows → ¬ (IsInvertibleMatrix matrix) →
+    ¬ (IsOrthogonalPoint matrix None)
+some_orthogonal_point matrix square singular point = omega (arith, point.first, transposed_null_rows matrix point.basis square singular point.is_basis)
 
 -- a test is not both
 pub not_both : (b : Bool) → IsTrue b → b ≡ false → ⊥

@@ -14,7 +14,7 @@ ghost use Rattle.axe_norton.specs.Searches.{IsReducedIn, IsSquareIn, FindsProper
 ghost use Rattle.axe_norton.specs.Searches.{IsTransposedPointRow, FindsTransposed, IsDualOrNone};
 
 use axe_action::{annihilator, dual};
-use axe_echelon::orthogonal_space;
+use axe_echelon::orthogonal_point;
 use axe_matrix::{Matrix, Refusal, Row};
 use axe_spin::{Module, generated_space};
 use axe_word::{Points, first_point};
@@ -123,8 +123,11 @@ pub(crate) fn transposed_space(
     ensures found { Answers None (FindsTransposed «module».now matrix.now) result }
     ensures dual { IsDualOrNone «module».now transposes.new }
 {
-    let transposed = transposed_module(alloc, module, transposes.take())?;
+    // `cols` is called for what it ensures beside the number: that the matrix is one.
+    prove!(matrix.cols() >= 1);
+    // The point comes first: what it takes of memory is given back before the transposed module is made.
     let point = transposed_point(alloc, matrix)?;
+    let transposed = transposed_module(alloc, module, transposes.take())?;
     let generated = proper_space(alloc, &transposed, point)?;
     *transposes = Some(transposed);
     match generated {
@@ -155,6 +158,9 @@ fn transposed_point(alloc: Global, matrix: &Matrix) -> Result<Row, Refusal>
     requires singular { ¬ (IsInvertibleMatrix matrix.now) }
     ensures { Answers None (IsTransposedPointRow matrix.now) result }
 {
-    let null = orthogonal_space(alloc, matrix)?;
-    first_point(alloc, &null)
+    match orthogonal_point(alloc, matrix)? {
+        Some(point) => Ok(point),
+        // Some vector other than zero is orthogonal to the rows of a singular matrix.
+        None => unreachable!(),
+    }
 }

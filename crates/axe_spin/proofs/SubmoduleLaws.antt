@@ -12,10 +12,10 @@ use Rattle.axe_algebra.proofs.StandardBases.{standard_basis_is_invariant}
 use Rattle.axe_algebra.proofs.ListGenerated.{seed_row_generated, generated_is_invariant_span}
 use Rattle.axe_field.specs.NumberFields.{number_field}
 use Rattle.axe_matrix.specs.Matrices.{MatrixValue, IsMatrix}
-use Rattle.axe_echelon.proofs.EliminationLaws.{zero_row_of_vector}
+use Rattle.axe_echelon.proofs.EliminationLaws.{zero_row_of_vector, vector_of_zero_row}
 use Rattle.axe_spin.specs.Modules.{ModuleValue, HasSquareGenerators}
 use Rattle.axe_spin.specs.Spinning.{has_only_zeros, seed_refusal, IsGeneratedMatrix, HasSpunRows, IsSubmoduleBasis}
-use Rattle.axe_spin.proofs.ZeroRows.{only_zeros, row_of_zeros, zero_of_zeros, spanned_by_zeros, false_if_absurd}
+use Rattle.axe_spin.proofs.ZeroRows.{only_zeros, row_of_zeros, spanned_by_zeros, false_if_absurd}
 use Rattle.axe_spin.proofs.SeedLaws.{IsSeed, seed_if_not_refused, vectors_over}
 use mathlib.Core.Path.{sym, ◌∙◌, subst}
 
@@ -61,7 +61,7 @@ spun_is_submodule true m seed rows square well accepted (i, first, standard) = r
   invariant = standard_basis_is_invariant F (module_of K m.dim m.generators) (vector_of K (get_or seed.rows i [])) (length rows.rows) (matrix_of K rows.rows)
       standard.standard;
   nonzero = false_if_absurd (has_only_zeros rows.rows) (λ zeros. first.nonzero (zero_row_of_vector K m.dim (get_or seed.rows i []) (row_over K m.dim seed.rows i over first.below)
-      (sym standard.standard.first ∙ zero_of_zeros K (get_or rows.rows 0 []) (row_of_zeros rows.rows 0 zeros standard.standard.nonempty))));
+      (sym standard.standard.first ∙ vector_of_zero_row K (get_or rows.rows 0 []) (row_of_zeros rows.rows 0 zeros standard.standard.nonempty))));
 }
   where
     K : NumberField

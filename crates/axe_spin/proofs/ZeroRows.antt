@@ -2,25 +2,21 @@
 use Rattle.std.specs.Prelude.{◌≡◌, ℕ, ◌<◌, ◌≤◌, ◌==◌, List, [], length, get_or, Bool, true, false}
 use Rattle.std.specs.List.{list_all}
 use Rattle.std.proofs.lemmas.Bool.{eq-eqb, eqb-true}
-use Rattle.std.proofs.lemmas.List.{get_or_past}
 use Rattle.std.proofs.lemmas.List.Elements.{All-get_or, All-from_get_or}
 use Rattle.std.proofs.lemmas.List.Sums.{AllPass-from_list_all, list_all-from_AllPass}
 use Rattle.axe_algebra.specs.NumberField.{NumberField}
 use Rattle.axe_algebra.specs.Field.{Field}
-use Rattle.axe_algebra.specs.Vectors.{zero_vector}
 use Rattle.axe_algebra.specs.Spans
-use Rattle.axe_algebra.specs.Bridge.{field_of, vector_of, matrix_of, element}
+use Rattle.axe_algebra.specs.Bridge.{field_of, vector_of, matrix_of}
 use Rattle.axe_algebra.specs.Lists.{IsVectorOver, IsMatrixOver}
 use Rattle.axe_algebra.specs.SpansOfLists.{IsSpanned, HaveSameSpan}
 use Rattle.axe_algebra.proofs.ProductLaws.{times_zero_rows, times_none}
-use Rattle.axe_algebra.proofs.ElementNumbers.{element_zero}
 use Rattle.axe_algebra.proofs.ListEntries.{row_over}
 use Rattle.axe_row.specs.Operations.{IsZeroVector}
-use Rattle.axe_echelon.proofs.EliminationLaws.{zero_row_of_vector}
+use Rattle.axe_echelon.proofs.EliminationLaws.{zero_row_of_vector, vector_of_zero_row}
 use Rattle.axe_spin.specs.Spinning.{has_only_zeros}
-use mathlib.Core.Path.{refl, ◌∙◌, ap, subst, fun_ext}
+use mathlib.Core.Path.{refl, ◌∙◌, subst}
 use native.Mathlib.Omega.{arith}
-use native.Mathlib.Decide.{dec_lt}
 
 pub zeros_pass : (entries : List ℕ) → IsZeroVector entries → list_all (λ number. number == 0) entries ≡ true
 zeros_pass entries zeros = list_all-from_AllPass (λ number. number == 0) entries (λ i d below. eq-eqb _ _ (zeros i d below))
@@ -43,18 +39,11 @@ module _ (K : NumberField) where
   abbrev F : Field
   F = field_of K
 
-  pub zero_of_zeros : (v : List ℕ) → IsZeroVector v → vector_of K v ≡ zero_vector F
-  zero_of_zeros v zeros = fun_ext λ j. ap (element K) (at j (dec_lt j (length v))) ∙ element_zero K
-    where
-      at : (j : ℕ) → Dec (j < length v) → get_or v j 0 ≡ 0
-      at j (yes below) = All-get_or (λ number. number ≡ 0) v j 0 below zeros
-      at j (no past) = get_or_past v j 0 (omega arith)
-
   -- rows that are zero span only zero
   pub spanned_by_zeros : (n : ℕ) (rows : List (List ℕ)) (v : List ℕ) → has_only_zeros rows ≡ true → IsVectorOver K n v → IsSpanned K rows v → IsZeroVector v
   spanned_by_zeros n rows v zeros over spanned =
       zero_row_of_vector K n v over (spanned.combines ∙ times_zero_rows F (length rows) spanned.coefficients (matrix_of K rows)
-      (λ t below. zero_of_zeros (get_or rows t []) (row_of_zeros rows t zeros below)))
+      (λ t below. vector_of_zero_row K (get_or rows t []) (row_of_zeros rows t zeros below)))
 
 -- a test that cannot succeed fails
 pub false_if_absurd : (test : Bool) → (test ≡ true → ⊥) → test ≡ false

@@ -224,11 +224,9 @@ value-more_by_product m word index k sum next x g coefficient last numbers is_m 
     ∙ product_as_multiple sum coefficient x (generator_of m last) (h.field ∙ sym is_value.field) (sym is_value.columns)
     (h.square.length_is ∙ sym is_value.value.square.length_is))
 
--- the identity has as many rows as the value of a word
-pub identity-fits : (m : ModuleValue) (word : WordValue) (o : Order) (n : ℕ) (x sum : MatrixValue) → x ≡ identity_matrix o n → n ≡ m.dim → IsValueOf m word sum →
-    length x.rows ≡ length sum.rows
-identity-fits m word o n x sum is dim value =
-    ap (λ (y : MatrixValue). length y.rows) is ∙ identity_length (number_field m.order) n ∙ dim ∙ sym value.value.square.length_is
+-- the value of a word is square
+pub value-is_square : (m : ModuleValue) (word : WordValue) (sum : MatrixValue) → IsValueOf m word sum → length sum.rows ≡ sum.cols
+value-is_square m word sum value = value.value.square.length_is ∙ sym value.columns
 
 -- a drawn word is a word in the generators of a module with a field of its order and as many generators
 pub drawn_word-in : (m : ModuleValue) (seed number q k : ℕ) → order_number m.order ≡ q → length m.generators ≡ k → 1 ≤ k → IsWordIn m (drawn_word seed number q k)

@@ -57,10 +57,8 @@ impl Word {
     {
         let term = self.term(index);
         match term.gens {
-            [] => {
-                let one = Matrix::identity(alloc, *module.field(), module.dim())?;
-                sum.add_scaled(term.coefficient, &one);
-            }
+            // Of no generators the product is the identity.
+            [] => sum.add_to_diagonal(term.coefficient),
             // One generator is the product, as it stands.
             [number] => sum.add_scaled(term.coefficient, module.generator(usize::from(*number))),
             // Two generators are multiplied as they are added.

@@ -1,6 +1,5 @@
 use Rattle.std.proofs.Common.{◌≡◌, ◌≤◌, ◌∙◌, Bool, true, false, [], ap, arith}
 use Rattle.axe_echelon.proofs.Exits.{no_memory}
-use Rattle.axe_matrix.specs.Matrices.{MatrixValue}
 use Rattle.axe_echelon.proofs.EliminationLaws.{room_of_rank}
 use Rattle.axe_echelon.proofs.ReducedLaws.{reduced_none, reduced_other, reduced_more, reduced_whole}
 use Rattle.axe_echelon.proofs.Echelon.reduced.Goals.{then-is_pivot+in_ok-row+in_ok-append, else-is_pivot}

@@ -1,9 +1,13 @@
-use Rattle.std.proofs.Common.{◌≢◌, length, arith}
+use Rattle.std.proofs.Common.{◌≡◌, ◌≢◌, length, arith}
 use Rattle.axe_matrix.proofs.TransposeLaws.{transpose_refusal-none}
 use Rattle.axe_echelon.specs.Echelons.{null_space_refusal, IsNullSpaceMatrix}
-use Rattle.axe_echelon.proofs.Exits.{answers_early, answers_more}
+use Rattle.axe_echelon.proofs.Exits.{answers_early, answers_more, value_if_answered}
 use Rattle.axe_echelon.proofs.Transposes.{null_space_by_columns}
+use Rattle.axe_echelon.proofs.ZeroMatrices.{identity_is_null_space}
 use Rattle.axe_echelon.proofs.null_spaces.null_space.Goals as goal
+
+pub mirrored_columns-requires : goal.mirrored_columns-requires
+mirrored_columns-requires c = omega (arith, c.rows.ensures.count, c.if-rows-eq0.false)
 
 pub returns-clause-basis : goal.returns-clause-basis
 returns-clause-basis c =
@@ -12,4 +16,17 @@ returns-clause-basis c =
     (transpose_refusal-none c.args.matrix.now some)
     (answers_more c.orthogonal_to.result _ _ c.orthogonal_to.ensures.basis (λ basis orthogonal.
     null_space_by_columns c.args.matrix.now c.in_ok-mirrored_columns.field-0 basis c.in_ok-space.space c.rows.ensures.well_formed
-    c.in_ok-mirrored_columns.ensures.mirrored c.in_ok-space.ensures.span orthogonal))
+    c.in_ok-mirrored_columns.ensures.mirrored c.in_ok-space.ensures orthogonal))
+
+pub returns-clause-well_formed : goal.returns-clause-well_formed
+returns-clause-well_formed c = value_if_answered c.orthogonal_to.result _ c.orthogonal_to.ensures.well_formed
+
+pub returns-then-is_zero-clause-basis : goal.returns-then-is_zero-clause-basis
+returns-then-is_zero-clause-basis c =
+    let count : c.rows.result ≡ length c.args.matrix.now.rows = c.rows.ensures.count in
+    let some : length c.args.matrix.now.rows ≢ 0 = omega (arith, count, c.if-rows-eq0.false) in
+    answers_early (null_space_refusal c.args.matrix.now) (IsNullSpaceMatrix c.args.matrix.now) c.identity.result
+    (transpose_refusal-none c.args.matrix.now some)
+    (answers_more c.identity.result _ _ c.identity.ensures.identity (λ basis is.
+    identity_is_null_space c.args.matrix.now basis _ _ (omega (arith, some)) (omega (arith, c.rows.ensures.well_formed.rows_fit))
+    (c.is_zero.ensures.0 c.if-is_zero.true) c.field.ensures.order c.rows-then-is_zero.ensures.count is))

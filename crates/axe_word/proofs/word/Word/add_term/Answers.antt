@@ -1,25 +1,26 @@
-use Rattle.std.proofs.Common.{◌≡◌, ◌+◌, ◌-◌, length, arith}
-use Rattle.axe_word.proofs.ValueLaws.{value-more, value-more_by_product, product-none, product-one, product-first, coefficient-IsElement, numbers-below, identity-fits}
+use Rattle.std.proofs.Common.{◌≡◌, ◌+◌, ◌-◌, length, refl, arith}
+use Rattle.axe_matrix.specs.Matrices.{identity_matrix}
+use Rattle.axe_word.proofs.ValueLaws.{value-more, value-more_by_product, product-none, product-one, product-first, coefficient-IsElement, numbers-below, value-is_square}
 use Rattle.axe_word.proofs.word.Word.add_term.Goals as goal
 
-pub add_scaled-requires-clause-rows_fit : goal.add_scaled-requires-clause-rows_fit
-add_scaled-requires-clause-rows_fit c =
-    identity-fits c.args.module.now _ _ _ c.in_ok-one-in-empty.one c.args.sum.now c.in_ok-one-in-empty.ensures.identity c.dim.ensures.count c.requires.before
+pub add_to_diagonal-requires-clause-square : goal.add_to_diagonal-requires-clause-square
+add_to_diagonal-requires-clause-square c = value-is_square c.args.module.now _ c.args.sum.now c.requires.before
+
+pub add_to_diagonal-requires-clause-element : goal.add_to_diagonal-requires-clause-element
+add_to_diagonal-requires-clause-element c =
+    coefficient-IsElement c.args.module.now c.args.self.now c.args.index _ _ c.requires.word c.requires.index c.term-term.ensures.coefficient c.requires.before.field
 
 pub add_scaled-requires-clause-element : goal.add_scaled-requires-clause-element
 add_scaled-requires-clause-element c =
     coefficient-IsElement c.args.module.now c.args.self.now c.args.index _ _ c.requires.word c.requires.index c.term-term.ensures.coefficient c.requires.before.field
 
-pub add_scaled-requires-in-len1-clause-element : goal.add_scaled-requires-in-len1-clause-element
-add_scaled-requires-in-len1-clause-element c =
-    coefficient-IsElement c.args.module.now c.args.self.now c.args.index _ _ c.requires.word c.requires.index c.term-term.ensures.coefficient c.requires.before.field
-
-pub returns-in_ok-one-in-empty-clause-added : goal.returns-in_ok-one-in-empty-clause-added
-returns-in_ok-one-in-empty-clause-added c =
-    value-more c.args.module.now c.args.self.now c.args.index c.args.sum.now _ c.in_ok-one-in-empty.one _ _ c.requires.word c.requires.index c.requires.before
+pub returns-in-empty-clause-added : goal.returns-in-empty-clause-added
+returns-in-empty-clause-added c =
+    let one = identity_matrix c.args.sum.now.order c.args.sum.now.cols in
+    value-more c.args.module.now c.args.self.now c.args.index c.args.sum.now _ one _ _ c.requires.word c.requires.index c.requires.before
     c.term-term.ensures.coefficient c.term-term.ensures.numbers
-    (product-none c.args.module.now _ _ c.in_ok-one-in-empty.one _ c.in_ok-one-in-empty.ensures.identity c.field.ensures.order c.dim.ensures.count c.in-empty.len_below)
-    c.add_scaled.ensures.sum
+    (product-none c.args.module.now _ _ one _ refl c.requires.before.field c.requires.before.columns c.in-empty.len_below)
+    c.add_to_diagonal.ensures.sum
 
 pub returns-in-len1-clause-added : goal.returns-in-len1-clause-added
 returns-in-len1-clause-added c =
@@ -29,7 +30,7 @@ returns-in-len1-clause-added c =
     c.term-term.ensures.coefficient c.term-term.ensures.numbers
     (product-one c.args.module.now c.from.result c.generator.result.now c.term-term.result.gens.now c.generator.ensures.well_formed each c.generator.ensures.value
     c.from.ensures one)
-    c.add_scaled-in-len1.ensures.sum
+    c.add_scaled.ensures.sum
 
 pub add_product-requires-clause-element : goal.add_product-requires-clause-element
 add_product-requires-clause-element c =
