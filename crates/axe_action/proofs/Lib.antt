@@ -8,6 +8,7 @@ pub mod QuotientSpans
 pub mod QuotientRows
 pub mod ModuloLaws
 pub mod QuotientImages
+pub mod SubmoduleLaws
 pub mod DualLaws
 pub mod BasisLaws
 pub mod ConjugateLaws

@@ -6,10 +6,12 @@ mod columns;
 mod conjugates;
 mod duals;
 mod quotients;
+mod submodules;
 mod subspaces;
 
 pub use bases::extend_basis;
 pub use conjugates::conjugate;
 pub use duals::{annihilator, dual};
 pub use quotients::quotient_action;
+pub use submodules::{submodule_action, submodule_quotient};
 pub use subspaces::{basis_action, sub_action};

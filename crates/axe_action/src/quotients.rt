@@ -42,7 +42,7 @@ pub fn quotient_action(alloc: Global, module: &Module, rows: &Matrix) -> Result<
 }
 
 /// The columns that are no pivots of a span, ascending.
-fn free_columns(alloc: Global, span: &Echelon) -> Result<Vec<usize>, Refusal>
+pub(crate) fn free_columns(alloc: Global, span: &Echelon) -> Result<Vec<usize>, Refusal>
     ensures free { Answers None (λ columns. AreFreeColumns span.now columns.items) result }
     ensures well_formed { IsEchelon span.now }
 {
@@ -65,7 +65,11 @@ fn is_free(span: &Echelon, column: usize) -> bool
 
 /// The matrix of all unit vectors modulo a span, in order, so that a vector times it is the vector modulo the span: the
 /// entries, at the columns that are no pivots, of the one vector of the coset that is 0 at each pivot.
-fn units_modulo(alloc: Global, span: &Echelon, columns: &[usize]) -> Result<Matrix, Refusal>
+pub(crate) fn units_modulo(
+    alloc: Global,
+    span: &Echelon,
+    columns: &[usize],
+) -> Result<Matrix, Refusal>
     requires free { AreFreeColumns span.now columns.now }
     requires some_column { 1 ≤ length columns.now }
     ensures { Answers None (HasUnitsModulo span.now columns.now) result }
@@ -168,7 +172,7 @@ fn has_zero_product(alloc: Global, first: &Matrix, second: &Matrix) -> Result<bo
 }
 
 /// The matrix of the rows of a matrix with these indices, in their order.
-fn rows_at(alloc: Global, matrix: &Matrix, indices: &[usize]) -> Result<Matrix, Refusal>
+pub(crate) fn rows_at(alloc: Global, matrix: &Matrix, indices: &[usize]) -> Result<Matrix, Refusal>
     requires within { All (λ index. index < length matrix.now.rows) indices.now }
     requires indices_fit { length indices.now ≤ most_rows }
     ensures { Answers None (HasRowsAt matrix.now indices.now (length indices.now)) result }

@@ -53,7 +53,10 @@ pub fn basis_action(alloc: Global, module: &Module, rows: &Matrix) -> Result<Mod
 
 /// Columns at which the entries of the vectors of the span of a matrix's rows are their coordinates over these rows:
 /// the pivots, where the rows are the reduced basis of a span that is not everything. Else `None`.
-fn coordinate_columns(alloc: Global, rows: &Matrix) -> Result<Option<Vec<usize>>, Refusal>
+pub(crate) fn coordinate_columns(
+    alloc: Global,
+    rows: &Matrix,
+) -> Result<Option<Vec<usize>>, Refusal>
     ensures columns { Answers None (λ found. IfSome found (λ columns.
         AreCoordinateColumns (number_field rows.now.order) rows.now.cols rows.now.rows columns.items)) result }
     ensures well_formed { IsMatrix rows.now }
@@ -138,7 +141,7 @@ fn generator_on_basis(
 }
 
 /// The action of a module on the span of independent rows, of which there is one at least, over these rows.
-fn action_over(alloc: Global, module: &Module, rows: &Matrix) -> Result<Module, Refusal>
+pub(crate) fn action_over(alloc: Global, module: &Module, rows: &Matrix) -> Result<Module, Refusal>
     requires independent { IsIndependent (number_field rows.now.order) rows.now.rows }
     requires some_row { 1 ≤ length rows.now.rows }
     requires field { rows.now.order ≡ «module».now.order }

@@ -1,62 +1,38 @@
 -- The two sections into which a submodule cuts one: what the calls that make them answer.
-use Rattle.std.proofs.Common.{◌≡◌, ℕ, ◌+◌, ◌<◌, ◌≤◌, false, [], List, length, get_or, None, Ok, Err, refl, sym, ap, subst, ◌∙◌, arith}
-use Rattle.std.proofs.lemmas.Bool.{eq-eqb}
+use Rattle.std.proofs.Common.{◌≡◌, ◌+◌, List, length, refl, sym, ap, subst, ◌∙◌, arith}
+use Rattle.std.proofs.lemmas.List.{length-take-le}
 use Rattle.axe_algebra.specs.NumberField.{NumberField}
 use Rattle.axe_algebra.specs.Field.{Field}
-use Rattle.axe_algebra.specs.Lists.{entry, IsMatrixOver}
-use Rattle.axe_algebra.specs.Vectors.{unit_matrix}
-use Rattle.axe_algebra.specs.Bridge.{field_of, matrix_of}
-use Rattle.axe_algebra.specs.SpansOfLists.{IsIndependent, SpansEverything}
-use Rattle.axe_algebra.proofs.Exchange.{exchange}
-use Rattle.axe_algebra.proofs.FreeColumns.{free_columns_count}
-use Rattle.axe_algebra.proofs.Isomorphisms.{unit_rows_independent}
-use Rattle.axe_algebra.proofs.ListEntries.{rows_length, table_length}
+use Rattle.axe_algebra.specs.Lists.{IsMatrixOver}
+use Rattle.axe_algebra.specs.SpansOfLists.{IsIndependent}
 use Rattle.axe_algebra.proofs.ListExtended.{extended_is_square}
-use Rattle.axe_algebra.proofs.ProductLaws.{unit_is_matrix}
-use Rattle.axe_algebra.proofs.ListProducts.{identity_length}
-use Rattle.axe_algebra.proofs.NortonLists.{independent_row_is_nonzero}
-use Rattle.axe_field.specs.Order.{Order, order_number}
+use Rattle.axe_algebra.specs.ListArithmetic.{identity}
+use Rattle.axe_algebra.proofs.ListProducts.{identity_length, identity_over}
+use Rattle.axe_field.specs.Order.{Order}
 use Rattle.axe_field.specs.NumberFields.{number_field}
-use Rattle.axe_row.specs.Operations.{IsZeroVector}
-use Rattle.axe_row.specs.Refusals.{Answers, AnswersOr}
 use Rattle.axe_row.specs.declared.refusals.Refusal.{Refusal}
-use Rattle.axe_row.specs.declared.refusals.Refusal.TheVariants.{Memory}
-use Rattle.axe_matrix.specs.Matrices.{MatrixValue, IsMatrix, identity_matrix, product_refusal, matrix_product, matrix_block}
-use Rattle.axe_matrix.proofs.ProductLaws.{length-product, product_refusal-none}
-use Rattle.axe_echelon.proofs.EliminationLaws.{vector_of_zero_row}
-use Rattle.axe_echelon.proofs.Exits.{asked_late}
-use Rattle.axe_spin.specs.Modules.{ModuleValue, IsModule, rows_refusal}
-use Rattle.axe_spin.specs.Spinning.{has_only_zeros}
-use Rattle.axe_spin.proofs.GeneratedLaws.{some_nonzero}
-use Rattle.axe_action.specs.Actions.{sub_action_refusal, action_late, quotient_late, IsBasisAction, IsActionOverRows, IsActionModulo, IsProperActionModulo, IsExtendedMatrix}
+use Rattle.axe_matrix.specs.Matrices.{MatrixValue, IsMatrix, AreSplit, matrix_block}
+use Rattle.axe_matrix.proofs.ProductLaws.{IsMatrix-product}
+use Rattle.axe_echelon.proofs.SomeMatrix.{matrix_of_rows_over}
+use Rattle.axe_spin.specs.Modules.{ModuleValue, IsModule}
+use Rattle.axe_action.specs.Actions.{IsBasisAction, IsActionModulo, IsExtendedMatrix}
 use Rattle.axe_norton.specs.Spaces.{IsProperSubmodule}
 use Rattle.axe_norton.proofs.TruthLaws.{rows_over_field}
-use Rattle.axe_iso.proofs.FormAnswers.{action_refused, action_given}
-use Rattle.axe_series.specs.Sections.{SectionValue, IsCut, lifted_rows}
+use Rattle.axe_series.specs.Sections.{SectionValue, IsCut, whole_section, lifted_rows}
+use Rattle.axe_series.proofs.LiftedRows.{AreBlocks, split_in_blocks, parts_are_lifted}
+use Rattle.axe_series.proofs.SomeCut.{dimensions_add_up}
 use Rattle.axe_chop.specs.Stages.{IsSection}
-use mathlib.Core.Logic.{inl, inr}
+use Rattle.axe_chop.proofs.Lifting.{lifted_rows_count}
 
 -- a module is its own section
-pub whole_is_section : (m action : ModuleValue) (rows : MatrixValue) (order : Order) (dim : ℕ) → action ≡ m → order ≡ m.order → dim ≡ m.dim →
-    rows ≡ identity_matrix order dim → IsModule action → IsMatrix rows → IsSection (record { action = action; rows = rows })
-whole_is_section m action rows order dim action_is order_is dim_is rows_is formed rows_formed = record {
-  field = ap (λ (x : MatrixValue). x.order) rows_is ∙ order_is ∙ sym (ap (λ (x : ModuleValue). x.order) action_is);
-  count = ap (λ (x : MatrixValue). length x.rows) rows_is ∙ identity_length (number_field order) dim ∙ dim_is
-      ∙ sym (ap (λ (x : ModuleValue). x.dim) action_is);
-  action_formed = formed;
-  rows_formed = rows_formed;
+pub whole_is_section : (m : ModuleValue) → IsModule m → IsSection (whole_section m)
+whole_is_section m is = record {
+  field = refl;
+  count = identity_length (number_field m.order) m.dim;
+  action_formed = is;
+  rows_formed = matrix_of_rows_over m.order m.dim (identity m.dim) is.over.positive is.dim_fits
+      (omega (arith, identity_length (number_field m.order) m.dim, is.dim_fits)) (identity_over (number_field m.order) m.dim);
 }
-
--- fewer rows than the dimension don't span everything
-pub few_rows_span_less : (K : NumberField) (n : ℕ) (rows : List (List ℕ)) → length rows < n → ¬ (SpansEverything K n rows)
-few_rows_span_less K n rows few all = absurd (omega (arith, few, at_least))
-  where
-    F : Field
-    F = field_of K
-
-    at_least : n ≤ length rows
-    at_least = exchange F n (unit_matrix F n) (length rows) (matrix_of K rows) (unit_rows_independent F n)
-        (λ t below. all (unit_matrix F n t) ((unit_is_matrix F n).columns t))
 
 -- ---- the actions
 
@@ -64,59 +40,10 @@ module _ (m : ModuleValue) (space : MatrixValue) (proper : IsProperSubmodule m s
   pub space_independent : IsIndependent (number_field space.order) space.rows
   space_independent = subst (λ o. IsIndependent (number_field o) space.rows) (sym proper.field) proper.independent
 
-  -- the space is not refused
-  pub rows_accepted : rows_refusal m space ≡ None
-  rows_accepted = rw (eq-eqb _ _ (ap order_number proper.field), eq-eqb _ _ proper.columns) refl
-
-  space_nonzero : has_only_zeros space.rows ≡ false
-  space_nonzero = some_nonzero space.rows 0 (get_or space.rows 0 []) false proper.nonzero refl (λ zeros. absurd (first_nonzero zeros)) refl
-    where
-      first_nonzero : IsZeroVector (get_or space.rows 0 []) → ⊥
-      first_nonzero zeros =
-          independent_row_is_nonzero (number_field m.order) space.rows 0 proper.independent proper.nonzero
-          (vector_of_zero_row (number_field m.order) (get_or space.rows 0 []) zeros)
-
-  space_accepted : sub_action_refusal m space ≡ None
-  space_accepted = rw (eq-eqb _ _ (ap order_number proper.field), eq-eqb _ _ proper.columns, space_nonzero) refl
-
-  -- so there is an action on it
-  pub sub_refused : (refusal : Refusal) →
-      AnswersOr (sub_action_refusal m space) (IsActionOverRows m space) (action_late m space) (Err refusal) → refusal ≡ Memory
-  sub_refused refusal h = action_refused m space space_accepted refusal proper.invariant h
-
-  pub sub_given : (action : ModuleValue) →
-      AnswersOr (sub_action_refusal m space) (IsActionOverRows m space) (action_late m space) (Ok action) → IsBasisAction m space action
-  sub_given action h = action_given m space space_accepted action h
-
-  -- and one modulo it
-  pub quotient_refused : (refusal : Refusal) →
-      AnswersOr (rows_refusal m space) (IsProperActionModulo m space) (quotient_late m space) (Err refusal) → refusal ≡ Memory
-  quotient_refused refusal h =
-      memory (asked_late (rows_refusal m space) (IsProperActionModulo m space) (quotient_late m space) (Err refusal) rows_accepted h)
-    where
-      memory : AnswersOr None (IsProperActionModulo m space) (quotient_late m space) (Err refusal) → refusal ≡ Memory
-      memory (inl is) = is
-      memory (inr (inl (name, everything))) =
-          absurd (few_rows_span_less (number_field m.order) m.dim space.rows proper.proper everything)
-      memory (inr (inr (name, (proper_too, outside)))) = absurd (outside proper.invariant)
-
-  pub quotient_given : (action : ModuleValue) →
-      AnswersOr (rows_refusal m space) (IsProperActionModulo m space) (quotient_late m space) (Ok action) → IsActionModulo m space action
-  quotient_given action h =
-      (asked_late (rows_refusal m space) (IsProperActionModulo m space) (quotient_late m space) (Ok action) rows_accepted h).2
-
   -- ---- the dimensions
   module _ (formed : IsMatrix space) where
     over : IsMatrixOver (number_field m.order) m.dim space.rows
     over = rows_over_field m.order m.dim space proper.field proper.columns formed
-
-    pub part_dimensions : (sub quotient : ModuleValue) → IsBasisAction m space sub → IsActionModulo m space quotient → sub.dim + quotient.dim ≡ m.dim
-    part_dimensions sub quotient acts modulo = omega (arith, acts.dimension, sizes)
-      where
-        sizes : length space.rows + quotient.dim ≡ m.dim
-        sizes = free_columns_count (field_of (number_field m.order)) m.dim (length space.rows)
-            (matrix_of (number_field m.order) space.rows) (rows_length (number_field m.order) m.dim space.rows over)
-            quotient.dim modulo.acts.columns modulo.acts.free proper.independent
 
     pub extended_count : (extended : MatrixValue) → IsExtendedMatrix space extended → length extended.rows ≡ m.dim
     extended_count extended is =
@@ -126,68 +53,95 @@ module _ (m : ModuleValue) (space : MatrixValue) (proper : IsProperSubmodule m s
 
 -- ---- the rows
 
-module _ (section : SectionValue) (space extended : MatrixValue) (is : IsSection section) (proper : IsProperSubmodule section.action space)
-    (extends : IsExtendedMatrix space extended) where
-  extended_field : extended.order ≡ section.rows.order
-  extended_field = extends.field ∙ proper.field ∙ sym is.field
+-- the rows of a submodule and the unit vectors of the other columns can be lifted
+pub extended_field : (section : SectionValue) (space extended : MatrixValue) → IsProperSubmodule section.action space →
+    IsExtendedMatrix space extended → extended.order ≡ section.action.order
+extended_field section space extended proper extends = extends.field ∙ proper.field
 
-  -- the rows are lifted by a product that is not refused
-  pub lifted_accepted : product_refusal extended section.rows ≡ None
-  lifted_accepted = product_refusal-none extended section.rows (ap order_number extended_field)
-      (extends.columns ∙ proper.columns ∙ sym is.count)
+pub extended_columns : (section : SectionValue) (space extended : MatrixValue) → IsProperSubmodule section.action space →
+    IsExtendedMatrix space extended → extended.cols ≡ section.action.dim
+extended_columns section space extended proper extends = extends.columns ∙ proper.columns
 
-  pub lifted_refused : (refusal : Refusal) →
-      Answers (product_refusal extended section.rows) (λ product. product ≡ matrix_product extended section.rows) (Err refusal) → refusal ≡ Memory
-  lifted_refused refusal h =
-      subst (λ why. Answers why (λ product. product ≡ matrix_product extended section.rows) (Err refusal)) lifted_accepted h
+-- the rows of the submodule and the unit vectors of the other columns, and what they are lifted to
+pub record AreLifted (section : SectionValue) (space extended rows units first after : MatrixValue) : Type 0 where
+  pub is_section : IsSection section
+  pub proper : IsProperSubmodule section.action space
+  pub space_formed : IsMatrix space
+  pub extends : IsExtendedMatrix space extended
+  pub extended_formed : IsMatrix extended
+  pub parts : AreSplit extended (length space.rows) rows units
+  pub first_is : first ≡ lifted_rows section rows
+  pub after_is : after ≡ lifted_rows section units
+  pub first_formed : IsMatrix first
+  pub after_formed : IsMatrix after
 
-  module _ (lifted : MatrixValue)
-      (answer : Answers (product_refusal extended section.rows) (λ product. product ≡ matrix_product extended section.rows) (Ok lifted)) where
-    pub lifted_is : lifted ≡ lifted_rows section extended
-    lifted_is = subst (λ why. Answers why (λ product. product ≡ matrix_product extended section.rows) (Ok lifted)) lifted_accepted answer
+module _ (section : SectionValue) (space extended rows units first after : MatrixValue)
+    (are : AreLifted section space extended rows units first after) where
+  abbrev lifted : MatrixValue
+  lifted = lifted_rows section extended
 
-    pub lifted_count : IsMatrix space → length lifted.rows ≡ section.action.dim
-    lifted_count formed =
-        ap (λ (x : MatrixValue). length x.rows) lifted_is
-        ∙ length-product (number_field extended.order) section.rows.cols extended.rows section.rows.rows
-        ∙ extended_count section.action space proper formed extended extends
+  many : length extended.rows ≡ section.action.dim
+  many = extended_count section.action space are.proper are.space_formed extended are.extends
 
-    -- so many rows of it, with an action of that dimension, are a section
-    pub block_section : (action : ModuleValue) (block : MatrixValue) (start dim width : ℕ) → dim ≡ action.dim → action.order ≡ section.action.order →
-        IsModule action → block ≡ matrix_block lifted start dim 0 width → IsMatrix block → IsSection (record { action = action; rows = block })
-    block_section action block start dim width dim_is field formed block_is block_formed = record {
-      field = ap (λ (x : MatrixValue). x.order) block_is ∙ ap (λ (x : MatrixValue). x.order) lifted_is
-          ∙ extends.field ∙ proper.field ∙ sym field;
-      count = ap (λ (x : MatrixValue). length x.rows) block_is
-          ∙ table_length dim width (λ i j. entry lifted.rows (start + i) (0 + j)) ∙ dim_is;
-      action_formed = formed;
-      rows_formed = block_formed;
+  lifted_count : length lifted.rows ≡ section.action.dim
+  lifted_count = lifted_rows_count section extended ∙ many
+
+  lifted_field : lifted.order ≡ section.action.order
+  lifted_field = extended_field section space extended are.proper are.extends
+
+  lifted_formed : IsMatrix lifted
+  lifted_formed = IsMatrix-product extended section.rows are.extended_formed are.is_section.rows_formed
+      (lifted_field ∙ sym are.is_section.field)
+
+  split : AreSplit lifted (length space.rows) first after
+  split =
+      let parts : AreSplit lifted (length space.rows) (lifted_rows section rows) (lifted_rows section units) =
+      parts_are_lifted section extended rows units (length space.rows) (omega (arith, many, are.proper.proper)) are.parts in
+      record { first_rows = are.first_is ∙ parts.first_rows; rows_after = are.after_is ∙ parts.rows_after }
+
+  -- so many rows of it, with an action of that dimension, are a section
+  part_section : (action : ModuleValue) (part : MatrixValue) → part.order ≡ lifted.order → length part.rows ≡ action.dim →
+      action.order ≡ section.action.order → IsModule action → IsMatrix part → IsSection (record { action = action; rows = part })
+  part_section action part field count same_field action_formed rows_formed = record {
+    field = field ∙ lifted_field ∙ sym same_field;
+    count = count;
+    action_formed = action_formed;
+    rows_formed = rows_formed;
+  }
+
+  pub sub_section : (sub : ModuleValue) → IsBasisAction section.action space sub → IsModule sub →
+      IsSection (record { action = sub; rows = first })
+  sub_section sub acts formed =
+      part_section sub first (ap (λ (x : MatrixValue). x.order) split.first_rows)
+      (ap (λ (x : MatrixValue). length x.rows) split.first_rows
+      ∙ length-take-le (length space.rows) lifted.rows (omega (arith, lifted_count, are.proper.proper)) ∙ sym acts.dimension)
+      acts.field formed are.first_formed
+
+  module _ (quotient : ModuleValue) (modulo : IsActionModulo section.action space quotient) where
+    sizes : length space.rows + quotient.dim ≡ section.action.dim
+    sizes = dimensions_add_up section.action space quotient are.proper are.space_formed modulo
+
+    blocks : AreBlocks lifted first after (length space.rows) quotient.dim
+    blocks = split_in_blocks lifted first after (length space.rows) quotient.dim lifted_formed split
+        (sizes ∙ sym lifted_count)
+
+    pub quotient_section : IsModule quotient → IsSection (record { action = quotient; rows = after })
+    quotient_section formed =
+        part_section quotient after (ap (λ (x : MatrixValue). x.order) split.rows_after) blocks.count_after modulo.field
+        formed are.after_formed
+
+    -- the two parts
+    pub is_cut : (sub : ModuleValue) → IsBasisAction section.action space sub → IsModule sub → IsModule quotient →
+        IsCut section space (record { action = sub; rows = first }) (record { action = quotient; rows = after })
+    is_cut sub acts sub_module quotient_module = record {
+      sub_action = acts;
+      sub_module = sub_module;
+      quotient_action = modulo;
+      quotient_module = quotient_module;
+      extended = extended;
+      extends = are.extends;
+      sub_rows = blocks.first_rows
+          ∙ ap (λ d. matrix_block (lifted_rows section extended) 0 d 0 section.rows.cols) (sym acts.dimension);
+      quotient_rows = blocks.rows_after
+          ∙ ap (λ d. matrix_block (lifted_rows section extended) d quotient.dim 0 section.rows.cols) (sym acts.dimension);
     }
-
-    block_rows : (dim width : ℕ) (block : MatrixValue) (start : ℕ) → width ≡ lifted.cols → block ≡ matrix_block lifted start dim 0 width →
-        block ≡ matrix_block (lifted_rows section extended) start dim 0 section.rows.cols
-    block_rows dim width block start width_is block_is =
-        block_is ∙ ap (λ w. matrix_block lifted start dim 0 w) width_is
-        ∙ ap (λ (x : MatrixValue). matrix_block x start dim 0 x.cols) lifted_is
-
-    -- the two parts, cut where the submodule's rows end
-    pub is_cut : (at size width other_width : ℕ) (sub quotient : SectionValue) → at ≡ sub.action.dim → size ≡ quotient.action.dim →
-        width ≡ lifted.cols → other_width ≡ lifted.cols →
-        IsBasisAction section.action space sub.action → IsModule sub.action →
-        IsActionModulo section.action space quotient.action → IsModule quotient.action →
-        sub.rows ≡ matrix_block lifted 0 at 0 width →
-        quotient.rows ≡ matrix_block lifted at size 0 other_width → IsCut section space sub quotient
-    is_cut at size width other_width sub quotient at_is size_is width_is other_is acts sub_module modulo quotient_module sub_rows quotient_rows =
-        record {
-          sub_action = acts;
-          sub_module = sub_module;
-          quotient_action = modulo;
-          quotient_module = quotient_module;
-          extended = extended;
-          extends = extends;
-          sub_rows = block_rows at width sub.rows 0 width_is sub_rows
-              ∙ ap (λ d. matrix_block (lifted_rows section extended) 0 d 0 section.rows.cols) at_is;
-          quotient_rows = block_rows size other_width quotient.rows at other_is quotient_rows
-              ∙ ap (λ d. matrix_block (lifted_rows section extended) d size 0 section.rows.cols) at_is
-              ∙ ap (λ d. matrix_block (lifted_rows section extended) sub.action.dim d 0 section.rows.cols) size_is;
-        }

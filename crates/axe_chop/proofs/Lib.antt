@@ -1,4 +1,5 @@
 pub mod Knowing
+pub mod Lifting
 pub mod Placing
 pub mod Cutting
 pub mod Stepping

@@ -1,16 +1,11 @@
 -- One more place: the rows of an irreducible section, lifted by the isomorphism to a known factor or by a new form's basis.
-use Rattle.std.proofs.Common.{◌≡◌, ℕ, List, [], ◌∷◌, ◌+◌, ◌≤◌, ◌++◌, length, None, Ok, Err, sym, ap, subst, ◌∙◌, arith, length-append}
+use Rattle.std.proofs.Common.{◌≡◌, ℕ, List, [], ◌∷◌, ◌+◌, ◌≤◌, ◌++◌, length, sym, ap, subst, ◌∙◌, arith, length-append}
 use Rattle.std.specs.List.{All}
 use Rattle.std.proofs.lemmas.List.Elements.{All-append}
-use Rattle.axe_field.specs.Order.{order_number, IsElement}
-use Rattle.axe_field.specs.NumberFields.{number_field}
+use Rattle.axe_field.specs.Order.{IsElement}
 use Rattle.axe_row.specs.Rows.{RowValue}
-use Rattle.axe_row.specs.Refusals.{Answers}
-use Rattle.axe_row.specs.declared.refusals.Refusal.{Refusal}
-use Rattle.axe_row.specs.declared.refusals.Refusal.TheVariants.{Memory}
 use Rattle.axe_matrix.specs.Limits.{most_rows}
-use Rattle.axe_matrix.specs.Matrices.{MatrixValue, IsMatrix, product_refusal, matrix_product}
-use Rattle.axe_matrix.proofs.ProductLaws.{length-product, product_refusal-none}
+use Rattle.axe_matrix.specs.Matrices.{MatrixValue, IsMatrix}
 use Rattle.axe_spin.specs.Modules.{ModuleValue}
 use Rattle.axe_iso.specs.Forms.{FormValue, IsForm, IsFormFrom}
 use Rattle.axe_series.specs.Sections.{SectionValue, lifted_rows}
@@ -18,7 +13,6 @@ use Rattle.axe_series.specs.Runs.{FoundValue, with_place, with_factor, AreOfOthe
 use Rattle.axe_series.proofs.SomeForm.{IsShownBy, irreducible_is_shown}
 use Rattle.axe_norton.specs.Verdicts.{Decides}
 use Rattle.axe_norton.specs.declared.verdicts.Verdict.TheVariants.{Irreducible}
-use Rattle.axe_chop.specs.Stages.{IsSection}
 use Rattle.axe_chop.specs.Searches.{IsLift, IsPlacedIn}
 
 -- the isomorphism to a known factor is a square matrix of the module's vectors
@@ -40,60 +34,6 @@ pub shown_in : (m other : ModuleValue) (seed word : ℕ) (v : RowValue) → othe
     IsShownBy other seed word v
 shown_in m other seed word v same (words, decides) =
     subst (λ n. IsShownBy n seed word v) (sym same) (irreducible_is_shown m seed words word v decides)
-
-module _ (section : SectionValue) (t : MatrixValue) (is : IsSection section) (lift : IsLift section.action t) where
-  -- the product is not refused
-  pub place_accepted : product_refusal t section.rows ≡ None
-  place_accepted = product_refusal-none t section.rows (ap order_number (lift.field ∙ sym is.field)) (lift.columns ∙ sym is.count)
-
-  pub place_refused : (refusal : Refusal) →
-      Answers (product_refusal t section.rows) (λ product. product ≡ matrix_product t section.rows) (Err refusal) → refusal ≡ Memory
-  place_refused refusal h =
-      subst (λ why. Answers why (λ product. product ≡ matrix_product t section.rows) (Err refusal)) place_accepted h
-
-  module _ (rows : MatrixValue)
-      (answer : Answers (product_refusal t section.rows) (λ product. product ≡ matrix_product t section.rows) (Ok rows)) where
-    pub place_rows : rows ≡ lifted_rows section t
-    place_rows = subst (λ why. Answers why (λ product. product ≡ matrix_product t section.rows) (Ok rows)) place_accepted answer
-
-    pub place_count : length rows.rows ≡ section.action.dim
-    place_count = ap (λ (x : MatrixValue). length x.rows) place_rows
-        ∙ length-product (number_field t.order) section.rows.cols t.rows section.rows.rows ∙ lift.count
-
-    pub place_field : rows.order ≡ section.rows.order
-    place_field = ap (λ (x : MatrixValue). x.order) place_rows ∙ lift.field ∙ sym is.field
-
-    pub place_columns : rows.cols ≡ section.rows.cols
-    place_columns = ap (λ (x : MatrixValue). x.cols) place_rows
-
--- the rows of the section, lifted by t
-pub record IsLifted (section : SectionValue) (t rows : MatrixValue) : Type 0 where
-  pub value : rows ≡ lifted_rows section t
-  pub field : rows.order ≡ section.rows.order
-  pub columns : rows.cols ≡ section.rows.cols
-  pub count : length rows.rows ≡ section.action.dim
-
-module _ (section : SectionValue) (t other given : MatrixValue) (is : IsSection section) (lift : IsLift section.action t)
-    (other_is : other ≡ t) (given_is : given ≡ section.rows) where
-  pub lifted_by : (rows : MatrixValue) → Answers (product_refusal other given) (λ product. product ≡ matrix_product other given) (Ok rows) →
-      IsLifted section t rows
-  lifted_by rows answer = record {
-    value = place_rows section t is lift rows asked;
-    field = place_field section t is lift rows asked;
-    columns = place_columns section t is lift rows asked;
-    count = place_count section t is lift rows asked;
-  }
-    where
-      asked : Answers (product_refusal t section.rows) (λ product. product ≡ matrix_product t section.rows) (Ok rows)
-      asked =
-          subst (λ (x : MatrixValue). Answers (product_refusal x section.rows) (λ product. product ≡ matrix_product x section.rows) (Ok rows)) other_is
-          (subst (λ (x : MatrixValue). Answers (product_refusal other x) (λ product. product ≡ matrix_product other x) (Ok rows)) given_is answer)
-
-  pub not_refused_by : (refusal : Refusal) →
-      Answers (product_refusal other given) (λ product. product ≡ matrix_product other given) (Err refusal) → refusal ≡ Memory
-  not_refused_by refusal answer = place_refused section t is lift refusal
-      (subst (λ (x : MatrixValue). Answers (product_refusal x section.rows) (λ product. product ≡ matrix_product x section.rows) (Err refusal)) other_is
-      (subst (λ (x : MatrixValue). Answers (product_refusal other x) (λ product. product ≡ matrix_product other x) (Err refusal)) given_is answer))
 
 -- the form of an action that is the section's
 pub form_lift_of : (m other : ModuleValue) (seed word : ℕ) (v : RowValue) (form : FormValue) → other ≡ m → IsFormFrom other seed word v form →

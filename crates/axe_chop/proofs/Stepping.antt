@@ -6,13 +6,11 @@ use Rattle.std.proofs.lemmas.List.Elements.{All-nil, All-cons, All-head, All-tai
 use Rattle.std.proofs.Common.{length-append}
 use Rattle.axe_algebra.proofs.ListEntries.{table_length}
 use Rattle.axe_field.specs.Order.{IsElement}
-use Rattle.axe_field.specs.NumberFields.{number_field}
 use Rattle.axe_row.specs.declared.refusals.Refusal.{Refusal}
 use Rattle.axe_row.specs.Refusals.{Answers}
 use Rattle.axe_row.specs.Rows.{RowValue}
 use Rattle.axe_matrix.specs.Limits.{most_rows, most_columns}
 use Rattle.axe_matrix.specs.Matrices.{MatrixValue, IsMatrix}
-use Rattle.axe_matrix.proofs.ProductLaws.{length-product}
 use Rattle.axe_spin.specs.Modules.{ModuleValue}
 use Rattle.axe_norton.specs.declared.verdicts.Verdict
 use Rattle.axe_norton.specs.declared.verdicts.Verdict.TheVariants.{Irreducible, Reducible, Undecided}
@@ -27,6 +25,7 @@ use Rattle.axe_series.proofs.OneCut.{reducible_is_matrix}
 use Rattle.axe_chop.specs.Stages.{IsSection, IsActionLike, IsSectionOf, IsRowsLike, sections_dim, with_sections, IsStageOf}
 use Rattle.axe_chop.specs.Searches.{IsPlacedIn, as_known, as_new, found_value, IsSearched}
 use Rattle.axe_chop.specs.declared.found.Found
+use Rattle.axe_chop.proofs.Lifting.{lifted_rows_count}
 use Rattle.axe_chop.specs.declared.search.Searched.{Searched}
 use Rattle.axe_chop.specs.declared.search.Searched.TheVariants.{Complete, Open}
 use mathlib.Core.Path.{refl, sym, ◌∙◌, ap, subst}
@@ -71,10 +70,6 @@ true_as action m verdict found is is_verdict holds =
 
 -- ---- one more place
 
--- the lifted rows of a matrix are as many as its own
-lifted_count : (section : SectionValue) (t : MatrixValue) → length (lifted_rows section t).rows ≡ length t.rows
-lifted_count section t = length-product (number_field t.order) section.rows.cols t.rows section.rows.rows
-
 module _ (found : FoundValue) (section : SectionValue) (seed word : ℕ) (v : RowValue) where
   -- an irreducible section gives as many rows as its dimension
   placed_rows : (next : FoundValue) → IsPlacedIn found section seed word v next →
@@ -82,12 +77,12 @@ module _ (found : FoundValue) (section : SectionValue) (seed word : ℕ) (v : Ro
   placed_rows next (as_known number t is_known) =
       length-append found.rows (lifted_rows section t).rows
       ∙ ap (λ n. length found.rows + n)
-      (lifted_count section t
+      (lifted_rows_count section t
       ∙ is_known.matches.isomorphism.isomorphism.square.length_is
       ∙ sym is_known.matches.isomorphism.one_dimension)
   placed_rows next (as_new form others is_new) =
       length-append found.rows (lifted_rows section form.basis).rows
-      ∙ ap (λ n. length found.rows + n) (lifted_count section form.basis ∙ is_new.from.square)
+      ∙ ap (λ n. length found.rows + n) (lifted_rows_count section form.basis ∙ is_new.from.square)
 
   -- and no more than one form
   placed_forms : (next : FoundValue) → IsPlacedIn found section seed word v next →

@@ -65,11 +65,11 @@ impl Found {
         ensures well_formed { IsMatrix self.old.basis → Answers None (λ _. IsMatrix self.new.basis) result }
     {
         if let Some((number, isomorphism)) = known_form(alloc, &self.forms, section.action())? {
-            return self.append_place(alloc, section, &isomorphism, number);
+            return self.append_place(alloc, section, isomorphism, number);
         }
         let form = form_of(alloc, section.action(), seed, word, vector)?;
         let number = self.forms.len();
-        self.append_place(alloc, section, form.basis(), number)?;
+        self.append_place(alloc, section, form.basis().copy(alloc)?, number)?;
         self.forms.push(form)?;
         Ok(())
     }
@@ -80,21 +80,21 @@ impl Found {
         &mut self,
         alloc: Global,
         section: &Section,
-        lift: &Matrix,
+        lift: Matrix,
         number: usize,
     ) -> Result<(), Refusal>
-        requires lift { IsLift section.now.action lift.now }
+        requires lift { IsLift section.now.action lift }
         requires field { self.old.basis.order ≡ section.now.rows.order }
         requires fits { self.old.basis.cols ≡ section.now.rows.cols }
         requires room { length self.old.basis.rows + section.now.action.dim ≤ most_rows }
         requires number { number ≤ length self.old.basis.rows }
         ensures placed { Answers None (λ _. found_value self.new
-            ≡ with_place (found_value self.old) (lifted_rows section.now lift.now).rows number) result }
+            ≡ with_place (found_value self.old) (lifted_rows section.now lift).rows number) result }
         ensures basis { Answers None
             (λ _. self.new.basis ≡ record self.old.basis { rows = self.new.basis.rows }) result }
         ensures well_formed { IsMatrix self.old.basis → Answers None (λ _. IsMatrix self.new.basis) result }
     {
-        let rows = lift.mul(alloc, section.rows())?;
+        let rows = section.lift(alloc, lift)?;
         self.basis.append_rows(alloc, &rows)?;
         self.places.push(number as u16)?;
         Ok(())

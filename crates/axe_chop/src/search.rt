@@ -1,12 +1,11 @@
 //! The search for a composition series.
 
-ghost use Rattle.std.specs.Prelude.{◌≡◌, ◌≤◌, ◌+◌, [], ◌∷◌, length, All, None, IfOk};
+ghost use Rattle.std.specs.Prelude.{◌≡◌, ◌≤◌, ◌+◌, ◌∷◌, length, All, None, IfOk};
 ghost use Rattle.axe_row.specs.Refusals.{Answers};
 ghost use Rattle.axe_matrix.specs.Limits.{most_rows};
 ghost use Rattle.axe_matrix.specs.Matrices.{IsMatrix};
 ghost use Rattle.axe_norton.specs.Spaces.{IsProperSubmodule};
-ghost use Rattle.axe_series.specs.Sections.{whole_section};
-ghost use Rattle.axe_chop.specs.Stages.{IsSection, IsRowsLike, sections_dim, with_sections};
+ghost use Rattle.axe_chop.specs.Stages.{IsRowsLike, sections_dim, with_sections};
 ghost use Rattle.axe_chop.specs.Searches.{ArePartsBefore, IsSearched};
 ghost use Rattle.axe_chop.specs.declared.search.Searched.TheVariants.{Open};
 
@@ -43,7 +42,8 @@ pub(crate) fn search(
     ensures { Answers None (IsSearched «module».now seed words) result }
 {
     // Sections still to be decided, the lowest one first.
-    let mut sections = first_sections(alloc, module)?;
+    let mut sections = VecDeque::new(alloc);
+    sections.push_front(Section::whole(module))?;
     let mut found = Found::nothing(alloc, module);
     while let Some(section) = sections.pop_front() {
         match decide(alloc, section.action(), seed, words)? {
@@ -53,26 +53,18 @@ pub(crate) fn search(
             Verdict::Reducible(space) => put_parts(alloc, &mut sections, &section, &space)?,
             Verdict::Undecided => return open_at(alloc, found, &section, &sections),
         }
+        // By a call, so that the end of a section is proved apart from this loop.
+        drop(section);
     }
     Ok(Searched::Complete(found))
 }
 
-/// The sections to be decided at first: the module itself.
-fn first_sections(alloc: Global, module: &Module) -> Result<VecDeque<Section>, Refusal>
-    ensures whole { Answers None (λ sections. sections.items ≡ whole_section «module».now ∷ []) result }
-    ensures well_formed { IfOk result (λ _. IsSection (whole_section «module».now)) }
-{
-    let mut sections = VecDeque::new(alloc);
-    sections.push_front(Section::whole(alloc, module)?)?;
-    Ok(sections)
-}
-
 /// Puts the two sections into which a submodule cuts a section before the others: first the submodule's, then the
 /// quotient by it.
-fn put_parts(
+fn put_parts<'a>(
     alloc: Global,
-    sections: &mut VecDeque<Section>,
-    section: &Section,
+    sections: &mut VecDeque<Section<'a>>,
+    section: &Section<'a>,
     space: &Matrix,
 ) -> Result<(), Refusal>
     requires space { IsProperSubmodule section.now.action space.now }
@@ -103,9 +95,9 @@ fn open_at(
     let mut basis = found.basis;
     let offset = basis.rows();
     let dim = section.action().dim();
-    basis.append_rows(alloc, section.rows())?;
+    section.append_rows_to(alloc, &mut basis)?;
     for index in 0..after.len() {
-        basis.append_rows(alloc, after[index].rows())?;
+        after[index].append_rows_to(alloc, &mut basis)?;
     }
     Ok(Searched::Open { basis, offset, dim })
 }

@@ -23,3 +23,4 @@ pub mod CutSections
 pub mod RunState
 pub mod FactorSteps
 pub mod RunLaws
+pub mod LiftedRows

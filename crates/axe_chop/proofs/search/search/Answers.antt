@@ -1,13 +1,15 @@
-use Rattle.std.proofs.Common.{sym}
-use Rattle.axe_chop.proofs.Stepping.{popped, popped_none, decided_as, true_as, reached_first, reached_end, forms_like_first, first_rows_like, rest_rows_like, room_left, room_first, answered_open, reached_cut, less_after_cut, reached_placed, less_after_place}
+use Rattle.std.proofs.Common.{sym, subst}
+use Rattle.axe_chop.specs.Stages.{IsSection}
+use Rattle.axe_chop.proofs.Stepping.{pushed_first, popped, popped_none, decided_as, true_as, reached_first, reached_end, forms_like_first, first_rows_like, rest_rows_like, room_left, room_first, answered_open, reached_cut, less_after_cut, reached_placed, less_after_place}
 use Rattle.axe_chop.proofs.search.search.Goals as goal
 use Rattle.axe_chop.proofs.search.search.Goals.{in-Irreducible+in_ok-place-in-Irreducible+in-None-1, in-Irreducible+in_ok-place-in-Irreducible+in-Some-1, in-Reducible+in_ok-put_parts-in-Reducible}
 
 pub loop-section-init : goal.loop-section-init
 loop-section-init c =
-    reached_first c.args.module.now c.args.seed c.args.words c.nothing-found.result c.in_ok-sections.sections.items
+    reached_first c.args.module.now c.args.seed c.args.words c.nothing-found.result c.push_front.new.self.items
     c.nothing-found.ensures.basis c.nothing-found.ensures.forms c.nothing-found.ensures.places c.nothing-found.ensures.well_formed
-    c.in_ok-sections.ensures.well_formed c.in_ok-sections.ensures.whole
+    (subst IsSection c.whole.ensures.whole c.whole.ensures.well_formed)
+    (pushed_first _ _ _ _ c.whole.ensures.whole c.new-sections.ensures.items c.in_ok-push_front.ensures.items)
 
 pub place-requires-clause-decided : goal.place-requires-clause-decided
 place-requires-clause-decided c = (

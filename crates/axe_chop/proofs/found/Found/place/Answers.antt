@@ -1,5 +1,5 @@
-use Rattle.std.proofs.Common.{arith}
-use Rattle.axe_echelon.proofs.Exits.{answers_more}
+use Rattle.std.proofs.Common.{rules, arith, ◌∙◌}
+use Rattle.axe_echelon.proofs.Exits.{answers_more, no_memory}
 use Rattle.axe_chop.specs.Searches.{found_value}
 use Rattle.axe_chop.proofs.Placing.{shown_in, known_in, others_in, new_form_of, placed_as_known, placed_as_new}
 use Rattle.axe_chop.proofs.found.Found.place.Goals as goal
@@ -31,9 +31,16 @@ form_of-requires-clause-few c =
 pub returns-clause-placed : goal.returns-clause-placed
 returns-clause-placed c =
     placed_as_new (found_value c.args.self.now) (found_value c.append_place-2.new.self) c.args.section.now c.args.seed c.args.word
-    c.args.vector.now c.in_ok-form.form c.push.new.self.items c.basis.result.now c.len-number.result
+    c.args.vector.now c.in_ok-form.form c.push.new.self.items c.in_ok-copy.field-0 c.len-number.result
     (others_in c.args.self.now.forms.items c.deref.result.now c.args.section.now.action c.action.result.now c.deref.ensures.value
     c.action.ensures.value (rw c.in_default.is at c.in_ok-number.ensures))
     (new_form_of c.args.section.now.action c.action-2.result.now c.args.seed c.args.word c.args.vector.now c.in_ok-form.form
     c.action-2.ensures.value c.in_ok-form.ensures.well_formed c.in_ok-form.ensures.form)
-    c.basis.ensures.value (omega (arith, c.len-number.ensures)) c.in_ok-append_place.ensures.placed c.in_ok-push.ensures.items
+    (c.in_ok-copy.ensures.copied ∙ c.basis.ensures.value) (omega (arith, c.len-number.ensures)) c.in_ok-append_place.ensures.placed c.in_ok-push.ensures.items
+
+pub returns-in_err-append_place-clause-well_formed : goal.returns-in_err-append_place-clause-well_formed
+returns-in_err-append_place-clause-well_formed c = λ formed.
+    no_memory _ c.from_residual-in_err-append_place.result _ c.from_residual-in_err-append_place.ensures.1 c.in_err-append_place.ensures.placed
+
+pub returns-in_err-push-clause-well_formed : goal.returns-in_err-push-clause-well_formed
+returns-in_err-push-clause-well_formed c = λ formed. search rules

@@ -1,0 +1,35 @@
+-- Rows that are lifted by those of a section: they are not refused, and how many they are.
+use Rattle.std.proofs.Common.{◌≡◌, length, None, sym, ap, ◌∙◌}
+use Rattle.axe_field.specs.Order.{order_number}
+use Rattle.axe_field.specs.NumberFields.{number_field}
+use Rattle.axe_matrix.specs.Matrices.{MatrixValue, product_refusal}
+use Rattle.axe_matrix.proofs.ProductLaws.{length-product, product_refusal-none}
+use Rattle.axe_series.specs.Sections.{SectionValue, lifted_rows}
+use Rattle.axe_chop.specs.Stages.{IsSection}
+use Rattle.axe_chop.specs.Searches.{IsLift}
+
+-- coordinates over a section have a product with its rows
+pub lift_accepted : (section : SectionValue) (t : MatrixValue) → IsSection section → t.order ≡ section.action.order →
+    t.cols ≡ section.action.dim → product_refusal t section.rows ≡ None
+lift_accepted section t is field columns =
+    product_refusal-none t section.rows (ap order_number (field ∙ sym is.field)) (columns ∙ sym is.count)
+
+-- as many rows are lifted as are given
+pub lifted_rows_count : (section : SectionValue) (t : MatrixValue) → length (lifted_rows section t).rows ≡ length t.rows
+lifted_rows_count section t = length-product (number_field t.order) section.rows.cols t.rows section.rows.rows
+
+-- the rows of the section, lifted by t
+pub record IsLifted (section : SectionValue) (t rows : MatrixValue) : Type 0 where
+  pub value : rows ≡ lifted_rows section t
+  pub field : rows.order ≡ section.rows.order
+  pub columns : rows.cols ≡ section.rows.cols
+  pub count : length rows.rows ≡ section.action.dim
+
+pub lifted_by : (section : SectionValue) (t rows : MatrixValue) → IsSection section → IsLift section.action t →
+    rows ≡ lifted_rows section t → IsLifted section t rows
+lifted_by section t rows is lift value = record {
+  value = value;
+  field = ap (λ (x : MatrixValue). x.order) value ∙ lift.field ∙ sym is.field;
+  columns = ap (λ (x : MatrixValue). x.cols) value;
+  count = ap (λ (x : MatrixValue). length x.rows) value ∙ lifted_rows_count section t ∙ lift.count;
+}
