@@ -2,7 +2,8 @@
 use crate::tables::{Topic, each_call};
 use axe_row::{Combos, Row, most_combined};
 use axe_test_values::{
-    TableFault, element_in, four_fields, is_row, number_of, row_of, row_of_shape,
+    TableFault, element_in, first_field, four_fields, is_row, number_of, row_of, row_of_shape,
+    three_fields,
 };
 use std::alloc::Global;
 use std::process::Abort;
@@ -61,21 +62,28 @@ fn are_numbers(numbers: &[usize; 4], text: &str) -> Result<bool, TableFault> {
     Ok(count == 4)
 }
 
-fn numbers_pieces(rt: &impl Abort, alloc: Global, line: &str) -> Result<bool, TableFault> {
-    let (row, scalar, size, wanted) = four_fields(line)?;
-    let size = number_of(size)?;
-    let row = row_of(alloc, row)?;
+fn numbers_pieces(rt: &impl Abort, row: &Row, line: &str) -> Result<bool, TableFault> {
+    let (scalar, size, wanted) = three_fields(line)?;
     let scalar = element_in(row.field(), scalar)?;
+    let size = number_of(size)?;
     assert!(rt; size <= 8);
     are_numbers(&row.piece_numbers(scalar, size, 0), wanted)
 }
 
-fn numbers_later_pieces(rt: &impl Abort, alloc: Global, line: &str) -> Result<bool, TableFault> {
-    let (row, size, at, wanted) = four_fields(line)?;
+fn numbers_later_pieces(rt: &impl Abort, row: &Row, line: &str) -> Result<bool, TableFault> {
+    let (size, at, wanted) = three_fields(line)?;
     let (size, at) = (number_of(size)?, number_of(at)?);
-    let row = row_of(alloc, row)?;
     assert!(rt; size <= 8 && at <= 4096);
     are_numbers(&row.piece_numbers(1, size, at), wanted)
+}
+
+/// The calls that are given a row first.
+fn answers_of_row(rt: &impl Abort, call: &str, row: &Row, line: &str) -> Result<bool, TableFault> {
+    match call {
+        "piece_numbers" => numbers_pieces(rt, row, line),
+        "numbers_from" => numbers_later_pieces(rt, row, line),
+        _ => Err(TableFault::NotWritten),
+    }
 }
 
 /// Whether a call answers what its line says.
@@ -85,12 +93,11 @@ pub(crate) fn answers(
     call: &str,
     line: &str,
 ) -> Result<bool, TableFault> {
-    match call {
-        "add_to" => adds_combination(rt, alloc, line),
-        "piece_numbers" => numbers_pieces(rt, alloc, line),
-        "numbers_from" => numbers_later_pieces(rt, alloc, line),
-        _ => Err(TableFault::NotWritten),
+    if call == "add_to" {
+        return adds_combination(rt, alloc, line);
     }
+    let (row, line) = first_field(line)?;
+    answers_of_row(rt, call, &row_of(alloc, row)?, line)
 }
 
 #[test]

@@ -3,7 +3,7 @@ use crate::tables::{Topic, each_call};
 use axe_row::Row;
 use axe_test_values::{
     TableFault, bytes_of_hex, field_of, first_field, four_fields, is_row, is_row_answer, number_of,
-    row_of, small_number_of, three_fields, two_fields,
+    one_field, row_of, small_number_of, three_fields,
 };
 use std::alloc::Global;
 use std::process::Abort;
@@ -63,28 +63,29 @@ set_digit_words | 4: 13121 | 1 | 0 | 250 | 4: 13123
 
 fn makes_of_bits(rt: &impl Abort, alloc: Global, line: &str) -> Result<bool, TableFault> {
     let (bytes, length, wanted) = three_fields(line)?;
-    let bytes = bytes_of_hex(alloc, bytes)?;
     let length = number_of(length)?;
     let field = field_of("2")?;
+    let bytes = bytes_of_hex(alloc, bytes)?;
     assert!(rt; field.order() == 2 && length.div_ceil(8) <= bytes.len());
     let row = Row::of_packed_bits(alloc, field, &bytes, length);
     is_row_answer(alloc, row, wanted)
 }
 
-fn copies_bits(rt: &impl Abort, alloc: Global, line: &str) -> Result<bool, TableFault> {
-    let (row, wanted) = two_fields(line)?;
-    let row = row_of(alloc, row)?;
-    let wanted = bytes_of_hex(alloc, wanted)?;
-    let mut bytes = Vec::new(alloc);
-    bytes.resize(row.len().div_ceil(8), 255)?;
-    assert!(rt; row.field().order() == 2);
-    row.copy_packed_bits(&mut bytes);
-    Ok(bytes == wanted)
+/// Whether bytes are those that are written so.
+fn are_bytes(alloc: Global, bytes: &[u8], text: &str) -> Result<bool, TableFault> {
+    Ok(bytes_of_hex(alloc, text)?.as_slice() == bytes)
 }
 
-fn reads_words(rt: &impl Abort, alloc: Global, line: &str) -> Result<bool, TableFault> {
-    let (row, power, index, wanted) = four_fields(line)?;
-    let row = row_of(alloc, row)?;
+fn copies_bits(rt: &impl Abort, alloc: Global, row: &Row, line: &str) -> Result<bool, TableFault> {
+    let wanted = one_field(line)?;
+    assert!(rt; row.field().order() == 2);
+    let mut bytes = vec![in alloc; 255u8; row.len().div_ceil(8)]?;
+    row.copy_packed_bits(&mut bytes);
+    are_bytes(alloc, &bytes, wanted)
+}
+
+fn reads_words(rt: &impl Abort, row: &Row, line: &str) -> Result<bool, TableFault> {
+    let (power, index, wanted) = three_fields(line)?;
     let (power, index) = (small_number_of(power)?, number_of(index)?);
     let (ones, twos) = wanted.split_once(' ').ok_or(TableFault::NotWritten)?;
     let (ones, twos) = (number_of(ones)?, number_of(twos)?);
@@ -94,15 +95,34 @@ fn reads_words(rt: &impl Abort, alloc: Global, line: &str) -> Result<bool, Table
     Ok(words[0] == ones as u64 && words[1] == twos as u64)
 }
 
-fn sets_words(rt: &impl Abort, alloc: Global, line: &str) -> Result<bool, TableFault> {
-    let (row, others) = first_field(line)?;
-    let (power, index, word, wanted) = four_fields(others)?;
-    let mut row = row_of(alloc, row)?;
+fn sets_words(
+    rt: &impl Abort,
+    alloc: Global,
+    row: &mut Row,
+    line: &str,
+) -> Result<bool, TableFault> {
+    let (power, index, word, wanted) = four_fields(line)?;
     let (power, index, word) = (small_number_of(power)?, number_of(index)?, number_of(word)?);
     assert!(rt; row.field().prime() == 2);
     assert!(rt; power < row.field().degree());
     row.set_digit_words(power, index, [word as u64, 0]);
-    is_row(alloc, &row, wanted)
+    is_row(alloc, row, wanted)
+}
+
+/// The calls that are given a row first.
+fn answers_of_row(
+    rt: &impl Abort,
+    alloc: Global,
+    call: &str,
+    row: &mut Row,
+    line: &str,
+) -> Result<bool, TableFault> {
+    match call {
+        "copy_packed_bits" => copies_bits(rt, alloc, row, line),
+        "digit_words" => reads_words(rt, row, line),
+        "set_digit_words" => sets_words(rt, alloc, row, line),
+        _ => Err(TableFault::NotWritten),
+    }
 }
 
 /// Whether a call answers what its line says.
@@ -112,13 +132,11 @@ pub(crate) fn answers(
     call: &str,
     line: &str,
 ) -> Result<bool, TableFault> {
-    match call {
-        "of_packed_bits" => makes_of_bits(rt, alloc, line),
-        "copy_packed_bits" => copies_bits(rt, alloc, line),
-        "digit_words" => reads_words(rt, alloc, line),
-        "set_digit_words" => sets_words(rt, alloc, line),
-        _ => Err(TableFault::NotWritten),
+    if call == "of_packed_bits" {
+        return makes_of_bits(rt, alloc, line);
     }
+    let (row, line) = first_field(line)?;
+    answers_of_row(rt, alloc, call, &mut row_of(alloc, row)?, line)
 }
 
 #[test]

@@ -1,7 +1,8 @@
 //! Entries of rows other than 0, among places that a list of digits modulo 2 has.
+use crate::rows::is_index;
 use crate::tables::{Topic, each_call};
 use axe_row::{BitPlane, Row};
-use axe_test_values::{TableFault, four_fields, number_of, row_of};
+use axe_test_values::{TableFault, first_field, number_of, row_of, two_fields};
 use std::alloc::Global;
 use std::process::Abort;
 
@@ -42,38 +43,32 @@ next_nonzero_within | 9: 2000000000000000000000000000000000000000000000000000000
 next_nonzero_within | 9: 3000000000000000000000000000000000000000000000000000000000000000030000000000000000000000000000000000000000000000000000000000000001 | 1000000000000000000000000000000000000000000000000000000000000000010000000000000000000000000000000000000000000000000000000000000001 | 130 | none
 ";
 
-/// The list of digits modulo 2 that is written so.
-fn places_of(alloc: Global, digits: &str) -> Result<BitPlane, TableFault> {
-    let numbers: Vec<u8> = digits
-        .bytes()
-        .map(|digit| digit.wrapping_sub(b'0'))
-        .collect(alloc)?;
-    Ok(BitPlane::of_numbers(alloc, &numbers, 0)?)
-}
-
-fn finds_within(rt: &impl Abort, alloc: Global, line: &str) -> Result<bool, TableFault> {
-    let (row, places, start, wanted) = four_fields(line)?;
-    let row: Row = row_of(alloc, row)?;
-    let places = places_of(alloc, places)?;
+fn finds_within(
+    rt: &impl Abort,
+    row: &Row,
+    places: &BitPlane,
+    line: &str,
+) -> Result<bool, TableFault> {
+    let (start, wanted) = two_fields(line)?;
     let start = number_of(start)?;
     assert!(rt; start <= row.len() && places.len() == row.len());
-    match row.next_nonzero_within(start, &places) {
-        Some(index) => Ok(index == number_of(wanted)?),
-        None => Ok(wanted == "none"),
-    }
+    is_index(row.next_nonzero_within(start, places), wanted)
 }
 
-/// Whether a call answers what its line says.
+/// Whether a call answers what its line says. The lowest bit of the byte of a digit is the digit modulo 2.
 pub(crate) fn answers(
     rt: &impl Abort,
     alloc: Global,
     call: &str,
     line: &str,
 ) -> Result<bool, TableFault> {
-    match call {
-        "next_nonzero_within" => finds_within(rt, alloc, line),
-        _ => Err(TableFault::NotWritten),
+    if call != "next_nonzero_within" {
+        return Err(TableFault::NotWritten);
     }
+    let (row, line) = first_field(line)?;
+    let (places, line) = first_field(line)?;
+    let places = BitPlane::of_numbers(alloc, places.as_bytes(), 0)?;
+    finds_within(rt, &row_of(alloc, row)?, &places, line)
 }
 
 #[test]

@@ -21,6 +21,21 @@ fn field_of_order(rt: &impl Abort, order: u8) -> Field {
     Field::new(order).ok().expect(rt, "no field")
 }
 
+/// The row that has these entries, as its own calls tell them, too.
+fn row_of_entries(
+    rt: &impl Abort,
+    alloc: Global,
+    field: Field,
+    entries: &[u8],
+) -> Result<Row, Refusal> {
+    assert!(rt; entries.iter().all(|&entry| field.is_element(entry)));
+    let row = Row::from_elements(alloc, field, entries)?;
+    for (index, &entry) in entries.iter().enumerate() {
+        assert!(rt; entry_of(rt, &row, index) == entry);
+    }
+    Ok(row)
+}
+
 /// A row whose entries follow no rule. The rows of two seeds differ.
 fn row_of_seed(
     rt: &impl Abort,
@@ -35,12 +50,7 @@ fn row_of_seed(
         state = state.wrapping_mul(77).wrapping_add(41);
         entries.push(state / 8 % field.order())?;
     }
-    assert!(rt; entries.iter().all(|&entry| field.is_element(entry)));
-    let row = Row::from_elements(alloc, field, &entries)?;
-    for (index, &entry) in entries.iter().enumerate() {
-        assert!(rt; entry_of(rt, &row, index) == entry);
-    }
-    Ok(row)
+    row_of_entries(rt, alloc, field, &entries)
 }
 
 fn entry_of(rt: &impl Abort, row: &Row, index: usize) -> u8 {
@@ -81,24 +91,29 @@ fn assert_sums(rt: &impl Abort, sum: &Row, row: &Row, scalar: u8, other: &Row) {
     }
 }
 
-/// A sum with a multiple, and the multiple.
-fn combines(
+/// A sum with a multiple.
+fn adds(rt: &impl Abort, alloc: Global, row: &Row, scalar: u8, other: &Row) -> Result<(), Refusal> {
+    let mut sum = row.copy(alloc)?;
+    assert!(rt; sum.field().is_element(scalar));
+    assert_alike(rt, other, &sum);
+    sum.add_scaled(scalar, other);
+    assert_sums(rt, &sum, row, scalar, other);
+    Ok(())
+}
+
+/// A multiple, which is its sum with zeros.
+fn scales(
     rt: &impl Abort,
     alloc: Global,
-    row: &Row,
+    zero: &Row,
     scalar: u8,
     other: &Row,
 ) -> Result<(), Refusal> {
-    let mut sum = row.copy(alloc)?;
     let mut multiple = other.copy(alloc)?;
-    let zero = Row::zero(alloc, *row.field(), row.len())?;
-    assert!(rt; row.field().is_element(scalar));
-    assert_alike(rt, other, &sum);
-    assert_shape(rt, &multiple, row.field(), row.len());
-    sum.add_scaled(scalar, other);
+    assert!(rt; multiple.field().is_element(scalar));
+    assert_alike(rt, zero, &multiple);
     multiple.scale(scalar);
-    assert_sums(rt, &sum, row, scalar, other);
-    assert_sums(rt, &multiple, &zero, scalar, other);
+    assert_sums(rt, &multiple, zero, scalar, other);
     Ok(())
 }
 
@@ -130,7 +145,35 @@ fn multiplies(rt: &impl Abort, row: &Row, other: &Row) {
     assert!(rt; row.dot(other) == product);
 }
 
-/// A row that has one entry other than zero is found to have it, and is zero no more when its copy is taken away.
+/// Asserts that the first entry of a row that is not zero is the one at an index, or that the row is zero.
+fn assert_first(rt: &impl Abort, row: &Row, first: Option<usize>) {
+    assert!(rt; row.is_zero() == first.is_none());
+    assert!(rt; row.first_nonzero() == first);
+}
+
+fn sets(rt: &impl Abort, row: &mut Row, index: usize, entry: u8) {
+    assert!(rt; index < row.len() && row.field().is_element(entry));
+    row.set(index, entry);
+}
+
+/// Takes a row away from another.
+fn takes_away(rt: &impl Abort, row: &mut Row, other: &Row) {
+    assert_alike(rt, other, row);
+    assert!(rt; row.field().is_element(1));
+    row.add_scaled(row.field().neg(1), other);
+}
+
+/// A row that has one entry other than zero is zero no more when its copy is taken away.
+fn vanishes(rt: &impl Abort, alloc: Global, row: &mut Row) -> Result<(), Refusal> {
+    let copy = row.copy(alloc)?;
+    assert!(rt; row.same(&copy));
+    takes_away(rt, row, &copy);
+    assert_first(rt, row, None);
+    assert!(rt; !row.same(&copy));
+    Ok(())
+}
+
+/// A row that has one entry other than zero is found to have it.
 fn finds(
     rt: &impl Abort,
     alloc: Global,
@@ -140,16 +183,26 @@ fn finds(
     entry: u8,
 ) -> Result<(), Refusal> {
     let mut row = Row::zero(alloc, field, len)?;
-    assert!(rt; row.is_zero() && row.first_nonzero().is_none());
+    assert_first(rt, &row, None);
     assert_shape(rt, &row, &field, len);
-    assert!(rt; index < len && field.is_element(entry) && field.is_element(1));
-    row.set(index, entry);
-    assert!(rt; !row.is_zero() && row.first_nonzero() == Some(index));
-    let copy = row.copy(alloc)?;
-    assert!(rt; row.same(&copy));
-    assert_alike(rt, &copy, &row);
-    row.add_scaled(field.neg(1), &copy);
-    assert!(rt; row.is_zero() && row.first_nonzero().is_none() && !row.same(&copy));
+    sets(rt, &mut row, index, entry);
+    assert_first(rt, &row, Some(index));
+    vanishes(rt, alloc, &mut row)
+}
+
+/// The calls that are given two rows, with each scalar.
+fn combines(
+    rt: &impl Abort,
+    alloc: Global,
+    row: &Row,
+    zero: &Row,
+    other: &Row,
+) -> Result<(), Refusal> {
+    multiplies(rt, row, other);
+    for scalar in 0..row.field().order() {
+        adds(rt, alloc, row, scalar, other)?;
+        scales(rt, alloc, zero, scalar, other)?;
+    }
     Ok(())
 }
 
@@ -158,14 +211,17 @@ fn each_call_at(rt: &impl Abort, alloc: Global, order: u8, len: usize) -> Result
     let field = field_of_order(rt, order);
     let row = row_of_seed(rt, alloc, field, len, order)?;
     let other = row_of_seed(rt, alloc, field, len, 100)?;
-    multiplies(rt, &row, &other);
-    for scalar in 0..order {
-        combines(rt, alloc, &row, scalar, &other)?;
-        if scalar != 0 && len != 0 {
-            finds(rt, alloc, field, len, 0, scalar)?;
-            finds(rt, alloc, field, len, len / 2, scalar)?;
-            finds(rt, alloc, field, len, len - 1, scalar)?;
-        }
+    let zero = Row::zero(alloc, field, len)?;
+    combines(rt, alloc, &row, &zero, &other)
+}
+
+/// The first entry, one in the middle and the last are found, as each element but zero.
+fn finds_each_at(rt: &impl Abort, alloc: Global, order: u8, len: usize) -> Result<(), Refusal> {
+    let field = field_of_order(rt, order);
+    for entry in 1..order {
+        finds(rt, alloc, field, len, 0, entry)?;
+        finds(rt, alloc, field, len, len / 2, entry)?;
+        finds(rt, alloc, field, len, len.saturating_sub(1), entry)?;
     }
     Ok(())
 }
@@ -175,6 +231,9 @@ fn each_call_is_the_sum_of_its_entries(rt: HostRuntime) -> Result<(), Refusal> {
     for order in ORDERS {
         for len in LENGTHS {
             each_call_at(&rt, rt.alloc(), order, len)?;
+            if len != 0 {
+                finds_each_at(&rt, rt.alloc(), order, len)?;
+            }
         }
     }
     Ok(())

@@ -1,9 +1,12 @@
 //! Row vectors: copies, sums, multiples and dot products.
+
+ghost use Rattle.std.specs.Prelude.{◌≡◌, length};
+
 use crate::tables::{Topic, each_call};
 use axe_row::Row;
 use axe_test_values::{
     TableFault, element_in, field_of, first_field, four_fields, is_row, is_row_answer, number_of,
-    row_of, row_of_shape, small_number_of, three_fields, truth_of, two_fields,
+    one_field, row_of, row_of_shape, small_number_of, three_fields, truth_of, two_fields,
 };
 use std::alloc::Global;
 use std::process::Abort;
@@ -229,168 +232,185 @@ fn makes_unit(rt: &impl Abort, alloc: Global, line: &str) -> Result<bool, TableF
     is_row_answer(alloc, unit, wanted)
 }
 
-fn sets(rt: &impl Abort, alloc: Global, line: &str) -> Result<bool, TableFault> {
-    let (row, index, element, wanted) = four_fields(line)?;
+fn sets(rt: &impl Abort, alloc: Global, row: &mut Row, line: &str) -> Result<bool, TableFault> {
+    let (index, element, wanted) = three_fields(line)?;
     let index = number_of(index)?;
-    let mut row = row_of(alloc, row)?;
     let element = element_in(row.field(), element)?;
     assert!(rt; index < row.len());
     row.set(index, element);
-    is_row(alloc, &row, wanted)
+    is_row(alloc, row, wanted)
 }
 
-fn gets(rt: &impl Abort, alloc: Global, line: &str) -> Result<bool, TableFault> {
-    let (row, index, wanted) = three_fields(line)?;
+fn gets(rt: &impl Abort, row: &Row, line: &str) -> Result<bool, TableFault> {
+    let (index, wanted) = two_fields(line)?;
     let index = number_of(index)?;
-    let wanted = small_number_of(wanted)?;
-    let row = row_of(alloc, row)?;
     assert!(rt; index < row.len());
-    Ok(row.get(index) == wanted)
+    Ok(row.get(index) == small_number_of(wanted)?)
 }
 
-fn finds_first_nonzero(alloc: Global, line: &str) -> Result<bool, TableFault> {
-    let (row, wanted) = two_fields(line)?;
-    let row = row_of(alloc, row)?;
-    match row.first_nonzero() {
-        Some(index) => Ok(index == number_of(wanted)?),
-        None => Ok(wanted == "none"),
+/// Whether an index is the one that is written so, or there is none and `none` is written.
+pub(crate) fn is_index(found: Option<usize>, text: &str) -> Result<bool, TableFault> {
+    match found {
+        Some(index) => Ok(index == number_of(text)?),
+        None => Ok(text == "none"),
     }
 }
 
-fn finds_next_nonzero(rt: &impl Abort, alloc: Global, line: &str) -> Result<bool, TableFault> {
-    let (row, start, wanted) = three_fields(line)?;
+fn finds_next_nonzero(rt: &impl Abort, row: &Row, line: &str) -> Result<bool, TableFault> {
+    let (start, wanted) = two_fields(line)?;
     let start = number_of(start)?;
-    let row = row_of(alloc, row)?;
     assert!(rt; start <= row.len());
-    match row.next_nonzero(start) {
-        Some(index) => Ok(index == number_of(wanted)?),
-        None => Ok(wanted == "none"),
-    }
+    is_index(row.next_nonzero(start), wanted)
 }
 
-fn gives_support_word(alloc: Global, line: &str) -> Result<bool, TableFault> {
-    let (row, at, wanted) = three_fields(line)?;
-    let at = number_of(at)?;
-    let wanted = number_of(wanted)?;
-    Ok(row_of(alloc, row)?.support_word(at) == wanted as u64)
-}
-
-fn tells_zero(alloc: Global, line: &str) -> Result<bool, TableFault> {
-    let (row, wanted) = two_fields(line)?;
-    let wanted = truth_of(wanted)?;
-    Ok(row_of(alloc, row)?.is_zero() == wanted)
+fn gives_support_word(row: &Row, line: &str) -> Result<bool, TableFault> {
+    let (at, wanted) = two_fields(line)?;
+    Ok(row.support_word(number_of(at)?) == number_of(wanted)? as u64)
 }
 
 /// The copy is to stay when the row is changed.
-fn copies(alloc: Global, line: &str) -> Result<bool, TableFault> {
-    let (row, wanted) = two_fields(line)?;
-    let mut row = row_of(alloc, row)?;
-    let copy = row.copy(alloc)?;
+fn copies(alloc: Global, row: &mut Row, line: &str) -> Result<bool, TableFault> {
+    let wanted = one_field(line)?;
     let zero = element_in(row.field(), "0")?;
+    let copy = row.copy(alloc)?;
     row.scale(zero);
     is_row(alloc, &copy, wanted)
 }
 
-fn takes_part(rt: &impl Abort, alloc: Global, line: &str) -> Result<bool, TableFault> {
-    let (row, start, length, wanted) = four_fields(line)?;
+fn takes_part(rt: &impl Abort, alloc: Global, row: &Row, line: &str) -> Result<bool, TableFault> {
+    let (start, length, wanted) = three_fields(line)?;
     let start = number_of(start)?;
     let length = number_of(length)?;
-    let row = row_of(alloc, row)?;
     assert!(rt; start <= row.len());
     assert!(rt; length <= row.len() - start);
     is_row_answer(alloc, row.part(alloc, start, length), wanted)
 }
 
-fn selects_ends(rt: &impl Abort, alloc: Global, line: &str) -> Result<bool, TableFault> {
-    let (row, wanted) = two_fields(line)?;
-    let row = row_of(alloc, row)?;
+fn selects_ends(rt: &impl Abort, alloc: Global, row: &Row, line: &str) -> Result<bool, TableFault> {
+    let wanted = one_field(line)?;
     assert!(rt; !row.is_empty());
     is_row_answer(alloc, row.select(alloc, &[0, row.len() - 1]), wanted)
 }
 
-fn selects_runs(rt: &impl Abort, alloc: Global, line: &str) -> Result<bool, TableFault> {
-    let (row, wanted) = two_fields(line)?;
-    let row = row_of(alloc, row)?;
+fn selects_runs(rt: &impl Abort, alloc: Global, row: &Row, line: &str) -> Result<bool, TableFault> {
+    let wanted = one_field(line)?;
     assert!(rt; row.len() >= 67);
-    is_row_answer(
-        alloc,
-        row.select(alloc, &[62, 63, 64, 65, 1, 2, 3, 66]),
-        wanted,
-    )
+    let runs = row.select(alloc, &[62, 63, 64, 65, 1, 2, 3, 66]);
+    is_row_answer(alloc, runs, wanted)
 }
 
-fn copies_entries(alloc: Global, line: &str) -> Result<bool, TableFault> {
-    let (row, wanted) = two_fields(line)?;
-    let row = row_of(alloc, row)?;
-    let mut entries = Vec::new(alloc);
-    entries.resize(row.len(), 0)?;
+fn copies_entries(alloc: Global, row: &Row, line: &str) -> Result<bool, TableFault> {
+    let wanted = one_field(line)?;
+    let mut entries = vec![in alloc; 0u8; row.len()]?;
     row.copy_to(&mut entries);
-    is_row_answer(
-        alloc,
-        Row::from_elements(alloc, *row.field(), &entries),
-        wanted,
-    )
+    let copied = Row::from_elements(alloc, *row.field(), &entries);
+    is_row_answer(alloc, copied, wanted)
 }
 
-fn adds_multiple(alloc: Global, line: &str) -> Result<bool, TableFault> {
-    let (row, scalar, other, wanted) = four_fields(line)?;
-    let mut row = row_of(alloc, row)?;
-    let other = row_of_shape(alloc, other, row.field(), row.len())?;
+fn scales(alloc: Global, row: &mut Row, line: &str) -> Result<bool, TableFault> {
+    let (scalar, wanted) = two_fields(line)?;
     let scalar = element_in(row.field(), scalar)?;
+    row.scale(scalar);
+    is_row(alloc, row, wanted)
+}
+
+fn adds_two_twice(alloc: Global, row: &mut Row, first: &Row, line: &str) -> Result<bool, TableFault>
+    requires field { first.now.order ≡ row.old.order }
+    requires fits { length first.now.entries ≡ length row.old.entries }
+{
+    let (second, wanted) = two_fields(line)?;
+    let second = row_of_shape(alloc, second, row.field(), row.len())?;
+    row.add_four_rows(first, &second, &second, first);
+    is_row(alloc, row, wanted)
+}
+
+/// The calls that are given two rows first.
+fn answers_of_two_rows(
+    alloc: Global,
+    call: &str,
+    row: &mut Row,
+    line: &str,
+) -> Result<bool, TableFault> {
+    let (other, line) = first_field(line)?;
+    let other = row_of_shape(alloc, other, row.field(), row.len())?;
+    match call {
+        "dot" => Ok(row.dot(&other) == small_number_of(one_field(line)?)?),
+        _ => adds_two_twice(alloc, row, &other, line),
+    }
+}
+
+fn adds_multiple(alloc: Global, row: &mut Row, line: &str) -> Result<bool, TableFault> {
+    let (scalar, other, wanted) = three_fields(line)?;
+    let scalar = element_in(row.field(), scalar)?;
+    let other = row_of_shape(alloc, other, row.field(), row.len())?;
     row.add_scaled(scalar, &other);
-    is_row(alloc, &row, wanted)
+    is_row(alloc, row, wanted)
 }
 
-fn cancels(rt: &impl Abort, alloc: Global, line: &str) -> Result<bool, TableFault> {
-    let (row, line) = first_field(line)?;
-    let (index, other, factor, wanted) = four_fields(line)?;
-    let index = number_of(index)?;
-    let mut row = row_of(alloc, row)?;
-    let other = row_of_shape(alloc, other, row.field(), row.len())?;
-    let factor = element_in(row.field(), factor)?;
+/// Takes an entry of a row away by another row of its shape; the factor.
+fn cancel(
+    rt: &impl Abort,
+    call: &str,
+    row: &mut Row,
+    index: usize,
+    other: &Row,
+) -> Result<u8, TableFault>
+    requires field { other.now.order ≡ row.old.order }
+    requires fits { length other.now.entries ≡ length row.old.entries }
+{
     assert!(rt; index < row.len());
-    let given = row.cancel(index, &other);
-    Ok(given == factor && is_row(alloc, &row, wanted)?)
-}
-
-fn cancels_from(rt: &impl Abort, alloc: Global, line: &str) -> Result<bool, TableFault> {
-    let (row, line) = first_field(line)?;
-    let (index, other, factor, wanted) = four_fields(line)?;
-    let index = number_of(index)?;
-    let mut row = row_of(alloc, row)?;
-    let other = row_of_shape(alloc, other, row.field(), row.len())?;
-    let factor = element_in(row.field(), factor)?;
+    if call == "cancel" {
+        return Ok(row.cancel(index, other));
+    }
     let Some(first) = other.first_nonzero() else {
         return Err(TableFault::NotWritten);
     };
-    assert!(rt; index < row.len() && index <= first);
-    let given = row.cancel_from(index, &other);
-    Ok(given == factor && is_row(alloc, &row, wanted)?)
+    assert!(rt; index <= first);
+    Ok(row.cancel_from(index, other))
 }
 
-fn adds_two_twice(alloc: Global, line: &str) -> Result<bool, TableFault> {
-    let (row, first, second, wanted) = four_fields(line)?;
-    let mut row = row_of(alloc, row)?;
-    let first = row_of_shape(alloc, first, row.field(), row.len())?;
-    let second = row_of_shape(alloc, second, row.field(), row.len())?;
-    row.add_four_rows(&first, &second, &second, &first);
-    is_row(alloc, &row, wanted)
+/// The calls that take an entry of a row away.
+fn cancels(
+    rt: &impl Abort,
+    alloc: Global,
+    call: &str,
+    row: &mut Row,
+    line: &str,
+) -> Result<bool, TableFault> {
+    let (index, other, factor, wanted) = four_fields(line)?;
+    let index = number_of(index)?;
+    let factor = element_in(row.field(), factor)?;
+    let other = row_of_shape(alloc, other, row.field(), row.len())?;
+    let given = cancel(rt, call, row, index, &other)?;
+    Ok(given == factor && is_row(alloc, row, wanted)?)
 }
 
-fn scales(alloc: Global, line: &str) -> Result<bool, TableFault> {
-    let (row, scalar, wanted) = three_fields(line)?;
-    let mut row = row_of(alloc, row)?;
-    let scalar = element_in(row.field(), scalar)?;
-    row.scale(scalar);
-    is_row(alloc, &row, wanted)
-}
-
-fn multiplies(alloc: Global, line: &str) -> Result<bool, TableFault> {
-    let (left, right, wanted) = three_fields(line)?;
-    let wanted = small_number_of(wanted)?;
-    let left = row_of(alloc, left)?;
-    let right = row_of_shape(alloc, right, left.field(), left.len())?;
-    Ok(left.dot(&right) == wanted)
+/// The calls that are given a row first.
+fn answers_of_row(
+    rt: &impl Abort,
+    alloc: Global,
+    call: &str,
+    row: &mut Row,
+    line: &str,
+) -> Result<bool, TableFault> {
+    match call {
+        "set" => sets(rt, alloc, row, line),
+        "get" => gets(rt, row, line),
+        "first_nonzero" => is_index(row.first_nonzero(), one_field(line)?),
+        "next_nonzero" => finds_next_nonzero(rt, row, line),
+        "support_word" => gives_support_word(row, line),
+        "is_zero" => Ok(row.is_zero() == truth_of(one_field(line)?)?),
+        "part" => takes_part(rt, alloc, row, line),
+        "first_and_last" => selects_ends(rt, alloc, row, line),
+        "runs" => selects_runs(rt, alloc, row, line),
+        "copy_to" => copies_entries(alloc, row, line),
+        "copy" => copies(alloc, row, line),
+        "add_scaled" => adds_multiple(alloc, row, line),
+        "cancel" | "cancel_from" => cancels(rt, alloc, call, row, line),
+        "scale" => scales(alloc, row, line),
+        "dot" | "add_two_twice" => answers_of_two_rows(alloc, call, row, line),
+        _ => Err(TableFault::NotWritten),
+    }
 }
 
 /// Whether a call answers what its line says.
@@ -403,24 +423,10 @@ pub(crate) fn answers(
     match call {
         "zero" => makes_zero(alloc, line),
         "unit" => makes_unit(rt, alloc, line),
-        "set" => sets(rt, alloc, line),
-        "get" => gets(rt, alloc, line),
-        "first_nonzero" => finds_first_nonzero(alloc, line),
-        "next_nonzero" => finds_next_nonzero(rt, alloc, line),
-        "support_word" => gives_support_word(alloc, line),
-        "is_zero" => tells_zero(alloc, line),
-        "part" => takes_part(rt, alloc, line),
-        "first_and_last" => selects_ends(rt, alloc, line),
-        "runs" => selects_runs(rt, alloc, line),
-        "copy_to" => copies_entries(alloc, line),
-        "copy" => copies(alloc, line),
-        "add_scaled" => adds_multiple(alloc, line),
-        "cancel" => cancels(rt, alloc, line),
-        "cancel_from" => cancels_from(rt, alloc, line),
-        "add_two_twice" => adds_two_twice(alloc, line),
-        "scale" => scales(alloc, line),
-        "dot" => multiplies(alloc, line),
-        _ => Err(TableFault::NotWritten),
+        _ => {
+            let (row, line) = first_field(line)?;
+            answers_of_row(rt, alloc, call, &mut row_of(alloc, row)?, line)
+        }
     }
 }
 

@@ -3,23 +3,22 @@
 ghost use Rattle.std.specs.Prelude.{◌<◌};
 ghost use Rattle.axe_lane.specs.Trits.{AreTrits};
 
-use crate::lanes::LENGTHS;
+use crate::lanes::{LENGTHS, MOST};
 use axe_lane::{add_trits, dot_trits};
-use std::alloc::{AllocError, Global};
 use std::process::Abort;
 
-/// A row of so many words whose entries follow no simple pattern: the words of its ones, and those of its twos.
-fn row_of_words(alloc: Global, len: usize, step: u64) -> Result<(Vec<u64>, Vec<u64>), AllocError> {
-    let (mut ones, mut twos) = (Vec::new(alloc), Vec::new(alloc));
+/// A row of words whose entries follow no simple pattern: the words of its ones, and those of its twos.
+fn row_of_words(step: u64) -> ([u64; MOST], [u64; MOST]) {
+    let (mut ones, mut twos) = ([0; MOST], [0; MOST]);
     let mut state = step;
-    for _ in 0..len {
+    for at in 0..MOST {
         let before = state;
         state = state.wrapping_mul(6364136223846793005).wrapping_add(step);
         let (first, second) = (state ^ state >> 31, before ^ state >> 23);
-        ones.push(first & !second)?;
-        twos.push(second & !first)?;
+        ones[at] = first & !second;
+        twos[at] = second & !first;
     }
-    Ok((ones, twos))
+    (ones, twos)
 }
 
 /// Asserts that words are those of the ones and of the twos of a row.
@@ -80,28 +79,40 @@ fn sum_of_products(left: (u64, u64), right: (u64, u64)) -> u64 {
 }
 
 /// Whether sums and products of rows of so many words are made entry by entry.
-fn rows_are_combined(rt: &impl Abort, alloc: Global, len: usize) -> Result<bool, AllocError> {
-    let (ones, twos) = row_of_words(alloc, len, 3)?;
-    let (more_ones, more_twos) = row_of_words(alloc, len, 11)?;
-    let (mut sum_ones, mut sum_twos) = row_of_words(alloc, len, 3)?;
-    adds(rt, &mut sum_ones, &mut sum_twos, &more_ones, &more_twos);
-    let product = multiplies(rt, &ones, &twos, &more_ones, &more_twos);
-    let mut is_right = sum_ones.len() == len && sum_twos.len() == len;
+fn rows_are_combined(rt: &impl Abort, len: usize) -> bool {
+    assert!(rt; len <= MOST);
+    let (ones, twos) = row_of_words(3);
+    let (more_ones, more_twos) = row_of_words(11);
+    let (mut sum_ones, mut sum_twos) = (ones, twos);
+    adds(
+        rt,
+        &mut sum_ones[..len],
+        &mut sum_twos[..len],
+        &more_ones[..len],
+        &more_twos[..len],
+    );
+    let product = multiplies(
+        rt,
+        &ones[..len],
+        &twos[..len],
+        &more_ones[..len],
+        &more_twos[..len],
+    );
+    let mut is_right = true;
     let mut total = 0u64;
-    let rows = ones.iter().zip(&twos).zip(more_ones.iter().zip(&more_twos));
-    for (((o, t), (a, b)), (p, q)) in rows.zip(sum_ones.iter().zip(&sum_twos)) {
-        is_right = is_right && are_sums((*p, *q), (*o, *t), (*a, *b));
-        total = total.wrapping_add(sum_of_products((*o, *t), (*a, *b)));
+    for at in 0..len {
+        let (left, right) = ((ones[at], twos[at]), (more_ones[at], more_twos[at]));
+        is_right = is_right && are_sums((sum_ones[at], sum_twos[at]), left, right);
+        total = total.wrapping_add(sum_of_products(left, right));
     }
-    Ok(is_right && u64::from(product) == total % 3)
+    is_right && u64::from(product) == total % 3
 }
 
 #[test]
-fn rows_are_summed_and_multiplied_at_each_length(rt: HostRuntime) -> Result<(), AllocError> {
+fn rows_are_summed_and_multiplied_at_each_length(rt: HostRuntime) {
     for len in LENGTHS {
-        assert!(rt; rows_are_combined(&rt, rt.alloc(), len)?, "{len}");
+        assert!(rt; rows_are_combined(&rt, len), "{len}");
     }
-    Ok(())
 }
 
 /// The entries 0, 1, 2 three times over, and then 0, 0, 0, 1, 1, 1, 2, 2, 2: their sums are 0, 1, 2, 1, 2, 0, 2, 0, 1.
