@@ -62,26 +62,21 @@ fn are_numbers(numbers: &[usize; 4], text: &str) -> Result<bool, TableFault> {
     Ok(count == 4)
 }
 
-fn numbers_pieces(rt: &impl Abort, row: &Row, line: &str) -> Result<bool, TableFault> {
-    let (scalar, size, wanted) = three_fields(line)?;
-    let scalar = element_in(row.field(), scalar)?;
-    let size = number_of(size)?;
-    assert!(rt; size <= 8);
-    are_numbers(&row.piece_numbers(scalar, size, 0), wanted)
-}
-
-fn numbers_later_pieces(rt: &impl Abort, row: &Row, line: &str) -> Result<bool, TableFault> {
-    let (size, at, wanted) = three_fields(line)?;
-    let (size, at) = (number_of(size)?, number_of(at)?);
-    assert!(rt; size <= 8 && at <= 4096);
-    are_numbers(&row.piece_numbers(1, size, at), wanted)
-}
-
-/// The calls that are given a row first.
-fn answers_of_row(rt: &impl Abort, call: &str, row: &Row, line: &str) -> Result<bool, TableFault> {
+/// The calls that number the pieces of a row.
+fn numbers_pieces(rt: &impl Abort, call: &str, row: &Row, line: &str) -> Result<bool, TableFault> {
+    let (first, second, wanted) = three_fields(line)?;
     match call {
-        "piece_numbers" => numbers_pieces(rt, row, line),
-        "numbers_from" => numbers_later_pieces(rt, row, line),
+        "piece_numbers" => {
+            let scalar = element_in(row.field(), first)?;
+            let size = number_of(second)?;
+            assert!(rt; size <= 8);
+            are_numbers(&row.piece_numbers(scalar, size, 0), wanted)
+        }
+        "numbers_from" => {
+            let (size, at) = (number_of(first)?, number_of(second)?);
+            assert!(rt; size <= 8 && at <= 4096);
+            are_numbers(&row.piece_numbers(1, size, at), wanted)
+        }
         _ => Err(TableFault::NotWritten),
     }
 }
@@ -97,7 +92,7 @@ pub(crate) fn answers(
         return adds_combination(rt, alloc, line);
     }
     let (row, line) = first_field(line)?;
-    answers_of_row(rt, call, &row_of(alloc, row)?, line)
+    numbers_pieces(rt, call, &row_of(alloc, row)?, line)
 }
 
 #[test]

@@ -92,13 +92,6 @@ fn scales(rt: &impl Abort, dst: &mut [u8], m: u8, p: u8) {
     scale_bytes(dst, m, p);
 }
 
-fn multiplies(rt: &impl Abort, a: &[u8], b: &[u8], p: u8) -> u8 {
-    assert_prime(rt, p);
-    assert!(rt; b.len() == a.len());
-    assert!(rt; a.len() <= 4096);
-    dot_bytes(a, b, p)
-}
-
 /// d + m s modulo p.
 fn sum_of(d: u8, m: u8, s: u8, p: u8) -> Option<u32> {
     u32::from(m)
@@ -127,7 +120,8 @@ fn bytes_are_combined(rt: &impl Abort, len: usize, m: u8, p: u8) -> bool {
 fn bytes_are_multiplied(rt: &impl Abort, len: usize, p: u8) -> bool {
     assert!(rt; len <= MOST);
     let (left, right) = (bytes_below(p, 3), bytes_below(p, 11));
-    let product = multiplies(rt, &left[..len], &right[..len], p);
+    assert_prime(rt, p);
+    let product = dot_bytes(&left[..len], &right[..len], p);
     let mut total = 0u32;
     for at in 0..len {
         total = total.wrapping_add(u32::from(left[at]).wrapping_mul(u32::from(right[at])));

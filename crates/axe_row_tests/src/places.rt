@@ -2,7 +2,7 @@
 use crate::rows::is_index;
 use crate::tables::{Topic, each_call};
 use axe_row::{BitPlane, Row};
-use axe_test_values::{TableFault, first_field, number_of, row_of, two_fields};
+use axe_test_values::{TableFault, first_field, number_of, row_of, three_fields};
 use std::alloc::Global;
 use std::process::Abort;
 
@@ -43,19 +43,17 @@ next_nonzero_within | 9: 2000000000000000000000000000000000000000000000000000000
 next_nonzero_within | 9: 3000000000000000000000000000000000000000000000000000000000000000030000000000000000000000000000000000000000000000000000000000000001 | 1000000000000000000000000000000000000000000000000000000000000000010000000000000000000000000000000000000000000000000000000000000001 | 130 | none
 ";
 
-fn finds_within(
-    rt: &impl Abort,
-    row: &Row,
-    places: &BitPlane,
-    line: &str,
-) -> Result<bool, TableFault> {
-    let (start, wanted) = two_fields(line)?;
+/// The lowest bit of the byte of a digit is the digit modulo 2.
+fn finds_within(rt: &impl Abort, alloc: Global, row: &Row, line: &str) -> Result<bool, TableFault> {
+    let (places, start, wanted) = three_fields(line)?;
     let start = number_of(start)?;
-    assert!(rt; start <= row.len() && places.len() == row.len());
-    is_index(row.next_nonzero_within(start, places), wanted)
+    let places = BitPlane::of_numbers(alloc, places.as_bytes(), 0)?;
+    assert!(rt; start <= row.len());
+    assert!(rt; places.len() == row.len());
+    is_index(row.next_nonzero_within(start, &places), wanted)
 }
 
-/// Whether a call answers what its line says. The lowest bit of the byte of a digit is the digit modulo 2.
+/// Whether a call answers what its line says.
 pub(crate) fn answers(
     rt: &impl Abort,
     alloc: Global,
@@ -66,9 +64,7 @@ pub(crate) fn answers(
         return Err(TableFault::NotWritten);
     }
     let (row, line) = first_field(line)?;
-    let (places, line) = first_field(line)?;
-    let places = BitPlane::of_numbers(alloc, places.as_bytes(), 0)?;
-    finds_within(rt, &row_of(alloc, row)?, &places, line)
+    finds_within(rt, alloc, &row_of(alloc, row)?, line)
 }
 
 #[test]

@@ -3,7 +3,7 @@
 ghost use Rattle.std.specs.Prelude.{◌≡◌, length};
 
 use crate::tables::{Topic, each_call};
-use axe_row::Row;
+use axe_row::{Refusal, Row};
 use axe_test_values::{
     TableFault, element_in, field_of, first_field, four_fields, is_row, is_row_answer, number_of,
     one_field, row_of, row_of_shape, small_number_of, three_fields, truth_of, two_fields,
@@ -241,13 +241,6 @@ fn sets(rt: &impl Abort, alloc: Global, row: &mut Row, line: &str) -> Result<boo
     is_row(alloc, row, wanted)
 }
 
-fn gets(rt: &impl Abort, row: &Row, line: &str) -> Result<bool, TableFault> {
-    let (index, wanted) = two_fields(line)?;
-    let index = number_of(index)?;
-    assert!(rt; index < row.len());
-    Ok(row.get(index) == small_number_of(wanted)?)
-}
-
 /// Whether an index is the one that is written so, or there is none and `none` is written.
 pub(crate) fn is_index(found: Option<usize>, text: &str) -> Result<bool, TableFault> {
     match found {
@@ -256,16 +249,21 @@ pub(crate) fn is_index(found: Option<usize>, text: &str) -> Result<bool, TableFa
     }
 }
 
-fn finds_next_nonzero(rt: &impl Abort, row: &Row, line: &str) -> Result<bool, TableFault> {
-    let (start, wanted) = two_fields(line)?;
-    let start = number_of(start)?;
-    assert!(rt; start <= row.len());
-    is_index(row.next_nonzero(start), wanted)
-}
-
-fn gives_support_word(row: &Row, line: &str) -> Result<bool, TableFault> {
-    let (at, wanted) = two_fields(line)?;
-    Ok(row.support_word(number_of(at)?) == number_of(wanted)? as u64)
+/// The calls that are given a row and an index, and tell something of it.
+fn tells(rt: &impl Abort, call: &str, row: &Row, line: &str) -> Result<bool, TableFault> {
+    let (index, wanted) = two_fields(line)?;
+    let index = number_of(index)?;
+    match call {
+        "get" => {
+            assert!(rt; index < row.len());
+            Ok(row.get(index) == small_number_of(wanted)?)
+        }
+        "next_nonzero" => {
+            assert!(rt; index <= row.len());
+            is_index(row.next_nonzero(index), wanted)
+        }
+        _ => Ok(row.support_word(index) == number_of(wanted)? as u64),
+    }
 }
 
 /// The copy is to stay when the row is changed.
@@ -277,34 +275,57 @@ fn copies(alloc: Global, row: &mut Row, line: &str) -> Result<bool, TableFault> 
     is_row(alloc, &copy, wanted)
 }
 
-fn takes_part(rt: &impl Abort, alloc: Global, row: &Row, line: &str) -> Result<bool, TableFault> {
-    let (start, length, wanted) = three_fields(line)?;
-    let start = number_of(start)?;
-    let length = number_of(length)?;
+/// So many entries of a row from an index on.
+fn part_of(
+    rt: &impl Abort,
+    alloc: Global,
+    row: &Row,
+    start: usize,
+    length: usize,
+) -> Result<Row, Refusal> {
     assert!(rt; start <= row.len());
     assert!(rt; length <= row.len() - start);
-    is_row_answer(alloc, row.part(alloc, start, length), wanted)
+    row.part(alloc, start, length)
 }
 
-fn selects_ends(rt: &impl Abort, alloc: Global, row: &Row, line: &str) -> Result<bool, TableFault> {
-    let wanted = one_field(line)?;
-    assert!(rt; !row.is_empty());
-    is_row_answer(alloc, row.select(alloc, &[0, row.len() - 1]), wanted)
+fn takes_part(rt: &impl Abort, alloc: Global, row: &Row, line: &str) -> Result<bool, TableFault> {
+    let (start, length, wanted) = three_fields(line)?;
+    let (start, length) = (number_of(start)?, number_of(length)?);
+    is_row_answer(alloc, part_of(rt, alloc, row, start, length), wanted)
 }
 
-fn selects_runs(rt: &impl Abort, alloc: Global, row: &Row, line: &str) -> Result<bool, TableFault> {
-    let wanted = one_field(line)?;
-    assert!(rt; row.len() >= 67);
-    let runs = row.select(alloc, &[62, 63, 64, 65, 1, 2, 3, 66]);
-    is_row_answer(alloc, runs, wanted)
-}
-
-fn copies_entries(alloc: Global, row: &Row, line: &str) -> Result<bool, TableFault> {
-    let wanted = one_field(line)?;
+/// The row of the entries that are copied to a slice.
+fn copied_entries(alloc: Global, row: &Row) -> Result<Row, Refusal> {
     let mut entries = vec![in alloc; 0u8; row.len()]?;
     row.copy_to(&mut entries);
-    let copied = Row::from_elements(alloc, *row.field(), &entries);
-    is_row_answer(alloc, copied, wanted)
+    Row::from_elements(alloc, *row.field(), &entries)
+}
+
+/// The row that a call gives of another one alone.
+fn row_given(rt: &impl Abort, alloc: Global, call: &str, row: &Row) -> Result<Row, Refusal> {
+    match call {
+        "first_and_last" => {
+            assert!(rt; !row.is_empty());
+            row.select(alloc, &[0, row.len() - 1])
+        }
+        "runs" => {
+            assert!(rt; row.len() >= 67);
+            row.select(alloc, &[62, 63, 64, 65, 1, 2, 3, 66])
+        }
+        _ => copied_entries(alloc, row),
+    }
+}
+
+/// The calls that are given a row alone and give another one.
+fn gives_row(
+    rt: &impl Abort,
+    alloc: Global,
+    call: &str,
+    row: &Row,
+    line: &str,
+) -> Result<bool, TableFault> {
+    let wanted = one_field(line)?;
+    is_row_answer(alloc, row_given(rt, alloc, call, row), wanted)
 }
 
 fn scales(alloc: Global, row: &mut Row, line: &str) -> Result<bool, TableFault> {
@@ -314,29 +335,19 @@ fn scales(alloc: Global, row: &mut Row, line: &str) -> Result<bool, TableFault> 
     is_row(alloc, row, wanted)
 }
 
-fn adds_two_twice(alloc: Global, row: &mut Row, first: &Row, line: &str) -> Result<bool, TableFault>
-    requires field { first.now.order ≡ row.old.order }
-    requires fits { length first.now.entries ≡ length row.old.entries }
-{
-    let (second, wanted) = two_fields(line)?;
+fn adds_two_twice(alloc: Global, row: &mut Row, line: &str) -> Result<bool, TableFault> {
+    let (first, second, wanted) = three_fields(line)?;
+    let first = row_of_shape(alloc, first, row.field(), row.len())?;
     let second = row_of_shape(alloc, second, row.field(), row.len())?;
-    row.add_four_rows(first, &second, &second, first);
+    row.add_four_rows(&first, &second, &second, &first);
     is_row(alloc, row, wanted)
 }
 
-/// The calls that are given two rows first.
-fn answers_of_two_rows(
-    alloc: Global,
-    call: &str,
-    row: &mut Row,
-    line: &str,
-) -> Result<bool, TableFault> {
-    let (other, line) = first_field(line)?;
+fn multiplies(alloc: Global, row: &Row, line: &str) -> Result<bool, TableFault> {
+    let (other, wanted) = two_fields(line)?;
+    let wanted = small_number_of(wanted)?;
     let other = row_of_shape(alloc, other, row.field(), row.len())?;
-    match call {
-        "dot" => Ok(row.dot(&other) == small_number_of(one_field(line)?)?),
-        _ => adds_two_twice(alloc, row, &other, line),
-    }
+    Ok(row.dot(&other) == wanted)
 }
 
 fn adds_multiple(alloc: Global, row: &mut Row, line: &str) -> Result<bool, TableFault> {
@@ -395,20 +406,17 @@ fn answers_of_row(
 ) -> Result<bool, TableFault> {
     match call {
         "set" => sets(rt, alloc, row, line),
-        "get" => gets(rt, row, line),
         "first_nonzero" => is_index(row.first_nonzero(), one_field(line)?),
-        "next_nonzero" => finds_next_nonzero(rt, row, line),
-        "support_word" => gives_support_word(row, line),
+        "get" | "next_nonzero" | "support_word" => tells(rt, call, row, line),
         "is_zero" => Ok(row.is_zero() == truth_of(one_field(line)?)?),
         "part" => takes_part(rt, alloc, row, line),
-        "first_and_last" => selects_ends(rt, alloc, row, line),
-        "runs" => selects_runs(rt, alloc, row, line),
-        "copy_to" => copies_entries(alloc, row, line),
+        "first_and_last" | "runs" | "copy_to" => gives_row(rt, alloc, call, row, line),
         "copy" => copies(alloc, row, line),
         "add_scaled" => adds_multiple(alloc, row, line),
         "cancel" | "cancel_from" => cancels(rt, alloc, call, row, line),
         "scale" => scales(alloc, row, line),
-        "dot" | "add_two_twice" => answers_of_two_rows(alloc, call, row, line),
+        "add_two_twice" => adds_two_twice(alloc, row, line),
+        "dot" => multiplies(alloc, row, line),
         _ => Err(TableFault::NotWritten),
     }
 }
@@ -420,14 +428,14 @@ pub(crate) fn answers(
     call: &str,
     line: &str,
 ) -> Result<bool, TableFault> {
-    match call {
-        "zero" => makes_zero(alloc, line),
-        "unit" => makes_unit(rt, alloc, line),
-        _ => {
-            let (row, line) = first_field(line)?;
-            answers_of_row(rt, alloc, call, &mut row_of(alloc, row)?, line)
-        }
+    if call == "zero" {
+        return makes_zero(alloc, line);
     }
+    if call == "unit" {
+        return makes_unit(rt, alloc, line);
+    }
+    let (row, line) = first_field(line)?;
+    answers_of_row(rt, alloc, call, &mut row_of(alloc, row)?, line)
 }
 
 #[test]
