@@ -1,5 +1,5 @@
 //! Tables of the combinations of rows, and the numbers of the pieces of a row.
-use crate::tables::{Topic, each_call};
+use crate::tables::{Topic, each_call, two_numbers};
 use axe_row::{Combos, Row, most_combined};
 use axe_test_values::{
     TableFault, element_in, first_field, four_fields, is_row, number_of, row_of, row_of_shape,
@@ -73,7 +73,7 @@ fn numbers_pieces(rt: &impl Abort, call: &str, row: &Row, line: &str) -> Result<
             are_numbers(&row.piece_numbers(scalar, size, 0), wanted)
         }
         "numbers_from" => {
-            let (size, at) = (number_of(first)?, number_of(second)?);
+            let (size, at) = two_numbers(first, second)?;
             assert!(rt; size <= 8 && at <= 4096);
             are_numbers(&row.piece_numbers(1, size, at), wanted)
         }

@@ -1,5 +1,5 @@
 //! Rows over two elements that are made of packed bytes, and that are written into them; the words of rows.
-use crate::tables::{Topic, each_call};
+use crate::tables::{Topic, each_call, two_numbers};
 use axe_row::Row;
 use axe_test_values::{
     TableFault, bytes_of_hex, field_of, first_field, four_fields, is_row, is_row_answer, number_of,
@@ -84,11 +84,16 @@ fn copies_bits(rt: &impl Abort, alloc: Global, row: &Row, line: &str) -> Result<
     are_bytes(alloc, &bytes, wanted)
 }
 
+/// The two words that are written so.
+fn words_of(text: &str) -> Result<(usize, usize), TableFault> {
+    let (ones, twos) = text.split_once(' ').ok_or(TableFault::NotWritten)?;
+    two_numbers(ones, twos)
+}
+
 fn reads_words(rt: &impl Abort, row: &Row, line: &str) -> Result<bool, TableFault> {
     let (power, index, wanted) = three_fields(line)?;
     let (power, index) = (small_number_of(power)?, number_of(index)?);
-    let (ones, twos) = wanted.split_once(' ').ok_or(TableFault::NotWritten)?;
-    let (ones, twos) = (number_of(ones)?, number_of(twos)?);
+    let (ones, twos) = words_of(wanted)?;
     assert!(rt; row.field().prime() <= 3);
     assert!(rt; power < row.field().degree());
     let words = row.digit_words(power, index);
@@ -102,7 +107,8 @@ fn sets_words(
     line: &str,
 ) -> Result<bool, TableFault> {
     let (power, index, word, wanted) = four_fields(line)?;
-    let (power, index, word) = (small_number_of(power)?, number_of(index)?, number_of(word)?);
+    let power = small_number_of(power)?;
+    let (index, word) = two_numbers(index, word)?;
     assert!(rt; row.field().prime() == 2);
     assert!(rt; power < row.field().degree());
     row.set_digit_words(power, index, [word as u64, 0]);

@@ -2,7 +2,7 @@
 
 ghost use Rattle.std.specs.Prelude.{◌≡◌, length};
 
-use crate::tables::{Topic, each_call};
+use crate::tables::{Topic, each_call, two_numbers};
 use axe_row::{Refusal, Row};
 use axe_test_values::{
     TableFault, element_in, field_of, first_field, four_fields, is_row, is_row_answer, number_of,
@@ -225,8 +225,7 @@ fn makes_zero(alloc: Global, line: &str) -> Result<bool, TableFault> {
 
 fn makes_unit(rt: &impl Abort, alloc: Global, line: &str) -> Result<bool, TableFault> {
     let (order, length, index, wanted) = four_fields(line)?;
-    let length = number_of(length)?;
-    let index = number_of(index)?;
+    let (length, index) = two_numbers(length, index)?;
     assert!(rt; index < length);
     let unit = Row::unit(alloc, field_of(order)?, length, index);
     is_row_answer(alloc, unit, wanted)
@@ -290,7 +289,7 @@ fn part_of(
 
 fn takes_part(rt: &impl Abort, alloc: Global, row: &Row, line: &str) -> Result<bool, TableFault> {
     let (start, length, wanted) = three_fields(line)?;
-    let (start, length) = (number_of(start)?, number_of(length)?);
+    let (start, length) = two_numbers(start, length)?;
     is_row_answer(alloc, part_of(rt, alloc, row, start, length), wanted)
 }
 

@@ -4,7 +4,7 @@
 //! it where none is given the same values. A table without a call fails its test.
 
 use crate::{combos, fields, packed, places, rows};
-use axe_test_values::{TableFault, first_field, is_remark};
+use axe_test_values::{TableFault, first_field, is_remark, number_of};
 use std::alloc::Global;
 use std::process::Abort;
 
@@ -16,6 +16,11 @@ pub(crate) enum Topic {
     Packed,
     Places,
     Rows,
+}
+
+/// The numbers that two fields are.
+pub(crate) fn two_numbers(first: &str, second: &str) -> Result<(usize, usize), TableFault> {
+    Ok((number_of(first)?, number_of(second)?))
 }
 
 /// Whether a call answers what its line says.
