@@ -14,7 +14,7 @@ use Rattle.axe_word.specs.PointsOfMatrix.{most_points, point_count}
 use Rattle.axe_norton.specs.declared.verdicts.At.{At}
 use Rattle.axe_norton.specs.declared.verdicts.At.TheVariants.{Irreducible, Left}
 use Rattle.axe_norton.specs.Spaces.{HasFewPoints, TriedGenerate, TransposeGenerates, point_of}
-use Rattle.axe_norton.specs.Searches.{IsReducedIn, IsSquareIn, IsDualOrNone}
+use Rattle.axe_norton.specs.Searches.{IsReducedIn, IsSquareIn}
 use Rattle.axe_norton.specs.Verdicts.{Tells, Says, LeavesOpen, LeaveOpenBefore, word_of_seed, IsTrueOf}
 use Rattle.axe_norton.proofs.OpenLaws.{own_square, invertible_without_rows, no_rows_of_invertible}
 use Rattle.axe_norton.proofs.SearchLaws.{answered_more, null_accepted, null_is_reduced, some_point_in}
@@ -115,8 +115,3 @@ open_more m seed j next word is before same left i below = at (ℕ_discrete i j)
 -- all words leave it open
 pub undecided : (m : ModuleValue) (seed words j : ℕ) → words < j → LeaveOpenBefore m seed j → (i : ℕ) → i ≤ words → LeavesOpen m (word_of_seed m seed i)
 undecided m seed words j all before i within = before i (omega arith)
-
--- what is kept from word to word
-pub record LeftSoFar (m : ModuleValue) (seed j : ℕ) (transposes : Option ModuleValue) : Type 0 where
-  pub before : LeaveOpenBefore m seed j
-  pub dual : IsDualOrNone m transposes

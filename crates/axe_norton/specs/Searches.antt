@@ -1,11 +1,10 @@
 -- What the steps of the test find: proper spaces that points generate, or none.
-use Rattle.std.specs.Prelude.{◌≡◌, ℕ, ◌<◌, List, [], length, get_or, ⊤, Option, Some, None}
+use Rattle.std.specs.Prelude.{◌≡◌, ℕ, ◌<◌, List, [], length, get_or, Option, Some, None}
 use Rattle.axe_algebra.specs.Lists.{IsSquareOver}
 use Rattle.axe_field.specs.NumberFields.{number_field}
 use Rattle.axe_row.specs.Rows.{RowValue}
 use Rattle.axe_matrix.specs.Matrices.{MatrixValue}
 use Rattle.axe_spin.specs.Modules.{ModuleValue}
-use Rattle.axe_action.specs.Actions.{dual_module}
 use Rattle.axe_word.specs.PointsOfMatrix.{IsReduced}
 use Rattle.axe_norton.specs.Spaces.{GeneratesModule, GeneratesProper, TriedGenerate, IsFirstProperSpace, point_of}
 use Rattle.axe_norton.specs.Spaces.{TransposedPoint, TransposeGenerates, IsTransposedSpace}
@@ -55,8 +54,3 @@ pub record IsTransposedPointRow (matrix : MatrixValue) (v : RowValue) : Type 0 w
 abbrev pub FindsTransposed : ModuleValue → MatrixValue → Option MatrixValue → Type 0
 FindsTransposed m matrix None = TransposeGenerates m matrix
 FindsTransposed m matrix (Some space) = IsTransposedSpace m matrix space
-
--- the transposed module, where it was made
-abbrev pub IsDualOrNone : ModuleValue → Option ModuleValue → Type 0
-IsDualOrNone m None = ⊤
-IsDualOrNone m (Some dual) = dual ≡ dual_module m

@@ -6,7 +6,7 @@ ghost use Rattle.axe_matrix.specs.Matrices.{IsMatrix};
 ghost use Rattle.axe_echelon.specs.Echelons.{IsNullSpaceMatrix};
 ghost use Rattle.axe_spin.specs.Modules.{IsModule};
 ghost use Rattle.axe_word.specs.Words.{IsWordIn};
-ghost use Rattle.axe_norton.specs.Searches.{IsSquareIn, IsDualOrNone};
+ghost use Rattle.axe_norton.specs.Searches.{IsSquareIn};
 ghost use Rattle.axe_norton.specs.Spaces.{IsIrreducibleModule};
 ghost use Rattle.axe_norton.specs.Verdicts.{Tells, Says, IsTrueOf, Decides, IsTrueVerdict};
 
@@ -32,15 +32,15 @@ pub fn decide_at(alloc: Global, module: &Module, word: &Word) -> Result<At, Refu
     ensures says { Answers None (Says «module».now word.now) result }
     ensures holds { Answers None (IsTrueOf «module».now) result }
 {
-    let mut transposes = None;
-    test_word(alloc, module, word, &mut transposes)
+    let value = word.value(alloc, module)?;
+    let null = null_space(alloc, &value)?;
+    test_matrix(alloc, module, value, &null, false)
 }
 
 /// What the words 0 to `words` of a seed decide of a module: what the first of them says that doesn't leave the module
 /// open, as [`decide_at`] tells it, with the number of that word where it shows the module to be irreducible. It is
 /// undecided exactly where each of them leaves it open; word 0, whose value is zero, decides every module with at most
-/// [`MOST_POINTS`] points. There are at most [`MAX_WORDS`] words beside word 0. The transposed module is made at most
-/// once.
+/// [`MOST_POINTS`] points. There are at most [`MAX_WORDS`] words beside word 0.
 pub fn decide(alloc: Global, module: &Module, seed: u64, words: u32) -> Result<Verdict, Refusal>
     requires words { words ≤ MAX_WORDS }
     ensures decides { Answers None (Decides «module».now seed words) result }
@@ -48,10 +48,9 @@ pub fn decide(alloc: Global, module: &Module, seed: u64, words: u32) -> Result<V
 {
     let order = module.field().order();
     let gens = module.gens() as u8;
-    let mut transposes = None;
     for number in 0..words + 1 {
         let word = nth_word(seed, number, order, gens);
-        match test_word_of_seed(alloc, module, &word, seed, number, &mut transposes)? {
+        match test_word_of_seed(alloc, module, &word, seed, number)? {
             At::Irreducible(vector) => {
                 return Ok(Verdict::Irreducible {
                     word: number,
@@ -65,25 +64,7 @@ pub fn decide(alloc: Global, module: &Module, seed: u64, words: u32) -> Result<V
     Ok(Verdict::Undecided)
 }
 
-/// What a word says of a module. The transposed module is made where it is asked for and was not made before.
-fn test_word(
-    alloc: Global,
-    module: &Module,
-    word: &Word,
-    transposes: &mut Option<Module>,
-) -> Result<At, Refusal>
-    requires word { IsWordIn «module».now word.now }
-    requires dual { IsDualOrNone «module».now transposes.old }
-    ensures says { Answers None (Says «module».now word.now) result }
-    ensures holds { Answers None (IsTrueOf «module».now) result }
-    ensures dual { IsDualOrNone «module».now transposes.new }
-{
-    let value = word.value(alloc, module)?;
-    let null = null_space(alloc, &value)?;
-    test_matrix(alloc, module, &value, &null, false, transposes)
-}
-
-/// What a word of a seed says of a module, as [`test_word`] tells it. The words after its number may be asked first
+/// What a word of a seed says of a module, as [`decide_at`] tells it. The words after its number may be asked first
 /// whether the module is irreducible, so that not all of many points need be tried.
 fn test_word_of_seed(
     alloc: Global,
@@ -91,19 +72,16 @@ fn test_word_of_seed(
     word: &Word,
     seed: u64,
     number: u32,
-    transposes: &mut Option<Module>,
 ) -> Result<At, Refusal>
     requires word { IsWordIn «module».now word.now }
     requires number { number ≤ MAX_WORDS }
-    requires dual { IsDualOrNone «module».now transposes.old }
     ensures says { Answers None (Says «module».now word.now) result }
     ensures holds { Answers None (IsTrueOf «module».now) result }
-    ensures dual { IsDualOrNone «module».now transposes.new }
 {
     let value = word.value(alloc, module)?;
     let null = null_space(alloc, &value)?;
-    let irreducible = is_known_irreducible(alloc, module, &null, seed, number, transposes)?;
-    test_matrix(alloc, module, &value, &null, irreducible, transposes)
+    let irreducible = is_known_irreducible(alloc, module, &null, seed, number)?;
+    test_matrix(alloc, module, value, &null, irreducible)
 }
 
 /// What a square matrix, the value of a word, and its null space tell of a module, which may be known to be
@@ -111,18 +89,15 @@ fn test_word_of_seed(
 pub(crate) fn test_matrix(
     alloc: Global,
     module: &Module,
-    value: &Matrix,
+    value: Matrix,
     null: &Matrix,
     irreducible: bool,
-    transposes: &mut Option<Module>,
 ) -> Result<At, Refusal>
     requires irreducible { IsTrue irreducible → IsIrreducibleModule «module».now }
-    requires square { IsSquareIn «module».now value.now }
-    requires null { IsNullSpaceMatrix value.now null.now }
+    requires square { IsSquareIn «module».now value }
+    requires null { IsNullSpaceMatrix value null.now }
     requires null_well_formed { IsMatrix null.now }
-    requires dual { IsDualOrNone «module».now transposes.old }
-    ensures tells { Answers None (Tells «module».now value.now null.now) result }
-    ensures dual { IsDualOrNone «module».now transposes.new }
+    ensures tells { Answers None (Tells «module».now value null.now) result }
     ensures well_formed { IsModule «module».now }
 {
     let few = few_points(module.field().order(), null.rows(), MOST_POINTS);
@@ -132,7 +107,7 @@ pub(crate) fn test_matrix(
     if let Some(space) = tried_space(alloc, module, null, few, irreducible)? {
         return Ok(At::Reducible(space));
     }
-    if let Some(space) = transposed_space(alloc, module, value, transposes)? {
+    if let Some(space) = transposed_space(alloc, module, value)? {
         return Ok(At::Reducible(space));
     }
     if few {

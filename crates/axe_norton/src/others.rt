@@ -3,7 +3,7 @@
 ghost use Rattle.std.specs.Prelude.{◌≤◌, IsTrue, None};
 ghost use Rattle.axe_row.specs.Refusals.{Answers};
 ghost use Rattle.axe_matrix.specs.Matrices.{IsMatrix};
-ghost use Rattle.axe_norton.specs.Searches.{IsReducedIn, IsDualOrNone};
+ghost use Rattle.axe_norton.specs.Searches.{IsReducedIn};
 ghost use Rattle.axe_norton.specs.Spaces.{IsIrreducibleModule};
 ghost use Rattle.axe_norton.specs.Verdicts.{IsTrueOf};
 
@@ -33,15 +33,12 @@ pub(crate) fn is_known_irreducible(
     basis: &Matrix,
     seed: u64,
     number: u32,
-    transposes: &mut Option<Module>,
 ) -> Result<bool, Refusal>
     requires basis { IsReducedIn «module».now basis.now }
     requires well_formed { IsMatrix basis.now }
     requires number { number ≤ MAX_WORDS }
-    requires dual { IsDualOrNone «module».now transposes.old }
-    ensures irreducible { Answers None
+    ensures { Answers None
         (λ known. IsTrue known → IsIrreducibleModule «module».now) result }
-    ensures dual { IsDualOrNone «module».now transposes.new }
 {
     let (order, rows) = (module.field().order(), basis.rows());
     if rows == 0 || few_points(order, rows, MANY_POINTS) || !few_points(order, rows, MOST_POINTS) {
@@ -51,7 +48,7 @@ pub(crate) fn is_known_irreducible(
     if proper_space(alloc, module, first)?.is_some() {
         return Ok(false);
     }
-    others_show_irreducible(alloc, module, seed, number, rows / 2, transposes)
+    others_show_irreducible(alloc, module, seed, number, rows / 2)
 }
 
 /// Whether one of some words of a seed, those after a number, shows a module to be irreducible by a null space of so
@@ -62,16 +59,13 @@ fn others_show_irreducible(
     seed: u64,
     number: u32,
     most: usize,
-    transposes: &mut Option<Module>,
 ) -> Result<bool, Refusal>
     requires number { number ≤ MAX_WORDS }
-    requires dual { IsDualOrNone «module».now transposes.old }
-    ensures irreducible { Answers None
+    ensures { Answers None
         (λ known. IsTrue known → IsIrreducibleModule «module».now) result }
-    ensures dual { IsDualOrNone «module».now transposes.new }
 {
     for other in number + 1..number + 1 + WORDS_ASKED {
-        match test_other(alloc, module, seed, other, most, transposes)? {
+        match test_other(alloc, module, seed, other, most)? {
             At::Irreducible(_) => return Ok(true),
             At::Reducible(_) => return Ok(false),
             At::Left => {}
@@ -88,11 +82,8 @@ fn test_other(
     seed: u64,
     number: u32,
     most: usize,
-    transposes: &mut Option<Module>,
 ) -> Result<At, Refusal>
-    requires dual { IsDualOrNone «module».now transposes.old }
-    ensures holds { Answers None (IsTrueOf «module».now) result }
-    ensures dual { IsDualOrNone «module».now transposes.new }
+    ensures { Answers None (IsTrueOf «module».now) result }
 {
     let word = nth_word(seed, number, module.field().order(), module.gens() as u8);
     let value = word.value(alloc, module)?;
@@ -100,5 +91,5 @@ fn test_other(
     if null.rows() > most {
         return Ok(At::Left);
     }
-    test_matrix(alloc, module, &value, &null, false, transposes)
+    test_matrix(alloc, module, value, &null, false)
 }

@@ -7,11 +7,10 @@ ghost use Rattle.axe_row.specs.Operations.{IsZeroVector};
 ghost use Rattle.axe_row.specs.Refusals.{Answers};
 ghost use Rattle.axe_matrix.specs.Matrices.{IsMatrix};
 ghost use Rattle.axe_reduction.specs.Solutions.{IsInvertibleMatrix};
-ghost use Rattle.axe_action.specs.Actions.{dual_module};
 ghost use Rattle.axe_word.specs.PointsOfMatrix.{points_of};
 ghost use Rattle.axe_norton.specs.Spaces.{HasFewPoints, IsIrreducibleModule};
 ghost use Rattle.axe_norton.specs.Searches.{IsReducedIn, IsSquareIn, FindsProper, FindsFirstOf, FindsFirst};
-ghost use Rattle.axe_norton.specs.Searches.{IsTransposedPointRow, FindsTransposed, IsDualOrNone};
+ghost use Rattle.axe_norton.specs.Searches.{IsTransposedPointRow, FindsTransposed};
 
 use axe_action::{annihilator, dual};
 use axe_echelon::orthogonal_point;
@@ -110,44 +109,27 @@ fn first_proper_of_all(
 
 /// The reduced basis of the annihilator of the space that the first point of the null space of the transpose of a
 /// singular matrix generates in the transposed module, or `None` where that point generates everything there. The
-/// transposed module is made where it was not made before.
+/// transposed module is made for this alone: to keep it for further words would take as much memory as the module.
 pub(crate) fn transposed_space(
     alloc: Global,
     module: &Module,
-    matrix: &Matrix,
-    transposes: &mut Option<Module>,
+    matrix: Matrix,
 ) -> Result<Option<Matrix>, Refusal>
-    requires square { IsSquareIn «module».now matrix.now }
-    requires singular { ¬ (IsInvertibleMatrix matrix.now) }
-    requires dual { IsDualOrNone «module».now transposes.old }
-    ensures found { Answers None (FindsTransposed «module».now matrix.now) result }
-    ensures dual { IsDualOrNone «module».now transposes.new }
+    requires square { IsSquareIn «module».now matrix }
+    requires singular { ¬ (IsInvertibleMatrix matrix) }
+    ensures { Answers None (FindsTransposed «module».now matrix) result }
 {
     // `cols` is called for what it ensures beside the number: that the matrix is one.
     prove!(matrix.cols() >= 1);
-    // The point comes first: what it takes of memory is given back before the transposed module is made.
-    let point = transposed_point(alloc, matrix)?;
-    let transposed = transposed_module(alloc, module, transposes.take())?;
+    let point = transposed_point(alloc, &matrix)?;
+    // Its memory is free again before the transposed module is made.
+    drop(matrix);
+    let transposed = dual(alloc, module)?;
     let generated = proper_space(alloc, &transposed, point)?;
-    *transposes = Some(transposed);
+    drop(transposed);
     match generated {
         Some(space) => Ok(Some(annihilator(alloc, &space)?)),
         None => Ok(None),
-    }
-}
-
-/// The transposed module: the one that was made before, or a new one.
-fn transposed_module(
-    alloc: Global,
-    module: &Module,
-    made: Option<Module>,
-) -> Result<Module, Refusal>
-    requires { IsDualOrNone «module».now made }
-    ensures { Answers None (λ transposed. transposed ≡ dual_module «module».now) result }
-{
-    match made {
-        Some(transposed) => Ok(transposed),
-        None => dual(alloc, module),
     }
 }
 

@@ -9,7 +9,7 @@ is_known_irreducible-requires-clause-basis c =
     (value_square c.args.module.now c.args.word.now c.in_ok-value.value c.in_ok-value.ensures.value) is c.in_ok-null.ensures.well_formed
 
 pub test_matrix-requires-clause-irreducible : goal.test_matrix-requires-clause-irreducible
-test_matrix-requires-clause-irreducible c = c.in_ok-irreducible.ensures.irreducible
+test_matrix-requires-clause-irreducible c = c.in_ok-irreducible.ensures
 
 pub test_matrix-requires-clause-null : goal.test_matrix-requires-clause-null
 test_matrix-requires-clause-null c =

@@ -7,8 +7,8 @@ use Rattle.axe_norton.proofs.others.test_other.Goals as goal
 pub test_matrix-requires-clause-irreducible : goal.test_matrix-requires-clause-irreducible
 test_matrix-requires-clause-irreducible c = λ known. absurd (not_both false known refl)
 
-pub returns-clause-holds : goal.returns-clause-holds
-returns-clause-holds c =
+pub returns : goal.returns
+returns c =
     let word = c.nth_word-word.result in
     let is_word : IsWordIn c.args.module.now word = search rules in
     let is = value_null c.args.module.now word c.in_ok-value.value _ c.in_ok-value.ensures.well_formed c.in_ok-value.ensures.value c.in_ok-null.ensures.basis in

@@ -1,5 +1,5 @@
 use Rattle.axe_norton.proofs.DecisionLaws.{value_null, said_by, truth_told}
-use Rattle.axe_norton.proofs.decisions.test_word.Goals as goal
+use Rattle.axe_norton.proofs.decisions.decide_at.Goals as goal
 
 pub test_matrix-requires-clause-null : goal.test_matrix-requires-clause-null
 test_matrix-requires-clause-null c =
