@@ -12,5 +12,6 @@ pub mod SubmoduleLaws
 pub mod DualLaws
 pub mod BasisLaws
 pub mod ConjugateLaws
+pub mod WholeActions
 pub mod OneAction
 pub mod SomeAction

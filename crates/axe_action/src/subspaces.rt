@@ -11,6 +11,7 @@ ghost use Rattle.axe_action.specs.Actions.{sub_action_refusal, action_late, IsAc
 ghost use Rattle.axe_action.specs.Coordinates.{HasImagesIn, HasActionRows, AreCoordinateColumns};
 
 use super::columns::{columns_of, combine_to, pivot_columns};
+use super::conjugates::conjugate;
 use axe_echelon::{Echelon, span_of};
 use axe_matrix::{Matrix, Refusal};
 use axe_spin::{Module, has_only_zeros};
@@ -44,11 +45,30 @@ pub fn basis_action(alloc: Global, module: &Module, rows: &Matrix) -> Result<Mod
     ensures well_formed { IfOk result IsModule }
 {
     check_space(module, rows)?;
+    if rows.rows() == module.dim() {
+        return action_on_everything(alloc, module, rows);
+    }
     // A proper submodule mostly comes as its reduced basis, and then products do.
     if let Some(columns) = coordinate_columns(alloc, rows)? {
         return action_on_basis(alloc, module, rows, &columns);
     }
     action_over(alloc, module, rows)
+}
+
+/// The action of a module on everything, over independent rows, as many as its dimension: the conjugate by their
+/// matrix, which is invertible. It takes one inverse, and two products for each generator.
+fn action_on_everything(alloc: Global, module: &Module, rows: &Matrix) -> Result<Module, Refusal>
+    requires module_well_formed { IsModule «module».now }
+    requires rows_well_formed { IsMatrix rows.now }
+    requires independent { IsIndependent (number_field rows.now.order) rows.now.rows }
+    requires square { length rows.now.rows ≡ «module».now.dim }
+    requires field { rows.now.order ≡ «module».now.order }
+    requires fits { rows.now.cols ≡ «module».now.dim }
+    ensures action { AnswersOr None (IsActionOverRows «module».now rows.now)
+        (action_late «module».now rows.now) result }
+    ensures well_formed { IfOk result IsModule }
+{
+    conjugate(alloc, module, rows)
 }
 
 /// Columns at which the entries of the vectors of the span of a matrix's rows are their coordinates over these rows:
