@@ -2,6 +2,7 @@ pub mod GeneratorLists
 pub mod Images
 pub mod ColumnLists
 pub mod ColumnLaws
+pub mod ReducedRows
 pub mod SubRows
 pub mod SubBases
 pub mod QuotientSpans
@@ -11,6 +12,7 @@ pub mod QuotientImages
 pub mod SubmoduleLaws
 pub mod DualLaws
 pub mod BasisLaws
+pub mod UnitRows
 pub mod ConjugateLaws
 pub mod WholeActions
 pub mod OneAction

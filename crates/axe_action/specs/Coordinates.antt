@@ -1,7 +1,7 @@
 -- The rows of the actions on a span: the coefficients, over independent rows, of these rows times the generators.
 use Rattle.std.specs.Prelude.{◌≡◌, ℕ, ◌<◌, List, [], length, get_or, map, All}
 use Rattle.axe_algebra.specs.NumberField.{NumberField}
-use Rattle.axe_algebra.specs.Lists.{IsVectorOver, listed}
+use Rattle.axe_algebra.specs.Lists.{IsVectorOver, listed, unit_row}
 use Rattle.axe_algebra.specs.Reduced.{IsAscendingListOf}
 use Rattle.axe_algebra.specs.ListArithmetic.{combination}
 use Rattle.axe_algebra.specs.SpansOfLists.{IsSpanned, IsPivot}
@@ -41,6 +41,11 @@ matrix_at columns m = record {
   cols = length columns;
   rows = listed (length m.rows) (λ i. entries_at columns (get_or m.rows i []));
 }
+
+-- each row has the unit vector of its number at these columns: there the rows are the identity
+abbrev pub IsIdentityAt : List ℕ → List (List ℕ) → Type 0
+IsIdentityAt columns rows =
+    (t : ℕ) → t < length rows → entries_at columns (get_or rows t []) ≡ unit_row (length columns) t
 
 -- these are the pivots of the rows' span, ascending
 abbrev pub ArePivotColumns : EchelonValue → List ℕ → Type 0

@@ -1,15 +1,55 @@
 //! The pivots of a span, and coordinates by the entries there.
 
-ghost use Rattle.std.specs.Prelude.{◌≡◌, ◌<◌, ◌≤◌, ◌↔◌, length, All, IsTrue, None, IfOk};
+ghost use Rattle.std.specs.Prelude.{◌≡◌, ◌<◌, ◌≤◌, ◌↔◌, length, All, IsTrue, None, IfOk, IfSome};
+ghost use Rattle.axe_algebra.specs.SpansOfLists.{IsIndependent};
+ghost use Rattle.axe_field.specs.NumberFields.{number_field};
 ghost use Rattle.axe_row.specs.Refusals.{Answers};
 ghost use Rattle.axe_matrix.specs.Limits.{most_columns};
 ghost use Rattle.axe_matrix.specs.Matrices.{IsMatrix, matrix_product};
-ghost use Rattle.axe_echelon.specs.Echelons.{IsEchelon};
-ghost use Rattle.axe_action.specs.Coordinates.{ArePivotColumns, matrix_at};
+ghost use Rattle.axe_echelon.specs.Echelons.{IsEchelon, IsSpanOfRows};
+ghost use Rattle.axe_action.specs.Coordinates.{ArePivotColumns, AreCoordinateColumns, IsIdentityAt, matrix_at};
 
 use axe_echelon::Echelon;
-use axe_matrix::{Matrix, Refusal};
+use axe_matrix::{Matrix, Refusal, Row};
 use std::alloc::Global;
+
+/// Columns at which the entries of the vectors of the span of independent rows are their coordinates over these rows:
+/// the pivots, where the rows are the reduced basis. Else `None`. The span is given too.
+pub(crate) fn coordinate_columns(
+    alloc: Global,
+    rows: &Matrix,
+    span: &Echelon,
+) -> Result<Option<Vec<usize>>, Refusal>
+    requires independent { IsIndependent (number_field rows.now.order) rows.now.rows }
+    requires span { IsSpanOfRows rows.now span.now }
+    ensures { Answers None (λ found. IfSome found (λ columns.
+        AreCoordinateColumns (number_field rows.now.order) rows.now.cols rows.now.rows columns.items)) result }
+{
+    let pivots = pivot_columns(alloc, span)?;
+    if is_identity_at(alloc, rows, &pivots)? {
+        Ok(Some(pivots))
+    } else {
+        Ok(None)
+    }
+}
+
+/// Whether the entries of each row at some columns, as many as rows, are the unit vector of the row's number. The first
+/// row where they are not decides.
+fn is_identity_at(alloc: Global, rows: &Matrix, columns: &[usize]) -> Result<bool, Refusal>
+    requires as_many { length columns.now ≡ length rows.now.rows }
+    requires within { All (λ column. column < rows.now.cols) columns.now }
+    ensures identity { Answers None (λ identity. IsTrue identity ↔ IsIdentityAt columns.now rows.now.rows) result }
+    ensures well_formed { IsMatrix rows.now }
+{
+    for index in 0..rows.rows() {
+        let entries = rows.row(index).select(alloc, columns)?;
+        let unit = Row::unit(alloc, *rows.field(), columns.len(), index)?;
+        if !entries.same(&unit) {
+            return Ok(false);
+        }
+    }
+    Ok(true)
+}
 
 /// The pivots of a span, ascending.
 pub(crate) fn pivot_columns(alloc: Global, span: &Echelon) -> Result<Vec<usize>, Refusal>

@@ -13,5 +13,5 @@ pub use bases::extend_basis;
 pub use conjugates::conjugate;
 pub use duals::{annihilator, dual};
 pub use quotients::quotient_action;
-pub use submodules::{submodule_action, submodule_quotient};
+pub use submodules::{Split, split_by_submodule};
 pub use subspaces::{basis_action, sub_action};

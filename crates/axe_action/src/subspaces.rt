@@ -1,16 +1,17 @@
 //! The action of a module on an invariant space.
 
-ghost use Rattle.std.specs.Prelude.{◌≡◌, ◌≤◌, length, None, IfOk, IfSome};
+ghost use Rattle.std.specs.Prelude.{◌≡◌, ◌≤◌, length, None, IfOk};
 ghost use Rattle.axe_algebra.specs.SpansOfLists.{IsIndependent};
 ghost use Rattle.axe_field.specs.NumberFields.{number_field};
 ghost use Rattle.axe_row.specs.Refusals.{Answers, AnswersOr, RefusedAs, unless_refused};
 ghost use Rattle.axe_row.specs.declared.refusals.Refusal.TheVariants.{NotInvariant};
 ghost use Rattle.axe_matrix.specs.Matrices.{IsMatrix};
+ghost use Rattle.axe_echelon.specs.Echelons.{IsSpanOfRows};
 ghost use Rattle.axe_spin.specs.Modules.{IsModule, IsInvariantIn};
 ghost use Rattle.axe_action.specs.Actions.{sub_action_refusal, action_late, IsActionOnSpan, IsActionOverRows};
 ghost use Rattle.axe_action.specs.Coordinates.{HasImagesIn, HasActionRows, AreCoordinateColumns};
 
-use super::columns::{columns_of, combine_to, pivot_columns};
+use super::columns::{columns_of, combine_to, coordinate_columns, pivot_columns};
 use super::conjugates::conjugate;
 use axe_echelon::{Echelon, span_of};
 use axe_matrix::{Matrix, Refusal};
@@ -48,11 +49,14 @@ pub fn basis_action(alloc: Global, module: &Module, rows: &Matrix) -> Result<Mod
     if rows.rows() == module.dim() {
         return action_on_everything(alloc, module, rows);
     }
-    // A proper submodule mostly comes as its reduced basis, and then products do.
-    if let Some(columns) = coordinate_columns(alloc, rows)? {
-        return action_on_basis(alloc, module, rows, &columns);
-    }
-    action_over(alloc, module, rows)
+    let span = span_of(alloc, rows)?;
+    let Some(columns) = coordinate_columns(alloc, rows, &span)? else {
+        return action_over(alloc, module, rows, &span);
+    };
+    // A proper submodule mostly comes as its reduced basis, and then products do. The memory of the span is free again
+    // before they are made.
+    drop(span);
+    action_on_basis(alloc, module, rows, &columns)
 }
 
 /// The action of a module on everything, over independent rows, as many as its dimension: the conjugate by their
@@ -69,28 +73,6 @@ fn action_on_everything(alloc: Global, module: &Module, rows: &Matrix) -> Result
     ensures well_formed { IfOk result IsModule }
 {
     conjugate(alloc, module, rows)
-}
-
-/// Columns at which the entries of the vectors of the span of a matrix's rows are their coordinates over these rows:
-/// the pivots, where the rows are the reduced basis of a span that is not everything. Else `None`.
-pub(crate) fn coordinate_columns(
-    alloc: Global,
-    rows: &Matrix,
-) -> Result<Option<Vec<usize>>, Refusal>
-    ensures columns { Answers None (λ found. IfSome found (λ columns.
-        AreCoordinateColumns (number_field rows.now.order) rows.now.cols rows.now.rows columns.items)) result }
-    ensures well_formed { IsMatrix rows.now }
-{
-    // Rows that span everything are mostly a standard basis.
-    if rows.rows() == rows.cols() {
-        return Ok(None);
-    }
-    let span = span_of(alloc, rows)?;
-    let basis = span.reduced(alloc)?;
-    if !basis.same(rows) {
-        return Ok(None);
-    }
-    Ok(Some(pivot_columns(alloc, &span)?))
 }
 
 /// Refuses rows that are no vectors of a module, and rows that span zero.
@@ -160,20 +142,26 @@ fn generator_on_basis(
     Ok(action)
 }
 
-/// The action of a module on the span of independent rows, of which there is one at least, over these rows.
-pub(crate) fn action_over(alloc: Global, module: &Module, rows: &Matrix) -> Result<Module, Refusal>
+/// The action of a module on the span of independent rows, of which there is one at least, over these rows. The span is
+/// given too.
+pub(crate) fn action_over(
+    alloc: Global,
+    module: &Module,
+    rows: &Matrix,
+    span: &Echelon,
+) -> Result<Module, Refusal>
     requires independent { IsIndependent (number_field rows.now.order) rows.now.rows }
     requires some_row { 1 ≤ length rows.now.rows }
     requires field { rows.now.order ≡ «module».now.order }
     requires fits { rows.now.cols ≡ «module».now.dim }
+    requires span { IsSpanOfRows rows.now span.now }
     ensures action { AnswersOr None (IsActionOverRows «module».now rows.now)
         (action_late «module».now rows.now) result }
     ensures well_formed { IfOk result IsModule }
 {
-    let span = span_of(alloc, rows)?;
     let mut actions = Vec::new(alloc);
     for number in 0..module.gens() {
-        let action = generator_action(alloc, module.generator(number), &span, rows)?;
+        let action = generator_action(alloc, module.generator(number), span, rows)?;
         actions.push(action)?;
     }
     Module::new(actions)

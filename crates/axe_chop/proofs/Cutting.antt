@@ -1,16 +1,14 @@
 -- The two sections into which a submodule cuts one: what the calls that make them answer.
-use Rattle.std.proofs.Common.{◌≡◌, ◌+◌, List, length, refl, sym, ap, subst, ◌∙◌, arith}
+use Rattle.std.proofs.Common.{◌≡◌, ◌+◌, ◌++◌, length, refl, sym, ap, subst, ◌∙◌, arith}
+use Rattle.std.proofs.Math.Seq.{take-append_seam, drop-append_seam}
+use Rattle.std.proofs.lemmas.List.Elements.{All-append}
 use Rattle.std.proofs.lemmas.List.{length-take-le}
-use Rattle.axe_algebra.specs.NumberField.{NumberField}
-use Rattle.axe_algebra.specs.Field.{Field}
-use Rattle.axe_algebra.specs.Lists.{IsMatrixOver}
+use Rattle.axe_algebra.specs.Lists.{IsMatrixOver, IsVectorOver}
 use Rattle.axe_algebra.specs.SpansOfLists.{IsIndependent}
 use Rattle.axe_algebra.proofs.ListExtended.{extended_is_square}
 use Rattle.axe_algebra.specs.ListArithmetic.{identity}
 use Rattle.axe_algebra.proofs.ListProducts.{identity_length, identity_over}
-use Rattle.axe_field.specs.Order.{Order}
 use Rattle.axe_field.specs.NumberFields.{number_field}
-use Rattle.axe_row.specs.declared.refusals.Refusal.{Refusal}
 use Rattle.axe_matrix.specs.Matrices.{MatrixValue, IsMatrix, AreSplit, matrix_block}
 use Rattle.axe_matrix.proofs.ProductLaws.{IsMatrix-product}
 use Rattle.axe_echelon.proofs.SomeMatrix.{matrix_of_rows_over}
@@ -53,51 +51,77 @@ module _ (m : ModuleValue) (space : MatrixValue) (proper : IsProperSubmodule m s
 
 -- ---- the rows
 
--- the rows of a submodule and the unit vectors of the other columns can be lifted
-pub extended_field : (section : SectionValue) (space extended : MatrixValue) → IsProperSubmodule section.action space →
-    IsExtendedMatrix space extended → extended.order ≡ section.action.order
-extended_field section space extended proper extends = extends.field ∙ proper.field
+-- the rows of a submodule, and then the unit vectors of the other columns
+abbrev pub extended_by : MatrixValue → MatrixValue → MatrixValue
+extended_by space units = record units { rows = space.rows ++ units.rows }
 
-pub extended_columns : (section : SectionValue) (space extended : MatrixValue) → IsProperSubmodule section.action space →
-    IsExtendedMatrix space extended → extended.cols ≡ section.action.dim
-extended_columns section space extended proper extends = extends.columns ∙ proper.columns
+-- the unit vectors of the other columns can be lifted
+pub units_field : (section : SectionValue) (space units : MatrixValue) → IsProperSubmodule section.action space →
+    IsExtendedMatrix space (extended_by space units) → units.order ≡ section.action.order
+units_field section space units proper extends = extends.field ∙ proper.field
+
+pub units_columns : (section : SectionValue) (space units : MatrixValue) → IsProperSubmodule section.action space →
+    IsExtendedMatrix space (extended_by space units) → units.cols ≡ section.action.dim
+units_columns section space units proper extends = extends.columns ∙ proper.columns
 
 -- the rows of the submodule and the unit vectors of the other columns, and what they are lifted to
-pub record AreLifted (section : SectionValue) (space extended rows units first after : MatrixValue) : Type 0 where
+pub record AreLifted (section : SectionValue) (space units first after : MatrixValue) : Type 0 where
   pub is_section : IsSection section
   pub proper : IsProperSubmodule section.action space
-  pub space_formed : IsMatrix space
-  pub extends : IsExtendedMatrix space extended
-  pub extended_formed : IsMatrix extended
-  pub parts : AreSplit extended (length space.rows) rows units
-  pub first_is : first ≡ lifted_rows section rows
+  pub extends : IsExtendedMatrix space (extended_by space units)
+  pub units_formed : IsMatrix units
+  pub first_is : first ≡ lifted_rows section space
   pub after_is : after ≡ lifted_rows section units
   pub first_formed : IsMatrix first
   pub after_formed : IsMatrix after
 
-module _ (section : SectionValue) (space extended rows units first after : MatrixValue)
-    (are : AreLifted section space extended rows units first after) where
+module _ (section : SectionValue) (space units first after : MatrixValue)
+    (are : AreLifted section space units first after) where
+  abbrev extended : MatrixValue
+  extended = extended_by space units
+
   abbrev lifted : MatrixValue
   lifted = lifted_rows section extended
 
   many : length extended.rows ≡ section.action.dim
-  many = extended_count section.action space are.proper are.space_formed extended are.extends
+  many = extended_count section.action space are.proper are.proper.well_formed extended are.extends
+
+  extended_formed : IsMatrix extended
+  extended_formed = matrix_of_rows_over units.order units.cols (space.rows ++ units.rows) are.units_formed.some_column
+      are.units_formed.columns_fit (omega (arith, many, are.is_section.action_formed.dim_fits))
+      (All-append (IsVectorOver (number_field units.order) units.cols) space.rows units.rows
+      (rows_over_field units.order units.cols space (sym are.extends.field) (sym are.extends.columns) are.proper.well_formed)
+      (rows_over_field units.order units.cols units refl refl are.units_formed))
+
+  parts : AreSplit extended (length space.rows) space units
+  parts = record {
+    first_rows = λ i. record {
+      order = sym are.extends.field i;
+      cols = sym are.extends.columns i;
+      rows = sym (take-append_seam space.rows units.rows) i;
+    };
+    rows_after = λ i. record {
+      order = units.order;
+      cols = units.cols;
+      rows = sym (drop-append_seam space.rows units.rows) i;
+    };
+  }
 
   lifted_count : length lifted.rows ≡ section.action.dim
   lifted_count = lifted_rows_count section extended ∙ many
 
   lifted_field : lifted.order ≡ section.action.order
-  lifted_field = extended_field section space extended are.proper are.extends
+  lifted_field = units_field section space units are.proper are.extends
 
   lifted_formed : IsMatrix lifted
-  lifted_formed = IsMatrix-product extended section.rows are.extended_formed are.is_section.rows_formed
+  lifted_formed = IsMatrix-product extended section.rows extended_formed are.is_section.rows_formed
       (lifted_field ∙ sym are.is_section.field)
 
   split : AreSplit lifted (length space.rows) first after
   split =
-      let parts : AreSplit lifted (length space.rows) (lifted_rows section rows) (lifted_rows section units) =
-      parts_are_lifted section extended rows units (length space.rows) (omega (arith, many, are.proper.proper)) are.parts in
-      record { first_rows = are.first_is ∙ parts.first_rows; rows_after = are.after_is ∙ parts.rows_after }
+      let both : AreSplit lifted (length space.rows) (lifted_rows section space) (lifted_rows section units) =
+      parts_are_lifted section extended space units (length space.rows) (omega (arith, many, are.proper.proper)) parts in
+      record { first_rows = are.first_is ∙ both.first_rows; rows_after = are.after_is ∙ both.rows_after }
 
   -- so many rows of it, with an action of that dimension, are a section
   part_section : (action : ModuleValue) (part : MatrixValue) → part.order ≡ lifted.order → length part.rows ≡ action.dim →
@@ -119,7 +143,7 @@ module _ (section : SectionValue) (space extended rows units first after : Matri
 
   module _ (quotient : ModuleValue) (modulo : IsActionModulo section.action space quotient) where
     sizes : length space.rows + quotient.dim ≡ section.action.dim
-    sizes = dimensions_add_up section.action space quotient are.proper are.space_formed modulo
+    sizes = dimensions_add_up section.action space quotient are.proper are.proper.well_formed modulo
 
     blocks : AreBlocks lifted first after (length space.rows) quotient.dim
     blocks = split_in_blocks lifted first after (length space.rows) quotient.dim lifted_formed split

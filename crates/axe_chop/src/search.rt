@@ -50,7 +50,7 @@ pub(crate) fn search(
             Verdict::Irreducible { word, vector } => {
                 found.place(alloc, &section, seed, word, &vector)?;
             }
-            Verdict::Reducible(space) => put_parts(alloc, &mut sections, &section, &space)?,
+            Verdict::Reducible(space) => put_parts(alloc, &mut sections, &section, space)?,
             Verdict::Undecided => return open_at(alloc, found, &section, &sections),
         }
         // By a call, so that the end of a section is proved apart from this loop.
@@ -65,10 +65,10 @@ fn put_parts<'a>(
     alloc: Global,
     sections: &mut VecDeque<Section<'a>>,
     section: &Section<'a>,
-    space: &Matrix,
+    space: Matrix,
 ) -> Result<(), Refusal>
-    requires space { IsProperSubmodule section.now.action space.now }
-    ensures { Answers None (λ _. ArePartsBefore section.now space.now sections.old.items sections.new.items) result }
+    requires space { IsProperSubmodule section.now.action space }
+    ensures { Answers None (λ _. ArePartsBefore section.now space sections.old.items sections.new.items) result }
 {
     let (sub, quotient) = section.cut(alloc, space)?;
     sections.push_front(quotient)?;

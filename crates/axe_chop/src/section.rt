@@ -8,7 +8,7 @@ ghost use Rattle.axe_norton.specs.Spaces.{IsProperSubmodule};
 ghost use Rattle.axe_series.specs.Sections.{whole_section, lifted_rows, IsCut};
 ghost use Rattle.axe_chop.specs.Stages.{IsSection, IsRowsLike};
 
-use axe_action::{extend_basis, submodule_action, submodule_quotient};
+use axe_action::{Split, split_by_submodule};
 use axe_matrix::{Matrix, Refusal};
 use axe_spin::Module;
 use std::alloc::Global;
@@ -104,17 +104,18 @@ impl<'a> Section<'a> {
     pub(crate) fn cut(
         &self,
         alloc: Global,
-        space: &Matrix,
+        space: Matrix,
     ) -> Result<(Section<'a>, Section<'a>), Refusal>
-        requires space { IsProperSubmodule self.now.action space.now }
-        ensures { Answers None (λ parts. IsCut self.now space.now parts.0 parts.1) result }
+        requires space { IsProperSubmodule self.now.action space }
+        ensures { Answers None (λ parts. IsCut self.now space parts.0 parts.1) result }
     {
-        let action = self.action();
-        let sub = submodule_action(alloc, action, space)?;
-        let quotient = submodule_quotient(alloc, action, space)?;
-        // The rows of the submodule, and the unit vectors of the other columns, of which a product takes less.
-        let (rows, units) = extend_basis(alloc, space)?.split(space.rows())?;
-        let sub_rows = self.lift(alloc, rows)?;
+        let Split {
+            sub,
+            quotient,
+            units,
+        } = split_by_submodule(alloc, self.action(), &space)?;
+        // The rows of the submodule are lifted, and the unit vectors that extend them to a basis.
+        let sub_rows = self.lift(alloc, space)?;
         let quotient_rows = self.lift(alloc, units)?;
         Ok((
             Section {

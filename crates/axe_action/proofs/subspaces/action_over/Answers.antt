@@ -15,26 +15,26 @@ use Rattle.axe_action.proofs.subspaces.action_over.Goals as goal
 
 pub generator_action-requires-clause-span : goal.generator_action-requires-clause-span
 generator_action-requires-clause-span c =
-    span_is_form c.args.rows.now c.in_ok-span.span c.generator.result.now c.in_ok-span.ensures.span c.requires.independent
+    span_is_form c.args.rows.now c.args.span.now c.generator.result.now c.requires.span c.requires.independent
     (c.requires.field ∙ sym (ap (λ (g : MatrixValue). g.order) c.generator.ensures.value))
     (c.requires.fits ∙ sym (ap (λ (g : MatrixValue). g.cols) c.generator.ensures.value))
 
 pub returns-in_err-action-clause-action : goal.returns-in_err-action-clause-action
 returns-in_err-action-clause-action c =
     let below : c.loop-number.number < length c.args.module.now.generators = subst (λ count. c.loop-number.number < count) c.gens-number-end.ensures.count c.loop-number-test.true in
-    let form = span_is_form c.args.rows.now c.in_ok-span.span (generator_of c.args.module.now 0) c.in_ok-span.ensures.span c.requires.independent c.requires.field c.requires.fits in
+    let form = span_is_form c.args.rows.now c.args.span.now (generator_of c.args.module.now 0) c.requires.span c.requires.independent c.requires.field c.requires.fits in
     let over : IsMatrixOver (number_field c.args.module.now.order) c.args.module.now.dim c.args.rows.now.rows =
-    form_over (generator_of c.args.module.now 0) c.args.rows.now.rows c.in_ok-span.span form c.in_ok-span.ensures.span.well_formed in
+    form_over (generator_of c.args.module.now 0) c.args.rows.now.rows c.args.span.now form c.requires.span.well_formed in
     refused_late None (λ action. HasImagesIn c.generator.result.now c.args.rows.now.rows c.args.rows.now.rows
     × HasActionRows c.generator.result.now c.args.rows.now.rows (length c.args.rows.now.rows) action) (IsActionOverRows c.args.module.now c.args.rows.now)
     (RefusedAs NotInvariant (¬ (HasImagesIn c.generator.result.now c.args.rows.now.rows c.args.rows.now.rows))) (action_late c.args.module.now c.args.rows.now)
-    c.from_residual-in_err-action.result _ refl
+    c.from_residual.result _ refl
     (λ refusal stands. (
       stands.0,
       λ invariant. stands.1 (subst (λ g. HasImagesIn g c.args.rows.now.rows c.args.rows.now.rows) (sym c.generator.ensures.value)
           (outside_invariant c.args.module.now c.args.rows.now c.loop-number.number c.gens-number-end.ensures.well_formed over below invariant)),
     ))
-    c.in_err-action.ensures c.from_residual-in_err-action.ensures.1
+    c.in_err-action.ensures c.from_residual.ensures.1
 
 pub loop-number-preserved : goal.loop-number-preserved
 loop-number-preserved c =
@@ -48,18 +48,12 @@ pub returns-clause-action : goal.returns-clause-action
 returns-clause-action c =
     let whole : c.loop-number.number ≡ length c.args.module.now.generators =
     all_taken c.loop-number.number c.gens-number-end.result (length c.args.module.now.generators) c.gens-number-end.ensures.count c.loop-number-test.false c.loop-number.auto.number-end in
-    let form = span_is_form c.args.rows.now c.in_ok-span.span (generator_of c.args.module.now 0) c.in_ok-span.ensures.span c.requires.independent c.requires.field c.requires.fits in
+    let form = span_is_form c.args.rows.now c.args.span.now (generator_of c.args.module.now 0) c.requires.span c.requires.independent c.requires.field c.requires.fits in
     action_made c.args.module.now c.args.rows.now c.loop-number.actions.items c.new.result c.gens-number-end.ensures.well_formed
-    (form_over (generator_of c.args.module.now 0) c.args.rows.now.rows c.in_ok-span.span form c.in_ok-span.ensures.span.well_formed)
+    (form_over (generator_of c.args.module.now 0) c.args.rows.now.rows c.args.span.now form c.requires.span.well_formed)
     (subst (λ k. AreNewGenerators c.args.module.now.order (length c.args.rows.now.rows) (IsActionOf c.args.module.now c.args.rows.now.rows) k c.loop-number.actions.items)
     whole c.loop-number.invariant)
     c.new.ensures.made
-
-pub returns-in_err-span-clause-action : goal.returns-in_err-span-clause-action
-returns-in_err-span-clause-action c = no_memory_late None _ _ c.from_residual.result _ refl c.in_err-span.ensures.span c.from_residual.ensures.1
-
-pub returns-in_err-span-clause-well_formed : goal.returns-in_err-span-clause-well_formed
-returns-in_err-span-clause-well_formed c = IfOk-from_err c.from_residual.result IsModule c.from_residual.ensures.0
 
 pub generator-requires : goal.generator-requires
 generator-requires c = subst (λ count. c.loop-number.number < count) c.gens-number-end.ensures.count c.loop-number-test.true
@@ -77,7 +71,7 @@ pub generator_action-requires-clause-fits : goal.generator_action-requires-claus
 generator_action-requires-clause-fits c = c.requires.fits ∙ sym (ap (λ (g : MatrixValue). g.cols) c.generator.ensures.value)
 
 pub returns-in_err-action-clause-well_formed : goal.returns-in_err-action-clause-well_formed
-returns-in_err-action-clause-well_formed c = IfOk-from_err c.from_residual-in_err-action.result IsModule c.from_residual-in_err-action.ensures.0
+returns-in_err-action-clause-well_formed c = IfOk-from_err c.from_residual.result IsModule c.from_residual.ensures.0
 
 pub returns-in_err-push-clause-action : goal.returns-in_err-push-clause-action
 returns-in_err-push-clause-action c =

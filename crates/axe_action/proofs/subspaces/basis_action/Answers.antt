@@ -62,11 +62,20 @@ action_over-requires-clause-fits c =
     (space_rows c.args.module.now c.args.rows.now
     (not_refused (sub_action_refusal c.args.module.now c.args.rows.now) tt c.in_ok-check_space.field-0 c.in_ok-check_space.ensures.refusal)).columns
 
-pub returns-clause-action : goal.returns-clause-action
-returns-clause-action c =
+pub returns-in_default-clause-action : goal.returns-in_default-clause-action
+returns-in_default-clause-action c =
     let none = not_refused (sub_action_refusal c.args.module.now c.args.rows.now) tt c.in_ok-check_space.field-0 c.in_ok-check_space.ensures.refusal in
     answered_late (sub_action_refusal c.args.module.now c.args.rows.now) _ _ _ _ c.action_over.result none (λ action acts. acts) (λ refusal stands. stands)
     c.action_over.ensures.action
 
+pub returns-in_default-clause-well_formed : goal.returns-in_default-clause-well_formed
+returns-in_default-clause-well_formed c = c.action_over.ensures.well_formed
+
+pub returns-clause-action : goal.returns-clause-action
+returns-clause-action c =
+    let none = not_refused (sub_action_refusal c.args.module.now c.args.rows.now) tt c.in_ok-check_space.field-0 c.in_ok-check_space.ensures.refusal in
+    answered_late (sub_action_refusal c.args.module.now c.args.rows.now) _ _ _ _ c.action_on_basis.result none (λ action acts. acts) (λ refusal stands. stands)
+    c.action_on_basis.ensures.action
+
 pub returns-clause-well_formed : goal.returns-clause-well_formed
-returns-clause-well_formed c = c.action_over.ensures.well_formed
+returns-clause-well_formed c = c.action_on_basis.ensures.well_formed
