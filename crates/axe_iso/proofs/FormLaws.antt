@@ -33,7 +33,7 @@ use Rattle.axe_echelon.proofs.InverseLaws.{matrix_over}
 use Rattle.axe_spin.specs.Modules.{ModuleValue, IsModule}
 use Rattle.axe_word.specs.Words.{WordValue}
 use Rattle.axe_word.specs.Drawing.{drawn_word}
-use Rattle.axe_word.specs.PointsOfMatrix.{PointsLeft, point_count, points_of, GivesNext}
+use Rattle.axe_word.specs.PointsOfMatrix.{PointsLeft, point_count, most_points, points_of, GivesNext}
 use Rattle.axe_word.proofs.DrawingLaws.{drawn_word-over}
 use Rattle.axe_iso.specs.Forms.{FormValue, HasNullity, IsNullSpaceOf, IsFormOver, IsForm}
 use Rattle.axe_iso.specs.Matches.{HasStandardMatrices, point_row}
@@ -110,17 +110,6 @@ nullity_of_space m seed number space is_space = record {
     facts : IsSpaceOfWord m (drawn_word seed number (order_number m.order) (length m.generators)) space
     facts = space_of_word m seed number (length m.generators) space refl is_space
 
--- a null space of the form's nullity has few points, fewer than an iterator goes over
-pub few_of_form : (form : FormValue) (m : ModuleValue) (space : MatrixValue) → IsForm form → m.order ≡ form.matrices.order →
-    IsNullSpaceOf m form.seed form.word space → length space.rows ≡ form.nullity →
-    point_count (order_number space.order) (length space.rows) ≤ 4095
-few_of_form form m space is_form field is_space same =
-    let few : point_count (order_number form.matrices.order) form.nullity ≤ 1000 = is_form.over.few in
-    let fields : space.order ≡ form.matrices.order = (space_of_word m form.seed form.word (length m.generators) space refl is_space).field ∙ field in
-    let e : point_count (order_number space.order) (length space.rows) ≡ point_count (order_number form.matrices.order) form.nullity =
-    ap (λ o. point_count (order_number o) (length space.rows)) fields ∙ ap (point_count (order_number form.matrices.order)) same in
-    omega arith
-
 -- the same null space, by equal numbers of a word
 pub space_of_numbers : (m : ModuleValue) (seed other_seed number other_number : ℕ) (space : MatrixValue) → seed ≡ other_seed → number ≡ other_number →
     IsNullSpaceOf m seed number space → IsNullSpaceOf m other_seed other_number space
@@ -141,7 +130,7 @@ pub record AreTried (form : FormValue) (m : ModuleValue) (space : MatrixValue) (
   pub rest : drop place (points_of space) ≡ left.left
   pub tried : (j : ℕ) → j < place → ¬ (HasStandardMatrices m (point_row space j).entries form.matrices)
 
--- the same of the points of the null space of the form's word, which has the form's nullity
+-- the same of the points of the null space of the form's word
 pub record AreTriedOfWord (form : FormValue) (m : ModuleValue) (left : PointsLeft) : Type 0 where
   pub space : MatrixValue
   pub is_space : IsNullSpaceOf m form.seed form.word space
@@ -183,10 +172,10 @@ module _ (form : FormValue) (m : ModuleValue) (space : MatrixValue) where
   tried_all s before none j inside =
       before.tried j (omega (arith, length-drop before.place (points_of space), ap length before.rest, ap length none))
 
--- ---- no match
+-- ---- modules that are not isomorphic
 
-module _ (form : FormValue) (m : ModuleValue) (is_form : IsForm form) (is_module : IsModule m) (field : m.order ≡ form.matrices.order)
-    (count : length m.generators ≡ length form.matrices.generators) where
+-- two modules over one field with as many generators
+module _ (a m : ModuleValue) (is_a : IsModule a) (is_m : IsModule m) (field : m.order ≡ a.order) (count : length m.generators ≡ length a.generators) where
   abbrev K' : NumberField
   K' = number_field m.order
 
@@ -194,60 +183,99 @@ module _ (form : FormValue) (m : ModuleValue) (is_form : IsForm form) (is_module
   F = gf m.order
 
   abbrev A : Module F
-  A = module_of K' form.matrices.dim form.matrices.generators
+  A = module_of K' a.dim a.generators
 
   abbrev N : Module F
   N = module_of K' m.dim m.generators
 
-  abbrev the_word : WordValue
-  the_word = drawn_word form.seed form.word (order_number m.order) (length form.matrices.generators)
-
-  form_facts : IsFormOver m.order form.matrices.dim form.matrices.generators form.seed form.word form.nullity
-  form_facts = subst (λ o. IsFormOver o form.matrices.dim form.matrices.generators form.seed form.word form.nullity) (sym field) is_form.over
+  abbrev word_of_both : ℕ → ℕ → WordValue
+  word_of_both seed number = drawn_word seed number (order_number m.order) (length a.generators)
 
   A_is_module : Modules.IsModule F A
-  A_is_module = module_shape K' form.matrices.dim form.matrices.generators
-      (subst (λ o. IsModuleOver (number_field o) form.matrices.dim form.matrices.generators) (sym field) is_form.well_formed.over).square
+  A_is_module = module_shape K' a.dim a.generators (subst (λ o. IsModuleOver (number_field o) a.dim a.generators) (sym field) is_a.over).square
 
   N_is_module : Modules.IsModule F N
-  N_is_module = module_shape K' m.dim m.generators is_module.over.square
+  N_is_module = module_shape K' m.dim m.generators is_m.over.square
 
-  is_word_of_A : IsWordOf F A (word_of K' the_word)
-  is_word_of_A = is_word K' form.matrices.dim form.matrices.generators the_word
-      (drawn_word-over form.seed form.word (order_number m.order) (length form.matrices.generators) m.order refl is_form.well_formed.some_generator)
+  is_word_of_A : (seed number : ℕ) → IsWordOf F A (word_of K' (word_of_both seed number))
+  is_word_of_A seed number = is_word K' a.dim a.generators (word_of_both seed number)
+      (drawn_word-over seed number (order_number m.order) (length a.generators) m.order refl is_a.some_generator)
 
-  -- the claim over the form's field
-  at_form_field : ¬ (AreIsomorphic K' form.matrices.dim form.matrices.generators m.dim m.generators) →
-      ¬ (AreIsomorphic (number_field form.matrices.order) form.matrices.dim form.matrices.generators m.dim m.generators)
-  at_form_field none iso =
-      none (subst (λ o. AreIsomorphic (number_field o) form.matrices.dim form.matrices.generators m.dim m.generators) (sym field) iso)
+  -- the claim over the first module's field
+  at_first_field : ¬ (AreIsomorphic K' a.dim a.generators m.dim m.generators) →
+      ¬ (AreIsomorphic (number_field a.order) a.dim a.generators m.dim m.generators)
+  at_first_field none iso = none (subst (λ o. AreIsomorphic (number_field o) a.dim a.generators m.dim m.generators) (sym field) iso)
 
-  pub other_dimension : m.dim ≢ form.matrices.dim →
-      ¬ (AreIsomorphic (number_field form.matrices.order) form.matrices.dim form.matrices.generators m.dim m.generators)
+  space_facts : (seed number : ℕ) (space : MatrixValue) → IsNullSpaceOf m seed number space → IsSpaceOfWord m (word_of_both seed number) space
+  space_facts seed number space is_space = space_of_word m seed number (length a.generators) space count is_space
+
+  -- modules in which a word's value has null spaces of other dimensions are not isomorphic
+  pub other_nullity : (seed number nullity : ℕ) → HasNullity a.order a.dim a.generators seed number nullity →
+      (space : MatrixValue) → IsNullSpaceOf m seed number space → length space.rows ≢ nullity →
+      ¬ (AreIsomorphic (number_field a.order) a.dim a.generators m.dim m.generators)
+  other_nullity seed number nullity is_nullity space is_space other = at_first_field (λ iso. other (sym
+      (isomorphism_keeps_nullity F A N A_is_module N_is_module iso (word_of K' (word_of_both seed number)) (is_word_of_A seed number)
+      nullity of_a.basis (length space.rows) (matrix_of K' space.rows) of_a.spans of_a.independent
+      (record { lengths = rows_length K' m.dim space.rows facts.over; forth = facts.basis.forth; back = facts.basis.back })
+      (space_independent m (word_of_both seed number) space facts))))
+    where
+      of_a : HasNullity m.order a.dim a.generators seed number nullity
+      of_a = subst (λ o. HasNullity o a.dim a.generators seed number nullity) (sym field) is_nullity
+
+      facts : IsSpaceOfWord m (word_of_both seed number) space
+      facts = space_facts seed number space is_space
+
+  pub other_null_space : (seed number : ℕ) (mine theirs : MatrixValue) → IsNullSpaceOf a seed number mine → IsNullSpaceOf m seed number theirs →
+      length theirs.rows ≢ length mine.rows → ¬ (AreIsomorphic (number_field a.order) a.dim a.generators m.dim m.generators)
+  other_null_space seed number mine theirs of_a of_m =
+      other_nullity seed number (length mine.rows) (nullity_of_space a seed number mine of_a) theirs of_m
+
+  pub other_dimension : m.dim ≢ a.dim → ¬ (AreIsomorphic (number_field a.order) a.dim a.generators m.dim m.generators)
   other_dimension other iso = other (sym iso.isomorphism.dimension)
 
-  module _ (space : MatrixValue) (is_space : IsNullSpaceOf m form.seed form.word space) where
-    facts : IsSpaceOfWord m the_word space
-    facts = space_of_word m form.seed form.word (length form.matrices.generators) space count is_space
+-- ---- no match
 
-    pub other_nullity : length space.rows ≢ form.nullity →
-        ¬ (AreIsomorphic (number_field form.matrices.order) form.matrices.dim form.matrices.generators m.dim m.generators)
-    other_nullity other = at_form_field (λ iso. other (sym
-        (isomorphism_keeps_nullity F A N A_is_module N_is_module iso (word_of K' the_word) is_word_of_A
-        form.nullity form_facts.is_nullity.basis (length space.rows) (matrix_of K' space.rows) form_facts.is_nullity.spans form_facts.is_nullity.independent
-        (record { lengths = rows_length K' m.dim space.rows facts.over; forth = facts.basis.forth; back = facts.basis.back })
-        (space_independent m the_word space facts))))
+module _ (form : FormValue) (m : ModuleValue) (is_form : IsForm form) (is_module : IsModule m) (field : m.order ≡ form.matrices.order)
+    (count : length m.generators ≡ length form.matrices.generators) (space : MatrixValue) (is_space : IsNullSpaceOf m form.seed form.word space) where
+  abbrev F' : Field
+  F' = gf m.order
 
-    unit-nonzero : unit_vector F 0 ≢ zero_vector F
-    unit-nonzero e = F.one-not-zero (sym (unit_at F 0) ∙ ap (λ (x : Vector F). x 0) e)
+  form_facts : IsFormOver m.order form.matrices.dim form.matrices.generators form.seed form.word
+  form_facts = subst (λ o. IsFormOver o form.matrices.dim form.matrices.generators form.seed form.word) (sym field) is_form.over
 
-    pub no_match : ((j : ℕ) → j < length (points_of space) → ¬ (HasStandardMatrices m (point_row space j).entries form.matrices)) →
-        ¬ (AreIsomorphic (number_field form.matrices.order) form.matrices.dim form.matrices.generators m.dim m.generators)
-    no_match none = at_form_field
-        (no_point_matches K' A N A_is_module N_is_module (word_of K' the_word) is_word_of_A (unit_vector F 0) unit-nonzero form_facts.null form_facts.standard
-        space.rows facts.over facts.basis.back
-        (subst (λ (ps : List (List ℕ)). (j : ℕ) → j < length ps → ¬ (AreStandardMatrices F N (vector_of K' (get_or ps j [])) A))
-        (points_in_module m the_word space facts) none))
+  facts' : IsSpaceOfWord m (word_of_both form.matrices m is_form.well_formed is_module field count form.seed form.word) space
+  facts' = space_facts form.matrices m is_form.well_formed is_module field count form.seed form.word space is_space
+
+  -- a null space with more points than a form's has is another
+  pub more_points : (most : ℕ) → most_points ≤ most → ¬ (point_count (order_number m.order) (length space.rows) ≤ most) →
+      ¬ (AreIsomorphic (number_field form.matrices.order) form.matrices.dim form.matrices.generators m.dim m.generators)
+  more_points most enough more =
+      other_nullity form.matrices m is_form.well_formed is_module field count form.seed form.word is_form.over.nullity is_form.over.is_nullity space is_space
+      (λ e. more (few e))
+    where
+      few : length space.rows ≡ is_form.over.nullity → point_count (order_number m.order) (length space.rows) ≤ most
+      few e =
+          let same : point_count (order_number m.order) (length space.rows) ≡ point_count (order_number form.matrices.order) is_form.over.nullity =
+          ap (λ o. point_count (order_number o) (length space.rows)) field ∙ ap (point_count (order_number form.matrices.order)) e in
+          omega (arith, same, is_form.over.few, enough)
+
+  unit-nonzero : unit_vector F' 0 ≢ zero_vector F'
+  unit-nonzero e = F'.one-not-zero (sym (unit_at F' 0) ∙ ap (λ (x : Vector F'). x 0) e)
+
+  pub no_match : ((j : ℕ) → j < length (points_of space) → ¬ (HasStandardMatrices m (point_row space j).entries form.matrices)) →
+      ¬ (AreIsomorphic (number_field form.matrices.order) form.matrices.dim form.matrices.generators m.dim m.generators)
+  no_match none = at_first_field form.matrices m is_form.well_formed is_module field count
+      (no_point_matches (number_field m.order) (module_of (number_field m.order) form.matrices.dim form.matrices.generators)
+      (module_of (number_field m.order) m.dim m.generators) (A_is_module form.matrices m is_form.well_formed is_module field count)
+      (N_is_module form.matrices m is_form.well_formed is_module field count)
+      (word_of (number_field m.order) (word_of_both form.matrices m is_form.well_formed is_module field count form.seed form.word))
+      (is_word_of_A form.matrices m is_form.well_formed is_module field count form.seed form.word) (unit_vector F' 0) unit-nonzero
+      form_facts.null form_facts.standard
+      space.rows facts'.over facts'.basis.back
+      (subst (λ (ps : List (List ℕ)). (j : ℕ) → j < length ps →
+      ¬ (AreStandardMatrices F' (module_of (number_field m.order) m.dim m.generators) (vector_of (number_field m.order) (get_or ps j []))
+      (module_of (number_field m.order) form.matrices.dim form.matrices.generators)))
+      (points_in_module m (word_of_both form.matrices m is_form.well_formed is_module field count form.seed form.word) space facts') none))
 
 -- ---- matrices that are followed
 

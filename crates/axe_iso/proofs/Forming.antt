@@ -1,9 +1,9 @@
 -- The form of a module from a vector keeps what a form has to.
-use Rattle.std.proofs.Common.{◌≡◌, ℕ, ◌≤◌, length, refl, sym, subst, ◌∙◌}
+use Rattle.std.proofs.Common.{◌≡◌, ℕ, length, refl, sym, subst, ◌∙◌}
 use Rattle.axe_algebra.specs.NumberField.{NumberField}
 use Rattle.axe_algebra.specs.Field.{Field}
 use Rattle.axe_algebra.specs.Vectors.{HasLength, IsMatrix, unit_vector}
-use Rattle.axe_algebra.specs.Spans.{IsIndependent, IsNullVector, IsInvertible}
+use Rattle.axe_algebra.specs.Spans.{IsNullVector, IsInvertible}
 use Rattle.axe_algebra.specs.Modules.{Module}
 use Rattle.axe_algebra.specs.Modules
 use Rattle.axe_algebra.specs.Actions
@@ -14,13 +14,12 @@ use Rattle.axe_algebra.specs.NortonTheorems.{SpansNullSpace}
 use Rattle.axe_algebra.specs.Words.{IsWordOf, word_value}
 use Rattle.axe_algebra.specs.Bridge.{vector_of, matrix_of, module_of, word_of}
 use Rattle.axe_algebra.specs.Lists.{IsMatrixOver, IsSquareOver}
-use Rattle.axe_algebra.specs.ModulesOfLists.{GeneratesEverything}
-use Rattle.axe_algebra.proofs.ListEntries.{vector_length, square_shape, rows_length}
+use Rattle.axe_algebra.specs.ModulesOfLists.{GeneratesEverything, AreIsomorphic}
+use Rattle.axe_algebra.proofs.ListEntries.{vector_length, square_shape}
 use Rattle.axe_algebra.proofs.ListModules.{module_shape}
 use Rattle.axe_algebra.proofs.ListWords.{is_word}
 use Rattle.axe_algebra.proofs.Isomorphisms.{standard_basis_is_square, standard_basis_is_isomorphism}
-use Rattle.axe_algebra.proofs.IsomorphismLaws.{isomorphic_refl}
-use Rattle.axe_algebra.proofs.Matching.{standard_matrices_of_unit, unit_is_null_vector, isomorphism_keeps_nullity}
+use Rattle.axe_algebra.proofs.Matching.{standard_matrices_of_unit, unit_is_null_vector}
 use Rattle.axe_algebra.proofs.FormMatches.{standard_matrices_keep_null_space}
 use Rattle.axe_echelon.proofs.InverseLaws.{matrix_over}
 use Rattle.axe_field.specs.Order.{order_number}
@@ -35,10 +34,8 @@ use Rattle.axe_spin.specs.SpinLaws.{IsVectorOf}
 use Rattle.axe_action.specs.Actions.{IsBasisAction}
 use Rattle.axe_word.specs.Words.{WordValue}
 use Rattle.axe_word.specs.Drawing.{drawn_word}
-use Rattle.axe_word.specs.PointsOfMatrix.{point_count, most_points}
 use Rattle.axe_word.proofs.DrawingLaws.{drawn_word-over}
-use Rattle.axe_iso.specs.Forms.{HasFewNullPoints, IsNullVectorOf, IsNullSpaceOf, IsFormOver}
-use Rattle.axe_iso.proofs.FormLaws.{IsSpaceOfWord, space_of_word, space_independent}
+use Rattle.axe_iso.specs.Forms.{FormValue, HasFewNullPoints, IsNullVectorOf, IsFormOver, IsForm, IsFormFrom}
 
 module _ (m : ModuleValue) (v : RowValue) (basis : MatrixValue) (is_module : Values.IsModule m) (of : IsVectorOf m v)
     (standard : IsStandardMatrix m v basis) (well : Matrices.IsMatrix basis)
@@ -89,8 +86,24 @@ module _ (m : ModuleValue) (v : RowValue) (basis : MatrixValue) (is_module : Val
     pub basis_is_invertible : IsInvertible F m.dim (matrix_of K basis.rows)
     basis_is_invertible = subst (λ k. IsInvertible F k (matrix_of K basis.rows)) (acts.dimension ∙ basis_is_square) iso.invertible
 
-    module _ (seed number : ℕ) (null : IsNullVectorOf m seed number v.entries) (few : HasFewNullPoints m seed number) (space : MatrixValue)
-        (is_space : IsNullSpaceOf m seed number space) where
+    pub action_is_isomorphic : AreIsomorphic K action.dim action.generators m.dim m.generators
+    action_is_isomorphic = record { matrix = matrix_of K basis.rows; isomorphism = iso }
+
+    -- the form that is made of them is the form of the module from v
+    pub form_made : (seed number : ℕ) → Values.IsModule action →
+        IsFormFrom m seed number v (record { matrices = action; basis = basis; word = number; seed = seed })
+    form_made seed number is_action = record {
+      standard = standard;
+      well_formed = well;
+      square = basis_is_square;
+      invertible = basis_is_invertible;
+      acts = acts;
+      matrices_well_formed = is_action;
+      word_is = refl;
+      seed_is = refl;
+    }
+
+    module _ (seed number : ℕ) (null : IsNullVectorOf m seed number v.entries) (few : HasFewNullPoints m seed number) where
       abbrev word : WordValue
       word = drawn_word seed number (order_number m.order) (length m.generators)
 
@@ -98,39 +111,39 @@ module _ (m : ModuleValue) (v : RowValue) (basis : MatrixValue) (is_module : Val
       of_word = is_word K m.dim m.generators word
           (drawn_word-over seed number (order_number m.order) (length m.generators) m.order refl is_module.some_generator)
 
-      facts : IsSpaceOfWord m word space
-      facts = space_of_word m seed number (length m.generators) space refl is_space
-
-      spans : SpansNullSpace F m.dim (word_value F M (word_of K word)) (length space.rows) (matrix_of K space.rows)
-      spans = record { lengths = rows_length K m.dim space.rows facts.over; forth = facts.basis.forth; back = facts.basis.back }
-
-      independent : IsIndependent F (length space.rows) (matrix_of K space.rows)
-      independent = space_independent m word space facts
-
-      same_nullity : few.nullity ≡ length space.rows
-      same_nullity = isomorphism_keeps_nullity F M M M_is_module M_is_module (isomorphic_refl F M M_is_module) (word_of K word) of_word
-          few.nullity few.is_nullity.basis (length space.rows) (matrix_of K space.rows) few.is_nullity.spans few.is_nullity.independent spans independent
-
       -- over the module's field, with the module's count of generators
       null_at : IsNullVector F action.dim (word_value F A (word_of K word)) (unit_vector F 0)
       null_at = unit_is_null_vector F M (vector_of K v.entries) M_is_module long (matrix_of K basis.rows) A shape whole acts_on (word_of K word) of_word null
 
-      form_over : IsFormOver m.order action.dim action.generators seed number (length space.rows)
+      form_over : IsFormOver m.order action.dim action.generators seed number
       form_over =
           let (e, e_spans, e_independent) = standard_matrices_keep_null_space F M A (vector_of K v.entries) (matrix_of K basis.rows) M_is_module long shape whole acts_on
-          (word_of K word) of_word (length space.rows) (matrix_of K space.rows) spans independent in
+          (word_of K word) of_word few.nullity few.is_nullity.basis few.is_nullity.spans few.is_nullity.independent in
           record {
             standard = standard_matrices_of_unit F M (vector_of K v.entries) M_is_module long (matrix_of K basis.rows) A shape whole acts_on;
             null = subst (λ k. IsNullVector F action.dim (word_value F A (word_of K (drawn_word seed number (order_number m.order) k))) (unit_vector F 0))
                 (sym acts.acts.count) null_at;
+            nullity = few.nullity;
             is_nullity = record {
               basis = e;
-              spans = subst (λ k. SpansNullSpace F action.dim (word_value F A (word_of K (drawn_word seed number (order_number m.order) k))) (length space.rows) e)
+              spans = subst (λ k. SpansNullSpace F action.dim (word_value F A (word_of K (drawn_word seed number (order_number m.order) k))) few.nullity e)
                   (sym acts.acts.count) e_spans;
               independent = e_independent;
             };
-            few = subst (λ r. point_count (order_number m.order) r ≤ most_points) same_nullity few.few;
+            few = few.few;
           }
 
-      pub form_over_action : IsFormOver action.order action.dim action.generators seed number (length space.rows)
-      form_over_action = subst (λ o. IsFormOver o action.dim action.generators seed number (length space.rows)) (sym acts.field) form_over
+      form_over_action : IsFormOver action.order action.dim action.generators seed number
+      form_over_action = subst (λ o. IsFormOver o action.dim action.generators seed number) (sym acts.field) form_over
+
+-- what a form's type keeps holds of the form of a module from a vector
+pub form_is_kept : (m : ModuleValue) (seed number : ℕ) (v : RowValue) (form : FormValue) → Values.IsModule m → IsVectorOf m v →
+    GeneratesEverything (number_field m.order) m.dim m.generators v.entries → IsNullVectorOf m seed number v.entries → HasFewNullPoints m seed number →
+    IsFormFrom m seed number v form → IsForm form
+form_is_kept m seed number v form is_module of_module generates null few from = record {
+  well_formed = from.matrices_well_formed;
+  over =
+      subst (λ k. IsFormOver form.matrices.order form.matrices.dim form.matrices.generators k form.word) (sym from.seed_is)
+      (subst (λ k. IsFormOver form.matrices.order form.matrices.dim form.matrices.generators seed k) (sym from.word_is)
+      (form_over_action m v form.basis is_module of_module from.standard from.well_formed generates form.matrices from.acts seed number null few));
+}

@@ -9,3 +9,4 @@ pub mod FormAnswers
 pub mod PointForms
 pub mod OneForm
 pub mod SomeForm
+pub mod OtherLaws

@@ -1,14 +1,12 @@
 -- A vector has one form, and a module one match or none.
-use Rattle.std.proofs.Common.{◌≡◌, ℕ, ◌<◌, ◌≤◌, length, Option, Some, None, refl, sym, ap, subst, ◌∙◌, arith}
+use Rattle.std.proofs.Common.{◌≡◌, ℕ, ◌<◌, length, Option, Some, None, refl, sym, ap, subst, ◌∙◌, arith}
 use Rattle.axe_algebra.specs.Bridge.{matrix_of}
 use Rattle.axe_algebra.specs.ModulesOfLists.{AreIsomorphic}
-use Rattle.axe_algebra.proofs.Exchange.{exchange}
-use Rattle.axe_algebra.proofs.Spanning.{span_row}
 use Rattle.axe_algebra.proofs.ListStandard.{standard_basis_list_is_unique}
 use Rattle.axe_echelon.specs.Echelons.{IsNullSpaceMatrix}
 use Rattle.axe_echelon.proofs.OneMatrix.{same_value, over_of, null_space_is_one}
 use Rattle.axe_field.specs.Order.{order_number}
-use Rattle.axe_field.specs.NumberFields.{number_field, gf}
+use Rattle.axe_field.specs.NumberFields.{number_field}
 use Rattle.axe_row.specs.Rows.{RowValue}
 use Rattle.axe_matrix.specs.Matrices.{MatrixValue, IsMatrix}
 use Rattle.axe_spin.specs.Modules.{ModuleValue}
@@ -17,7 +15,7 @@ use Rattle.axe_action.specs.Actions.{IsBasisAction}
 use Rattle.axe_action.proofs.OneAction.{basis_action_is_one}
 use Rattle.axe_word.specs.Drawing.{drawn_word}
 use Rattle.axe_word.proofs.ValueLaws.{value-is_unique}
-use Rattle.axe_iso.specs.Forms.{FormValue, HasNullity, IsNullSpaceOf, IsFormFrom}
+use Rattle.axe_iso.specs.Forms.{FormValue, IsNullSpaceOf, IsFormFrom}
 use Rattle.axe_iso.specs.Matches.{HasStandardMatrices, point_row, IsFirstMatch, IsMatch}
 use native.Mathlib.Decide.{dec_lt}
 
@@ -30,18 +28,6 @@ null_space_of_word_is_one m seed number a b first second =
   where
     same : second.matrix ≡ first.matrix
     same = value-is_unique m (drawn_word seed number (order_number m.order) (length m.generators)) second.matrix first.matrix second.is_value first.is_value
-
-pub nullity_is_one : (m : ModuleValue) (seed number r s : ℕ) → HasNullity m.order m.dim m.generators seed number r →
-    HasNullity m.order m.dim m.generators seed number s → r ≡ s
-nullity_is_one m seed number r s first second = omega (arith, at_most, at_least)
-  where
-    at_most : r ≤ s
-    at_most = exchange (gf m.order) r first.basis s second.basis first.independent
-        (λ t below. second.spans.back (first.basis t) (first.spans.forth (first.basis t) (span_row (gf m.order) r first.basis t below)))
-
-    at_least : s ≤ r
-    at_least = exchange (gf m.order) s second.basis r first.basis second.independent
-        (λ t below. first.spans.back (second.basis t) (second.spans.forth (second.basis t) (span_row (gf m.order) s second.basis t below)))
 
 pub standard_matrix_is_one : (m : ModuleValue) (v : RowValue) (a b : MatrixValue) → IsStandardMatrix m v a → IsMatrix a → IsStandardMatrix m v b → IsMatrix b → a ≡ b
 standard_matrix_is_one m v a b first of_a second of_b =
@@ -59,7 +45,6 @@ form_is_one m seed number v a b first second =
       basis = same_basis i;
       word = (first.word_is ∙ sym second.word_is) i;
       seed = (first.seed_is ∙ sym second.seed_is) i;
-      nullity = nullity_is_one m seed number a.nullity b.nullity first.is_nullity second.is_nullity i;
     }
   where
     same_basis : a.basis ≡ b.basis

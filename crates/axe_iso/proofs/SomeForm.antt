@@ -34,14 +34,13 @@ use Rattle.axe_word.specs.Words.{WordValue, IsWordIn, IsValueOf}
 use Rattle.axe_word.specs.Drawing.{drawn_word}
 use Rattle.axe_word.specs.PointsOfMatrix.{points_of, PointsLeft, GivesNext}
 use Rattle.axe_word.proofs.ValueLaws.{drawn_word-in}
-use Rattle.axe_iso.specs.Forms.{FormValue, IsNullVectorOf, HasFewNullPoints, IsNullSpaceOf, IsFormOver, IsForm, IsFormFrom}
+use Rattle.axe_iso.specs.Forms.{FormValue, IsNullSpaceOf, IsForm, IsFormFrom}
 use Rattle.axe_iso.specs.Matches.{HasStandardMatrices, point_row, IsFirstMatch, IsMatch}
 use Rattle.axe_iso.proofs.FormAnswers.{generator_is_nonzero}
-use Rattle.axe_iso.proofs.FormLaws.{IsSpaceOfWord, space_of_word, point_in_module, nullity_of_space, other_dimension, no_match}
-use Rattle.axe_iso.proofs.Forming.{basis_is_square, basis_is_invertible, form_over_action}
+use Rattle.axe_iso.proofs.FormLaws.{IsSpaceOfWord, space_of_word, point_in_module, other_dimension, no_match}
+use Rattle.axe_iso.proofs.Forming.{basis_is_square, form_made}
 use Rattle.axe_iso.proofs.MatchLaws.{standard_matrices_of_action, rows_of_standard_matrices, action_of_standard_matrices}
 use Rattle.axe_iso.proofs.Matched.{matched}
-use Rattle.axe_iso.proofs.OneForm.{nullity_is_one}
 use Rattle.axe_iso.proofs.PointForms.{point_is_vector}
 use mathlib.Core.List.{List-discrete}
 use native.Mathlib.Decide.{ℕ_discrete}
@@ -127,9 +126,8 @@ some_standard_action m v basis standard =
 -- ---- forms
 
 pub some_form : (m : ModuleValue) (seed number : ℕ) (v : RowValue) → IsModule m → IsVectorOf m v →
-    GeneratesEverything (number_field m.order) m.dim m.generators v.entries → HasFewNullPoints m seed number →
-    (form : FormValue) × IsFormFrom m seed number v form
-some_form m seed number v is_module of_module generates few =
+    GeneratesEverything (number_field m.order) m.dim m.generators v.entries → (form : FormValue) × IsFormFrom m seed number v form
+some_form m seed number v is_module of_module generates =
     of_basis (some_standard_matrix m v is_module of_module.fits
     (generator_is_nonzero (gf m.order) (module_of K m.dim m.generators) (vector_of K v.entries) is_module.over.positive generates))
   where
@@ -144,41 +142,14 @@ some_form m seed number v is_module of_module generates few =
 
         of_action : (action : ModuleValue) × (IsBasisAction m basis action × HasSquareGenerators action) → (form : FormValue) × IsFormFrom m seed number v form
         of_action (action, (acts, squares)) = (
-          record { matrices = action; basis = basis; word = number; seed = seed; nullity = few.nullity },
-          record {
-            standard = standard;
-            well_formed = well;
-            square = square;
-            invertible = basis_is_invertible m v basis is_module of_module standard well generates action acts;
-            acts = acts;
-            matrices_well_formed = record {
-              over = record { positive = omega (arith, acts.dimension, square, is_module.over.positive); square = squares };
-              dim_fits = omega (arith, acts.dimension, square, is_module.dim_fits);
-              some_generator = subst (λ k. 1 ≤ k) (sym acts.acts.count) is_module.some_generator;
-              generators_fit = subst (λ k. k ≤ most_generators) (sym acts.acts.count) is_module.generators_fit;
-            };
-            word_is = refl;
-            seed_is = refl;
-            is_nullity = few.is_nullity;
-          },
+          record { matrices = action; basis = basis; word = number; seed = seed },
+          form_made m v basis is_module of_module standard well generates action acts seed number (record {
+            over = record { positive = omega (arith, acts.dimension, square, is_module.over.positive); square = squares };
+            dim_fits = omega (arith, acts.dimension, square, is_module.dim_fits);
+            some_generator = subst (λ k. 1 ≤ k) (sym acts.acts.count) is_module.some_generator;
+            generators_fit = subst (λ k. k ≤ most_generators) (sym acts.acts.count) is_module.generators_fit;
+          }),
         )
-
--- such a form is one: what its type keeps holds of it
-pub form_is_kept : (m : ModuleValue) (seed number : ℕ) (v : RowValue) (form : FormValue) → IsModule m → IsVectorOf m v →
-    GeneratesEverything (number_field m.order) m.dim m.generators v.entries → IsNullVectorOf m seed number v.entries → HasFewNullPoints m seed number →
-    IsFormFrom m seed number v form → IsForm form
-form_is_kept m seed number v form is_module of_module generates null few from =
-    let (space, is_space) = some_space m seed number is_module in
-    let over : IsFormOver form.matrices.order form.matrices.dim form.matrices.generators seed number (length space.rows) =
-    form_over_action m v form.basis is_module of_module from.standard from.well_formed generates form.matrices from.acts seed number null few space is_space in
-    record {
-      well_formed = from.matrices_well_formed;
-      over =
-          subst (λ k. IsFormOver form.matrices.order form.matrices.dim form.matrices.generators k form.word form.nullity) (sym from.seed_is)
-          (subst (λ k. IsFormOver form.matrices.order form.matrices.dim form.matrices.generators seed k form.nullity) (sym from.word_is)
-          (subst (λ k. IsFormOver form.matrices.order form.matrices.dim form.matrices.generators seed number k)
-          (nullity_is_one m seed number (length space.rows) form.nullity (nullity_of_space m seed number space is_space) from.is_nullity) over));
-    }
 
 -- ---- matches
 
@@ -300,5 +271,5 @@ pub some_match : (form : FormValue) (m : ModuleValue) → IsForm form → IsModu
 some_match form m is_form is_module field count = cases (ℕ_discrete m.dim form.matrices.dim)
   where
     cases : Dec (m.dim ≡ form.matrices.dim) → (answer : Option MatrixValue) × IsMatch form m answer
-    cases (no other) = (None, other_dimension form m is_form is_module field count other)
+    cases (no other) = (None, other_dimension form.matrices m is_form.well_formed is_module field count other)
     cases (yes dimension) = let (space, is_space) = some_space m form.seed form.word is_module in match_of_space form m is_form is_module field dimension count space is_space

@@ -18,14 +18,12 @@ use Rattle.axe_word.specs.Words.{IsValueOf}
 use Rattle.axe_word.specs.Drawing.{drawn_word}
 use Rattle.axe_word.specs.PointsOfMatrix.{point_count, most_points}
 
--- a standard form: the standard matrices, the standard basis that they came from, the number of the word and its seed,
--- and the dimension of the null space of the word's value
+-- a standard form: the standard matrices, the standard basis that they came from, the number of the word and its seed
 pub record FormValue : Type 0 where
   pub matrices : ModuleValue
   pub basis : MatrixValue
   pub word : ℕ
   pub seed : ℕ
-  pub nullity : ℕ
 
 -- ---- the value of a word of a seed, in generators of a dimension over the field of an order
 
@@ -63,22 +61,22 @@ pub record IsNullSpaceOf (m : ModuleValue) (seed number : ℕ) (space : MatrixVa
 -- ---- forms
 
 -- the generators are the standard matrices of the first unit vector, which is a null vector of the word's value, and
--- the null space of that has this dimension and few points
-pub record IsFormOver (o : Order) (dim : ℕ) (generators : List (List (List ℕ))) (seed number nullity : ℕ) : Type 0 where
+-- the null space of that has few points
+pub record IsFormOver (o : Order) (dim : ℕ) (generators : List (List (List ℕ))) (seed number : ℕ) : Type 0 where
   pub standard : AreStandardMatrices (gf o) (module_of (number_field o) dim generators) (unit_vector (gf o) 0)
       (module_of (number_field o) dim generators)
   pub null : IsNullVector (gf o) dim (drawn_value o dim generators seed number) (unit_vector (gf o) 0)
+  pub nullity : ℕ
   pub is_nullity : HasNullity o dim generators seed number nullity
   pub few : point_count (order_number o) nullity ≤ most_points
 
--- a standard form: its matrices make a module, and are standard ones over the word and the nullity that it names
+-- a standard form: its matrices make a module, and are standard ones over the word that it names
 pub record IsForm (form : FormValue) : Type 0 where
   pub well_formed : IsModule form.matrices
-  pub over : IsFormOver form.matrices.order form.matrices.dim form.matrices.generators form.seed form.word form.nullity
+  pub over : IsFormOver form.matrices.order form.matrices.dim form.matrices.generators form.seed form.word
 
--- the form of the module from v: the basis is the standard basis of v, and invertible, the matrices are the action on
--- it, and the nullity is the dimension of the null space of the word's value; there is no more than one such form
--- (Parker 1984)
+-- the form of the module from v: the basis is the standard basis of v, and invertible, and the matrices are the action
+-- on it; there is no more than one such form (Parker 1984)
 pub record IsFormFrom (m : ModuleValue) (seed number : ℕ) (v : RowValue) (form : FormValue) : Type 0 where
   pub standard : IsStandardMatrix m v form.basis
   pub well_formed : IsMatrix form.basis
@@ -88,4 +86,3 @@ pub record IsFormFrom (m : ModuleValue) (seed number : ℕ) (v : RowValue) (form
   pub matrices_well_formed : IsModule form.matrices
   pub word_is : form.word ≡ number
   pub seed_is : form.seed ≡ seed
-  pub is_nullity : HasNullity m.order m.dim m.generators seed number form.nullity

@@ -4,10 +4,11 @@ ghost use Rattle.std.specs.Prelude.{◌≡◌, None, IfOk};
 ghost use Rattle.axe_algebra.specs.ModulesOfLists.{GeneratesEverything};
 ghost use Rattle.axe_field.specs.NumberFields.{number_field};
 ghost use Rattle.axe_row.specs.Refusals.{Answers};
+ghost use Rattle.axe_matrix.specs.Matrices.{IsMatrix};
+ghost use Rattle.axe_spin.specs.Spinning.{IsStandardMatrix};
 ghost use Rattle.axe_spin.specs.SpinLaws.{IsVectorOf};
 ghost use Rattle.axe_iso.specs.Forms.{IsForm, IsFormFrom, IsNullVectorOf, HasFewNullPoints};
 
-use crate::null_space::null_space_of;
 use axe_action::basis_action;
 use axe_matrix::{Matrix, Refusal, Row};
 use axe_spin::{Module, standard_basis};
@@ -23,7 +24,6 @@ pub struct Form {
     basis: Matrix,
     word: u32,
     seed: u64,
-    nullity: usize,
 }
 
 impl Model for Form {
@@ -31,11 +31,10 @@ impl Model for Form {
 
     ghost Value = { FormValue };
 
-    ghost view = { λ a.
-        record { matrices = a.matrices; basis = a.basis; word = a.word; seed = a.seed; nullity = a.nullity } };
+    ghost view = { λ a. record { matrices = a.matrices; basis = a.basis; word = a.word; seed = a.seed } };
 
     ghost invariant = { λ a.
-        IsForm (record { matrices = a.matrices; basis = a.basis; word = a.word; seed = a.seed; nullity = a.nullity }) };
+        IsForm (record { matrices = a.matrices; basis = a.basis; word = a.word; seed = a.seed }) };
 }
 
 impl Form {
@@ -70,14 +69,6 @@ impl Form {
     {
         self.seed
     }
-
-    /// The dimension of the null space of the word's value.
-    pub fn nullity(&self) -> usize
-        ensures value { result ≡ self.now.nullity }
-        ensures well_formed { IsForm self.now }
-    {
-        self.nullity
-    }
 }
 
 /// The standard form of a module from a vector that generates everything and is a null vector of the value of a word,
@@ -99,13 +90,34 @@ pub fn form_of(
 {
     prove!(vector.len() == module.dim());
     let basis = standard_basis(alloc, module, vector)?;
+    form_by_basis(alloc, module, seed, word, vector, basis)
+}
+
+/// The standard form of a module from a vector as [`form_of`] takes it, by the standard basis of the vector.
+pub(crate) fn form_by_basis(
+    alloc: Global,
+    module: &Module,
+    seed: u64,
+    word: u32,
+    vector: &Row,
+    basis: Matrix,
+) -> Result<Form, Refusal>
+    requires vector { IsVectorOf «module».now vector.now }
+    requires null { IsNullVectorOf «module».now seed word vector.now.entries }
+    requires generates { GeneratesEverything (number_field «module».now.order) «module».now.dim
+        «module».now.generators vector.now.entries }
+    requires few { HasFewNullPoints «module».now seed word }
+    requires basis { IsStandardMatrix «module».now vector.now basis }
+    requires well_formed { IsMatrix basis }
+    ensures form { Answers None (IsFormFrom «module».now seed word vector.now) result }
+    ensures well_formed { IfOk result IsForm }
+{
+    prove!(vector.len() == module.dim());
     let matrices = basis_action(alloc, module, &basis)?;
-    let nullity = null_space_of(alloc, module, seed, word)?.rows();
     Ok(Form {
         matrices,
         basis,
         word,
         seed,
-        nullity,
     })
 }

@@ -7,14 +7,13 @@ ghost use Rattle.axe_row.specs.Rows.{RowValue};
 ghost use Rattle.axe_matrix.specs.Matrices.{MatrixValue};
 ghost use Rattle.axe_spin.specs.Modules.{ModuleValue, IsModule};
 ghost use Rattle.axe_spin.specs.SpinLaws.{IsVectorOf};
-ghost use Rattle.axe_iso.specs.Forms.{FormValue, HasFewNullPoints, IsForm, IsFormFrom};
+ghost use Rattle.axe_iso.specs.Forms.{FormValue, IsForm, IsFormFrom};
 ghost use Rattle.axe_iso.specs.Matches.{IsMatch};
 
-/// A vector of a module that generates everything gives a form, where the null space of the word's value has few
-/// points; and a vector and a word of a seed give no more than one.
+/// A vector of a module that generates everything gives a form by each word of a seed, and no more than one.
 pub fn a_vector_gives_one_form()
     ensures some { (m : ModuleValue) (seed number : ℕ) (v : RowValue) → IsModule m → IsVectorOf m v →
-        GeneratesEverything (number_field m.order) m.dim m.generators v.entries → HasFewNullPoints m seed number →
+        GeneratesEverything (number_field m.order) m.dim m.generators v.entries →
         (form : FormValue) × IsFormFrom m seed number v form }
     ensures one { (m : ModuleValue) (seed number : ℕ) (v : RowValue) (a b : FormValue) →
         IsFormFrom m seed number v a → IsFormFrom m seed number v b → a ≡ b }

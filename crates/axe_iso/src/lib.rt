@@ -5,6 +5,7 @@ mod form;
 pub mod laws;
 mod matching;
 mod null_space;
+mod others;
 
 pub use form::{Form, form_of};
 pub use matching::matches;

@@ -6,23 +6,30 @@ ghost use Rattle.axe_matrix.specs.Limits.{most_rows};
 ghost use Rattle.axe_matrix.specs.Matrices.{IsMatrix};
 ghost use Rattle.axe_iso.specs.Following.{AreFormMatrices, FollowsImage, FollowsRow};
 ghost use Rattle.axe_iso.specs.Following.{IsBasisWithMatrices, IsFollowedBasis};
+ghost use Rattle.axe_iso.specs.Forms.{IsNullSpaceOf};
 ghost use Rattle.axe_iso.specs.Matches.{HasStandardMatrices, IsMatch};
 
 use crate::form::Form;
 use crate::null_space::null_space_of;
+use crate::others::is_other;
 use axe_echelon::span_of;
 use axe_matrix::{Matrix, Refusal, Row};
 use axe_spin::Module;
-use axe_word::Points;
+use axe_word::{MAX_POINTS, Points, few_points};
 use std::alloc::Global;
+
+/// Where more points than these would have to be followed, other words are asked first: what these words take is less,
+/// a guess.
+pub(crate) const FEW_POINTS: usize = 8;
 
 /// The isomorphism T from a module to a form's matrices that the form gives: T is invertible, and `T g' = g T` for each
 /// generator g' of the module and of the form's matrices g. It is the standard basis of the first point, of the null
 /// space of the value of the form's word in the module, whose standard matrices are the form's. `None` where the module
 /// is not isomorphic to the form's matrices; for another dimension at once. The module is over the form's field and has
-/// as many generators. The form's matrices tell which images of rows are the next rows of a point's standard basis, and
-/// which combinations of earlier rows the others are; a point is given up at its first image that is another vector,
-/// and no point is tried past the one that matches: that is so by the code alone, and no clause says it.
+/// as many generators. Where more than eight points would have to be followed, null spaces of other words are asked
+/// first whether the two differ. The form's matrices tell which images of rows are the next rows of a point's standard
+/// basis, and which combinations of earlier rows the others are; a point is given up at its first image that is another
+/// vector, and no point is tried past the one that matches: all this is so by the code alone, and no clause says it.
 pub fn matches(alloc: Global, form: &Form, module: &Module) -> Result<Option<Matrix>, Refusal>
     requires field { «module».now.order ≡ form.now.matrices.order }
     requires generators { length «module».now.generators ≡ length form.now.matrices.generators }
@@ -33,10 +40,34 @@ pub fn matches(alloc: Global, form: &Form, module: &Module) -> Result<Option<Mat
         return Ok(None);
     }
     let space = null_space_of(alloc, module, form.seed(), form.word())?;
-    if space.rows() != form.nullity() {
+    if !few_points(module.field().order(), space.rows(), FEW_POINTS)
+        && is_other(alloc, form, module, &space)?
+    {
         return Ok(None);
     }
-    for point in Points::new(alloc, &space) {
+    first_match(alloc, form, module, &space)
+}
+
+/// The isomorphism that a form gives, as [`matches`] answers it, by the null space of the form's word in the module.
+/// The points of the null space are followed in order.
+pub(crate) fn first_match(
+    alloc: Global,
+    form: &Form,
+    module: &Module,
+    space: &Matrix,
+) -> Result<Option<Matrix>, Refusal>
+    requires field { «module».now.order ≡ form.now.matrices.order }
+    requires generators { length «module».now.generators ≡ length form.now.matrices.generators }
+    requires dimension { «module».now.dim ≡ form.now.matrices.dim }
+    requires space { IsNullSpaceOf «module».now form.now.seed form.now.word space.now }
+    ensures { Answers None (IsMatch form.now «module».now) result }
+{
+    prove!(module.dim() == form.matrices().dim());
+    // The form's word has a null space with fewer points in the form's matrices.
+    if !few_points(module.field().order(), space.rows(), MAX_POINTS) {
+        return Ok(None);
+    }
+    for point in Points::new(alloc, space) {
         if let Some(basis) = followed_basis(alloc, form.matrices(), module, point?)? {
             return Ok(Some(basis));
         }
