@@ -20,13 +20,13 @@ use std::alloc::Global;
 
 /// Where more points than these would have to be followed, other words are asked first: what these words take is less,
 /// a guess.
-pub(crate) const FEW_POINTS: usize = 8;
+const MANY_POINTS: usize = 32;
 
 /// The isomorphism T from a module to a form's matrices that the form gives: T is invertible, and `T g' = g T` for each
 /// generator g' of the module and of the form's matrices g. It is the standard basis of the first point, of the null
 /// space of the value of the form's word in the module, whose standard matrices are the form's. `None` where the module
 /// is not isomorphic to the form's matrices; for another dimension at once. The module is over the form's field and has
-/// as many generators. Where more than eight points would have to be followed, null spaces of other words are asked
+/// as many generators. Where more than 32 points would have to be followed, null spaces of other words are asked
 /// first whether the two differ. The form's matrices tell which images of rows are the next rows of a point's standard
 /// basis, and which combinations of earlier rows the others are; a point is given up at its first image that is another
 /// vector, and no point is tried past the one that matches: all this is so by the code alone, and no clause says it.
@@ -40,7 +40,7 @@ pub fn matches(alloc: Global, form: &Form, module: &Module) -> Result<Option<Mat
         return Ok(None);
     }
     let space = null_space_of(alloc, module, form.seed(), form.word())?;
-    if !few_points(module.field().order(), space.rows(), FEW_POINTS)
+    if !few_points(module.field().order(), space.rows(), MANY_POINTS)
         && is_other(alloc, form, module, &space)?
     {
         return Ok(None);

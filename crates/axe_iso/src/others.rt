@@ -10,7 +10,7 @@ ghost use Rattle.axe_word.specs.PointsOfMatrix.{point_count};
 ghost use Rattle.axe_iso.specs.Forms.{IsNullSpaceOf};
 
 use crate::form::{Form, form_by_basis};
-use crate::matching::{FEW_POINTS, first_match};
+use crate::matching::first_match;
 use crate::null_space::null_space_of;
 use axe_matrix::{Matrix, Refusal};
 use axe_spin::{Module, standard_basis};
@@ -19,6 +19,9 @@ use std::alloc::Global;
 
 /// How many words after the form's are looked at.
 const WORDS_ASKED: u32 = 4;
+
+/// How many points a null space of theirs may have, so that it takes little to follow them all: a guess, too.
+const FEW_POINTS: usize = 8;
 
 /// Whether null spaces of words show a module not to be isomorphic to a form's matrices: those of the form's word, and
 /// of the first of some words after it that has a few points in the form's matrices.
