@@ -6,22 +6,20 @@ use axe_iso::{Form, form_of, matches};
 use axe_matrix::Matrix;
 use axe_norton::{Verdict, decide};
 use axe_spin::Module;
-use axe_test_values::{
-    TableFault, first_field, is_same_matrix, number_of, three_fields, two_fields,
-};
+use axe_test_values::{TableFault, first_field, is_same_matrix, two_fields};
 use std::alloc::Global;
 use std::process::Abort;
 
 /// The seed of the words.
 const SEED: u64 = 1;
 
-/// An irreducible module, and its form from the first null point of word 0, the last unit vector: the matrices, the
-/// basis, and the dimension of the null space.
+/// An irreducible module, and its form from the first null point of word 0, the last unit vector: the matrices and the
+/// basis.
 const FORMS: &str = "\
-form_of | 2: 01/11 | 2: 01/11 | 2: 01/11 | 2
+form_of | 2: 01/11 | 2: 01/11 | 2: 01/11
 # 01 goes to 10 under the first generator.
-form_of | 2: 01/10, 2: 01/11 | 2: 01/10, 2: 11/10 | 2: 01/10 | 2
-form_of | 4: 3 | 4: 3 | 4: 1 | 1
+form_of | 2: 01/10, 2: 01/11 | 2: 01/10, 2: 11/10 | 2: 01/10
+form_of | 4: 3 | 4: 3 | 4: 1
 ";
 
 /// An irreducible module, a module that is matched with its form, and the isomorphism.
@@ -37,6 +35,21 @@ matches | 2: 01/11 | 2: 1 | none
 matches | 2: 1 | 2: 01/11 | none
 # Each point spans a submodule.
 matches | 2: 01/11 | 2: 10/01 | none
+# Thirteen points, and then fifteen.
+matches | 3: 010/001/210, 3: 010/100/001 | 3: 210/121/202, 3: 210/010/111 | 3: 122/220/002
+matches | 3: 010/001/210, 3: 010/100/001 | 3: 010/001/110, 3: 010/100/001 | none
+matches | 3: 010/001/210, 3: 010/100/001 | 3: 010/100/001, 3: 010/001/210 | none
+matches | 2: 0100/0010/0001/1100, 2: 0100/1000/0010/0001 | 2: 0100/0010/0001/1001, 2: 0100/1000/0010/0001 | none
+matches | 2: 0100/0010/0001/1100, 2: 0100/1000/0010/0001 | 2: 0100/1000/0010/0001, 2: 0100/0010/0001/1100 | none
+matches | 2: 0100/0010/0001/1100 | 2: 1100/0010/0001/1011 | 2: 0001/1011/0110/0011
+matches | 2: 0100/0010/0001/1100 | 2: 0100/0010/0001/1001 | none
+# Forty points: other words are asked first.
+matches | 3: 0100/0010/0001/1001, 3: 0100/1000/0010/0001 | 3: 2100/1210/1111/0212, 3: 2100/0100/1110/1101 | 3: 0112/2112/0012/1202
+matches | 3: 0100/0010/0001/1001, 3: 0100/1000/0010/0001 | 3: 0100/0010/0001/1002, 3: 0100/1000/0010/0001 | none
+matches | 3: 0100/0010/0001/1001, 3: 0100/1000/0010/0001 | 3: 0100/1000/0010/0001, 3: 0100/0010/0001/1001 | none
+# Each word has no null vector, or all points as null vectors.
+matches | 3: 0100/0010/0001/1001 | 3: 2100/1210/1111/0212 | 3: 0001/0212/0022/2010
+matches | 3: 0100/0010/0001/1001 | 3: 0100/0010/0001/1002 | none
 ";
 
 /// The form of an irreducible module from the vector by which word 0 shows that it is irreducible.
@@ -50,13 +63,12 @@ fn form_by_word_0(rt: &impl Abort, alloc: Global, module: &Module) -> Result<For
     }
 }
 
-/// Whether the matrices, the basis and the nullity of a form by word 0 are those of a line.
+/// Whether the matrices and the basis of a form by word 0 are those of a line.
 fn is_form(alloc: Global, form: &Form, line: &str) -> Result<bool, TableFault> {
-    let (matrices, basis, nullity) = three_fields(line)?;
+    let (matrices, basis) = two_fields(line)?;
     Ok(
         form.seed() == SEED
             && form.word() == 0
-            && form.nullity() == number_of(nullity)?
             && is_module(alloc, form.matrices().copy(alloc), matrices)?
             && is_same_matrix(alloc, form.basis(), basis)?,
     )
