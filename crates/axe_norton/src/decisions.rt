@@ -34,7 +34,7 @@ pub fn decide_at(alloc: Global, module: &Module, word: &Word) -> Result<At, Refu
 {
     let value = word.value(alloc, module)?;
     let null = null_space(alloc, &value)?;
-    test_matrix(alloc, module, value, &null, false)
+    test_matrix(alloc, module, value, null, false)
 }
 
 /// What the words 0 to `words` of a seed decide of a module: what the first of them says that doesn't leave the module
@@ -81,7 +81,7 @@ fn test_word_of_seed(
     let value = word.value(alloc, module)?;
     let null = null_space(alloc, &value)?;
     let irreducible = is_known_irreducible(alloc, module, &null, seed, number)?;
-    test_matrix(alloc, module, value, &null, irreducible)
+    test_matrix(alloc, module, value, null, irreducible)
 }
 
 /// What a square matrix, the value of a word, and its null space tell of a module, which may be known to be
@@ -90,20 +90,21 @@ pub(crate) fn test_matrix(
     alloc: Global,
     module: &Module,
     value: Matrix,
-    null: &Matrix,
+    null: Matrix,
     irreducible: bool,
 ) -> Result<At, Refusal>
     requires irreducible { IsTrue irreducible → IsIrreducibleModule «module».now }
     requires square { IsSquareIn «module».now value }
-    requires null { IsNullSpaceMatrix value null.now }
-    requires null_well_formed { IsMatrix null.now }
-    ensures tells { Answers None (Tells «module».now value null.now) result }
+    requires null { IsNullSpaceMatrix value null }
+    requires null_well_formed { IsMatrix null }
+    ensures tells { Answers None (Tells «module».now value null) result }
     ensures well_formed { IsModule «module».now }
 {
     let few = few_points(module.field().order(), null.rows(), MOST_POINTS);
     if null.rows() == 0 {
         return Ok(At::Left);
     }
+    let first = first_point(alloc, &null)?;
     if let Some(space) = tried_space(alloc, module, null, few, irreducible)? {
         return Ok(At::Reducible(space));
     }
@@ -111,7 +112,7 @@ pub(crate) fn test_matrix(
         return Ok(At::Reducible(space));
     }
     if few {
-        Ok(At::Irreducible(first_point(alloc, null)?))
+        Ok(At::Irreducible(first))
     } else {
         Ok(At::Left)
     }

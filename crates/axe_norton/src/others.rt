@@ -91,5 +91,5 @@ fn test_other(
     if null.rows() > most {
         return Ok(At::Left);
     }
-    test_matrix(alloc, module, value, &null, false)
+    test_matrix(alloc, module, value, null, false)
 }

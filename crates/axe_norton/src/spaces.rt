@@ -46,16 +46,16 @@ pub(crate) fn proper_space(
 pub(crate) fn tried_space(
     alloc: Global,
     module: &Module,
-    basis: &Matrix,
+    basis: Matrix,
     few: bool,
     irreducible: bool,
 ) -> Result<Option<Matrix>, Refusal>
-    requires basis { IsReducedIn «module».now basis.now }
-    requires well_formed { IsMatrix basis.now }
-    requires some_row { 0 < length basis.now.rows }
-    requires few { IsTrue few ↔ HasFewPoints basis.now }
+    requires basis { IsReducedIn «module».now basis }
+    requires well_formed { IsMatrix basis }
+    requires some_row { 0 < length basis.rows }
+    requires few { IsTrue few ↔ HasFewPoints basis }
     requires irreducible { IsTrue irreducible → IsIrreducibleModule «module».now }
-    ensures { Answers None (FindsFirst «module».now basis.now) result }
+    ensures { Answers None (FindsFirst «module».now basis) result }
 {
     // `dim` is called for what it ensures beside the number: that the module is one.
     prove!(basis.cols() == module.dim());
@@ -70,19 +70,21 @@ pub(crate) fn tried_space(
 fn first_proper_space(
     alloc: Global,
     module: &Module,
-    basis: &Matrix,
+    basis: Matrix,
     few: bool,
 ) -> Result<Option<Matrix>, Refusal>
-    requires basis { IsReducedIn «module».now basis.now }
-    requires well_formed { IsMatrix basis.now }
-    requires some_row { 0 < length basis.now.rows }
-    requires few { IsTrue few ↔ HasFewPoints basis.now }
-    ensures { Answers None (FindsFirst «module».now basis.now) result }
+    requires basis { IsReducedIn «module».now basis }
+    requires well_formed { IsMatrix basis }
+    requires some_row { 0 < length basis.rows }
+    requires few { IsTrue few ↔ HasFewPoints basis }
+    ensures { Answers None (FindsFirst «module».now basis) result }
 {
     if few {
-        return first_proper_of_all(alloc, module, basis);
+        return first_proper_of_all(alloc, module, &basis);
     }
-    let point = first_point(alloc, basis)?;
+    let point = first_point(alloc, &basis)?;
+    // Of many points it may have as many rows as the module: their memory is free again before the point is spun.
+    drop(basis);
     proper_space(alloc, module, point)
 }
 

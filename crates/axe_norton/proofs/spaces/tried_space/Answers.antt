@@ -3,7 +3,7 @@ use Rattle.axe_norton.proofs.spaces.tried_space.Goals as goal
 
 pub returns-then-irreducible : goal.returns-then-irreducible
 returns-then-irreducible c =
-    irreducible_tried c.args.module.now c.args.basis.now c.requires.basis c.requires.well_formed c.dim.ensures.well_formed
+    irreducible_tried c.args.module.now c.args.basis c.requires.basis c.requires.well_formed c.dim.ensures.well_formed
     (c.requires.irreducible c.if-irreducible.true)
 
 pub first_proper_space-requires-clause-few : goal.first_proper_space-requires-clause-few
