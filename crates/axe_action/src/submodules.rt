@@ -1,7 +1,6 @@
 //! The action of a module on a submodule and modulo it: what is known to be a submodule is not tested to be one.
 
-ghost use Rattle.std.specs.Prelude.{◌≡◌, ◌<◌, ◌≤◌, ◌++◌, length, map, All, None, IfOk};
-ghost use Rattle.axe_algebra.specs.Lists.{unit_row};
+ghost use Rattle.std.specs.Prelude.{◌≡◌, ◌<◌, ◌≤◌, length, None, IfOk};
 ghost use Rattle.axe_algebra.specs.SpansOfLists.{IsIndependent};
 ghost use Rattle.axe_field.specs.NumberFields.{number_field};
 ghost use Rattle.axe_row.specs.Refusals.{Answers};
@@ -9,7 +8,7 @@ ghost use Rattle.axe_matrix.specs.Limits.{most_rows};
 ghost use Rattle.axe_matrix.specs.Matrices.{IsMatrix};
 ghost use Rattle.axe_echelon.specs.Echelons.{IsSpanOfRows};
 ghost use Rattle.axe_spin.specs.Modules.{IsModule, IsInvariantIn};
-ghost use Rattle.axe_action.specs.Actions.{IsBasisAction, IsActionModulo, IsExtendedMatrix};
+ghost use Rattle.axe_action.specs.Actions.{IsBasisAction, IsActionModulo};
 ghost use Rattle.axe_action.specs.Coordinates.{HasImagesIn, HasActionRows, AreCoordinateColumns};
 ghost use Rattle.axe_action.specs.FreeColumns.{AreFreeColumns, HasRowsModulo, HasUnitsModulo, rows_to_span, row_at};
 
@@ -17,7 +16,7 @@ use super::columns::{columns_of, coordinate_columns};
 use super::quotients::{free_columns, rows_at, units_modulo};
 use super::subspaces::action_over;
 use axe_echelon::{Echelon, span_of};
-use axe_matrix::{Matrix, Refusal, Row};
+use axe_matrix::{Matrix, Refusal};
 use axe_spin::Module;
 use std::alloc::Global;
 
@@ -28,41 +27,38 @@ pub struct Split {
     pub sub: Module,
     /// The action modulo the submodule, over the unit vectors.
     pub quotient: Module,
-    /// The unit vectors of the columns that are no pivots of the submodule, ascending.
-    pub units: Matrix,
+    /// The columns that are no pivots of the submodule, ascending.
+    pub columns: Vec<usize>,
 }
 
 /// The two actions of a module that come of a submodule, which has independent rows as a basis and is neither zero nor
 /// everything: that of [`basis_action`] on it and that of [`quotient_action`] modulo it, for rows whose span is known
-/// to be invariant. After the rows, the unit vectors make the basis that [`extend_basis`] gives.
+/// to be invariant. After the rows, the unit vectors of the columns make the basis that [`extend_basis`] gives.
 ///
 /// [`basis_action`]: crate::basis_action
 /// [`quotient_action`]: crate::quotient_action
 /// [`extend_basis`]: crate::extend_basis
-pub fn split_by_submodule(alloc: Global, module: &Module, rows: &Matrix) -> Result<Split, Refusal>
-    requires field { rows.now.order ≡ «module».now.order }
-    requires fits { rows.now.cols ≡ «module».now.dim }
+pub fn split_by_submodule(alloc: Global, module: Module, rows: &Matrix) -> Result<Split, Refusal>
+    requires field { rows.now.order ≡ «module».order }
+    requires fits { rows.now.cols ≡ «module».dim }
     requires some_row { 1 ≤ length rows.now.rows }
     requires independent { IsIndependent (number_field rows.now.order) rows.now.rows }
-    requires proper { length rows.now.rows < «module».now.dim }
-    requires invariant { IsInvariantIn «module».now rows.now }
-    ensures sub { Answers None (λ split. IsBasisAction «module».now rows.now split.sub) result }
-    ensures quotient { Answers None (λ split. IsActionModulo «module».now rows.now split.quotient) result }
-    ensures units { Answers None (λ split. IsExtendedMatrix rows.now
-        (record split.units { rows = rows.now.rows ++ split.units.rows })) result }
-    ensures well_formed { IfOk result (λ split.
-        IsModule split.sub × IsModule split.quotient × IsMatrix split.units) }
+    requires proper { length rows.now.rows < «module».dim }
+    requires invariant { IsInvariantIn «module» rows.now }
+    ensures sub { Answers None (λ split. IsBasisAction «module» rows.now split.sub) result }
+    ensures quotient { Answers None (λ split. IsActionModulo «module» rows.now split.quotient) result }
+    ensures columns { Answers None (λ split. AreFreeColumns (rows_to_span rows.now) split.columns.items) result }
+    ensures well_formed { IfOk result (λ split. IsModule split.sub × IsModule split.quotient) }
 {
     let span = span_of(alloc, rows)?;
     let columns = free_columns(alloc, &span)?;
     let modulo = units_modulo(alloc, &span, &columns)?;
-    let sub = action_in_span(alloc, module, rows, span)?;
-    let quotient = action_by_units(alloc, module, rows, &columns, &modulo)?;
-    let units = units_at(alloc, rows, &columns)?;
+    let sub = action_in_span(alloc, &module, rows, span)?;
+    let quotient = action_by_units(alloc, &module, rows, &columns, &modulo)?;
     Ok(Split {
         sub,
         quotient,
-        units,
+        columns,
     })
 }
 
@@ -186,23 +182,4 @@ fn generator_by_units(
 {
     let chosen = rows_at(alloc, generator, columns)?;
     chosen.mul(alloc, units)
-}
-
-/// The unit vectors of some columns, in their order, as rows beside those of a matrix.
-fn units_at(alloc: Global, rows: &Matrix, columns: &[usize]) -> Result<Matrix, Refusal>
-    requires within { All (λ column. column < rows.now.cols) columns.now }
-    requires columns_fit { length columns.now ≤ most_rows }
-    ensures units { Answers None (λ units. units ≡ record {
-      order = rows.now.order;
-      cols = rows.now.cols;
-      rows = map (unit_row rows.now.cols) columns.now;
-    }) result }
-    ensures well_formed { IfOk result IsMatrix }
-{
-    let mut units = Matrix::with_capacity(alloc, *rows.field(), rows.cols(), columns.len())?;
-    for column in columns {
-        let unit = Row::unit(alloc, *rows.field(), rows.cols(), *column)?;
-        units.append(unit)?;
-    }
-    Ok(units)
 }

@@ -64,6 +64,23 @@ pub fn decide(alloc: Global, module: &Module, seed: u64, words: u32) -> Result<V
     Ok(Verdict::Undecided)
 }
 
+/// What the words 0 to `words` of a seed decide of a module, as [`decide`] tells it, and the module back. So the
+/// transposed module can take its place while it is asked, and needs no memory beside it.
+pub fn decide_owned(
+    alloc: Global,
+    module: Module,
+    seed: u64,
+    words: u32,
+) -> Result<(Module, Verdict), Refusal>
+    requires words { words ≤ MAX_WORDS }
+    ensures same { Answers None (λ answer. answer.0 ≡ «module») result }
+    ensures decides { Answers None (λ answer. Decides «module» seed words answer.1) result }
+    ensures holds { Answers None (λ answer. IsTrueVerdict «module» answer.1) result }
+{
+    let verdict = decide(alloc, &module, seed, words)?;
+    Ok((module, verdict))
+}
+
 /// What a word of a seed says of a module, as [`decide_at`] tells it. The words after its number may be asked first
 /// whether the module is irreducible, so that not all of many points need be tried.
 fn test_word_of_seed(

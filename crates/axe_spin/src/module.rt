@@ -1,10 +1,11 @@
 //! Modules.
 
-ghost use Rattle.std.specs.Prelude.{◌≡◌, ◌<◌, ◌≤◌, length, None, IfOk};
+ghost use Rattle.std.specs.Prelude.{◌≡◌, ◌<◌, ◌≤◌, length, All, None, IfOk};
 ghost use Rattle.axe_row.specs.Refusals.{Answers, unless_refused};
 ghost use Rattle.axe_matrix.specs.Matrices.{IsMatrix};
 ghost use Rattle.axe_spin.specs.Limits.{most_generators};
-ghost use Rattle.axe_spin.specs.Modules.{IsModule, generator_of, generator_refusal, module_of_matrices, rows_refusal};
+ghost use Rattle.axe_spin.specs.Modules.{IsModule, generator_of, generator_refusal, module_of_matrices, rows_of_each};
+ghost use Rattle.axe_spin.specs.Modules.{rows_refusal};
 ghost use Rattle.axe_spin.specs.Generators.{IsGeneratorMatrix};
 
 use axe_field::Field;
@@ -89,6 +90,16 @@ impl Module {
         ensures well_formed { IsModule self.now }
     {
         &self.generators[index]
+    }
+
+    /// The generators, in their order, so that each can be dropped when it is no longer needed.
+    pub fn into_generators(self) -> Vec<Matrix>
+        ensures generators { rows_of_each result.items ≡ self.generators }
+        ensures each { All (IsGeneratorMatrix self.order self.dim) result.items }
+        ensures well_formed { IsModule self }
+    {
+        let Module { generators, .. } = self;
+        generators
     }
 
     /// Refuses a matrix whose rows are no vectors of the module: one over another field as FieldsDiffer, and else one

@@ -1,7 +1,6 @@
-use Rattle.std.proofs.Common.{◌≡◌, ◌<◌, ◌≤◌, ℕ, List, All, length, ap, sym, subst, ◌∙◌, arith}
+use Rattle.std.proofs.Common.{◌≡◌, ◌<◌, ◌≤◌, ℕ, List, length, ap, sym, subst, arith}
 use Rattle.axe_action.specs.FreeColumns.{AreFreeColumns, HasUnitsModulo, rows_to_span}
-use Rattle.axe_action.proofs.QuotientRows.{some_free, free_of_rows, free_within, units_of_rows}
-use Rattle.axe_action.proofs.UnitRows.{units_of, extended_by_units}
+use Rattle.axe_action.proofs.QuotientRows.{some_free, free_of_rows, units_of_rows}
 use Rattle.axe_action.proofs.SubmoduleLaws.{rows_accepted}
 use Rattle.axe_action.proofs.submodules.split_by_submodule.Goals as goal
 
@@ -9,8 +8,8 @@ pub units_modulo-requires-clause-some_column : goal.units_modulo-requires-clause
 units_modulo-requires-clause-some_column c =
     let many : length c.in_ok-span.span.rows ≡ length c.args.rows.now.rows = ap length (c.in_ok-span.ensures.span.all c.requires.independent) in
     subst (λ (columns : List ℕ). 1 ≤ length columns) (sym c.deref.ensures.value)
-    (some_free c.args.module.now c.args.rows.now c.in_ok-span.span c.in_ok-columns.columns.items
-    (rows_accepted c.args.module.now c.args.rows.now c.requires.field c.requires.fits) c.in_ok-span.ensures.span c.in_ok-columns.ensures.free
+    (some_free c.args.module c.args.rows.now c.in_ok-span.span c.in_ok-columns.columns.items
+    (rows_accepted c.args.module c.args.rows.now c.requires.field c.requires.fits) c.in_ok-span.ensures.span c.in_ok-columns.ensures.free
     (omega (arith, many, c.requires.proper)))
 
 pub units_modulo-requires-clause-free : goal.units_modulo-requires-clause-free
@@ -29,20 +28,12 @@ action_by_units-requires-clause-units c =
     (subst (λ (columns : List ℕ). HasUnitsModulo c.in_ok-span.span columns c.in_ok-modulo.modulo)
     c.deref.ensures.value c.in_ok-modulo.ensures))
 
-pub units_at-requires-clause-within : goal.units_at-requires-clause-within
-units_at-requires-clause-within c =
-    subst (λ (columns : List ℕ). All (λ column. column < c.args.rows.now.cols) columns) (sym c.deref-3.ensures.value)
-    (free_within (rows_to_span c.args.rows.now) c.in_ok-columns.columns.items
-    (free_of_rows c.args.rows.now c.in_ok-span.span c.in_ok-columns.columns.items c.in_ok-span.ensures.span c.in_ok-columns.ensures.free))
-
 pub returns-clause-sub : goal.returns-clause-sub
 returns-clause-sub c = c.in_ok-sub.ensures.action
 
 pub returns-clause-quotient : goal.returns-clause-quotient
 returns-clause-quotient c = c.in_ok-quotient.ensures.action
 
-pub returns-clause-units : goal.returns-clause-units
-returns-clause-units c =
-    extended_by_units c.args.rows.now c.in_ok-units.units c.in_ok-columns.columns.items
-    (free_of_rows c.args.rows.now c.in_ok-span.span c.in_ok-columns.columns.items c.in_ok-span.ensures.span c.in_ok-columns.ensures.free)
-    (c.in_ok-units.ensures.units ∙ ap (units_of c.args.rows.now) c.deref-3.ensures.value)
+pub returns-clause-columns : goal.returns-clause-columns
+returns-clause-columns c =
+    free_of_rows c.args.rows.now c.in_ok-span.span c.in_ok-columns.columns.items c.in_ok-span.ensures.span c.in_ok-columns.ensures.free
