@@ -24,6 +24,15 @@ pub fn dual(alloc: Global, module: &Module) -> Result<Module, Refusal>
     Module::new(transposes)
 }
 
+/// The transposed module in the place of a module: as [`dual`], of a module that is moved in, so that each generator can be
+/// dropped when its transpose is made.
+pub fn into_dual(alloc: Global, module: Module) -> Result<Module, Refusal>
+    ensures transposed { Answers None (λ dual. dual ≡ dual_module «module») result }
+    ensures well_formed { IfOk result IsModule }
+{
+    dual(alloc, &module)
+}
+
 /// The annihilator of the rows of a matrix: the reduced basis of all vectors v with `v w^T = 0` for every row w.
 pub fn annihilator(alloc: Global, rows: &Matrix) -> Result<Matrix, Refusal>
     ensures basis { Answers None (IsAnnihilatorMatrix rows.now) result }
