@@ -1,8 +1,8 @@
 -- Transposes of matrices over fields whose prime is 2 or 3, by the coefficients of each power of x, block by block.
-use Rattle.std.proofs.Common.{◌≡◌, ◌≢◌, ◌⊎◌, ◌↔◌, IsTrue, Bool, true, false, ℕ, suc, ◌+◌, ◌-◌, ◌*◌, ◌/◌, ◌%◌, ◌<◌, ◌≤◌, List, [], ◌∷◌, length, get_or, set, replicate, sym, ap, subst, ◌∙◌, arith, inl, inr, get_or-set_other, get_or-set_same}
+use Rattle.std.proofs.Common.{◌≡◌, ◌≢◌, ◌⊎◌, ℕ, ◌+◌, ◌-◌, ◌*◌, ◌/◌, ◌%◌, ◌<◌, ◌≤◌, List, [], ◌∷◌, length, get_or, set, replicate, sym, ap, subst, ◌∙◌, arith, inl, inr, get_or-set_other, get_or-set_same}
 use Rattle.std.specs.Int.{bit_at}
 use Rattle.std.proofs.lemmas.Bool.{cases_eq}
-use Rattle.std.proofs.lemmas.List.{ext_get_or, get_or_default, get_or_past, length-map, length-set, length-replicate}
+use Rattle.std.proofs.lemmas.List.{ext_get_or, get_or_past, length-map, length-set, length-replicate}
 use Rattle.std.proofs.lemmas.Nat.Bits.{bit_at-zero}
 use native.Mathlib.Decide.{dec_lt}
 use Rattle.axe_algebra.specs.Lists.{entry, listed}
@@ -10,7 +10,6 @@ use Rattle.axe_algebra.specs.ListArithmetic.{transpose}
 use Rattle.axe_algebra.proofs.ListEntries.{listed_length, listed_at, table_length, table_entry}
 use Rattle.axe_field.specs.Order.{Order, prime_of, degree_of, IsElement}
 use Rattle.axe_field.specs.Planes.{coefficient}
-use Rattle.axe_lane.specs.Entries.{HasNonzero}
 use Rattle.axe_bits.proofs.BitLaws.{get_or-zeros}
 use Rattle.axe_bits.specs.Words.{digit_of_words, digits_with_word}
 use Rattle.axe_bits.proofs.WordWrites.{get_or-digits_with_word_same, get_or-digits_with_word_other}
@@ -126,21 +125,6 @@ HasCoefficients-words k top at n words ones twos a m next h well_formed power be
         omega (arith, column, h.power.cols, long)
 
 -- ---- a block
-
--- words of which none is found to be other than 0
-pub zero_words : (some : Bool) (words : List ℕ) → some ≡ false → IsTrue some ↔ HasNonzero words → (k : ℕ) → get_or words k 0 ≡ 0
-zero_words some words not_found h k = elim (cases_eq (get_or words k 0) 0) [
-  | inl e ↦ e
-  | inr nonzero ↦
-      let within : k < length words = elim (dec_lt k (length words)) [
-        | yes inside ↦ inside
-        | no outside ↦ absurd (nonzero (get_or_past words k 0 (omega arith)))
-      ] in
-      absurd (omega (arith, not_true (sym not_found ∙ h.1 (k, get_or words k 0, within, get_or_default words k (get_or words k 0) 0 within, nonzero))))
-]
-  where
-    not_true : false ≡ true → 0 ≡ suc 0
-    not_true bad = cc
 
 -- the words of a block, and the words of its transpose
 module _ (k : ℕ) (m self : MatrixValue) (row_block column_block : ℕ) (ones twos : List ℕ)

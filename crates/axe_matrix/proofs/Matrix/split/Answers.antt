@@ -1,6 +1,5 @@
 use Rattle.std.proofs.Common.{◌≡◌, ◌∙◌, length, take, drop, min, subst, sym, ap, arith}
 use Rattle.std.proofs.lemmas.List.{take_min, drop_min}
-use Rattle.axe_row.specs.Rows.{RowValue}
 use Rattle.axe_matrix.specs.RowLists.{MakeMatrix}
 use Rattle.axe_matrix.proofs.SplitRows.{MakeMatrix-take, MakeMatrix-drop, first_rows_of, rows_after_of}
 use Rattle.axe_matrix.proofs.Matrix.split.Goals as goal
