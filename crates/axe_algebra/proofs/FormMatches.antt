@@ -3,8 +3,8 @@
 use Rattle.std.specs.Prelude.{◌≡◌, ◌≢◌, ℕ, ◌<◌, List, length}
 use Rattle.axe_algebra.specs.NumberField.{NumberField}
 use Rattle.axe_algebra.specs.Field.{Field}
-use Rattle.axe_algebra.specs.Vectors.{Vector, Matrix, HasLength, IsMatrix, zero_vector, unit_vector, scale, times}
-use Rattle.axe_algebra.specs.Spans.{InSpan, IsIndependent, IsInverse, IsNullVector}
+use Rattle.axe_algebra.specs.Vectors.{Vector, Matrix, HasLength, IsMatrix, zero_vector, scale, times}
+use Rattle.axe_algebra.specs.Spans.{InSpan, IsIndependent, IsNullVector}
 use Rattle.axe_algebra.specs.Modules.{Module, IsModule, image}
 use Rattle.axe_algebra.specs.Actions.{IsSubAction}
 use Rattle.axe_algebra.specs.Words.{Word, IsWordOf, word_value}
@@ -17,7 +17,6 @@ use Rattle.axe_algebra.specs.PointsOfLists.{points}
 use Rattle.axe_algebra.specs.PointTheorems.{IsMultipleOfPoint}
 use Rattle.axe_algebra.proofs.FieldLaws.{mul-zero, inv-mul, one-mul}
 use Rattle.axe_algebra.proofs.ProductLaws.{times_same}
-use Rattle.axe_algebra.proofs.Spanning.{span_row}
 use Rattle.axe_algebra.proofs.StandardBases.{standard_basis_size_is_unique, standard_basis_is_unique}
 use Rattle.axe_algebra.proofs.StandardImages.{isomorphism_carries, carried_independent, multiple_keeps_standard_matrices}
 use Rattle.axe_algebra.proofs.Isomorphisms.{standard_basis_is_isomorphism}

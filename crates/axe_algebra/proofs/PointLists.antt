@@ -1,19 +1,19 @@
 -- The coordinates of points: which lists they are, how many, in which order, and which is the first.
-use Rattle.std.specs.Prelude.{◌≡◌, ◌≢◌, ℕ, zero, suc, ◌+◌, ◌-◌, ◌*◌, ◌/◌, ◌%◌, ◌^◌, ◌<◌, ◌≤◌, Bool, true, false, cond, eqb, List, [], ◌∷◌, ◌++◌, map, length, get_or}
-use Rattle.std.specs.List.{All, filter, range_with_len}
-use Rattle.std.proofs.lemmas.Bool.{eq-eqb, ne_eqb}
-use Rattle.std.proofs.lemmas.List.{map-append, length-append, length-map, get_or-map, get_or_append_left, append-nil}
+use Rattle.std.specs.Prelude.{◌≡◌, ℕ, zero, suc, ◌+◌, ◌-◌, ◌*◌, ◌/◌, ◌%◌, ◌^◌, ◌<◌, ◌≤◌, true, false, cond, eqb, List, [], ◌∷◌, ◌++◌, map, length, get_or}
+use Rattle.std.specs.List.{filter, range_with_len}
+use Rattle.std.proofs.lemmas.Bool.{ne_eqb}
+use Rattle.std.proofs.lemmas.List.{map-append, length-append, length-map, get_or-map, append-nil}
 use Rattle.std.proofs.lemmas.List.Elements.{filter-append}
 use Rattle.std.proofs.lemmas.Nat.{le-div}
-use Rattle.axe_algebra.specs.Lists.{listed, unit_row}
-use Rattle.axe_algebra.specs.Digits.{digits, number_with_digits}
+use Rattle.axe_algebra.specs.Lists.{listed}
+use Rattle.axe_algebra.specs.Digits.{digits}
 use Rattle.axe_algebra.specs.PointsOfLists.{leads_with_one, point_coordinates}
 use Rattle.axe_algebra.specs.PointTheorems.{CoordinatesAreCounted, CoordinatesGrow}
-use Rattle.axe_algebra.proofs.ListEntries.{listed_length, listed_at}
+use Rattle.axe_algebra.proofs.ListEntries.{listed_length}
 use Rattle.axe_algebra.proofs.Digits.{pow-positive, digits_cons, leading_digit}
 use Rattle.axe_algebra.proofs.PointFilters.{filter_of_map, filter_keeps, filter_skips, range_append, range_as_listed}
 use mathlib.Core.Path.{refl, sym, ◌∙◌, ap, ap₂, subst}
-use native.Mathlib.Nat.{pow-zero, pow-suc, pow-le-pow_right, mul_comm, add-mul, mul-add, mul-one, mul-le-mul_left, zero-mul, zero-add}
+use native.Mathlib.Nat.{pow-zero, pow-suc, pow-le-pow_right, add-mul, mul-add, mul-one, mul-le-mul_left, zero-mul}
 use native.Mathlib.Omega.{arith}
 use native.Mathlib.Decide.{ℕ_discrete}
 

@@ -1,15 +1,14 @@
 -- The list of the coordinates of points has each list of digits whose first nonzero entry is 1 once, ascending; its first entry.
-use Rattle.std.specs.Prelude.{◌≡◌, ◌≢◌, ℕ, zero, suc, ◌+◌, ◌^◌, ◌<◌, ◌≤◌, Bool, true, false, cond, eqb, List, [], ◌∷◌, ◌++◌, map, length, get_or}
-use Rattle.std.specs.List.{All, filter, range_with_len}
+use Rattle.std.specs.Prelude.{◌≡◌, ℕ, zero, suc, ◌^◌, ◌<◌, ◌≤◌, true, cond, eqb, List, [], ◌∷◌, ◌++◌, map, length, get_or}
 use Rattle.std.proofs.lemmas.Bool.{eq-eqb, ne_eqb, false≢true}
 use Rattle.std.proofs.lemmas.List.{length-map, get_or-map, get_or_append_left, ext_get_or}
-use Rattle.std.proofs.lemmas.List.Elements.{All-from_get_or, All-head, All-tail}
+use Rattle.std.proofs.lemmas.List.Elements.{All-from_get_or}
 use Rattle.axe_algebra.specs.Lists.{listed, unit_row}
 use Rattle.axe_algebra.specs.Digits.{digits, number_with_digits}
 use Rattle.axe_algebra.specs.PointsOfLists.{leads_with_one, point_coordinates}
 use Rattle.axe_algebra.specs.PointTheorems.{IsMonicList, CoordinatesAreMonic, MonicListsAreCoordinates, CoordinatesAscend}
 use Rattle.axe_algebra.proofs.ListEntries.{listed_length, listed_at}
-use Rattle.axe_algebra.proofs.Digits.{digits_length, digits-below, pow-positive, number_with_digits-below, digits_of_their_number, number_of_its_digits}
+use Rattle.axe_algebra.proofs.Digits.{digits_length, digits-below, number_with_digits-below, digits_of_their_number, number_of_its_digits}
 use Rattle.axe_algebra.proofs.PointFilters.{IsFilteredRange, filtered_range}
 use Rattle.axe_algebra.proofs.PointLists.{point_numbers, coordinates_are_digits, more_coordinates, no_coordinates, some_coordinates}
 use mathlib.Core.Path.{refl, sym, ◌∙◌, ap, ap₂, subst}

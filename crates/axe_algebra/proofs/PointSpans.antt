@@ -1,21 +1,19 @@
 -- The points of the span of rows: nonzero vectors of it, one of each line; the first is the last row.
-use Rattle.std.specs.Prelude.{◌≡◌, ◌≢◌, ℕ, zero, suc, ◌+◌, ◌-◌, ◌<◌, ◌≤◌, Bool, true, false, cond, eqb, List, [], map, length, get_or}
-use Rattle.std.specs.List.{All}
+use Rattle.std.specs.Prelude.{◌≡◌, ◌≢◌, ℕ, suc, ◌-◌, ◌<◌, ◌≤◌, Bool, true, false, cond, eqb, List, [], length, get_or}
 use Rattle.std.proofs.lemmas.List.{length-map, get_or-map}
 use Rattle.std.proofs.lemmas.List.Elements.{All-from_get_or}
 use Rattle.axe_algebra.specs.NumberField.{NumberField}
 use Rattle.axe_algebra.specs.Field.{Field}
 use Rattle.axe_algebra.specs.Vectors.{Vector, HasLength, zero_vector, scale, times}
-use Rattle.axe_algebra.specs.Spans.{InSpan}
 use Rattle.axe_algebra.specs.Reduced.{LeadsAt}
-use Rattle.axe_algebra.specs.Bridge.{ElementOf, field_of, element, zero_of, vector_of, matrix_of}
-use Rattle.axe_algebra.specs.Lists.{listed, unit_row, entries_of, IsVectorOver, IsMatrixOver}
+use Rattle.axe_algebra.specs.Bridge.{ElementOf, field_of, element, vector_of, matrix_of}
+use Rattle.axe_algebra.specs.Lists.{unit_row, entries_of, IsVectorOver, IsMatrixOver}
 use Rattle.axe_algebra.specs.ListArithmetic.{combination}
-use Rattle.axe_algebra.specs.SpansOfLists.{IsSpanned, IsIndependent}
+use Rattle.axe_algebra.specs.SpansOfLists.{IsIndependent}
 use Rattle.axe_algebra.specs.PointsOfLists.{leads_with_one, point_coordinates, points}
 use Rattle.axe_algebra.specs.PointTheorems.{IsMonicList, IsNonzeroSpanned, IsMultipleOfPoint, PointsAreNonzeroSpanned, SpannedAreMultiplesOfPoints, MultiplesAreOfOnePoint, FirstPointIsLastRow}
 use Rattle.axe_algebra.proofs.FieldLaws.{mul-zero, inv-mul, one-mul}
-use Rattle.axe_algebra.proofs.ProductLaws.{times-scale, times_zero, times_unit, unit_length}
+use Rattle.axe_algebra.proofs.ProductLaws.{times-scale, times_zero, times_unit}
 use Rattle.axe_algebra.proofs.Spanning.{unique_coefficients}
 use Rattle.axe_algebra.proofs.Exchange.{cut, cut_length, times_cut}
 use Rattle.axe_algebra.proofs.ElementNumbers.{element_zero, element_one, zero-below}
@@ -26,7 +24,7 @@ use Rattle.axe_algebra.proofs.ListVectors.{vector_of_unit_row}
 use Rattle.axe_algebra.proofs.Leading.{IsMultipleOfNormal, normal_multiple}
 use Rattle.axe_algebra.proofs.PointLists.{some_coordinates}
 use Rattle.axe_algebra.proofs.PointMembers.{monic_at, monic_lists_are_coordinates, coordinates_are_once, LeadsWithOneAt, leads_place, leads_from_place, first_coordinates}
-use mathlib.Core.Path.{refl, sym, ◌∙◌, ap, ap₂, subst, fun_ext}
+use mathlib.Core.Path.{sym, ◌∙◌, ap, subst, fun_ext}
 use native.Mathlib.Omega.{arith}
 use native.Mathlib.Decide.{dec_lt}
 

@@ -1,5 +1,5 @@
 -- The files that a command speaks of, and its numbers.
-use Rattle.std.specs.Prelude.{◌≡◌, ⊤, ℕ, true, List, [], ◌∷◌, Option, Some, None}
+use Rattle.std.specs.Prelude.{◌≡◌, ⊤, ℕ, true, List, [], ◌∷◌, Some, None}
 use Rattle.std.specs.List.{list_all}
 use Rattle.axe_arguments.specs.Names.{is_name}
 use Rattle.axe_arguments.specs.Counts.{IsGeneratorCount, IsWordCount}

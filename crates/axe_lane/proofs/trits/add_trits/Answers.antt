@@ -1,4 +1,4 @@
-use Rattle.std.proofs.Common.{rules, ◌≡◌, ◌+◌, ◌*◌, ◌/◌, ℕ, List, length, subst, arith}
+use Rattle.std.proofs.Common.{rules, ◌≡◌, ◌+◌, ◌*◌, ◌/◌, length, subst, arith}
 use Rattle.axe_lane.specs.Trits.{HasSumBetween}
 use Rattle.axe_lane.proofs.TritSums.{made_more, sum_made}
 use Rattle.axe_lane.proofs.trits.add_trits.Goals as goal
