@@ -1,4 +1,4 @@
-use Rattle.std.proofs.Common.{◌≢◌, ◌<◌, ◌≤◌, length, arith}
+use Rattle.std.proofs.Common.{rules, ◌≢◌, ◌<◌, ◌≤◌, length, arith}
 use Rattle.axe_matrix.proofs.TransposeLaws.{transpose_refusal-none, IsTransposeBelow-none, IsTransposeBelow-zeros, IsTransposeBelow-more, IsTransposeBelow-all}
 use Rattle.axe_matrix.proofs.Matrix.transpose.Goals as goal
 
@@ -21,3 +21,6 @@ returns-clause-transpose c =
     let some : length c.args.self.now.rows ≢ 0 = omega (arith, c.rows.ensures.count, c.if-rows-eq0.false) in
     let all : length c.args.self.now.rows ≤ c.loop-index.index = omega (arith, c.rows-index-end.ensures.count, c.loop-index-test.false) in
     rw (transpose_refusal-none c.args.self.now some) (IsTransposeBelow-all _ _ _ c.loop-index.invariant all)
+
+pub put_transpose-requires-clause-prime : goal.put_transpose-requires-clause-prime
+put_transpose-requires-clause-prime c = search rules

@@ -1,4 +1,4 @@
-use Rattle.std.proofs.Common.{◌≡◌, ◌+◌, ◌/◌, ℕ, subst, arith}
+use Rattle.std.proofs.Common.{rules, ◌≡◌, ◌+◌, ◌/◌, ℕ, subst, arith}
 use Rattle.axe_bits.specs.Supports.{IsSupportWord}
 use Rattle.axe_bits.proofs.SupportLaws.{stands_inside}
 use Rattle.axe_matrix.proofs.vectors.next_entry.Goals as goal
@@ -11,3 +11,6 @@ returns-else-index-eq0-clause-word c =
     let same : c.args.start / 64 ≡ (c.in-Some.index + 1) / 64 =
     omega (arith, inside, (c.in-Some.ensures numbers c.requires.word).not_before, c.if-index-eq0.false) in
     subst (λ (k : ℕ). IsSupportWord numbers k c.args.word.now) same c.requires.word
+
+pub returns-clause-next : goal.returns-clause-next
+returns-clause-next c = search rules

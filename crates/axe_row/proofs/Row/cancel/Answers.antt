@@ -1,4 +1,4 @@
-use Rattle.std.proofs.Common.{◌≡◌, length, get_or, ap, sym, ◌∙◌}
+use Rattle.std.proofs.Common.{rules, ◌≡◌, length, get_or, ap, sym, ◌∙◌}
 use Rattle.axe_field.specs.Arithmetic.{field_neg}
 use Rattle.axe_row.specs.HigherPlanes.{linear_of, quadratic_of}
 use Rattle.axe_row.specs.Rows.{RowValue}
@@ -44,3 +44,6 @@ returns-then-degree-eq1-clause-well_formed c = IsRow-of_planes _ _ _ _ _ (invari
 
 pub returns-else-degree-eq1-clause-as_long : goal.returns-else-degree-eq1-clause-as_long
 returns-else-degree-eq1-clause-as_long c = ap (λ (r : RowValue). length r.entries) c.cancel_by_planes.ensures.sum ∙ length-sum_with_multiple _ _ _ _
+
+pub returns-else-degree-eq1-clause-factor : goal.returns-else-degree-eq1-clause-factor
+returns-else-degree-eq1-clause-factor c = search rules
