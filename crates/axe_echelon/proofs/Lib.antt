@@ -14,6 +14,7 @@ pub mod SpanLaws
 pub mod OneMatrix
 pub mod SomeMatrix
 pub mod SubspaceLaws
+pub mod LeadingRowLaws
 pub mod WholeSpace
 pub mod OrthogonalLaws
 pub mod MirroredLaws

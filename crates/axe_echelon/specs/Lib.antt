@@ -4,6 +4,7 @@ pub mod PivotTables
 pub mod Steps
 pub mod Inserted
 pub mod Subspaces
+pub mod LeadingRows
 pub mod Mirrored
 pub mod Orthogonal
 pub mod OrthogonalPoints

@@ -18,6 +18,7 @@ ghost use Rattle.axe_echelon.specs.Steps.{AreSteps, AreTabledSteps, IsCleared, I
 ghost use Rattle.axe_echelon.specs.Steps.{IsPivotRow};
 
 mod inverses;
+mod leading_rows;
 mod mirrors;
 mod null_spaces;
 mod orthogonal_points;

@@ -58,6 +58,15 @@ impl PivotTable {
         self.rows[column] = index;
     }
 
+    /// Tells of a column from now on that its row is the one at an index. Whether it is a pivot stays.
+    pub(crate) fn move_row(&mut self, column: usize, to: usize)
+        requires { column < length self.old.rows.items }
+        ensures marks { self.new.marks ≡ self.old.marks }
+        ensures rows { self.new.rows.items ≡ slice_set self.old.rows.items column to }
+    {
+        self.rows[column] = to;
+    }
+
     /// Whether a column is a pivot.
     pub(crate) fn is_pivot(&self, column: usize) -> bool
         ensures { IsTrue result ↔ (slice_index (marks_of self.now) column ≢ 0) }

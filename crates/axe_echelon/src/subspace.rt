@@ -12,6 +12,7 @@ ghost use Rattle.axe_echelon.specs.Orthogonal.{IsPivotOfRow};
 ghost use Rattle.axe_echelon.specs.Steps.{IsPivotRow};
 ghost use Rattle.axe_echelon.specs.Subspaces.{IsNextRow, SpansOneMore};
 
+use crate::leading_rows::{clear_after, take_row};
 use crate::pivot_table::PivotTable;
 use axe_field::Field;
 use axe_matrix::{Matrix, Refusal, Row};
@@ -20,9 +21,9 @@ use std::marker::Model;
 
 /// A row of the echelon form of a subspace: 1 at its pivot, 0 before it and at the pivots of the rows before.
 #[derive(Drop)]
-struct PivotRow {
-    pivot: usize,
-    row: Row,
+pub(crate) struct PivotRow {
+    pub(crate) pivot: usize,
+    pub(crate) row: Row,
 }
 
 /// The span of the vectors that were inserted, which are all of one length over one field. Unlike an [`Echelon`], it
@@ -203,6 +204,44 @@ impl Subspace {
         for column in 0..self.cols() {
             if self.is_pivot(column) {
                 let row = self.pivot_row(alloc, column)?;
+                reduced.append(row)?;
+            }
+        }
+        Ok(reduced)
+    }
+
+    /// The reduced basis, as [`Subspace::reduced`] gives it, made of the rows of the echelon form themselves: none is
+    /// copied.
+    pub fn into_reduced(self, alloc: Global) -> Result<Matrix, Refusal>
+        ensures basis { Answers None (IsReducedMatrix self) result }
+        ensures matrix_well_formed { Answers None IsMatrix result }
+        ensures well_formed { IsEchelon self }
+    {
+        // The unit vectors are the reduced basis of the whole space.
+        if self.dim() == self.cols() {
+            let (field, cols) = (*self.field(), self.cols());
+            drop(self);
+            return Matrix::identity(alloc, field, cols);
+        }
+        self.into_reduced_rows(alloc)
+    }
+
+    /// The reduced basis, whose rows are those of the echelon form, each cleared at the pivots after its own.
+    fn into_reduced_rows(self, alloc: Global) -> Result<Matrix, Refusal>
+        ensures basis { Answers None (IsReducedMatrix self) result }
+        ensures matrix_well_formed { Answers None IsMatrix result }
+    {
+        let cols = self.cols();
+        let mut reduced = Matrix::with_capacity(alloc, *self.field(), cols, self.dim())?;
+        let Subspace {
+            mut rows,
+            mut pivots,
+            ..
+        } = self;
+        for column in 0..cols {
+            if pivots.is_pivot(column) {
+                let mut row = take_row(&mut rows, &mut pivots, column);
+                clear_after(&mut row, column, &rows, &pivots);
                 reduced.append(row)?;
             }
         }
