@@ -10,6 +10,7 @@ pub mod MoreStepsLaws
 pub mod EliminationLaws
 pub mod ReducedLaws
 pub mod InverseLaws
+pub mod NewRows
 pub mod SpanLaws
 pub mod OneMatrix
 pub mod SomeMatrix

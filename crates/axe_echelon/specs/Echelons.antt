@@ -2,7 +2,8 @@
 use Rattle.std.specs.Prelude.{◌≡◌, ℕ, ◌≤◌, ◌==◌, List, [], ◌∷◌, ◌++◌, length, Bool, Option, Some, None, if◌then◌else◌}
 use Rattle.axe_algebra.specs.Lists.{IsMatrixOver, IsVectorOver}
 use Rattle.axe_algebra.specs.ListArithmetic.{combination}
-use Rattle.axe_algebra.specs.SpansOfLists.{IsIndependent, IsNullSpaceBasis, IsReducedBasis, HaveSameSpan}
+use Rattle.axe_algebra.specs.NumberField.{NumberField}
+use Rattle.axe_algebra.specs.SpansOfLists.{IsIndependent, IsNullSpaceBasis, IsReducedBasis, IsSpanned, HaveSameSpan}
 use Rattle.axe_field.specs.Order.{Order}
 use Rattle.axe_field.specs.NumberFields.{number_field}
 use Rattle.axe_row.specs.Rows.{RowValue}
@@ -29,10 +30,20 @@ pub record IsEchelon (e : EchelonValue) : Type 0 where
 abbrev pub with_row_where : Bool → EchelonValue → List ℕ → EchelonValue
 with_row_where new e row = if new then record { order = e.order; cols = e.cols; rows = e.rows ++ row ∷ [] } else e
 
--- the echelon form has the span of the matrix's rows, and all of these rows where they are independent, or as many
+-- these are, of the rows, those that are not in the span of the rows before them, in their order
+pub data AreNewRows (K : NumberField) : List (List ℕ) → List (List ℕ) → Type 0 where
+  none : AreNewRows K [] []
+  new : (rows kept : List (List ℕ)) (row : List ℕ) → AreNewRows K rows kept → ¬ (IsSpanned K rows row) →
+      AreNewRows K (rows ++ row ∷ []) (kept ++ row ∷ [])
+  old : (rows kept : List (List ℕ)) (row : List ℕ) → AreNewRows K rows kept → IsSpanned K rows row →
+      AreNewRows K (rows ++ row ∷ []) kept
+
+-- the echelon form has the new ones of the matrix's rows: so it has their span, and all of them where they are
+-- independent, or as many
 pub record IsSpanOfRows (m : MatrixValue) (e : EchelonValue) : Type 0 where
   pub field : e.order ≡ m.order
   pub columns : e.cols ≡ m.cols
+  pub new : AreNewRows (number_field m.order) m.rows e.rows
   pub same : HaveSameSpan (number_field m.order) m.rows e.rows
   pub all : IsIndependent (number_field m.order) m.rows → e.rows ≡ m.rows
   pub as_many : length e.rows ≡ length m.rows → e.rows ≡ m.rows

@@ -1,8 +1,14 @@
 use Rattle.std.proofs.Common.{◌≡◌, ◌<◌, ◌≤◌, length, get_or, [], ap, sym, ◌∙◌, arith}
 use Rattle.axe_echelon.proofs.Exits.{no_memory}
 use Rattle.axe_row.specs.Rows.{RowValue}
-use Rattle.axe_echelon.proofs.SpanLaws.{span_more, span_whole}
+use Rattle.axe_echelon.proofs.SpanLaws.{span_none, span_more, span_whole}
 use Rattle.axe_echelon.proofs.spans.span_of.Goals as goal
+
+pub loop-index-init : goal.loop-index-init
+loop-index-init c =
+    span_none c.args.rows.now c.new-span.result
+    (c.new-span.ensures.no_rows ∙ λ t. record { order = c.field.ensures.order t; cols = c.cols.ensures.count t; rows = [] })
+    c.new-span.ensures.well_formed
 
 pub loop-index-preserved : goal.loop-index-preserved
 loop-index-preserved c =
@@ -12,7 +18,7 @@ loop-index-preserved c =
     let long : length c.in_ok-row.row.entries ≡ c.loop-index.span.cols =
     ap (λ (r : RowValue). length r.entries) c.in_ok-row.ensures.copied ∙ c.row.ensures.as_long ∙ sym c.loop-index.invariant.columns in
     span_more c.args.rows.now c.loop-index.index c.loop-index.span c.insert.new.self c.in_ok-row.row c.in_ok-insert.field-0 c.loop-index.invariant below row long
-    c.in_ok-insert.ensures.exactly.1 c.in_ok-insert.ensures.inserted c.insert.ensures.well_formed
+    c.in_ok-insert.ensures.exactly c.in_ok-insert.ensures.inserted c.insert.ensures.well_formed
 
 pub returns-clause-span : goal.returns-clause-span
 returns-clause-span c =
