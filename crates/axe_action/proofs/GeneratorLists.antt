@@ -2,14 +2,15 @@
 use Rattle.std.specs.Prelude.{◌≡◌, ◌≢◌, ℕ, ◌+◌, ◌<◌, ◌≤◌, List, [], ◌∷◌, ◌++◌, length, get_or, Option, None, Result, Ok}
 use Rattle.std.specs.List.{All}
 use Rattle.std.proofs.lemmas.Bool.{eq-eqb, ne_eqb}
-use Rattle.std.proofs.lemmas.List.{length-append, length-map, map-append, get_or_append_left, get_or-append-add, ext_get_or}
+use Rattle.std.proofs.lemmas.List.{length-append, length-map, map-append, append_assoc, get_or_append_left, get_or-append-add, ext_get_or}
 use Rattle.std.proofs.lemmas.List.Elements.{All-nil, All-head, All-tail, All-push}
 use Rattle.axe_field.specs.Order.{Order, order_number}
 use Rattle.axe_row.specs.declared.refusals.Refusal.{Refusal}
 use Rattle.axe_matrix.specs.Matrices.{MatrixValue}
+use Rattle.axe_matrix.proofs.MatrixLaws.{same_matrix}
 use Rattle.axe_spin.specs.Limits.{most_generators}
 use Rattle.axe_row.specs.Refusals.{first_of, unless_refused}
-use Rattle.axe_spin.specs.Modules.{ModuleValue, IsModule, generator_refusal, generators_refusal, rows_of_each, module_of_matrices}
+use Rattle.axe_spin.specs.Modules.{ModuleValue, IsModule, generator_of, generator_refusal, generators_refusal, rows_of_each, module_of_matrices}
 use Rattle.axe_spin.specs.Generators.{IsGeneratorMatrix}
 use mathlib.Core.Path.{refl, sym, ◌∙◌, ap, subst}
 use native.Mathlib.Omega.{arith}
@@ -111,3 +112,85 @@ some_made m order dim P count gens matrices h are same many = omega (arith, are.
 pub made_fit : (m : ModuleValue) (order : Order) (dim : ℕ) (P : ℕ → List (List ℕ) → Type 0) (count gens : ℕ) (matrices : List MatrixValue) → IsModule m →
     AreNewGenerators order dim P count matrices → gens ≡ length m.generators → count ≤ gens → length matrices ≤ most_generators
 made_fit m order dim P count gens matrices h are same few = omega (arith, are.as_many, h.generators_fit)
+
+-- ---- the generators of a module, taken from it one by one
+
+-- the matrices are the generators of a module, in their order
+pub record AreGeneratorsOf (m : ModuleValue) (matrices : List MatrixValue) : Type 0 where
+  pub lists : rows_of_each matrices ≡ m.generators
+  pub each : All (IsGeneratorMatrix m.order m.dim) matrices
+
+module _ (m : ModuleValue) (done rest : List MatrixValue) (are : AreGeneratorsOf m (done ++ rest)) where
+  -- where none is left, all were taken
+  pub generators_whole : rest ≡ [] → length done ≡ length m.generators
+  generators_whole none =
+      let all : length (rows_of_each (done ++ rest)) ≡ length (done ++ rest) = length-map (done ++ rest) (λ (x : MatrixValue). x.rows) in
+      let same : length (rows_of_each (done ++ rest)) ≡ length m.generators = ap (λ (l : List (List (List ℕ))). length l) are.lists in
+      let left : length rest ≡ 0 = ap (λ (l : List MatrixValue). length l) none in
+      omega (arith, all, same, left, length-append done rest)
+
+  module _ (g : MatrixValue) (next : List MatrixValue) (is : rest ≡ g ∷ next) where
+    -- the next one
+    pub next_below : length done < length m.generators
+    next_below =
+        let all : length (rows_of_each (done ++ rest)) ≡ length (done ++ rest) = length-map (done ++ rest) (λ (x : MatrixValue). x.rows) in
+        let same : length (rows_of_each (done ++ rest)) ≡ length m.generators = ap (λ (l : List (List (List ℕ))). length l) are.lists in
+        let left : length rest ≡ length (g ∷ next) = ap (λ (l : List MatrixValue). length l) is in
+        omega (arith, all, same, left, length-append done rest)
+
+    pub next_generator : IsGeneratorMatrix m.order m.dim g
+    next_generator = subst (IsGeneratorMatrix m.order m.dim) at (are.each (length done) g inside)
+      where
+        inside : length done < length (done ++ rest)
+        inside =
+            let left : length rest ≡ length (g ∷ next) = ap (λ (l : List MatrixValue). length l) is in
+            omega (arith, left, length-append done rest)
+
+        at : get_or (done ++ rest) (length done) g ≡ g
+        at =
+            let place : length done ≡ length done + 0 = omega arith in
+            ap (λ (l : List MatrixValue). get_or (done ++ l) (length done) g) is
+            ∙ ap (λ k. get_or (done ++ g ∷ next) k g) place
+            ∙ get_or-append-add done (g ∷ next) 0 g
+
+    pub next_is : g ≡ generator_of m (length done)
+    next_is = same_matrix g (generator_of m (length done)) next_generator.field next_generator.columns (sym at)
+      where
+        many : length (rows_of_each done) ≡ length done
+        many = length-map done (λ (x : MatrixValue). x.rows)
+
+        lists : m.generators ≡ rows_of_each done ++ g.rows ∷ rows_of_each next
+        lists =
+            sym are.lists ∙ ap (λ (l : List MatrixValue). rows_of_each (done ++ l)) is
+            ∙ map-append (λ (x : MatrixValue). x.rows) done (g ∷ next)
+
+        at : get_or m.generators (length done) [] ≡ g.rows
+        at =
+            let place : length done ≡ length (rows_of_each done) + 0 = omega (arith, many) in
+            ap (λ (l : List (List (List ℕ))). get_or l (length done) []) lists
+            ∙ ap (λ k. get_or (rows_of_each done ++ g.rows ∷ rows_of_each next) k []) place
+            ∙ get_or-append-add (rows_of_each done) (g.rows ∷ rows_of_each next) 0 []
+
+    -- and those that are left
+    pub generators_left : AreGeneratorsOf m ((done ++ g ∷ []) ++ next)
+    generators_left = subst (AreGeneratorsOf m) (ap (λ (l : List MatrixValue). done ++ l) is ∙ sym (append_assoc done (g ∷ []) next)) are
+
+-- one more, made of the next one
+pub generators_next : (order : Order) (dim : ℕ) (P : ℕ → List (List ℕ) → Type 0) (done : List MatrixValue) (g : MatrixValue) (matrices next : List MatrixValue)
+    (made : MatrixValue) → AreNewGenerators order dim P (length done) matrices → next ≡ matrices ++ made ∷ [] → IsGeneratorMatrix order dim made →
+    P (length done) made.rows → AreNewGenerators order dim P (length (done ++ g ∷ [])) next
+generators_next order dim P done g matrices next made are is generator holds =
+    let grown : length done + 1 ≡ length (done ++ g ∷ []) = omega (arith, length-append done (g ∷ [])) in
+    subst (λ count. AreNewGenerators order dim P count next) grown
+    (generators_more order dim P (length done) matrices next made are is generator holds)
+
+-- as many were made as there are
+pub all_made : (m : ModuleValue) (order : Order) (dim : ℕ) (P : ℕ → List (List ℕ) → Type 0) (done rest matrices : List MatrixValue) → IsModule m →
+    AreGeneratorsOf m (done ++ rest) → AreNewGenerators order dim P (length done) matrices → rest ≡ [] → 1 ≤ length matrices
+all_made m order dim P done rest matrices h left are none =
+    omega (arith, are.as_many, h.some_generator, generators_whole m done rest left none)
+
+pub all_fit : (m : ModuleValue) (order : Order) (dim : ℕ) (P : ℕ → List (List ℕ) → Type 0) (done rest matrices : List MatrixValue) → IsModule m →
+    AreGeneratorsOf m (done ++ rest) → AreNewGenerators order dim P (length done) matrices → rest ≡ [] → length matrices ≤ most_generators
+all_fit m order dim P done rest matrices h left are none =
+    omega (arith, are.as_many, h.generators_fit, generators_whole m done rest left none)
