@@ -138,13 +138,15 @@ fn subspace_of(alloc: Global, rows: &Matrix) -> Result<Subspace, TableFault> {
     Ok(space)
 }
 
-/// The basis of the space that a call gives of a matrix.
+/// The basis of the space that a call gives of a matrix, made beside the space and then of the space itself.
 fn gives_basis(alloc: Global, call: &str, rows: &Matrix, line: &str) -> Result<bool, TableFault> {
     let space = match call {
         "row_space" => row_space(alloc, rows)?,
         _ => subspace_of(alloc, rows)?,
     };
-    is_matrix(alloc, space.reduced(alloc), one_field(line)?)
+    let wanted = one_field(line)?;
+    let beside = is_matrix(alloc, space.reduced(alloc), wanted)?;
+    Ok(beside && is_matrix(alloc, space.into_reduced(alloc), wanted)?)
 }
 
 fn gives_point(alloc: Global, rows: &Matrix, line: &str) -> Result<bool, TableFault> {

@@ -37,7 +37,7 @@ pub(crate) fn proper_space(
     if space.dim() == module.dim() {
         Ok(None)
     } else {
-        Ok(Some(space.reduced(alloc)?))
+        Ok(Some(space.into_reduced(alloc)?))
     }
 }
 

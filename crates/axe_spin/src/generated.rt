@@ -20,7 +20,7 @@ pub fn generate(alloc: Global, module: &Module, seed: &Matrix) -> Result<Matrix,
     ensures basis { Answers (seed_refusal «module».now seed.now) (IsGeneratedMatrix «module».now seed.now) result }
     ensures well_formed { IfOk result IsMatrix }
 {
-    generated_space(alloc, module, seed)?.reduced(alloc)
+    generated_space(alloc, module, seed)?.into_reduced(alloc)
 }
 
 /// The same space as [`generate`] gives, by an echelon form of it. The refusals are the same.

@@ -18,5 +18,5 @@ returns c =
     c.empty-seed.ensures.no_rows c.in_ok-append.ensures.appended in
     let is : IsGeneratedSpace c.args.module.now (c.args.vector.entries ∷ []) c.in_ok-space.space =
     seed_accepted c.args.module.now c.args.vector.entries c.append.new.self _ seed c.requires.nonzero c.in_ok-space.ensures in
-    proper_generated c.args.module.now c.args.vector.entries c.in_ok-space.space is c.in_ok-reduced.field-0 c.in_ok-reduced.ensures.basis
-    c.in_ok-reduced.ensures.matrix_well_formed (λ full. c.if-dim.false (c.dim-2.ensures.count ∙ full ∙ sym c.dim-3.ensures.count))
+    proper_generated c.args.module.now c.args.vector.entries c.in_ok-space.space is c.in_ok-into_reduced.field-0 c.in_ok-into_reduced.ensures.basis
+    c.in_ok-into_reduced.ensures.matrix_well_formed (λ full. c.if-dim.false (c.dim-2.ensures.count ∙ full ∙ sym c.dim-3.ensures.count))

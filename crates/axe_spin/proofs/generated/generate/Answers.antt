@@ -16,6 +16,6 @@ returns-in_err-generated_space-clause-well_formed c = IfOk-from_err c.from_resid
 pub returns-clause-basis : goal.returns-clause-basis
 returns-clause-basis c =
     let space = c.in_ok-generated_space.field-0 in
-    goes_on (seed_refusal c.args.module.now c.args.seed.now) _ _ space c.reduced-2.result c.in_ok-generated_space.ensures
-    (λ is. answers_more c.reduced-2.result _ _ c.reduced-2.ensures.basis
+    goes_on (seed_refusal c.args.module.now c.args.seed.now) _ _ space c.into_reduced.result c.in_ok-generated_space.ensures
+    (λ is. answers_more c.into_reduced.result _ _ c.into_reduced.ensures.basis
     (λ basis reduced. generated_matrix c.args.module.now c.args.seed.now basis space is reduced))
