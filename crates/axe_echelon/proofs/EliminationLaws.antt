@@ -248,9 +248,6 @@ module _ (o : Order) (n : ℕ) (steps : List Step) (are : AreSteps o n steps) (e
       subst (λ (x : EchelonValue). IsSpanned (number_field x.order) x.rows first.entries) view
       (spanned_if_nothing_left o n steps are first row multipliers cleared zeros)
 
-  pub row_is_outside : (column : ℕ) → IsFirstNonzero row.entries column → ¬ (IsSpanned (number_field e.order) e.rows first.entries)
-  row_is_outside column leads spanned = leads.nonzero (row_spanned_leaves_none spanned column 0 leads.within)
-
   pub step_of_new_row : (step : Step) (column : ℕ) → IsFirstNonzero row.entries column → IsScaledStep first row column multipliers step →
       IsNextStep (echelon_of o n steps) (echelon_rows steps) first.entries step
   step_of_new_row step column leads scaled = next_step_of o n steps are first row multipliers cleared step column over_first leads scaled

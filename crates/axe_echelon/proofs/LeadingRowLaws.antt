@@ -1,5 +1,5 @@
 -- Rows of an echelon form that move one by one into the reduced basis.
-use Rattle.std.specs.Prelude.{◌≡◌, ◌≢◌, ℕ, suc, ◌+◌, ◌<◌, ◌≤◌, ◌↔◌, List, All, [], ◌∷◌, ◌++◌, length, get_or}
+use Rattle.std.specs.Prelude.{◌≡◌, ◌≢◌, ℕ, suc, ◌+◌, ◌-◌, ◌<◌, ◌≤◌, ◌↔◌, List, All, [], ◌∷◌, ◌++◌, length, get_or, set}
 use Rattle.std.proofs.lemmas.List.{length-map, length-set, get_or_default, get_or-set_same, get_or-set_other}
 use Rattle.axe_algebra.specs.NumberField.{NumberField}
 use Rattle.axe_algebra.specs.Field.{Field}
@@ -20,7 +20,7 @@ use Rattle.axe_matrix.specs.Matrices.{MatrixValue, IsMatrix}
 use Rattle.axe_echelon.specs.Echelons.{EchelonValue}
 use Rattle.axe_echelon.specs.Steps.{inserted_rows, echelon_rows, pivots, echelon_of, IsStep, AreTabledSteps, IsPivotRow}
 use Rattle.axe_echelon.specs.Subspaces.{step_of, steps_of}
-use Rattle.axe_echelon.specs.PivotTables.{marks_of, HasRoom, IsPivotAt}
+use Rattle.axe_echelon.specs.PivotTables.{marks_in, marks_of, HasRoom, IsPivotAt}
 use Rattle.axe_echelon.specs.LeadingRows.{IsLeadingRow, IsRowOf, HasRowsFrom, IsTakenOut, IsClearedAfter}
 use Rattle.axe_echelon.specs.declared.Step.{Step}
 use Rattle.axe_echelon.specs.declared.pivot_table.PivotTable.{PivotTable}
@@ -158,6 +158,47 @@ module _ (rows after : List PivotRow) (table told : PivotTable) (column : ℕ) (
       let some_row : PivotRow = record { pivot = 0; row = row } in
       let p : PivotRow = get_or rows index some_row in
       subst P (sym (out.taken p (get_or_default rows index some_row p below))) (each index some_row below)
+
+-- the pivot of the row that moves is that of a row
+pub left_fits : (rows after : List PivotRow) (index n room : ℕ) (other : PivotRow) → All (λ (p : PivotRow). p.pivot < room) rows → n ≡ length rows →
+    length after + 1 ≡ length rows → ((p : PivotRow) → index + 1 < n → get_or after index p ≡ get_or rows (n - 1) p) → index < length after →
+    other ≡ get_or after index other → other.pivot < room
+left_fits rows after index n room other fits counted count moved inside is =
+    subst (λ (p : PivotRow). p.pivot < room) (sym (is ∙ moved other (omega (arith, inside, count, counted)))) (fits (n - 1) other (omega (arith, inside, count, counted)))
+
+-- as the code takes it out: there are n rows; another has moved, or it was the last
+module _ (rows after : List PivotRow) (table told : PivotTable) (column index n : ℕ) (first : PivotRow) (place : index ≡ get_or table.rows.items column 0)
+    (below : index < n) (counted : n ≡ length rows) (is : first ≡ get_or rows index first) (count : length after + 1 ≡ length rows)
+    (moved : (p : PivotRow) → index + 1 < n → get_or after index p ≡ get_or rows (n - 1) p)
+    (others : (k : ℕ) (p : PivotRow) → k ≢ index → k + 1 < n → get_or after k p ≡ get_or rows k p) where
+  pub taken_out_of : marks_of told ≡ marks_of table →
+      ((p : PivotRow) → index < length after → p ≡ get_or after index p → told.rows.items ≡ set table.rows.items p.pivot index) →
+      (length after ≤ index → told.rows.items ≡ table.rows.items) → IsTakenOut rows table column after told first.row
+  taken_out_of marks noted kept = subst (λ i. (marks_of told ≡ marks_of table) →
+      ((p : PivotRow) → i < length after → p ≡ get_or after i p → told.rows.items ≡ set table.rows.items p.pivot i) →
+      (length after ≤ i → told.rows.items ≡ table.rows.items) → IsTakenOut rows table column after told first.row) (sym place) at marks noted kept
+    where
+      at : marks_of told ≡ marks_of table →
+          ((p : PivotRow) → get_or table.rows.items column 0 < length after → p ≡ get_or after (get_or table.rows.items column 0) p →
+          told.rows.items ≡ set table.rows.items p.pivot (get_or table.rows.items column 0)) →
+          (length after ≤ get_or table.rows.items column 0 → told.rows.items ≡ table.rows.items) → IsTakenOut rows table column after told first.row
+      at same_marks told_noted told_kept = record {
+        taken = λ p p_is. ap (λ (q : PivotRow). q.row) (is ∙ get_or_default rows index first p (omega (arith, below, counted)) ∙ ap (λ i. get_or rows i p) place ∙ sym p_is);
+        count = count;
+        others = λ k p other inside. others k p (λ e. other (e ∙ place)) (omega (arith, inside, count, counted));
+        moved = λ p inside. ap (λ i. get_or after i p) (sym place) ∙ moved p (omega (arith, inside, place, count, counted))
+            ∙ ap (λ i. get_or rows i p) (let last : n - 1 ≡ length after = omega (arith, count, counted) in last);
+        marks = same_marks;
+        noted = told_noted;
+        kept = told_kept;
+      }
+
+  pub taken_out_moved : (other : PivotRow) → index < length after → other ≡ get_or after index other → told.marks ≡ table.marks →
+      told.rows.items ≡ set table.rows.items other.pivot index → IsTakenOut rows table column after told first.row
+  taken_out_moved other inside other_is marks noted =
+      taken_out_of (ap marks_in marks)
+      (λ p within p_is. noted ∙ ap (λ (q : PivotRow). set table.rows.items q.pivot index) (other_is ∙ get_or_default after index other p within ∙ sym p_is))
+      (λ past. absurd (omega (arith, past, inside)))
 
 -- ---- the columns after one are cleared, up to a start
 

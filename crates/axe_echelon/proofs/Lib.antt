@@ -8,6 +8,7 @@ pub mod PivotTableLaws
 pub mod PivotLaws
 pub mod MoreStepsLaws
 pub mod EliminationLaws
+pub mod InsertLaws
 pub mod ReducedLaws
 pub mod InverseLaws
 pub mod NewRows

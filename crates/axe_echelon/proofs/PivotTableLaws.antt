@@ -1,13 +1,15 @@
 -- Tables of pivots: one more pivot, and the entries of a row at the columns that a table marks.
 use Rattle.std.specs.Prelude.{◌≡◌, ◌≢◌, ℕ, suc, ◌+◌, ◌<◌, ◌≤◌, List, [], ◌∷◌, ◌++◌, length, get_or, set, cond, eqb, Bool, true, false}
-use Rattle.std.specs.Prelude.{Option, Some, None, MatchOption}
+use Rattle.std.specs.Prelude.{Option, Some, None, MatchOption, replicate, is_some, not}
+use Rattle.std.proofs.Common.{true≢false}
 use Rattle.std.proofs.lemmas.Bool.{eq-eqb, ne_eqb}
-use Rattle.std.proofs.lemmas.List.{length-append, length-set, get_or_past, get_or_append_left, get_or-append-add, get_or-set_same, get_or-set_other}
+use Rattle.std.proofs.lemmas.List.{length-append, length-replicate, length-set, get_or_past, get_or_append_left, get_or-append-add, get_or-set_same, get_or-set_other}
 use Rattle.axe_algebra.proofs.ListEntries.{listed_at, listed_length}
 use Rattle.axe_bits.specs.Supports.{restricted}
 use Rattle.axe_lane.specs.Entries.{IsNextNonzero}
 use Rattle.axe_echelon.specs.PivotTables.{marks_in, marks_of, HasRoom, IsPivotAt, HasPivots}
 use Rattle.axe_echelon.specs.declared.pivot_table.PivotTable.{PivotTable}
+use Rattle.axe_echelon.proofs.StepLaws.{get_or_copies}
 use mathlib.Core.Path.{refl, sym, ◌∙◌, ap, subst}
 use native.Mathlib.Omega.{arith}
 use native.Mathlib.Decide.{ℕ_discrete, dec_lt}
@@ -58,6 +60,27 @@ marks_of_room (Some marks) A B some h = h
 pub room_if_marked : (cols : ℕ) (pivots : List ℕ) (table : PivotTable) (column : ℕ) → HasPivots cols pivots table → get_or (marks_of table) column 0 ≢ 0 →
     HasRoom cols table
 room_if_marked cols pivots table column h marked = room_of_marks table.marks (length pivots ≡ 0) (HasRoom cols table) column h.room marked
+
+-- there are no marks
+pub no_marks : (m : Option (List ℕ)) (none : Bool) → is_some m ≡ not none → none ≡ true → m ≡ None
+no_marks None none is so = refl
+no_marks (Some marks) none is so = absurd (true≢false (is ∙ ap not so))
+
+-- a table that had no room, and has only zeros since
+module _ (cols : ℕ) (pivots : List ℕ) (old next : PivotTable) (h : HasPivots cols pivots old) (marks : List ℕ) (unmarked : old.marks ≡ None)
+    (marked : next.marks ≡ Some marks) (zeros : marks ≡ replicate cols 0) (long : length next.rows.items ≡ cols) where
+  pub room_made : HasRoom cols next
+  room_made = record { marks = ap (λ m. length (marks_in m)) marked ∙ ap length zeros ∙ length-replicate cols 0; rows = long }
+
+  pub pivots_stay : HasPivots cols pivots next
+  pivots_stay = record {
+    room = subst (λ m. MatchOption m (length pivots ≡ 0) (λ _. HasRoom cols next)) (sym marked) room_made;
+    marked = λ index below. absurd (omega (arith, below, none));
+    row = λ column there. absurd (there (ap (λ m. get_or (marks_in m) column 0) marked ∙ ap (λ l. get_or l column 0) zeros ∙ get_or_copies 0 cols column));
+  }
+    where
+      none : length pivots ≡ 0
+      none = subst (λ m. MatchOption m (length pivots ≡ 0) (λ _. HasRoom cols old)) unmarked h.room
 
 -- ---- one more pivot
 

@@ -15,7 +15,7 @@ ghost use Rattle.axe_matrix.specs.Limits.{most_columns};
 ghost use Rattle.axe_matrix.specs.Matrices.{IsMatrix};
 ghost use Rattle.axe_echelon.specs.Echelons.{IsEchelon, with_row_where, AreCoordinates, IsReducedMatrix};
 ghost use Rattle.axe_echelon.specs.Steps.{AreSteps, AreTabledSteps, IsCleared, IsSolved, IsScaledStep};
-ghost use Rattle.axe_echelon.specs.Steps.{IsPivotRow};
+ghost use Rattle.axe_echelon.specs.Steps.{IsNextStep, IsPivotRow, echelon_of, echelon_rows, inserted_rows};
 
 mod inverses;
 mod leading_rows;
@@ -129,14 +129,11 @@ impl Echelon {
         if self.rank() == self.cols() {
             return Ok(false);
         }
-        let mut rest = row.copy(self.alloc)?;
-        let mut multipliers = Row::zero(self.alloc, *self.field(), self.cols())?;
-        eliminate(&self.steps, &self.pivots, &mut rest, &mut multipliers);
-        let Some(pivot) = rest.first_nonzero() else {
+        let next = next_step(self.alloc, &self.steps, &self.pivots, row)?;
+        let Some(step) = next else {
             return Ok(false);
         };
-        let step = next_step(row, rest, pivot, multipliers);
-        let index = self.steps.len();
+        let (pivot, index) = (step.pivot, self.steps.len());
         // The table has room first, and tells the same: so where the push finds no memory nothing has changed.
         self.pivots.make_room(self.cols)?;
         self.steps.push(step)?;
@@ -267,9 +264,30 @@ fn solve(steps: &[Step], multipliers: &mut Row)
     }
 }
 
+/// The step that one more row gives, or `None` where the row is in the span of the inserted rows.
+fn next_step(
+    alloc: Global,
+    steps: &[Step],
+    pivots: &PivotTable,
+    row: Row,
+) -> Result<Option<Step>, Refusal>
+    requires steps { AreTabledSteps row.order (length row.entries) steps.now pivots.now }
+    ensures { Answers None (λ next. MatchOption next
+        (IsSpanned (number_field row.order) (inserted_rows steps.now) row.entries)
+        (IsNextStep (echelon_of row.order (length row.entries) steps.now) (echelon_rows steps.now) row.entries)) result }
+{
+    let mut rest = row.copy(alloc)?;
+    let mut multipliers = Row::zero(alloc, *row.field(), row.len())?;
+    eliminate(steps, pivots, &mut rest, &mut multipliers);
+    let Some(pivot) = rest.first_nonzero() else {
+        return Ok(None);
+    };
+    Ok(Some(scaled_step(row, rest, pivot, multipliers)))
+}
+
 /// The step of a row, from what is left of it, the column of the first entry of that, and the multipliers of what was
 /// added.
-fn next_step(inserted: Row, rest: Row, pivot: usize, multipliers: Row) -> Step
+fn scaled_step(inserted: Row, rest: Row, pivot: usize, multipliers: Row) -> Step
     requires { IsFirstNonzero rest.entries pivot }
     ensures { IsScaledStep inserted rest pivot multipliers result }
 {

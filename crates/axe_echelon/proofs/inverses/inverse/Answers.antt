@@ -1,4 +1,4 @@
-use Rattle.std.proofs.Common.{refl, sym, ◌∙◌}
+use Rattle.std.proofs.Common.{refl, sym, ◌∙◌, rules}
 use Rattle.axe_echelon.proofs.InverseLaws.{inverse_refusal-some}
 use Rattle.axe_echelon.proofs.inverses.inverse.Goals as goal
 
@@ -8,3 +8,18 @@ returns-then-rows-cols-clause-inverse c =
 
 pub returns-then-rows-cols-clause-well_formed : goal.returns-then-rows-cols-clause-well_formed
 returns-then-rows-cols-clause-well_formed c = tt
+
+pub returns-in-Some-clause-inverse : goal.returns-in-Some-clause-inverse
+returns-in-Some-clause-inverse c = search rules
+
+pub returns-in-Some-clause-well_formed : goal.returns-in-Some-clause-well_formed
+returns-in-Some-clause-well_formed c = search rules
+
+pub returns-in-None-clause-inverse : goal.returns-in-None-clause-inverse
+returns-in-None-clause-inverse c = search rules
+
+pub returns-in_err-inverse-clause-inverse : goal.returns-in_err-inverse-clause-inverse
+returns-in_err-inverse-clause-inverse c = search rules
+
+pub returns-in_err-inverse-clause-well_formed : goal.returns-in_err-inverse-clause-well_formed
+returns-in_err-inverse-clause-well_formed c = search rules
