@@ -1,5 +1,5 @@
 -- Generators that are made one by one, and the module that they make.
-use Rattle.std.specs.Prelude.{◌≡◌, ◌≢◌, ℕ, ◌+◌, ◌<◌, ◌≤◌, List, [], ◌∷◌, ◌++◌, length, get_or, Option, None, Result, Ok}
+use Rattle.std.specs.Prelude.{◌≡◌, ◌≢◌, ℕ, ◌+◌, ◌<◌, ◌≤◌, List, [], ◌∷◌, ◌++◌, length, get_or, Option, None, Result, Ok, Err}
 use Rattle.std.specs.List.{All}
 use Rattle.std.proofs.lemmas.Bool.{eq-eqb, ne_eqb}
 use Rattle.std.proofs.lemmas.List.{length-append, length-map, map-append, append_assoc, get_or_append_left, get_or-append-add, ext_get_or}
@@ -101,6 +101,15 @@ pub module_of_made : (order : Order) (dim : ℕ) (P : ℕ → List (List ℕ) �
     result ≡ Ok (record { order = order; dim = dim; generators = rows_of_each matrices })
 module_of_made order dim P count matrices result are some is = is ∙ module_of_generators order dim matrices (omega (arith, are.as_many)) are.each
 
+-- so such a list is not refused
+pub made_not_refused : (order : Order) (dim : ℕ) (P : ℕ → List (List ℕ) → Type 0) (count : ℕ) (matrices : List MatrixValue) (refusal : Refusal) →
+    AreNewGenerators order dim P count matrices → 1 ≤ count → Err refusal ≡ module_of_matrices matrices → ⊥
+made_not_refused order dim P count matrices refusal are some is =
+    different (record { order = order; dim = dim; generators = rows_of_each matrices }) (module_of_made order dim P count matrices (Err refusal) are some is)
+  where
+    different : (m : ModuleValue) → Err refusal ≡ Ok m → ⊥
+    different m same = cc
+
 -- where all generators of a module were taken, there is one, and there are no more than the limit
 pub all_taken : (taken gens count : ℕ) → gens ≡ count → gens ≤ taken → taken ≤ gens → taken ≡ count
 all_taken taken gens count same many few = omega arith
@@ -183,6 +192,10 @@ generators_next order dim P done g matrices next made are is generator holds =
     let grown : length done + 1 ≡ length (done ++ g ∷ []) = omega (arith, length-append done (g ∷ [])) in
     subst (λ count. AreNewGenerators order dim P count next) grown
     (generators_more order dim P (length done) matrices next made are is generator holds)
+
+-- where none is left, there was one
+pub some_yielded : (m : ModuleValue) (done rest : List MatrixValue) → IsModule m → AreGeneratorsOf m (done ++ rest) → rest ≡ [] → 1 ≤ length done
+some_yielded m done rest h left none = omega (arith, h.some_generator, generators_whole m done rest left none)
 
 -- as many were made as there are
 pub all_made : (m : ModuleValue) (order : Order) (dim : ℕ) (P : ℕ → List (List ℕ) → Type 0) (done rest matrices : List MatrixValue) → IsModule m →

@@ -7,9 +7,13 @@ pub mod SubRows
 pub mod SubBases
 pub mod QuotientSpans
 pub mod QuotientRows
+pub mod RepresentativeLaws
+pub mod EntryLaws
+pub mod CosetLaws
 pub mod ModuloLaws
 pub mod QuotientImages
 pub mod SubmoduleLaws
+pub mod SplitLaws
 pub mod DualLaws
 pub mod BasisLaws
 pub mod UnitRows

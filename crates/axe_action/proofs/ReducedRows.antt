@@ -21,6 +21,7 @@ use Rattle.axe_matrix.specs.Matrices.{MatrixValue, IsMatrix}
 use Rattle.axe_echelon.specs.Echelons.{EchelonValue, IsEchelon, IsReducedMatrix, IsSpanOfRows}
 use Rattle.axe_echelon.proofs.ReducedLaws.{pivot-below}
 use Rattle.axe_action.specs.Coordinates.{entries_at, ArePivotColumns, AreCoordinateColumns, IsIdentityAt}
+use Rattle.axe_action.specs.FreeColumns.{rows_to_span, AreReducedAt}
 use Rattle.axe_action.proofs.ColumnLaws.{coordinates_of_reduced}
 use mathlib.Core.Path.{refl, sym, ◌∙◌, ap, subst}
 use native.Mathlib.Omega.{arith}
@@ -81,12 +82,10 @@ module _ (rows : MatrixValue) (e : EchelonValue) (columns : List ℕ) where
       (All-from_get_or (λ column. column < e.cols) columns 0
       (λ t below. pivot-below e span.well_formed (get_or columns t 0) (pivots.each t below)))
 
--- the coordinates over rows that are the identity at the pivots are the entries there
-pub coordinates_at_identity : (rows : MatrixValue) (e : EchelonValue) (columns : List ℕ) → IsMatrix rows → IsSpanOfRows rows e →
-    ArePivotColumns e columns → length columns ≡ length rows.rows → IsIdentityAt columns rows.rows →
-    AreCoordinateColumns (number_field rows.order) rows.cols rows.rows columns
-coordinates_at_identity rows e columns rows_h span pivots count identity =
-    coordinates_of_reduced e rows columns span.well_formed reduced rows_h pivots
+-- rows that are the identity at the pivots are the reduced basis
+reduced_at_identity : (rows : MatrixValue) (e : EchelonValue) (columns : List ℕ) → IsSpanOfRows rows e → ArePivotColumns e columns →
+    length columns ≡ length rows.rows → IsIdentityAt columns rows.rows → IsReducedMatrix e rows
+reduced_at_identity rows e columns span pivots count identity = record { field = sym span.field; columns = sym span.columns; basis = basis }
   where
     K : NumberField
     K = number_field e.order
@@ -119,5 +118,25 @@ coordinates_at_identity rows e columns rows_h span pivots count identity =
       zero = zero;
     }
 
-    reduced : IsReducedMatrix e rows
-    reduced = record { field = sym span.field; columns = sym span.columns; basis = basis }
+-- and their coordinates are the entries there
+pub coordinates_at_identity : (rows : MatrixValue) (e : EchelonValue) (columns : List ℕ) → IsMatrix rows → IsSpanOfRows rows e →
+    ArePivotColumns e columns → length columns ≡ length rows.rows → IsIdentityAt columns rows.rows →
+    AreCoordinateColumns (number_field rows.order) rows.cols rows.rows columns
+coordinates_at_identity rows e columns rows_h span pivots count identity =
+    coordinates_of_reduced e rows columns span.well_formed (reduced_at_identity rows e columns span pivots count identity) rows_h pivots
+
+-- independent rows are those of their span
+pub span_of_independent : (rows : MatrixValue) (e : EchelonValue) → IsIndependent (number_field rows.order) rows.rows → IsSpanOfRows rows e →
+    e ≡ rows_to_span rows
+span_of_independent rows e independent span = λ i. record { order = span.field i; cols = span.columns i; rows = span.all independent i }
+
+pub reduced_at : (rows : MatrixValue) (e : EchelonValue) (columns : List ℕ) → IsMatrix rows → IsIndependent (number_field rows.order) rows.rows →
+    IsSpanOfRows rows e → ArePivotColumns e columns → IsIdentityAt columns rows.rows → AreReducedAt rows columns
+reduced_at rows e columns rows_h independent span pivots identity = record {
+  pivots = subst (λ x. ArePivotColumns x columns) (span_of_independent rows e independent span) pivots;
+  reduced = subst (λ x. IsReducedMatrix x rows) (span_of_independent rows e independent span) (reduced_at_identity rows e columns span pivots count identity);
+  coordinates = coordinates_at_identity rows e columns rows_h span pivots count identity;
+}
+  where
+    count : length columns ≡ length rows.rows
+    count = columns_as_many rows e columns independent span pivots

@@ -1,19 +1,28 @@
 -- What is known of submodules: the calls that test for them don't refuse them, and answer what is asked of them.
-use Rattle.std.specs.Prelude.{◌≡◌, ℕ, ◌<◌, List, [], length, get_or, None, Result, Ok, Err}
+use Rattle.std.specs.Prelude.{◌≡◌, ℕ, ◌+◌, ◌<◌, List, length, None, Result, Ok, Err, All}
 use Rattle.std.proofs.lemmas.Bool.{eq-eqb}
-use Rattle.axe_algebra.specs.ListArithmetic.{combination}
-use Rattle.axe_field.specs.Order.{Order, order_number}
-use Rattle.axe_field.specs.NumberFields.{number_field}
+use Rattle.axe_algebra.specs.Bridge.{matrix_of}
+use Rattle.axe_algebra.specs.SpansOfLists.{IsIndependent, HaveSameSpan}
+use Rattle.axe_algebra.proofs.Spanning.{span_row}
+use Rattle.axe_field.specs.Order.{order_number}
+use Rattle.axe_field.specs.NumberFields.{number_field, gf}
 use Rattle.axe_row.specs.Refusals.{Answers, AnswersOr}
 use Rattle.axe_row.specs.declared.refusals.Refusal.{Refusal}
 use Rattle.axe_matrix.specs.Matrices.{MatrixValue, IsMatrix, product_refusal, matrix_product}
-use Rattle.axe_matrix.proofs.ProductLaws.{product_refusal-none, get_or-product, length-product, IsMatrix-product}
-use Rattle.axe_spin.specs.Modules.{ModuleValue, IsInvariantIn, rows_refusal}
-use Rattle.axe_action.specs.Actions.{action_late}
-use Rattle.axe_action.specs.FreeColumns.{HasRowsModulo, HasUnitsModulo, HasRowsAt, AreFreeColumns, rows_to_span, row_at}
-use Rattle.axe_action.proofs.QuotientImages.{AreImagesModulo, action_at}
+use Rattle.axe_matrix.proofs.ProductLaws.{product_refusal-none, IsMatrix-product}
+use Rattle.axe_echelon.specs.Echelons.{EchelonValue, IsEchelon, IsSpanOfRows}
+use Rattle.axe_spin.specs.Modules.{ModuleValue, IsInvariantIn, SpansModule, rows_refusal}
+use Rattle.axe_action.specs.Actions.{action_late, quotient_late, IsActionModulo, IsProperActionModulo}
+use Rattle.axe_action.specs.Coordinates.{matrix_at, HasImagesIn, HasActionRows, AreCoordinateColumns}
+use Rattle.axe_action.specs.FreeColumns.{AreFreeColumns, rows_to_span}
+use Rattle.axe_action.proofs.ColumnLaws.{AreImagesAt, action_if_combined, combined_if_within}
+use Rattle.axe_action.proofs.EntryLaws.{lists_at_length, product_at_columns}
+use Rattle.axe_action.proofs.ReducedRows.{span_of_independent}
+use Rattle.axe_action.proofs.SubRows.{module_rows_over}
+use Rattle.axe_action.proofs.QuotientSpans.{full_if_spans}
+use Rattle.axe_action.proofs.QuotientRows.{free_count}
 use mathlib.Core.Logic.{inl, inr}
-use mathlib.Core.Path.{refl, sym, ◌∙◌, ap}
+use mathlib.Core.Path.{refl, sym, ◌∙◌, ap, subst}
 use native.Mathlib.Omega.{arith}
 
 -- rows whose span is invariant are not refused
@@ -27,45 +36,65 @@ invariant_answers m rows P (Err refusal) invariant (inr stands) = absurd (stands
 pub rows_accepted : (m : ModuleValue) (rows : MatrixValue) → rows.order ≡ m.order → rows.cols ≡ m.dim → rows_refusal m rows ≡ None
 rows_accepted m rows field fits = rw (eq-eqb _ _ (ap order_number field), eq-eqb _ _ fits) refl
 
--- the rows of a generator at the columns that are no pivots, times all unit vectors modulo the span of rows
-module _ (rows g units chosen : MatrixValue) (columns : List ℕ) (field : rows.order ≡ g.order) (fits : rows.cols ≡ g.cols)
-    (square : length g.rows ≡ g.cols) (g_h : IsMatrix g) (rows_h : IsMatrix rows) (free : AreFreeColumns (rows_to_span rows) columns)
-    (all : HasUnitsModulo (rows_to_span rows) columns units) (at : HasRowsAt g columns (length columns) chosen) where
-  pub chosen_accepted : product_refusal chosen units ≡ None
-  chosen_accepted =
-      product_refusal-none chosen units (ap order_number (at.field ∙ sym field ∙ sym all.field)) (at.width ∙ sym fits ∙ sym all.count)
+-- rows times the entries of a generator at the columns of their coordinates
+module _ (rows g chosen : MatrixValue) (columns : List ℕ) (field : rows.order ≡ g.order) (fits : rows.cols ≡ g.cols) (square : length g.rows ≡ g.cols)
+    (chosen_is : chosen ≡ matrix_at columns g) where
+  pub at_columns_accepted : product_refusal rows chosen ≡ None
+  at_columns_accepted =
+      product_refusal-none rows chosen (ap order_number (field ∙ sym (ap (λ (x : MatrixValue). x.order) chosen_is)))
+      (fits ∙ sym square ∙ sym (ap (λ (x : MatrixValue). length x.rows) chosen_is ∙ lists_at_length columns g.rows))
 
-  abbrev images : MatrixValue
-  images = matrix_product g units
+  -- they are the action of the generator, where the images of the rows are in their span
+  pub at_columns_act : (action : MatrixValue) → IsMatrix rows → IsMatrix g → AreCoordinateColumns (number_field rows.order) rows.cols rows.rows columns →
+      HasImagesIn g rows.rows rows.rows → action ≡ matrix_product rows chosen → IsMatrix action → HasActionRows g rows.rows (length rows.rows) action
+  at_columns_act action rows_h g_h coordinates within is formed =
+      action_if_combined g rows (matrix_product rows g) action columns are (combined_if_within g rows (matrix_product rows g) action columns are within)
+    where
+      are : AreImagesAt g rows (matrix_product rows g) action columns
+      are = record {
+        field = field;
+        fits = fits;
+        coordinates = coordinates;
+        made = refl;
+        images_well_formed = IsMatrix-product rows g rows_h g_h field;
+        entries = is ∙ ap (matrix_product rows) chosen_is
+            ∙ product_at_columns rows g columns (subst (λ n. All (λ column. column < n) columns) fits coordinates.within);
+        well_formed = formed;
+      }
 
-  are : AreImagesModulo rows g units images columns
-  are = record {
-    field = field;
-    fits = fits;
-    square = square;
-    generator_well_formed = g_h;
-    rows_well_formed = rows_h;
-    free = free;
-    all_units = all;
-    made = refl;
-    images_well_formed = IsMatrix-product g units g_h all.well_formed (sym field ∙ sym all.field);
-  }
+-- fewer independent rows than the dimension don't span everything
+pub not_everything : (m : ModuleValue) (rows : MatrixValue) → rows.order ≡ m.order → rows.cols ≡ m.dim → IsMatrix rows →
+    IsIndependent (number_field rows.order) rows.rows → length rows.rows < m.dim → ¬ (SpansModule m rows)
+not_everything m rows field fits rows_h independent small = λ all.
+    omega (
+      arith,
+      small,
+      full_if_spans (number_field m.order) m.dim rows.rows rows.rows (module_rows_over m rows rows_h field fits)
+          (subst (λ o. IsIndependent (number_field o) rows.rows) field independent) same all,
+    )
+  where
+    same : HaveSameSpan (number_field m.order) rows.rows rows.rows
+    same = record {
+      forth = span_row (gf m.order) (length rows.rows) (matrix_of (number_field m.order) rows.rows);
+      back = span_row (gf m.order) (length rows.rows) (matrix_of (number_field m.order) rows.rows);
+    }
 
-  -- they are the rows of the generator, modulo the span
-  pub chosen_modulo : (action : MatrixValue) → action ≡ matrix_product chosen units → IsMatrix action →
-      HasRowsModulo (rows_to_span rows) columns (row_at g.rows columns) (length columns) action
-  chosen_modulo action is formed = action_at rows g units images columns are action (record {
-    field = ap (λ (x : MatrixValue). x.order) is ∙ at.field;
-    width = ap (λ (x : MatrixValue). x.cols) is;
-    count = ap (λ (x : MatrixValue). length x.rows) is
-        ∙ length-product (number_field chosen.order) units.cols chosen.rows units.rows ∙ at.count;
-    well_formed = formed;
-    each = λ t below.
-        let inside : get_or columns t 0 < rows.cols = (free.each t below).below in
-        ap (λ (x : MatrixValue). get_or x.rows t []) is
-        ∙ get_or-product (number_field chosen.order) units.cols chosen.rows units.rows t (omega (arith, below, at.count))
-        ∙ ap (λ (o : Order). combination (number_field o) units.cols (get_or chosen.rows t []) units.rows) at.field
-        ∙ ap (λ (v : List ℕ). combination (number_field g.order) units.cols v units.rows) (at.each t below)
-        ∙ sym (get_or-product (number_field g.order) units.cols g.rows units.rows (get_or columns t 0)
-        (omega (arith, inside, fits, square)));
-  })
+-- the columns that are no pivots are no more than those of the rows, and there is one where there are fewer rows
+pub free_and_rows : (rows : MatrixValue) (e : EchelonValue) (columns : List ℕ) → IsIndependent (number_field rows.order) rows.rows → IsSpanOfRows rows e →
+    AreFreeColumns (rows_to_span rows) columns → length rows.rows + length columns ≡ rows.cols
+free_and_rows rows e columns independent span free =
+    free_count (rows_to_span rows) columns (subst IsEchelon (span_of_independent rows e independent span) span.well_formed) free
+
+-- a proper submodule is not refused by the call that tests for one
+pub proper_answers : (m : ModuleValue) (rows : MatrixValue) (result : Result ModuleValue Refusal) → rows_refusal m rows ≡ None →
+    ¬ (SpansModule m rows) → IsInvariantIn m rows → AnswersOr (rows_refusal m rows) (IsProperActionModulo m rows) (quotient_late m rows) result →
+    Answers None (IsActionModulo m rows) result
+proper_answers m rows result none proper invariant answer =
+    at result (subst (λ why. AnswersOr why (IsProperActionModulo m rows) (quotient_late m rows) result) none answer)
+  where
+    at : (result : Result ModuleValue Refusal) → AnswersOr None (IsProperActionModulo m rows) (quotient_late m rows) result →
+        Answers None (IsActionModulo m rows) result
+    at (Ok action) h = h.2
+    at (Err refusal) (inl memory) = memory
+    at (Err refusal) (inr (inl whole)) = absurd (proper whole.1)
+    at (Err refusal) (inr (inr moved)) = absurd (moved.1.1 invariant)

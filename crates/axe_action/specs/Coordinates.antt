@@ -42,6 +42,11 @@ matrix_at columns m = record {
   rows = listed (length m.rows) (λ i. entries_at columns (get_or m.rows i []));
 }
 
+-- the matrix of the rows of a matrix with these indices, in their order
+abbrev pub rows_chosen : List ℕ → MatrixValue → MatrixValue
+rows_chosen indices m =
+    record { order = m.order; cols = m.cols; rows = map (λ index. get_or m.rows index []) indices }
+
 -- each row has the unit vector of its number at these columns: there the rows are the identity
 abbrev pub IsIdentityAt : List ℕ → List (List ℕ) → Type 0
 IsIdentityAt columns rows =

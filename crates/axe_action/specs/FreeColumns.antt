@@ -5,9 +5,12 @@ use Rattle.axe_algebra.specs.Reduced.{IsAscendingListOf}
 use Rattle.axe_algebra.specs.Actions.{IsFree}
 use Rattle.axe_algebra.specs.Lists.{IsVectorOver, unit_row}
 use Rattle.axe_algebra.specs.SpansOfLists.{IsRepresentative}
+use Rattle.axe_field.specs.Arithmetic.{field_neg}
 use Rattle.axe_field.specs.NumberFields.{number_field, gf}
 use Rattle.axe_matrix.specs.Matrices.{MatrixValue, IsMatrix}
-use Rattle.axe_echelon.specs.Echelons.{EchelonValue}
+use Rattle.axe_matrix.specs.Products.{matrix_with_product}
+use Rattle.axe_echelon.specs.Echelons.{EchelonValue, IsReducedMatrix}
+use Rattle.axe_action.specs.Coordinates.{matrix_at, rows_chosen, ArePivotColumns, AreCoordinateColumns}
 
 -- the column is no pivot of the rows' span
 abbrev pub IsFreeColumn : EchelonValue → ℕ → Type 0
@@ -53,3 +56,18 @@ pub record HasRowsAt (m : MatrixValue) (indices : List ℕ) (i : ℕ) (matrix : 
   pub count : length matrix.rows ≡ i
   pub well_formed : IsMatrix matrix
   pub each : (t : ℕ) → t < i → get_or matrix.rows t [] ≡ row_at m.rows indices t
+
+-- the rows of g at these columns, modulo a span with these pivots and no others than them, by the entries of its reduced
+-- basis at the columns: the rows' entries at the columns, minus their entries at the pivots times those (the reduced row
+-- echelon form of any linear algebra text)
+abbrev pub matrix_modulo : List ℕ → List ℕ → MatrixValue → MatrixValue → MatrixValue
+matrix_modulo pivots columns entries g =
+    matrix_with_product (matrix_at columns (rows_chosen columns g)) (field_neg g.order 1)
+    (matrix_at pivots (rows_chosen columns g)) entries
+
+-- the rows are the reduced basis of their span, with its pivots at these columns, so that there the entries of a vector
+-- of the span are its coordinates (the reduced row echelon form of any linear algebra text)
+pub record AreReducedAt (rows : MatrixValue) (columns : List ℕ) : Type 0 where
+  pub pivots : ArePivotColumns (rows_to_span rows) columns
+  pub reduced : IsReducedMatrix (rows_to_span rows) rows
+  pub coordinates : AreCoordinateColumns (number_field rows.order) rows.cols rows.rows columns

@@ -12,8 +12,9 @@ ghost use Rattle.axe_spin.specs.Spinning.{has_only_zeros};
 ghost use Rattle.axe_action.specs.Actions.{quotient_late, action_late, IsActionModulo, IsProperActionModulo};
 ghost use Rattle.axe_action.specs.Coordinates.{HasImagesIn};
 ghost use Rattle.axe_action.specs.FreeColumns.{IsFreeColumn, AreFreeColumns, IsRowModulo, HasRowsModulo};
-ghost use Rattle.axe_action.specs.FreeColumns.{HasUnitsModulo, HasRowsAt, rows_to_span, row_at};
+ghost use Rattle.axe_action.specs.FreeColumns.{HasUnitsModulo, HasRowsAt, rows_to_span, row_at, matrix_modulo};
 
+use super::columns::block_at;
 use axe_echelon::{Echelon, span_of};
 use axe_matrix::{Matrix, Refusal, Row};
 use axe_spin::{Module, has_only_zeros};
@@ -65,11 +66,7 @@ fn is_free(span: &Echelon, column: usize) -> bool
 
 /// The matrix of all unit vectors modulo a span, in order, so that a vector times it is the vector modulo the span: the
 /// entries, at the columns that are no pivots, of the one vector of the coset that is 0 at each pivot.
-pub(crate) fn units_modulo(
-    alloc: Global,
-    span: &Echelon,
-    columns: &[usize],
-) -> Result<Matrix, Refusal>
+fn units_modulo(alloc: Global, span: &Echelon, columns: &[usize]) -> Result<Matrix, Refusal>
     requires free { AreFreeColumns span.now columns.now }
     requires some_column { 1 ≤ length columns.now }
     ensures { Answers None (HasUnitsModulo span.now columns.now) result }
@@ -160,6 +157,36 @@ fn generator_modulo(
     rows_at(alloc, &images, columns)
 }
 
+/// The matrix by which a generator acts modulo a span with these pivots and other columns: its rows at these columns,
+/// modulo the span. At these columns a vector modulo the span is the vector minus the combination, with its entries at
+/// the pivots, of the rows of the entries: those of the span's reduced basis there.
+pub(crate) fn generator_on_cosets(
+    alloc: Global,
+    generator: &Matrix,
+    pivots: &[usize],
+    columns: &[usize],
+    entries: &Matrix,
+) -> Result<Matrix, Refusal>
+    requires square { length generator.now.rows ≡ generator.now.cols }
+    requires field { entries.now.order ≡ generator.now.order }
+    requires some_pivot { 1 ≤ length pivots.now }
+    requires some_column { 1 ≤ length columns.now }
+    requires pivots_within { All (λ column. column < generator.now.cols) pivots.now }
+    requires columns_within { All (λ column. column < generator.now.cols) columns.now }
+    requires as_many { length entries.now.rows ≡ length pivots.now }
+    requires width { entries.now.cols ≡ length columns.now }
+    requires well_formed { IsMatrix entries.now }
+    ensures modulo { Answers None
+        (λ action. action ≡ matrix_modulo pivots.now columns.now entries.now generator.now) result }
+    ensures well_formed { IfOk result IsMatrix }
+{
+    let mut action = block_at(alloc, generator, columns, columns)?;
+    let at_pivots = block_at(alloc, generator, columns, pivots)?;
+    let minus_one = generator.field().neg(1);
+    action.add_product(alloc, minus_one, &at_pivots, entries)?;
+    Ok(action)
+}
+
 /// Whether the product of two matrices is zero.
 fn has_zero_product(alloc: Global, first: &Matrix, second: &Matrix) -> Result<bool, Refusal>
     requires field { first.now.order ≡ second.now.order }
@@ -172,7 +199,7 @@ fn has_zero_product(alloc: Global, first: &Matrix, second: &Matrix) -> Result<bo
 }
 
 /// The matrix of the rows of a matrix with these indices, in their order.
-pub(crate) fn rows_at(alloc: Global, matrix: &Matrix, indices: &[usize]) -> Result<Matrix, Refusal>
+fn rows_at(alloc: Global, matrix: &Matrix, indices: &[usize]) -> Result<Matrix, Refusal>
     requires within { All (λ index. index < length matrix.now.rows) indices.now }
     requires indices_fit { length indices.now ≤ most_rows }
     ensures { Answers None (HasRowsAt matrix.now indices.now (length indices.now)) result }

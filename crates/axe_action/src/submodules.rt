@@ -4,16 +4,16 @@ ghost use Rattle.std.specs.Prelude.{◌≡◌, ◌<◌, ◌≤◌, length, None,
 ghost use Rattle.axe_algebra.specs.SpansOfLists.{IsIndependent};
 ghost use Rattle.axe_field.specs.NumberFields.{number_field};
 ghost use Rattle.axe_row.specs.Refusals.{Answers};
-ghost use Rattle.axe_matrix.specs.Limits.{most_rows};
+ghost use Rattle.axe_matrix.specs.Limits.{most_columns};
 ghost use Rattle.axe_matrix.specs.Matrices.{IsMatrix};
 ghost use Rattle.axe_echelon.specs.Echelons.{IsSpanOfRows};
 ghost use Rattle.axe_spin.specs.Modules.{IsModule, IsInvariantIn};
 ghost use Rattle.axe_action.specs.Actions.{IsBasisAction, IsActionModulo};
 ghost use Rattle.axe_action.specs.Coordinates.{HasImagesIn, HasActionRows, AreCoordinateColumns};
-ghost use Rattle.axe_action.specs.FreeColumns.{AreFreeColumns, HasRowsModulo, HasUnitsModulo, rows_to_span, row_at};
+ghost use Rattle.axe_action.specs.FreeColumns.{AreFreeColumns, AreReducedAt, rows_to_span};
 
 use super::columns::{columns_of, coordinate_columns};
-use super::quotients::{free_columns, rows_at, units_modulo};
+use super::quotients::{free_columns, generator_on_cosets, quotient_action};
 use super::subspaces::action_over;
 use axe_echelon::{Echelon, span_of};
 use axe_matrix::{Matrix, Refusal};
@@ -52,9 +52,7 @@ pub fn split_by_submodule(alloc: Global, module: Module, rows: &Matrix) -> Resul
 {
     let span = span_of(alloc, rows)?;
     let columns = free_columns(alloc, &span)?;
-    let modulo = units_modulo(alloc, &span, &columns)?;
-    let sub = action_in_span(alloc, &module, rows, span)?;
-    let quotient = action_by_units(alloc, &module, rows, &columns, &modulo)?;
+    let (sub, quotient) = both_actions(alloc, module, rows, span, &columns)?;
     Ok(Split {
         sub,
         quotient,
@@ -62,124 +60,94 @@ pub fn split_by_submodule(alloc: Global, module: Module, rows: &Matrix) -> Resul
     })
 }
 
-/// The action of a module on a submodule, over independent rows that span it. Their span is given too.
-fn action_in_span(
+/// The action of a module on a submodule, over independent rows that span it, and that modulo it. Their span is given
+/// too, and the columns that are no pivots of it.
+fn both_actions(
     alloc: Global,
-    module: &Module,
+    module: Module,
     rows: &Matrix,
     span: Echelon,
-) -> Result<Module, Refusal>
-    requires field { rows.now.order ≡ «module».now.order }
-    requires fits { rows.now.cols ≡ «module».now.dim }
+    columns: &[usize],
+) -> Result<(Module, Module), Refusal>
+    requires field { rows.now.order ≡ «module».order }
+    requires fits { rows.now.cols ≡ «module».dim }
     requires some_row { 1 ≤ length rows.now.rows }
     requires independent { IsIndependent (number_field rows.now.order) rows.now.rows }
     requires well_formed { IsMatrix rows.now }
     requires span { IsSpanOfRows rows.now span }
-    requires invariant { IsInvariantIn «module».now rows.now }
-    ensures action { Answers None (IsBasisAction «module».now rows.now) result }
-    ensures well_formed { IfOk result IsModule }
+    requires free { AreFreeColumns (rows_to_span rows.now) columns.now }
+    requires proper { length rows.now.rows < «module».dim }
+    requires invariant { IsInvariantIn «module» rows.now }
+    ensures sub { Answers None (λ actions. IsBasisAction «module» rows.now actions.0) result }
+    ensures quotient { Answers None (λ actions. IsActionModulo «module» rows.now actions.1) result }
+    ensures well_formed { IfOk result (λ actions. IsModule actions.0 × IsModule actions.1) }
 {
-    let Some(columns) = coordinate_columns(alloc, rows, &span)? else {
-        return action_over(alloc, module, rows, &span);
+    let Some(pivots) = coordinate_columns(alloc, rows, &span)? else {
+        let sub = action_over(alloc, &module, rows, &span)?;
+        let quotient = quotient_action(alloc, &module, rows)?;
+        return Ok((sub, quotient));
     };
     // A submodule mostly comes as its reduced basis, and then products do. The memory of the span is free again before
     // they are made.
     drop(span);
-    action_at_columns(alloc, module, rows, &columns)
+    actions_at_pivots(alloc, module, rows, &pivots, columns)
 }
 
-/// The action of a module on a submodule, over rows that span it. The coordinates of the vectors of their span are the
-/// entries at some columns.
-fn action_at_columns(
+/// The action of a module on a submodule, over its reduced basis, and that modulo it. Its pivots are given too, and the
+/// other columns. Each generator is dropped as soon as its two parts are made, so that beside what is left of the
+/// module the parts take memory, and one product.
+fn actions_at_pivots(
     alloc: Global,
-    module: &Module,
+    module: Module,
     rows: &Matrix,
+    pivots: &[usize],
     columns: &[usize],
-) -> Result<Module, Refusal>
-    requires field { rows.now.order ≡ «module».now.order }
-    requires fits { rows.now.cols ≡ «module».now.dim }
+) -> Result<(Module, Module), Refusal>
+    requires field { rows.now.order ≡ «module».order }
+    requires fits { rows.now.cols ≡ «module».dim }
     requires some_row { 1 ≤ length rows.now.rows }
     requires well_formed { IsMatrix rows.now }
-    requires coordinates { AreCoordinateColumns (number_field rows.now.order) rows.now.cols rows.now.rows columns.now }
-    requires invariant { IsInvariantIn «module».now rows.now }
-    ensures action { Answers None (IsBasisAction «module».now rows.now) result }
-    ensures well_formed { IfOk result IsModule }
+    requires reduced { AreReducedAt rows.now pivots.now }
+    requires free { AreFreeColumns (rows_to_span rows.now) columns.now }
+    requires some_column { 1 ≤ length columns.now }
+    requires columns_fit { length columns.now ≤ most_columns }
+    requires invariant { IsInvariantIn «module» rows.now }
+    ensures sub { Answers None (λ actions. IsBasisAction «module» rows.now actions.0) result }
+    ensures quotient { Answers None (λ actions. IsActionModulo «module» rows.now actions.1) result }
+    ensures well_formed { IfOk result (λ actions. IsModule actions.0 × IsModule actions.1) }
 {
-    let mut actions = Vec::new(alloc);
-    for number in 0..module.gens() {
-        let action = generator_at_columns(alloc, module.generator(number), rows, columns)?;
-        actions.push(action)?;
+    let entries = columns_of(alloc, rows, columns)?;
+    let mut subs = Vec::new(alloc);
+    let mut quotients = Vec::new(alloc);
+    for generator in module.into_generators() {
+        let quotient = generator_on_cosets(alloc, &generator, pivots, columns, &entries)?;
+        quotients.push(quotient)?;
+        let sub = generator_at_columns(alloc, generator, rows, pivots)?;
+        subs.push(sub)?;
     }
-    Module::new(actions)
+    Ok((Module::new(subs)?, Module::new(quotients)?))
 }
 
 /// The matrix by which a generator acts on rows whose images are in their span: the entries of the images at the
-/// columns of the coordinates.
+/// columns of the coordinates. These are the rows times the generator's entries there.
 fn generator_at_columns(
     alloc: Global,
-    generator: &Matrix,
+    generator: Matrix,
     rows: &Matrix,
     columns: &[usize],
 ) -> Result<Matrix, Refusal>
-    requires square { length generator.now.rows ≡ generator.now.cols }
+    requires square { length generator.rows ≡ generator.cols }
+    requires generator_well_formed { IsMatrix generator }
+    requires well_formed { IsMatrix rows.now }
     requires some_row { 1 ≤ length rows.now.rows }
-    requires field { rows.now.order ≡ generator.now.order }
-    requires fits { rows.now.cols ≡ generator.now.cols }
+    requires field { rows.now.order ≡ generator.order }
+    requires fits { rows.now.cols ≡ generator.cols }
     requires coordinates { AreCoordinateColumns (number_field rows.now.order) rows.now.cols rows.now.rows columns.now }
-    requires within { HasImagesIn generator.now rows.now.rows rows.now.rows }
-    ensures { Answers None (HasActionRows generator.now rows.now.rows (length rows.now.rows)) result }
+    requires within { HasImagesIn generator rows.now.rows rows.now.rows }
+    ensures { Answers None (HasActionRows generator rows.now.rows (length rows.now.rows)) result }
 {
-    let images = rows.mul(alloc, generator)?;
-    columns_of(alloc, &images, columns)
-}
-
-/// The action of a module modulo a submodule, over the unit vectors of the columns that are no pivots. All unit vectors
-/// modulo the submodule are given too.
-fn action_by_units(
-    alloc: Global,
-    module: &Module,
-    rows: &Matrix,
-    columns: &[usize],
-    units: &Matrix,
-) -> Result<Module, Refusal>
-    requires field { rows.now.order ≡ «module».now.order }
-    requires fits { rows.now.cols ≡ «module».now.dim }
-    requires well_formed { IsMatrix rows.now }
-    requires free { AreFreeColumns (rows_to_span rows.now) columns.now }
-    requires columns_fit { length columns.now ≤ most_rows }
-    requires units { HasUnitsModulo (rows_to_span rows.now) columns.now units.now }
-    requires invariant { IsInvariantIn «module».now rows.now }
-    ensures action { Answers None (IsActionModulo «module».now rows.now) result }
-    ensures well_formed { IfOk result IsModule }
-{
-    let mut actions = Vec::new(alloc);
-    for number in 0..module.gens() {
-        let action = generator_by_units(alloc, module.generator(number), rows, columns, units)?;
-        actions.push(action)?;
-    }
-    Module::new(actions)
-}
-
-/// The matrix by which a generator acts modulo the span of rows: its rows at the columns that are no pivots, modulo
-/// the span. A vector times all unit vectors modulo the span is the vector modulo the span.
-fn generator_by_units(
-    alloc: Global,
-    generator: &Matrix,
-    rows: &Matrix,
-    columns: &[usize],
-    units: &Matrix,
-) -> Result<Matrix, Refusal>
-    requires square { length generator.now.rows ≡ generator.now.cols }
-    requires generator_well_formed { IsMatrix generator.now }
-    requires field { rows.now.order ≡ generator.now.order }
-    requires fits { rows.now.cols ≡ generator.now.cols }
-    requires well_formed { IsMatrix rows.now }
-    requires free { AreFreeColumns (rows_to_span rows.now) columns.now }
-    requires columns_fit { length columns.now ≤ most_rows }
-    requires units { HasUnitsModulo (rows_to_span rows.now) columns.now units.now }
-    ensures { Answers None (HasRowsModulo (rows_to_span rows.now) columns.now (row_at generator.now.rows columns.now)
-        (length columns.now)) result }
-{
-    let chosen = rows_at(alloc, generator, columns)?;
-    chosen.mul(alloc, units)
+    let at_columns = columns_of(alloc, &generator, columns)?;
+    // Its memory is free again before the product is made.
+    drop(generator);
+    rows.mul(alloc, &at_columns)
 }

@@ -1,6 +1,6 @@
 use Rattle.std.proofs.Common.{◌≡◌, ◌<◌, ℕ, List, All, length, subst, sym}
 use Rattle.axe_action.specs.Coordinates.{IsIdentityAt}
-use Rattle.axe_action.proofs.ReducedRows.{columns_as_many, columns_within, coordinates_at_identity}
+use Rattle.axe_action.proofs.ReducedRows.{columns_as_many, columns_within, coordinates_at_identity, reduced_at}
 use Rattle.axe_action.proofs.columns.coordinate_columns.Goals as goal
 
 pub is_identity_at-requires-clause-as_many : goal.is_identity_at-requires-clause-as_many
@@ -13,10 +13,17 @@ is_identity_at-requires-clause-within c =
     subst (λ (columns : List ℕ). All (λ column. column < c.args.rows.now.cols) columns) (sym c.deref.ensures.value)
     (columns_within c.args.rows.now c.args.span.now c.in_ok-pivots.pivots.items c.requires.span c.in_ok-pivots.ensures.pivots)
 
-pub returns-then-branch : goal.returns-then-branch
-returns-then-branch c =
+pub returns-then-branch-clause-coordinates : goal.returns-then-branch-clause-coordinates
+returns-then-branch-clause-coordinates c =
     let identity : IsIdentityAt c.deref.result.now c.args.rows.now.rows = c.in_ok-is_identity_at.ensures.identity.0 c.if-branch.true in
     coordinates_at_identity c.args.rows.now c.args.span.now c.in_ok-pivots.pivots.items c.is_identity_at.ensures.well_formed c.requires.span
     c.in_ok-pivots.ensures.pivots
     (columns_as_many c.args.rows.now c.args.span.now c.in_ok-pivots.pivots.items c.requires.independent c.requires.span c.in_ok-pivots.ensures.pivots)
+    (subst (λ (columns : List ℕ). IsIdentityAt columns c.args.rows.now.rows) c.deref.ensures.value identity)
+
+pub returns-then-branch-clause-reduced : goal.returns-then-branch-clause-reduced
+returns-then-branch-clause-reduced c =
+    let identity : IsIdentityAt c.deref.result.now c.args.rows.now.rows = c.in_ok-is_identity_at.ensures.identity.0 c.if-branch.true in
+    reduced_at c.args.rows.now c.args.span.now c.in_ok-pivots.pivots.items c.is_identity_at.ensures.well_formed c.requires.independent c.requires.span
+    c.in_ok-pivots.ensures.pivots
     (subst (λ (columns : List ℕ). IsIdentityAt columns c.args.rows.now.rows) c.deref.ensures.value identity)

@@ -1,0 +1,72 @@
+-- The two actions that come of a submodule's reduced basis, generator by generator.
+use Rattle.std.specs.Prelude.{◌≡◌, ℕ, ◌<◌, List, [], ◌∷◌, ◌++◌, length, All}
+use Rattle.axe_field.specs.NumberFields.{number_field}
+use Rattle.axe_matrix.specs.Matrices.{MatrixValue, IsMatrix}
+use Rattle.axe_echelon.proofs.InverseLaws.{matrix_over}
+use Rattle.axe_spin.specs.Modules.{ModuleValue, IsModule, IsInvariantIn, generator_of}
+use Rattle.axe_spin.specs.Generators.{IsGeneratorMatrix}
+use Rattle.axe_action.specs.Coordinates.{matrix_at, HasImagesIn, HasActionRows}
+use Rattle.axe_action.specs.FreeColumns.{AreFreeColumns, AreReducedAt, HasRowsModulo, rows_to_span, row_at, matrix_modulo}
+use Rattle.axe_action.proofs.GeneratorLists.{AreGeneratorsOf, AreNewGenerators, generators_next, next_below, next_generator, next_is}
+use Rattle.axe_action.proofs.SubRows.{IsActionOf, action_is_generator, module_rows_over, outside_invariant}
+use Rattle.axe_action.proofs.QuotientRows.{IsQuotientOf, free_within, modulo_is_generator}
+use Rattle.axe_action.proofs.CosetLaws.{AreCosets, rows_modulo}
+use mathlib.Core.Path.{sym, ◌∙◌, subst}
+
+-- the entries of the reduced basis at the columns that are no pivots
+pub cosets_of_reduced : (rows : MatrixValue) (pivots columns : List ℕ) (entries : MatrixValue) → IsMatrix rows → AreReducedAt rows pivots →
+    AreFreeColumns (rows_to_span rows) columns → entries ≡ matrix_at columns rows → AreCosets (rows_to_span rows) pivots columns entries
+cosets_of_reduced rows pivots columns entries rows_h reduced free is = record {
+  basis = rows;
+  basis_over = matrix_over rows rows_h;
+  reduced = reduced.reduced;
+  are_pivots = reduced.pivots;
+  free = free;
+  entries_are = is;
+}
+
+-- a submodule's reduced basis, and the next generator
+module _ (m : ModuleValue) (rows : MatrixValue) (h : IsModule m) (rows_h : IsMatrix rows) (field : rows.order ≡ m.order) (fits : rows.cols ≡ m.dim)
+    (invariant : IsInvariantIn m rows) (done rest : List MatrixValue) (are : AreGeneratorsOf m (done ++ rest)) (g : MatrixValue) (next : List MatrixValue)
+    (is : rest ≡ g ∷ next) where
+  at_generator : g ≡ generator_of m (length done)
+  at_generator = next_is m done rest are g next is
+
+  generator : IsGeneratorMatrix m.order m.dim g
+  generator = next_generator m done rest are g next is
+
+  within_next : HasImagesIn (generator_of m (length done)) rows.rows rows.rows
+  within_next =
+      outside_invariant m rows (length done) h (module_rows_over m rows rows_h field fits) (next_below m done rest are g next is) invariant
+
+  pub images_of_next : HasImagesIn g rows.rows rows.rows
+  images_of_next = subst (λ (x : MatrixValue). HasImagesIn x rows.rows rows.rows) (sym at_generator) within_next
+
+  pub columns_of_next : (columns : List ℕ) → AreFreeColumns (rows_to_span rows) columns → All (λ column. column < g.cols) columns
+  columns_of_next columns free =
+      subst (λ n. All (λ column. column < n) columns) (fits ∙ sym generator.columns) (free_within (rows_to_span rows) columns free)
+
+  -- its action on the submodule
+  pub sub_next : (sub : MatrixValue) (subs more : List MatrixValue) → HasActionRows g rows.rows (length rows.rows) sub →
+      AreNewGenerators m.order (length rows.rows) (IsActionOf m rows.rows) (length done) subs → more ≡ subs ++ sub ∷ [] →
+      AreNewGenerators m.order (length rows.rows) (IsActionOf m rows.rows) (length (done ++ g ∷ [])) more
+  sub_next sub subs more acts so_far pushed =
+      generators_next m.order (length rows.rows) (IsActionOf m rows.rows) done g subs more sub so_far pushed
+      (action_is_generator (generator_of m (length done)) rows.rows sub all) all.each
+    where
+      all : HasActionRows (generator_of m (length done)) rows.rows (length rows.rows) sub
+      all = subst (λ (x : MatrixValue). HasActionRows x rows.rows (length rows.rows) sub) at_generator acts
+
+  -- its action modulo it
+  pub quotient_next : (pivots columns : List ℕ) (entries quotient : MatrixValue) (quotients more : List MatrixValue) →
+      AreCosets (rows_to_span rows) pivots columns entries → quotient ≡ matrix_modulo pivots columns entries g → IsMatrix quotient →
+      AreNewGenerators m.order (length columns) (IsQuotientOf m rows columns) (length done) quotients → more ≡ quotients ++ quotient ∷ [] →
+      AreNewGenerators m.order (length columns) (IsQuotientOf m rows columns) (length (done ++ g ∷ [])) more
+  quotient_next pivots columns entries quotient quotients more cosets quotient_is formed so_far pushed =
+      generators_next m.order (length columns) (IsQuotientOf m rows columns) done g quotients more quotient so_far pushed
+      (modulo_is_generator m rows columns (row_at (generator_of m (length done)).rows columns) quotient field all) (within_next, all.each)
+    where
+      all : HasRowsModulo (rows_to_span rows) columns (row_at (generator_of m (length done)).rows columns) (length columns) quotient
+      all = subst (λ (x : MatrixValue). HasRowsModulo (rows_to_span rows) columns (row_at x.rows columns) (length columns) quotient) at_generator
+          (rows_modulo (rows_to_span rows) pivots columns entries g cosets (generator.field ∙ sym field) (generator.columns ∙ sym fits)
+          (generator.rows ∙ sym generator.columns) generator.well_formed quotient quotient_is formed)
