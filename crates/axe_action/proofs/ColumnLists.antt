@@ -13,6 +13,15 @@ pub record AreColumnsBelow (P : ℕ → Type 0) (i : ℕ) (columns : List ℕ) :
   pub each : (t : ℕ) → t < length columns → P (get_or columns t 0)
   pub all : (j : ℕ) → j < i → P j → (t : ℕ) × (t < length columns) × (get_or columns t 0 ≡ j)
 
+-- none below 0
+pub columns_none : (P : ℕ → Type 0) (columns : List ℕ) → columns ≡ [] → AreColumnsBelow P 0 columns
+columns_none P columns is = subst (AreColumnsBelow P 0) (sym is) (record {
+  ascending = λ s t order below. absurd (omega arith);
+  below = λ t below. absurd (omega arith);
+  each = λ t below. absurd (omega arith);
+  all = λ j below holds. absurd (omega arith);
+})
+
 -- a column without P
 pub column_passed : (P : ℕ → Type 0) (i : ℕ) (columns : List ℕ) → AreColumnsBelow P i columns → ¬ (P i) → AreColumnsBelow P (i + 1) columns
 column_passed P i columns so_far without = record {

@@ -10,8 +10,7 @@ pub mod QuotientRows
 pub mod RepresentativeLaws
 pub mod EntryLaws
 pub mod CosetLaws
-pub mod ModuloLaws
-pub mod QuotientImages
+pub mod SpanChanges
 pub mod SubmoduleLaws
 pub mod SplitLaws
 pub mod DualLaws

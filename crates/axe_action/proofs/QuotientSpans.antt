@@ -111,7 +111,7 @@ module _ (m : ModuleValue) (rows : MatrixValue) (e : EchelonValue) (none : rows_
   answered : (refusal : Refusal) → quotient_late m rows refusal → Answer (Err refusal)
   answered refusal = stands_late (rows_refusal m rows) (IsProperActionModulo m rows) (quotient_late m rows) refusal none
 
-  proper : ¬ (length e.rows ≡ m.dim) → ¬ (SpansModule m rows)
+  pub proper : ¬ (length e.rows ≡ m.dim) → ¬ (SpansModule m rows)
   proper few = λ all.
       few (full_if_spans (number_field m.order) m.dim rows.rows e.rows span_of_vectors.over span_of_vectors.independent span_of_vectors.same all)
 

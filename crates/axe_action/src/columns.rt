@@ -29,11 +29,8 @@ pub(crate) fn coordinate_columns(
     ensures reduced { Answers None (λ found. IfSome found (λ columns. AreReducedAt rows.now columns.items)) result }
 {
     let pivots = pivot_columns(alloc, span)?;
-    if is_identity_at(alloc, rows, &pivots)? {
-        Ok(Some(pivots))
-    } else {
-        Ok(None)
-    }
+    let reduced = is_identity_at(alloc, rows, &pivots)?;
+    if reduced { Ok(Some(pivots)) } else { Ok(None) }
 }
 
 /// Whether the entries of each row at some columns, as many as rows, are the unit vector of the row's number. The first

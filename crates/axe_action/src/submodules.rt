@@ -1,4 +1,5 @@
-//! The action of a module on a submodule and modulo it: what is known to be a submodule is not tested to be one.
+//! The action of a module on a submodule and modulo it: a reduced basis that is known to be one of a submodule is not
+//! tested to be one.
 
 ghost use Rattle.std.specs.Prelude.{◌≡◌, ◌<◌, ◌≤◌, length, None, IfOk};
 ghost use Rattle.axe_algebra.specs.SpansOfLists.{IsIndependent};
@@ -83,6 +84,7 @@ fn both_actions(
     ensures well_formed { IfOk result (λ actions. IsModule actions.0 × IsModule actions.1) }
 {
     let Some(pivots) = coordinate_columns(alloc, rows, &span)? else {
+        // Rows that are no reduced basis are rare here: they go the way of rows that may span no submodule.
         let sub = action_over(alloc, &module, rows, &span)?;
         let quotient = quotient_action(alloc, &module, rows)?;
         return Ok((sub, quotient));

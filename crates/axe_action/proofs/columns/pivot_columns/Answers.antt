@@ -2,7 +2,7 @@ use Rattle.std.proofs.Common.{rules, ◌≡◌, ◌≤◌, [], ◌∷◌, ◌++�
 use Rattle.axe_algebra.specs.SpansOfLists.{IsPivot}
 use Rattle.axe_field.specs.NumberFields.{number_field}
 use Rattle.axe_action.proofs.QuotientSpans.{test_failed}
-use Rattle.axe_action.proofs.ColumnLists.{column_passed, column_taken}
+use Rattle.axe_action.proofs.ColumnLists.{columns_none, column_passed, column_taken}
 use Rattle.axe_action.proofs.ColumnLaws.{pivots_all}
 use Rattle.axe_action.proofs.columns.pivot_columns.Goals.{then-is_pivot+in_ok-push, else-is_pivot}
 use Rattle.axe_action.proofs.columns.pivot_columns.Goals as goal
@@ -24,3 +24,7 @@ pub returns-clause-pivots : goal.returns-clause-pivots
 returns-clause-pivots c =
     let whole : c.args.span.now.cols ≤ c.loop-column.column = omega (arith, c.cols-column-end.ensures.count, c.loop-column-test.false) in
     pivots_all c.args.span.now c.loop-column.column c.loop-column.columns.items c.cols-column-end.ensures.well_formed c.loop-column.invariant whole
+
+pub loop-column-init : goal.loop-column-init
+loop-column-init c =
+    columns_none (IsPivot (number_field c.args.span.now.order) c.args.span.now.rows) c.new-columns.result.items c.new-columns.ensures.items
