@@ -1,25 +1,32 @@
 -- The two sections into which a submodule cuts one: what the calls that make them answer.
-use Rattle.std.proofs.Common.{◌≡◌, ◌+◌, ◌++◌, length, refl, sym, ap, subst, ◌∙◌, arith}
+use Rattle.std.proofs.Common.{◌≡◌, ℕ, List, ◌+◌, ◌<◌, ◌≤◌, ◌++◌, length, map, refl, sym, ap, subst, ◌∙◌, arith}
+use Rattle.std.specs.List.{All}
 use Rattle.std.proofs.Math.Seq.{take-append_seam, drop-append_seam}
 use Rattle.std.proofs.lemmas.List.Elements.{All-append}
-use Rattle.std.proofs.lemmas.List.{length-take-le}
-use Rattle.axe_algebra.specs.Lists.{IsMatrixOver, IsVectorOver}
+use Rattle.std.proofs.lemmas.List.{length-take-le, length-append, length-map}
+use Rattle.axe_algebra.specs.Lists.{IsMatrixOver, IsVectorOver, unit_row}
 use Rattle.axe_algebra.specs.SpansOfLists.{IsIndependent}
 use Rattle.axe_algebra.proofs.ListExtended.{extended_is_square}
-use Rattle.axe_algebra.specs.ListArithmetic.{identity}
-use Rattle.axe_algebra.proofs.ListProducts.{identity_length, identity_over}
+use Rattle.axe_algebra.proofs.ListProducts.{identity_length}
+use Rattle.axe_field.specs.Order.{Order}
 use Rattle.axe_field.specs.NumberFields.{number_field}
-use Rattle.axe_matrix.specs.Matrices.{MatrixValue, IsMatrix, AreSplit, matrix_block}
+use Rattle.axe_matrix.specs.Limits.{most_rows}
+use Rattle.axe_matrix.specs.Matrices.{MatrixValue, IsMatrix, AreSplit, identity_matrix, matrix_block, matrix_product}
 use Rattle.axe_matrix.proofs.ProductLaws.{IsMatrix-product}
 use Rattle.axe_echelon.proofs.SomeMatrix.{matrix_of_rows_over}
 use Rattle.axe_spin.specs.Modules.{ModuleValue, IsModule}
 use Rattle.axe_action.specs.Actions.{IsBasisAction, IsActionModulo, IsExtendedMatrix}
+use Rattle.axe_action.specs.FreeColumns.{AreFreeColumns, rows_to_span}
+use Rattle.axe_action.proofs.QuotientRows.{free_within}
+use Rattle.axe_action.proofs.UnitRows.{extended_by_units}
 use Rattle.axe_norton.specs.Spaces.{IsProperSubmodule}
 use Rattle.axe_norton.proofs.TruthLaws.{rows_over_field}
 use Rattle.axe_series.specs.Sections.{SectionValue, IsCut, whole_section, lifted_rows}
 use Rattle.axe_series.proofs.LiftedRows.{AreBlocks, split_in_blocks, parts_are_lifted}
 use Rattle.axe_series.proofs.SomeCut.{dimensions_add_up}
 use Rattle.axe_chop.specs.Stages.{IsSection}
+use Rattle.axe_chop.specs.Vectors.{unit_vectors, chosen_rows}
+use Rattle.axe_chop.proofs.Choosing.{identity_is_matrix, units_are_matrix, chosen_by_units}
 use Rattle.axe_chop.proofs.Lifting.{lifted_rows_count}
 
 -- a module is its own section
@@ -28,9 +35,15 @@ whole_is_section m is = record {
   field = refl;
   count = identity_length (number_field m.order) m.dim;
   action_formed = is;
-  rows_formed = matrix_of_rows_over m.order m.dim (identity m.dim) is.over.positive is.dim_fits
-      (omega (arith, identity_length (number_field m.order) m.dim, is.dim_fits)) (identity_over (number_field m.order) m.dim);
+  rows_formed = identity_is_matrix m.order m.dim is.over.positive is.dim_fits;
 }
+
+-- also as it is kept
+pub whole_is_kept : (m : ModuleValue) (rows : MatrixValue) (o : Order) (n : ℕ) → o ≡ m.order → n ≡ m.dim →
+    rows ≡ identity_matrix o n → IsModule m → IsSection (record { action = m; rows = rows })
+whole_is_kept m rows o n field dimension rows_are is =
+    subst (λ (x : MatrixValue). IsSection (record { action = m; rows = x }))
+    (sym (rows_are ∙ (λ k. identity_matrix (field k) (dimension k)))) (whole_is_section m is)
 
 -- ---- the actions
 
@@ -55,14 +68,10 @@ module _ (m : ModuleValue) (space : MatrixValue) (proper : IsProperSubmodule m s
 abbrev pub extended_by : MatrixValue → MatrixValue → MatrixValue
 extended_by space units = record units { rows = space.rows ++ units.rows }
 
--- the unit vectors of the other columns can be lifted
-pub units_field : (section : SectionValue) (space units : MatrixValue) → IsProperSubmodule section.action space →
+-- the unit vectors of the other columns are over the field of the action
+units_field : (section : SectionValue) (space units : MatrixValue) → IsProperSubmodule section.action space →
     IsExtendedMatrix space (extended_by space units) → units.order ≡ section.action.order
 units_field section space units proper extends = extends.field ∙ proper.field
-
-pub units_columns : (section : SectionValue) (space units : MatrixValue) → IsProperSubmodule section.action space →
-    IsExtendedMatrix space (extended_by space units) → units.cols ≡ section.action.dim
-units_columns section space units proper extends = extends.columns ∙ proper.columns
 
 -- the rows of the submodule and the unit vectors of the other columns, and what they are lifted to
 pub record AreLifted (section : SectionValue) (space units first after : MatrixValue) : Type 0 where
@@ -169,3 +178,125 @@ module _ (section : SectionValue) (space units first after : MatrixValue)
       quotient_rows = blocks.rows_after
           ∙ ap (λ d. matrix_block (lifted_rows section extended) d quotient.dim 0 section.rows.cols) (sym acts.dimension);
     }
+
+-- ---- the columns that are no pivots
+
+-- a submodule cuts a section, and these columns are no pivots of it
+pub record IsCutAt (section : SectionValue) (space : MatrixValue) (columns : List ℕ) : Type 0 where
+  pub is_section : IsSection section
+  pub proper : IsProperSubmodule section.action space
+  pub free : AreFreeColumns (rows_to_span space) columns
+
+module _ (section : SectionValue) (space : MatrixValue) (columns : List ℕ) (at : IsCutAt section space columns) where
+  abbrev units : MatrixValue
+  units = unit_vectors space.order space.cols columns
+
+  extends : IsExtendedMatrix space (extended_by space units)
+  extends = extended_by_units space units columns at.free refl
+
+  -- there is a lifted row at each
+  dimension : space.cols ≡ length section.rows.rows
+  dimension = at.proper.columns ∙ sym at.is_section.count
+
+  pub columns_within : All (λ column. column < length section.rows.rows) columns
+  columns_within = subst (λ n. All (λ column. column < n) columns) dimension (free_within (rows_to_span space) columns at.free)
+
+  pub columns_fit : length columns ≤ most_rows
+  columns_fit = omega (
+    arith,
+    extended_count section.action space at.proper at.proper.well_formed (extended_by space units) extends,
+    length-append space.rows (map (unit_row space.cols) columns),
+    length-map columns (unit_row space.cols),
+    at.is_section.action_formed.dim_fits,
+  )
+
+  units_formed : IsMatrix units
+  units_formed = units_are_matrix space.order space.cols columns at.proper.well_formed.some_column at.proper.well_formed.columns_fit
+      columns_fit
+
+  -- and these rows are the unit vectors, lifted
+  module _ (first after : MatrixValue) (first_is : first ≡ lifted_rows section space)
+      (after_is : after ≡ chosen_rows section.rows columns) (first_formed : IsMatrix first) where
+    field : section.rows.order ≡ space.order
+    field = at.is_section.field ∙ sym at.proper.field
+
+    after_lifted : after ≡ lifted_rows section units
+    after_lifted =
+        after_is ∙ chosen_by_units space.order section.rows columns field at.is_section.rows_formed columns_within
+        ∙ ap (λ n. matrix_product (unit_vectors space.order n columns) section.rows) (sym dimension)
+
+    pub are_lifted : AreLifted section space units first after
+    are_lifted = record {
+      is_section = at.is_section;
+      proper = at.proper;
+      extends = extends;
+      units_formed = units_formed;
+      first_is = first_is;
+      after_is = after_lifted;
+      first_formed = first_formed;
+      after_formed = subst IsMatrix (sym after_lifted)
+          (IsMatrix-product units section.rows units_formed at.is_section.rows_formed (sym field));
+    }
+
+-- ---- a section that is opened
+
+-- a section is opened, to be cut by a submodule, and its action is given away
+pub record IsOpened (section self : SectionValue) (space : MatrixValue) (action : ModuleValue) : Type 0 where
+  pub same : section ≡ self
+  pub is_section : IsSection section
+  pub proper : IsProperSubmodule self.action space
+  pub action_is : action ≡ section.action
+
+-- what the submodule makes of the action
+pub record IsSplit (action : ModuleValue) (space : MatrixValue) (sub quotient : ModuleValue) (columns : List ℕ) : Type 0 where
+  pub acts : IsBasisAction action space sub
+  pub modulo : IsActionModulo action space quotient
+  pub free : AreFreeColumns (rows_to_span space) columns
+  pub sub_module : IsModule sub
+  pub quotient_module : IsModule quotient
+
+module _ (section self : SectionValue) (space : MatrixValue) (action : ModuleValue)
+    (opened : IsOpened section self space action) where
+  proper_here : IsProperSubmodule section.action space
+  proper_here = subst (λ (s : SectionValue). IsProperSubmodule s.action space) (sym opened.same) opened.proper
+
+  pub to_split : IsProperSubmodule action space
+  to_split = subst (λ (m : ModuleValue). IsProperSubmodule m space) (sym opened.action_is) proper_here
+
+  pub lift_field : space.order ≡ section.rows.order
+  lift_field = proper_here.field ∙ sym opened.is_section.field
+
+  pub lift_fits : space.cols ≡ length section.rows.rows
+  lift_fits = proper_here.columns ∙ sym opened.is_section.count
+
+  pub cut_at : (columns : List ℕ) → AreFreeColumns (rows_to_span space) columns → IsCutAt section space columns
+  cut_at columns free = record { is_section = opened.is_section; proper = proper_here; free = free }
+
+  module _ (sub quotient : ModuleValue) (columns : List ℕ) (split_in : IsSplit action space sub quotient columns)
+      (first after : MatrixValue) (first_is : first ≡ lifted_rows section space)
+      (after_is : after ≡ chosen_rows section.rows columns) (first_formed : IsMatrix first) where
+    lifted_parts : AreLifted section space (unit_vectors space.order space.cols columns) first after
+    lifted_parts = are_lifted section space columns (cut_at columns split_in.free) first after first_is after_is first_formed
+
+    acts_here : IsBasisAction section.action space sub
+    acts_here = subst (λ (m : ModuleValue). IsBasisAction m space sub) opened.action_is split_in.acts
+
+    modulo_here : IsActionModulo section.action space quotient
+    modulo_here = subst (λ (m : ModuleValue). IsActionModulo m space quotient) opened.action_is split_in.modulo
+
+    pub sub_kept : IsSection (record { action = sub; rows = first })
+    sub_kept =
+        sub_section section space (unit_vectors space.order space.cols columns) first after lifted_parts sub acts_here
+        split_in.sub_module
+
+    pub quotient_kept : IsSection (record { action = quotient; rows = after })
+    quotient_kept =
+        quotient_section section space (unit_vectors space.order space.cols columns) first after lifted_parts quotient
+        modulo_here split_in.quotient_module
+
+    pub parts_kept : IsCut self space (record { action = sub; rows = first }) (record { action = quotient; rows = after })
+    parts_kept =
+        subst (λ (s : SectionValue). IsCut s space (record { action = sub; rows = first }) (record { action = quotient; rows = after }))
+        opened.same
+        (is_cut section space (unit_vectors space.order space.cols columns) first after lifted_parts quotient modulo_here sub
+        acts_here split_in.sub_module split_in.quotient_module)

@@ -1,4 +1,6 @@
 pub mod Knowing
+pub mod Choosing
+pub mod Placements
 pub mod Lifting
 pub mod Placing
 pub mod Cutting

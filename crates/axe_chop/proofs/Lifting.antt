@@ -1,8 +1,10 @@
 -- Rows that are lifted by those of a section: they are not refused, and how many they are.
-use Rattle.std.proofs.Common.{◌≡◌, length, None, sym, ap, ◌∙◌}
+use Rattle.std.proofs.Common.{◌≡◌, length, None, Result, sym, ap, subst, ◌∙◌}
 use Rattle.axe_field.specs.Order.{order_number}
 use Rattle.axe_field.specs.NumberFields.{number_field}
-use Rattle.axe_matrix.specs.Matrices.{MatrixValue, product_refusal}
+use Rattle.axe_row.specs.Refusals.{Answers}
+use Rattle.axe_row.specs.declared.refusals.Refusal.{Refusal}
+use Rattle.axe_matrix.specs.Matrices.{MatrixValue, matrix_product, product_refusal}
 use Rattle.axe_matrix.proofs.ProductLaws.{length-product, product_refusal-none}
 use Rattle.axe_series.specs.Sections.{SectionValue, lifted_rows}
 use Rattle.axe_chop.specs.Stages.{IsSection}
@@ -13,6 +15,16 @@ pub lift_accepted : (section : SectionValue) (t : MatrixValue) → IsSection sec
     t.cols ≡ section.action.dim → product_refusal t section.rows ≡ None
 lift_accepted section t is field columns =
     product_refusal-none t section.rows (ap order_number (field ∙ sym is.field)) (columns ∙ sym is.count)
+
+-- a product with a matrix that is the given one
+pub product_answered : (coordinates rows other : MatrixValue) (result : Result MatrixValue Refusal) → other ≡ rows →
+    coordinates.order ≡ rows.order → coordinates.cols ≡ length rows.rows →
+    Answers (product_refusal coordinates other) (λ product. product ≡ matrix_product coordinates other) result →
+    Answers None (λ product. product ≡ matrix_product coordinates rows) result
+product_answered coordinates rows other result same field fits answers =
+    subst (λ why. Answers why (λ product. product ≡ matrix_product coordinates rows) result)
+    (product_refusal-none coordinates rows (ap order_number field) fits)
+    (subst (λ (x : MatrixValue). Answers (product_refusal coordinates x) (λ product. product ≡ matrix_product coordinates x) result) same answers)
 
 -- as many rows are lifted as are given
 pub lifted_rows_count : (section : SectionValue) (t : MatrixValue) → length (lifted_rows section t).rows ≡ length t.rows

@@ -1,5 +1,5 @@
 -- One more place: the rows of an irreducible section, lifted by the isomorphism to a known factor or by a new form's basis.
-use Rattle.std.proofs.Common.{◌≡◌, ℕ, List, [], ◌∷◌, ◌+◌, ◌≤◌, ◌++◌, length, sym, ap, subst, ◌∙◌, arith, length-append}
+use Rattle.std.proofs.Common.{◌≡◌, ℕ, List, [], ◌∷◌, ◌+◌, ◌≤◌, ◌<◌, ◌++◌, length, sym, ap, subst, ◌∙◌, arith, length-append}
 use Rattle.std.specs.List.{All}
 use Rattle.std.proofs.lemmas.List.Elements.{All-append}
 use Rattle.axe_field.specs.Order.{IsElement}
@@ -48,7 +48,7 @@ known_in forms others m n number t same_forms same known =
     subst (λ (fs : List FormValue). IsKnownAs fs m number t) same_forms (subst (λ (x : ModuleValue). IsKnownAs others x number t) same known)
 
 -- the place of a known factor
-pub placed_as_known : (old next : FoundValue) (section : SectionValue) (seed word : ℕ) (v : RowValue) (number : ℕ) (t : MatrixValue) →
+placed_as_known : (old next : FoundValue) (section : SectionValue) (seed word : ℕ) (v : RowValue) (number : ℕ) (t : MatrixValue) →
     IsKnownAs old.forms section.action number t → next ≡ with_place old (lifted_rows section t).rows number →
     IsPlacedIn old section seed word v next
 placed_as_known old next section seed word v number t known next_is =
@@ -58,7 +58,7 @@ placed_as_known old next section seed word v number t known next_is =
 abbrev placed_with_form : FoundValue → FormValue → FoundValue
 placed_with_form found form = record { rows = found.rows; forms = found.forms ++ form ∷ []; places = found.places }
 
-pub placed_as_new : (old next : FoundValue) (section : SectionValue) (seed word : ℕ) (v : RowValue) (form : FormValue) (forms : List FormValue)
+placed_as_new : (old next : FoundValue) (section : SectionValue) (seed word : ℕ) (v : RowValue) (form : FormValue) (forms : List FormValue)
     (t : MatrixValue) (number : ℕ) → AreOfOthers old.forms section.action → IsNewForm section.action seed word v form →
     t ≡ form.basis → number ≡ length old.forms →
     next ≡ with_place old (lifted_rows section t).rows number → forms ≡ next.forms ++ form ∷ [] →
@@ -85,15 +85,33 @@ pub others_in : (forms others : List FormValue) (m n : ModuleValue) → others �
 others_in forms others m n same_forms same h =
     subst (λ (fs : List FormValue). AreOfOthers fs m) same_forms (subst (λ (x : ModuleValue). AreOfOthers others x) same h)
 
--- a matrix with the rows of another after its own is well formed
-pub IsMatrix-appended : (m rows : MatrixValue) → IsMatrix m → IsMatrix rows → rows.order ≡ m.order → rows.cols ≡ m.cols →
-    length m.rows + length rows.rows ≤ most_rows → IsMatrix (record m { rows = m.rows ++ rows.rows })
-IsMatrix-appended m rows h k order cols room = record {
-  some_column = h.some_column;
-  columns_fit = h.columns_fit;
-  rows_fit = omega (arith, length-append m.rows rows.rows, room);
-  row_lengths = All-append (λ row. length row ≡ m.cols) m.rows rows.rows h.row_lengths
-      (subst (λ n. All (λ (row : List ℕ). length row ≡ n) rows.rows) cols k.row_lengths);
-  elements = All-append (All (IsElement m.order)) m.rows rows.rows h.elements
-      (subst (λ o. All (All (IsElement o)) rows.rows) order k.elements);
-}
+-- a known factor's number is one of a form
+pub known_number : (forms : List FormValue) (m : ModuleValue) (number : ℕ) (t : MatrixValue) → IsKnownAs forms m number t →
+    number < length forms
+known_number forms m number t known =
+    omega (
+      arith,
+      ap (λ (fs : List FormValue). length fs) known.among,
+      length-append known.earlier (known.form ∷ known.later),
+      known.number_is,
+    )
+
+-- ---- rows that are lifted
+
+module _ (old next : FoundValue) (section : SectionValue) (t rows : MatrixValue) (number : ℕ)
+    (rows_are : rows ≡ lifted_rows section t) (next_is : next ≡ with_place old rows.rows number) where
+  next_by_lift : next ≡ with_place old (lifted_rows section t).rows number
+  next_by_lift = next_is ∙ ap (λ (r : MatrixValue). with_place old r.rows number) rows_are
+
+  -- by an isomorphism to a known factor
+  pub lifted_as_known : (seed word : ℕ) (v : RowValue) → IsKnownAs old.forms section.action number t →
+      IsPlacedIn old section seed word v next
+  lifted_as_known seed word v known = placed_as_known old next section seed word v number t known next_by_lift
+
+  -- by the basis of a new form
+  pub lifted_as_new : (seed word : ℕ) (v : RowValue) (form : FormValue) (forms : List FormValue) →
+      AreOfOthers old.forms section.action → IsNewForm section.action seed word v form → t ≡ form.basis → number ≡ length old.forms →
+      forms ≡ next.forms ++ form ∷ [] →
+      IsPlacedIn old section seed word v (record { rows = next.rows; forms = forms; places = next.places })
+  lifted_as_new seed word v form forms others new t_is number_is forms_is =
+      placed_as_new old next section seed word v form forms t number others new t_is number_is next_by_lift forms_is

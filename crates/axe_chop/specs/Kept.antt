@@ -1,9 +1,37 @@
 -- A section as the code keeps it.
-use Rattle.axe_series.specs.Sections.{SectionValue, whole_section}
-use Rattle.axe_chop.specs.declared.section.Kept.{Kept}
-use Rattle.axe_chop.specs.declared.section.Kept.TheVariants.{Whole, Part}
+use Rattle.std.specs.Prelude.{⊤, ◌<◌}
+use Rattle.std.specs.List.{All}
+use Rattle.axe_matrix.specs.Matrices.{MatrixValue, IsMatrix, identity_matrix}
+use Rattle.axe_spin.specs.Modules.{ModuleValue}
+use Rattle.axe_series.specs.Sections.{SectionValue}
+use Rattle.axe_chop.specs.Vectors.{unit_vectors}
+use Rattle.axe_chop.specs.declared.lifted.KeptRows.{KeptRows}
+use Rattle.axe_chop.specs.declared.lifted.KeptRows.TheVariants.{Identity, Units, Rows}
+use Rattle.axe_chop.specs.declared.section.Action.{Action}
+use Rattle.axe_chop.specs.declared.section.Action.TheVariants.{Whole, Part}
 
--- the section that is kept: the module itself, with the unit vectors, or a part of it
-abbrev pub kept_section : Kept → SectionValue
-kept_section (Whole m) = whole_section m.now
-kept_section (Part action rows) = record { action = action; rows = rows }
+-- the lifted rows that are kept: all unit vectors, those of some columns, or rows of any kind
+abbrev pub kept_rows : KeptRows → MatrixValue
+kept_rows (Identity order dim) = identity_matrix order dim
+kept_rows (Units order dim columns) = unit_vectors order dim columns.items
+kept_rows (Rows m) = m
+
+-- the columns whose unit vectors are kept are columns of the dimension
+abbrev pub HasColumnsWithin : KeptRows → Type 0
+HasColumnsWithin (Identity order dim) = ⊤
+HasColumnsWithin (Units order dim columns) = All (λ column. column < dim) columns.items
+HasColumnsWithin (Rows m) = ⊤
+
+-- the rows that are kept are those of a matrix
+pub record AreKept (kept : KeptRows) : Type 0 where
+  pub well_formed : IsMatrix (kept_rows kept)
+  pub within : HasColumnsWithin kept
+
+-- the module that acts on a section: the module itself, or the action on a part of it
+abbrev pub acting_module : Action → ModuleValue
+acting_module (Whole m) = m.now
+acting_module (Part m) = m
+
+-- the section that is kept
+abbrev pub kept_section : Action → MatrixValue → SectionValue
+kept_section action rows = record { action = acting_module action; rows = rows }

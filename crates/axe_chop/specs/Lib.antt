@@ -1,4 +1,5 @@
 pub mod Stages
+pub mod Vectors
 pub mod Kept
 pub mod Searches
 pub mod Chopped

@@ -7,10 +7,9 @@ ghost use Rattle.axe_matrix.specs.Matrices.{IsMatrix};
 ghost use Rattle.axe_norton.specs.Verdicts.{Decides};
 ghost use Rattle.axe_norton.specs.declared.verdicts.Verdict.TheVariants.{Irreducible};
 ghost use Rattle.axe_iso.specs.Forms.{FormValue};
-ghost use Rattle.axe_series.specs.Sections.{lifted_rows};
-ghost use Rattle.axe_series.specs.Runs.{with_place};
+ghost use Rattle.axe_series.specs.Runs.{with_place, AreOfOthers};
 ghost use Rattle.axe_chop.specs.Stages.{IsActionLike};
-ghost use Rattle.axe_chop.specs.Searches.{IsLift, FindsKnown, IsPlacedIn, found_value};
+ghost use Rattle.axe_chop.specs.Searches.{FindsKnown, IsPlacedIn, found_value};
 
 use crate::section::Section;
 use axe_iso::{Form, form_of, matches};
@@ -47,55 +46,73 @@ impl Found {
     pub(crate) fn place(
         &mut self,
         alloc: Global,
-        section: &Section,
+        section: Section,
         seed: u64,
         word: u32,
         vector: &Row,
     ) -> Result<(), Refusal>
-        requires decided { (words : ℕ) × Decides section.now.action seed words (Irreducible word vector.now) }
-        requires like { All (λ (form : FormValue). IsActionLike section.now.action form.matrices) self.old.forms.items }
-        requires field { self.old.basis.order ≡ section.now.rows.order }
-        requires fits { self.old.basis.cols ≡ section.now.rows.cols }
-        requires room { length self.old.basis.rows + section.now.action.dim ≤ most_rows }
+        requires decided { (words : ℕ) × Decides section.action seed words (Irreducible word vector.now) }
+        requires like { All (λ (form : FormValue). IsActionLike section.action form.matrices) self.old.forms.items }
+        requires field { self.old.basis.order ≡ section.rows.order }
+        requires fits { self.old.basis.cols ≡ section.rows.cols }
+        requires room { length self.old.basis.rows + section.action.dim ≤ most_rows }
         requires few_forms { length self.old.forms.items ≤ length self.old.basis.rows }
         ensures placed { Answers None
-            (λ _. IsPlacedIn (found_value self.old) section.now seed word vector.now (found_value self.new)) result }
+            (λ _. IsPlacedIn (found_value self.old) section.entry seed word vector.now (found_value self.new)) result }
         ensures basis { Answers None
             (λ _. self.new.basis ≡ record self.old.basis { rows = self.new.basis.rows }) result }
-        ensures well_formed { IsMatrix self.old.basis → Answers None (λ _. IsMatrix self.new.basis) result }
+        ensures well_formed { Answers None (λ _. IsMatrix self.new.basis) result }
     {
         if let Some((number, isomorphism)) = known_form(alloc, &self.forms, section.action())? {
-            return self.append_place(alloc, section, isomorphism, number);
+            let rows = section.lift(alloc, isomorphism)?;
+            return self.append_place(rows, number);
         }
+        self.place_new(alloc, section, seed, word, vector)
+    }
+
+    /// One more place as [`Found::place`] tells it, for a section whose action is isomorphic to no known factor: that of
+    /// a new factor.
+    fn place_new(
+        &mut self,
+        alloc: Global,
+        section: Section,
+        seed: u64,
+        word: u32,
+        vector: &Row,
+    ) -> Result<(), Refusal>
+        requires decided { (words : ℕ) × Decides section.action seed words (Irreducible word vector.now) }
+        requires others { AreOfOthers self.old.forms.items section.action }
+        requires field { self.old.basis.order ≡ section.rows.order }
+        requires fits { self.old.basis.cols ≡ section.rows.cols }
+        requires room { length self.old.basis.rows + section.action.dim ≤ most_rows }
+        requires few_forms { length self.old.forms.items ≤ length self.old.basis.rows }
+        ensures placed { Answers None
+            (λ _. IsPlacedIn (found_value self.old) section.entry seed word vector.now (found_value self.new)) result }
+        ensures basis { Answers None
+            (λ _. self.new.basis ≡ record self.old.basis { rows = self.new.basis.rows }) result }
+        ensures well_formed { Answers None (λ _. IsMatrix self.new.basis) result }
+    {
         let form = form_of(alloc, section.action(), seed, word, vector)?;
         let number = self.forms.len();
-        self.append_place(alloc, section, form.basis().copy(alloc)?, number)?;
+        let rows = section.lift(alloc, form.basis().copy(alloc)?)?;
+        self.append_place(rows, number)?;
         self.forms.push(form)?;
         Ok(())
     }
 
-    /// One more place, of the factor with a number: the section's rows are lifted by `lift` and come after those so
-    /// far.
-    fn append_place(
-        &mut self,
-        alloc: Global,
-        section: &Section,
-        lift: Matrix,
-        number: usize,
-    ) -> Result<(), Refusal>
-        requires lift { IsLift section.now.action lift }
-        requires field { self.old.basis.order ≡ section.now.rows.order }
-        requires fits { self.old.basis.cols ≡ section.now.rows.cols }
-        requires room { length self.old.basis.rows + section.now.action.dim ≤ most_rows }
+    /// One more place, of the factor with a number: these rows come after those so far.
+    fn append_place(&mut self, rows: Matrix, number: usize) -> Result<(), Refusal>
+        requires field { rows.order ≡ self.old.basis.order }
+        requires fits { rows.cols ≡ self.old.basis.cols }
+        requires room { length self.old.basis.rows + length rows.rows ≤ most_rows }
         requires number { number ≤ length self.old.basis.rows }
-        ensures placed { Answers None (λ _. found_value self.new
-            ≡ with_place (found_value self.old) (lifted_rows section.now lift).rows number) result }
+        ensures placed { Answers None
+            (λ _. found_value self.new ≡ with_place (found_value self.old) rows.rows number) result }
         ensures basis { Answers None
             (λ _. self.new.basis ≡ record self.old.basis { rows = self.new.basis.rows }) result }
-        ensures well_formed { IsMatrix self.old.basis → Answers None (λ _. IsMatrix self.new.basis) result }
+        ensures well_formed { Answers None (λ _. IsMatrix self.new.basis) result }
     {
-        let rows = section.lift(alloc, lift)?;
-        self.basis.append_rows(alloc, &rows)?;
+        self.basis.append_matrix(rows)?;
         self.places.push(number as u16)?;
         Ok(())
     }

@@ -5,6 +5,7 @@ mod chopped;
 mod chopping;
 mod fault;
 mod found;
+mod lifted;
 mod reported;
 mod search;
 mod section;

@@ -12,7 +12,7 @@ ghost use Rattle.axe_chop.specs.declared.search.Searched.TheVariants.{Open};
 use crate::found::Found;
 use crate::section::Section;
 use axe_matrix::{Matrix, Refusal};
-use axe_norton::{MAX_WORDS, Verdict, decide};
+use axe_norton::{MAX_WORDS, Verdict};
 use axe_spin::Module;
 use std::alloc::Global;
 use std::collections::VecDeque;
@@ -46,15 +46,14 @@ pub(crate) fn search(
     sections.push_front(Section::whole(module))?;
     let mut found = Found::nothing(alloc, module);
     while let Some(section) = sections.pop_front() {
-        match decide(alloc, section.action(), seed, words)? {
+        let (section, verdict) = section.decide(alloc, seed, words)?;
+        match verdict {
             Verdict::Irreducible { word, vector } => {
-                found.place(alloc, &section, seed, word, &vector)?;
+                found.place(alloc, section, seed, word, &vector)?;
             }
-            Verdict::Reducible(space) => put_parts(alloc, &mut sections, &section, space)?,
-            Verdict::Undecided => return open_at(alloc, found, &section, &sections),
+            Verdict::Reducible(space) => put_parts(alloc, &mut sections, section, space)?,
+            Verdict::Undecided => return open_at(alloc, found, section, &sections),
         }
-        // By a call, so that the end of a section is proved apart from this loop.
-        drop(section);
     }
     Ok(Searched::Complete(found))
 }
@@ -64,11 +63,11 @@ pub(crate) fn search(
 fn put_parts<'a>(
     alloc: Global,
     sections: &mut VecDeque<Section<'a>>,
-    section: &Section<'a>,
+    section: Section<'a>,
     space: Matrix,
 ) -> Result<(), Refusal>
-    requires space { IsProperSubmodule section.now.action space }
-    ensures { Answers None (λ _. ArePartsBefore section.now space sections.old.items sections.new.items) result }
+    requires space { IsProperSubmodule section.action space }
+    ensures { Answers None (λ _. ArePartsBefore section.entry space sections.old.items sections.new.items) result }
 {
     let (sub, quotient) = section.cut(alloc, space)?;
     sections.push_front(quotient)?;
@@ -81,16 +80,16 @@ fn put_parts<'a>(
 fn open_at(
     alloc: Global,
     found: Found,
-    section: &Section,
+    section: Section,
     after: &VecDeque<Section>,
 ) -> Result<Searched, Refusal>
-    requires like { IsRowsLike found.basis section.now }
+    requires like { IsRowsLike found.basis section }
     requires after_like { All (IsRowsLike found.basis) after.now.items }
-    requires room { length found.basis.rows + sections_dim (section.now ∷ after.now.items) ≤ most_rows }
+    requires room { length found.basis.rows + sections_dim (section ∷ after.now.items) ≤ most_rows }
     ensures opened { Answers None (λ searched. searched ≡ Open
-        (with_sections found.basis (section.now ∷ after.now.items)) (length found.basis.rows)
-        section.now.action.dim) result }
-    ensures well_formed { IfOk result (λ _. IsMatrix (with_sections found.basis (section.now ∷ after.now.items))) }
+        (with_sections found.basis (section.entry ∷ after.now.items)) (length found.basis.rows)
+        section.entry.action.dim) result }
+    ensures well_formed { IfOk result (λ _. IsMatrix (with_sections found.basis (section.entry ∷ after.now.items))) }
 {
     let mut basis = found.basis;
     let offset = basis.rows();

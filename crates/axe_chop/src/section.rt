@@ -4,12 +4,17 @@ ghost use Rattle.std.specs.Prelude.{◌≡◌, ◌+◌, ◌≤◌, ◌++◌, len
 ghost use Rattle.axe_row.specs.Refusals.{Answers};
 ghost use Rattle.axe_matrix.specs.Limits.{most_rows};
 ghost use Rattle.axe_matrix.specs.Matrices.{IsMatrix};
+ghost use Rattle.axe_spin.specs.Modules.{IsModule};
 ghost use Rattle.axe_norton.specs.Spaces.{IsProperSubmodule};
+ghost use Rattle.axe_norton.specs.Verdicts.{Decides, IsTrueVerdict};
 ghost use Rattle.axe_series.specs.Sections.{whole_section, lifted_rows, IsCut};
 ghost use Rattle.axe_chop.specs.Stages.{IsSection, IsRowsLike};
+ghost use Rattle.axe_chop.specs.Kept.{acting_module};
 
+use crate::lifted::LiftedRows;
 use axe_action::{Split, split_by_submodule};
 use axe_matrix::{Matrix, Refusal};
+use axe_norton::{MAX_WORDS, Verdict, decide, decide_owned};
 use axe_spin::Module;
 use std::alloc::Global;
 use std::marker::Model;
@@ -18,16 +23,17 @@ use std::marker::Model;
 /// to which that action belongs.
 #[derive(Drop)]
 pub(crate) struct Section<'a> {
-    kept: Kept<'a>,
+    action: Action<'a>,
+    rows: LiftedRows,
 }
 
-/// What is kept of a section.
+/// The action on a section.
 #[derive(Drop)]
-pub(crate) enum Kept<'a> {
-    /// The module itself, whose lifted rows are the unit vectors: they need no memory.
+pub(crate) enum Action<'a> {
+    /// The module itself.
     Whole(&'a Module),
-    /// The action on a part of it, and its lifted rows.
-    Part(Module, Matrix),
+    /// The action on a part of it.
+    Part(Module),
 }
 
 impl<'a> Model for Section<'a> {
@@ -37,9 +43,9 @@ impl<'a> Model for Section<'a> {
 
     ghost Value = { SectionValue };
 
-    ghost view = { λ a. kept_section a.kept };
+    ghost view = { λ a. kept_section a.action a.rows };
 
-    ghost invariant = { λ a. IsSection (kept_section a.kept) };
+    ghost invariant = { λ a. IsSection (kept_section a.action a.rows) };
 }
 
 impl<'a> Section<'a> {
@@ -48,10 +54,9 @@ impl<'a> Section<'a> {
         ensures whole { result ≡ whole_section «module».now }
         ensures well_formed { IsSection result }
     {
-        // `dim` is called for what it ensures beside the number: that the module is one.
-        prove!(module.dim() >= 1);
         Section {
-            kept: Kept::Whole(module),
+            action: Action::Whole(module),
+            rows: LiftedRows::identity(*module.field(), module.dim()),
         }
     }
 
@@ -60,10 +65,24 @@ impl<'a> Section<'a> {
         ensures value { result.now ≡ self.now.action }
         ensures well_formed { IsSection self.now }
     {
-        match &self.kept {
-            Kept::Whole(module) => module,
-            Kept::Part(action, _) => action,
-        }
+        self.action.module()
+    }
+
+    /// What the words 0 to `words` of a seed decide of the action on the section, and the section back.
+    pub(crate) fn decide(
+        self,
+        alloc: Global,
+        seed: u64,
+        words: u32,
+    ) -> Result<(Section<'a>, Verdict), Refusal>
+        requires words { words ≤ MAX_WORDS }
+        ensures same { Answers None (λ answer. answer.0 ≡ self.entry) result }
+        ensures decides { Answers None (λ answer. Decides self.entry.action seed words answer.1) result }
+        ensures holds { Answers None (λ answer. IsTrueVerdict self.entry.action answer.1) result }
+    {
+        let Section { action, rows } = self;
+        let (action, verdict) = action.decide(alloc, seed, words)?;
+        Ok((Section { action, rows }, verdict))
     }
 
     /// Appends the lifted rows to a matrix. For want of memory only some first of them are appended.
@@ -74,56 +93,95 @@ impl<'a> Section<'a> {
             (λ _. basis.new ≡ record basis.old { rows = basis.old.rows ++ self.now.rows.rows }) result }
         ensures of_section { IsSection self.now }
     {
-        match &self.kept {
-            Kept::Whole(module) => {
-                let units = Matrix::identity(alloc, *module.field(), module.dim())?;
-                basis.append_rows(alloc, &units)
-            }
-            Kept::Part(_, rows) => basis.append_rows(alloc, rows),
-        }
+        self.rows.append_to(alloc, basis)
     }
 
-    /// The vectors of the module that have these rows as coordinates over the lifted rows.
-    pub(crate) fn lift(&self, alloc: Global, coordinates: Matrix) -> Result<Matrix, Refusal>
-        requires field { coordinates.order ≡ self.now.action.order }
-        requires columns { coordinates.cols ≡ self.now.action.dim }
-        ensures lifted { Answers None (λ lifted. lifted ≡ lifted_rows self.now coordinates) result }
-        ensures of_section { IsSection self.now }
+    /// The vectors of the module that have these rows as coordinates over the lifted rows. The action is gone before
+    /// they are made.
+    pub(crate) fn lift(self, alloc: Global, coordinates: Matrix) -> Result<Matrix, Refusal>
+        requires field { coordinates.order ≡ self.action.order }
+        requires columns { coordinates.cols ≡ self.action.dim }
+        ensures lifted { Answers None (λ lifted. lifted ≡ lifted_rows self.entry coordinates) result }
+        ensures of_section { IsSection self.entry }
         ensures well_formed { IfOk result IsMatrix }
     {
-        // `cols` is called for what it ensures beside the number: that the matrix is one.
-        prove!(coordinates.cols() >= 1);
-        match &self.kept {
-            Kept::Whole(_) => Ok(coordinates),
-            Kept::Part(_, rows) => coordinates.mul(alloc, rows),
-        }
+        let Section { action, rows } = self;
+        drop(action);
+        rows.lift(alloc, coordinates)
     }
 
     /// The two sections into which a submodule cuts the section: first the submodule's, then the quotient by it. The
-    /// rows of `space` are a basis of the submodule, which is neither zero nor everything.
+    /// rows of `space` are a basis of the submodule, which is neither zero nor everything. The action on the section is
+    /// gone before rows are lifted.
     pub(crate) fn cut(
-        &self,
+        self,
         alloc: Global,
         space: Matrix,
     ) -> Result<(Section<'a>, Section<'a>), Refusal>
-        requires space { IsProperSubmodule self.now.action space }
-        ensures { Answers None (λ parts. IsCut self.now space parts.0 parts.1) result }
+        requires space { IsProperSubmodule self.action space }
+        ensures { Answers None (λ parts. IsCut self.entry space parts.0 parts.1) result }
     {
+        let Section { action, rows } = self;
+        let module = action.into_module(alloc)?;
         let Split {
             sub,
             quotient,
-            units,
-        } = split_by_submodule(alloc, self.action(), &space)?;
-        // The rows of the submodule are lifted, and the unit vectors that extend them to a basis.
-        let sub_rows = self.lift(alloc, space)?;
-        let quotient_rows = self.lift(alloc, units)?;
+            columns,
+        } = split_by_submodule(alloc, module, &space)?;
+        // The rows of the submodule are lifted, and the unit vectors that extend them to a basis: these lift to the rows
+        // at their columns.
+        let sub_rows = rows.lift(alloc, space)?;
+        let quotient_rows = rows.select(alloc, columns)?;
         Ok((
             Section {
-                kept: Kept::Part(sub, sub_rows),
+                action: Action::Part(sub),
+                rows: LiftedRows::of_matrix(sub_rows),
             },
             Section {
-                kept: Kept::Part(quotient, quotient_rows),
+                action: Action::Part(quotient),
+                rows: quotient_rows,
             },
         ))
+    }
+}
+
+impl<'a> Action<'a> {
+    /// The module that it is.
+    fn module(&self) -> &Module
+        ensures { result.now ≡ acting_module self.now }
+    {
+        match self {
+            Action::Whole(module) => module,
+            Action::Part(module) => module,
+        }
+    }
+
+    /// The module that it is, as one of its own: the module of a whole section is copied.
+    fn into_module(self, alloc: Global) -> Result<Module, Refusal>
+        ensures { Answers None (λ «module». «module» ≡ acting_module self.entry) result }
+    {
+        match self {
+            Action::Whole(module) => module.copy(alloc),
+            Action::Part(module) => Ok(module),
+        }
+    }
+
+    /// What the words 0 to `words` of a seed decide of the module that it is, and the action back.
+    fn decide(self, alloc: Global, seed: u64, words: u32) -> Result<(Action<'a>, Verdict), Refusal>
+        requires words { words ≤ MAX_WORDS }
+        ensures same { Answers None (λ answer. acting_module answer.0 ≡ acting_module self.entry) result }
+        ensures decides { Answers None (λ answer. Decides (acting_module self.entry) seed words answer.1) result }
+        ensures holds { Answers None (λ answer. IsTrueVerdict (acting_module self.entry) answer.1) result }
+    {
+        match self {
+            Action::Whole(module) => {
+                let verdict = decide(alloc, module, seed, words)?;
+                Ok((Action::Whole(module), verdict))
+            }
+            Action::Part(module) => {
+                let (module, verdict) = decide_owned(alloc, module, seed, words)?;
+                Ok((Action::Part(module), verdict))
+            }
+        }
     }
 }

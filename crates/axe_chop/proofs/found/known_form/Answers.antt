@@ -1,5 +1,5 @@
 use Rattle.axe_chop.proofs.Knowing.{others_more, known_here, others_all}
-use Rattle.std.proofs.Common.{arith}
+use Rattle.std.proofs.Common.{rules, arith}
 use Rattle.axe_chop.proofs.found.known_form.Goals as goal
 
 pub returns-in-Some : goal.returns-in-Some
@@ -14,3 +14,6 @@ loop-number-preserved c =
 
 pub returns : goal.returns
 returns c = others_all c.args.forms.now c.args.action.now c.loop-number.number c.loop-number.invariant (omega arith)
+
+pub loop-number-init : goal.loop-number-init
+loop-number-init c = search rules

@@ -5,4 +5,4 @@ use Rattle.axe_chop.proofs.search.open_at.Given as goal
 
 abbrev pub invariant-loop-index : goal.invariant-loop-index
 invariant-loop-index l =
-    IsOpening (with_sections l.fn.found.basis (l.section ∷ l.after.items)) l.basis (drop l.index l.after.items)
+    IsOpening (with_sections l.fn.found.basis (l.fn.section ∷ l.after.items)) l.basis (drop l.index l.after.items)

@@ -1,0 +1,6 @@
+use Rattle.axe_chop.specs.Vectors.{unit_vectors}
+use Rattle.axe_chop.proofs.Choosing.{AreFirstRows}
+use Rattle.axe_chop.proofs.lifted.units_at.Given as goal
+
+abbrev pub invariant-loop-column : goal.invariant-loop-column
+invariant-loop-column l = AreFirstRows (unit_vectors l.field l.dim l.columns) l.column-index l.units
