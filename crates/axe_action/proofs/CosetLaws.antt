@@ -1,10 +1,9 @@
 -- The action of a generator modulo a span, by the entries of the span's reduced basis at the columns that are no pivots.
-use Rattle.std.specs.Prelude.{◌≡◌, ℕ, ◌<◌, List, [], length, get_or, All}
-use Rattle.std.proofs.lemmas.List.{get_or-map}
+use Rattle.std.specs.Prelude.{◌≡◌, ℕ, ◌<◌, List, [], length, get_or}
 use Rattle.std.proofs.lemmas.List.Elements.{All-from_get_or}
 use Rattle.axe_algebra.specs.NumberField.{NumberField}
 use Rattle.axe_algebra.specs.Field.{Field}
-use Rattle.axe_algebra.specs.Vectors.{Vector, Matrix, subtract, times}
+use Rattle.axe_algebra.specs.Vectors.{Vector, subtract, times}
 use Rattle.axe_algebra.specs.Bridge.{vector_of, matrix_of, element}
 use Rattle.axe_algebra.specs.Lists.{entry, IsVectorOver, IsMatrixOver}
 use Rattle.axe_algebra.specs.ListArithmetic.{product_entry}
@@ -17,7 +16,6 @@ use Rattle.axe_algebra.proofs.ReducedBases.{same_size}
 use Rattle.axe_algebra.proofs.ElementNumbers.{entry-below, element_add, element_mul}
 use Rattle.axe_algebra.proofs.ListEntries.{row_over, table_length, table_entry}
 use Rattle.axe_algebra.proofs.ListProducts.{product_entry-below, element_product_entry}
-use Rattle.axe_field.specs.Order.{Order}
 use Rattle.axe_field.specs.Arithmetic.{field_neg}
 use Rattle.axe_field.specs.NumberFields.{number_field, gf}
 use Rattle.axe_matrix.specs.Matrices.{MatrixValue, IsMatrix}
@@ -26,11 +24,11 @@ use Rattle.axe_reduction.proofs.ClearLaws.{minus_one-below}
 use Rattle.axe_reduction.proofs.ReductionLaws.{minus_one-is}
 use Rattle.axe_echelon.specs.Echelons.{EchelonValue, IsReducedMatrix}
 use Rattle.axe_echelon.proofs.InverseLaws.{matrix_over}
-use Rattle.axe_action.specs.Coordinates.{entries_at, matrix_at, rows_chosen, ArePivotColumns}
-use Rattle.axe_action.specs.FreeColumns.{AreFreeColumns, HasRowsModulo, IsRowModulo, row_at, matrix_modulo}
+use Rattle.axe_action.specs.Coordinates.{entries_at, matrix_at, ArePivotColumns}
+use Rattle.axe_action.specs.FreeColumns.{AreFreeColumns, HasRowsModulo, row_at, matrix_modulo}
 use Rattle.axe_action.proofs.RepresentativeLaws.{row_by_basis}
 use Rattle.axe_action.proofs.EntryLaws.{lists_at, lists_at_length, lists_at_row, lists_at_entry, lists_at_over, chosen, chosen_length, chosen_row, chosen_over}
-use mathlib.Core.Path.{refl, sym, ◌∙◌, ap, ap₂, subst}
+use mathlib.Core.Path.{sym, ◌∙◌, ap, ap₂, subst}
 use native.Mathlib.Omega.{arith}
 
 -- the pivots of a span, the other columns, and the entries of the span's reduced basis there

@@ -10,7 +10,7 @@ use Rattle.axe_field.specs.NumberFields.{number_field}
 use Rattle.axe_matrix.specs.Matrices.{MatrixValue, matrix_product}
 use Rattle.axe_matrix.proofs.MatrixLaws.{same_matrix}
 use Rattle.axe_matrix.proofs.ProductLaws.{length-product, get_or-product, length-combination, get_or-combination}
-use Rattle.axe_action.specs.Coordinates.{entries_at, matrix_at, rows_chosen}
+use Rattle.axe_action.specs.Coordinates.{entries_at, matrix_at}
 use Rattle.axe_action.proofs.ColumnLaws.{entries_over}
 use mathlib.Core.Path.{refl, sym, ◌∙◌, ap, subst}
 use native.Mathlib.Omega.{arith}

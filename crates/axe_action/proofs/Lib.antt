@@ -12,6 +12,8 @@ pub mod EntryLaws
 pub mod CosetLaws
 pub mod SpanChanges
 pub mod SubmoduleLaws
+pub mod BlockLaws
+pub mod ReducedProducts
 pub mod SplitLaws
 pub mod DualLaws
 pub mod BasisLaws

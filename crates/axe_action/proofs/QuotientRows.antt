@@ -1,26 +1,22 @@
 -- The action of a module modulo a span, row by row, and its columns.
-use Rattle.std.specs.Prelude.{◌≡◌, ℕ, ◌+◌, ◌<◌, ◌≤◌, List, [], ◌∷◌, ◌++◌, length, get_or, map, None, Result, Bool, true, false, not, IsTrue, ◌↔◌}
+use Rattle.std.specs.Prelude.{◌≡◌, ℕ, ◌+◌, ◌<◌, ◌≤◌, List, [], length, get_or, None, Result, Bool, true, false, not, IsTrue, ◌↔◌}
 use Rattle.std.specs.List.{All}
-use Rattle.std.proofs.lemmas.List.{length-append, length-map, get_or_append_left, get_or-append-add, get_or-map}
+use Rattle.std.proofs.lemmas.List.{length-map}
 use Rattle.std.proofs.lemmas.List.Elements.{All-from_get_or, All-map, All-weaker}
 use Rattle.axe_algebra.specs.NumberField.{NumberField}
 use Rattle.axe_algebra.specs.Bridge.{matrix_of}
-use Rattle.axe_algebra.specs.Lists.{IsMatrixOver, IsSquareOver, unit_row}
-use Rattle.axe_algebra.specs.SpansOfLists.{IsPivot, IsRepresentative, HaveSameSpan}
+use Rattle.axe_algebra.specs.Lists.{IsMatrixOver, IsSquareOver}
+use Rattle.axe_algebra.specs.SpansOfLists.{IsPivot}
 use Rattle.axe_algebra.specs.ModulesOfLists.{IsQuotientAction}
-use Rattle.axe_algebra.proofs.Spanning.{span_within}
 use Rattle.axe_algebra.proofs.ReducedBases.{pivot_of_same_span}
 use Rattle.axe_algebra.proofs.FreeColumns.{free_columns_count}
 use Rattle.axe_algebra.proofs.ListEntries.{rows_length}
 use Rattle.axe_algebra.proofs.ListQuotients.{IsRowOfQuotient, quotient_action_by_rows}
 use Rattle.axe_field.specs.NumberFields.{number_field, gf}
-use Rattle.axe_row.specs.Rows.{RowValue, IsRow}
 use Rattle.axe_row.specs.Refusals.{AnswersOr}
 use Rattle.axe_row.specs.declared.refusals.Refusal.{Refusal}
 use Rattle.axe_matrix.specs.Matrices.{MatrixValue, IsMatrix}
 use Rattle.axe_echelon.specs.Echelons.{EchelonValue, IsEchelon, IsSpanOfRows}
-use Rattle.axe_echelon.proofs.FormLaws.{below_or_at}
-use Rattle.axe_echelon.proofs.StepLaws.{over_of_row}
 use Rattle.axe_spin.specs.Modules.{ModuleValue, IsModule, IsInvariantIn, rows_refusal, generator_of, rows_of_each, module_of_matrices}
 use Rattle.axe_spin.specs.Generators.{IsGeneratorMatrix}
 use Rattle.axe_spin.proofs.ModuleLaws.{square_over}
@@ -31,7 +27,7 @@ use Rattle.axe_action.specs.Coordinates.{HasImagesIn}
 use Rattle.axe_action.specs.FreeColumns.{IsFreeColumn, AreFreeColumns, IsRowModulo, HasRowsModulo, rows_to_span, row_at}
 use Rattle.axe_action.proofs.ColumnLists.{AreColumnsBelow}
 use Rattle.axe_action.proofs.GeneratorLists.{AreNewGenerators, module_of_made}
-use mathlib.Core.Path.{refl, sym, ◌∙◌, ap, subst}
+use mathlib.Core.Path.{refl, sym, ◌∙◌, subst}
 use native.Mathlib.Omega.{arith}
 
 -- a column is free exactly where a test finds no pivot

@@ -1,6 +1,6 @@
 -- The representative of a vector modulo a span, by the span's reduced basis: the vector without the combination of the
 -- basis with its entries at the pivots.
-use Rattle.std.specs.Prelude.{◌≡◌, ℕ, ◌<◌, List, [], length, get_or}
+use Rattle.std.specs.Prelude.{◌≡◌, ℕ, ◌<◌, List, length, get_or}
 use Rattle.std.proofs.lemmas.List.{get_or-map}
 use Rattle.axe_algebra.specs.NumberField.{NumberField}
 use Rattle.axe_algebra.specs.Field.{Field}

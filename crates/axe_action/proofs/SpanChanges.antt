@@ -1,14 +1,14 @@
 -- What is known of a span's rows is known of those of its reduced basis, and quotient actions modulo one span by either;
 -- modulo zero a module is itself.
-use Rattle.std.specs.Prelude.{◌≡◌, ℕ, ◌<◌, ◌≤◌, List, [], length, get_or, All, Option, None, Result}
+use Rattle.std.specs.Prelude.{◌≡◌, ℕ, ◌<◌, ◌≤◌, List, [], length, get_or, All, None, Result}
 use Rattle.axe_algebra.specs.NumberField.{NumberField}
 use Rattle.axe_algebra.specs.Field.{Field}
-use Rattle.axe_algebra.specs.Vectors.{Matrix, subtract, zero_vector, times}
+use Rattle.axe_algebra.specs.Vectors.{Matrix, zero_vector, times}
 use Rattle.axe_algebra.specs.Spans
 use Rattle.axe_algebra.specs.Reduced
 use Rattle.axe_algebra.specs.Actions
 use Rattle.axe_algebra.specs.Modules.{Module}
-use Rattle.axe_algebra.specs.Bridge.{field_of, vector_of, matrix_of, module_of}
+use Rattle.axe_algebra.specs.Bridge.{field_of, matrix_of, module_of}
 use Rattle.axe_algebra.specs.Lists.{IsMatrixOver, IsSquareOver}
 use Rattle.axe_algebra.specs.SpansOfLists.{HaveSameSpan, IsReducedBasis}
 use Rattle.axe_algebra.specs.ModulesOfLists.{IsQuotientAction}
@@ -18,7 +18,6 @@ use Rattle.axe_algebra.proofs.ReducedBases.{pivot_of_same_span, reduced_spans, r
 use Rattle.axe_algebra.proofs.ListEntries.{rows_length, row_over}
 use Rattle.axe_algebra.proofs.ListModules.{generator_over}
 use Rattle.axe_algebra.proofs.ListQuotients.{IsRowOfQuotient, quotient_action_by_rows}
-use Rattle.axe_field.specs.Order.{Order}
 use Rattle.axe_field.specs.NumberFields.{number_field, gf}
 use Rattle.axe_row.specs.Refusals.{Answers, AnswersOr}
 use Rattle.axe_row.specs.declared.refusals.Refusal.{Refusal}

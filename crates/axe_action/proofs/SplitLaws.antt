@@ -1,17 +1,19 @@
 -- The two actions that come of a submodule's reduced basis, generator by generator.
-use Rattle.std.specs.Prelude.{◌≡◌, ℕ, ◌<◌, List, [], ◌∷◌, ◌++◌, length, All}
-use Rattle.axe_field.specs.NumberFields.{number_field}
+use Rattle.std.specs.Prelude.{◌≡◌, ℕ, List, [], ◌∷◌, ◌++◌, length}
 use Rattle.axe_matrix.specs.Matrices.{MatrixValue, IsMatrix}
 use Rattle.axe_echelon.proofs.InverseLaws.{matrix_over}
 use Rattle.axe_spin.specs.Modules.{ModuleValue, IsModule, IsInvariantIn, generator_of}
 use Rattle.axe_spin.specs.Generators.{IsGeneratorMatrix}
 use Rattle.axe_action.specs.Coordinates.{matrix_at, HasImagesIn, HasActionRows}
-use Rattle.axe_action.specs.FreeColumns.{AreFreeColumns, AreReducedAt, HasRowsModulo, rows_to_span, row_at, matrix_modulo}
+use Rattle.axe_action.specs.FreeColumns.{AreFreeColumns, AreReducedAt, AreComplementary, HasRowsModulo, rows_to_span, row_at}
+use Rattle.axe_action.specs.FreeColumns.{matrix_within, matrix_modulo}
 use Rattle.axe_action.proofs.GeneratorLists.{AreGeneratorsOf, AreNewGenerators, generators_next, next_below, next_generator, next_is}
 use Rattle.axe_action.proofs.SubRows.{IsActionOf, action_is_generator, module_rows_over, outside_invariant}
-use Rattle.axe_action.proofs.QuotientRows.{IsQuotientOf, free_within, modulo_is_generator}
+use Rattle.axe_action.proofs.QuotientRows.{IsQuotientOf, modulo_is_generator}
 use Rattle.axe_action.proofs.CosetLaws.{AreCosets, rows_modulo}
-use mathlib.Core.Path.{sym, ◌∙◌, subst}
+use Rattle.axe_action.proofs.SubmoduleLaws.{at_columns_act}
+use Rattle.axe_action.proofs.ReducedProducts.{complementary, within_is_product}
+use mathlib.Core.Path.{refl, sym, ◌∙◌, subst}
 
 -- the entries of the reduced basis at the columns that are no pivots
 pub cosets_of_reduced : (rows : MatrixValue) (pivots columns : List ℕ) (entries : MatrixValue) → IsMatrix rows → AreReducedAt rows pivots →
@@ -39,21 +41,34 @@ module _ (m : ModuleValue) (rows : MatrixValue) (h : IsModule m) (rows_h : IsMat
   within_next =
       outside_invariant m rows (length done) h (module_rows_over m rows rows_h field fits) (next_below m done rest are g next is) invariant
 
-  pub images_of_next : HasImagesIn g rows.rows rows.rows
+  images_of_next : HasImagesIn g rows.rows rows.rows
   images_of_next = subst (λ (x : MatrixValue). HasImagesIn x rows.rows rows.rows) (sym at_generator) within_next
 
-  pub columns_of_next : (columns : List ℕ) → AreFreeColumns (rows_to_span rows) columns → All (λ column. column < g.cols) columns
-  columns_of_next columns free =
-      subst (λ n. All (λ column. column < n) columns) (fits ∙ sym generator.columns) (free_within (rows_to_span rows) columns free)
+  pub complementary_next : (pivots columns : List ℕ) → AreReducedAt rows pivots → AreFreeColumns (rows_to_span rows) columns →
+      AreComplementary g.cols pivots columns
+  complementary_next pivots columns reduced free =
+      subst (λ n. AreComplementary n pivots columns) (fits ∙ sym generator.columns) (complementary rows pivots columns rows_h reduced free)
 
   -- its action on the submodule
-  pub sub_next : (sub : MatrixValue) (subs more : List MatrixValue) → HasActionRows g rows.rows (length rows.rows) sub →
+  pub sub_next : (pivots columns : List ℕ) (entries sub : MatrixValue) (subs more : List MatrixValue) → AreReducedAt rows pivots →
+      AreFreeColumns (rows_to_span rows) columns → entries ≡ matrix_at columns rows → sub ≡ matrix_within pivots columns entries g → IsMatrix sub →
       AreNewGenerators m.order (length rows.rows) (IsActionOf m rows.rows) (length done) subs → more ≡ subs ++ sub ∷ [] →
       AreNewGenerators m.order (length rows.rows) (IsActionOf m rows.rows) (length (done ++ g ∷ [])) more
-  sub_next sub subs more acts so_far pushed =
+  sub_next pivots columns entries sub subs more reduced free entries_are sub_is formed so_far pushed =
       generators_next m.order (length rows.rows) (IsActionOf m rows.rows) done g subs more sub so_far pushed
       (action_is_generator (generator_of m (length done)) rows.rows sub all) all.each
     where
+      square : length g.rows ≡ g.cols
+      square = generator.rows ∙ sym generator.columns
+
+      acts : HasActionRows g rows.rows (length rows.rows) sub
+      acts =
+          at_columns_act rows g (matrix_at pivots g) pivots (field ∙ sym generator.field) (fits ∙ sym generator.columns) square refl sub rows_h
+          generator.well_formed reduced.coordinates images_of_next
+          (sub_is ∙ within_is_product rows g entries pivots columns rows_h generator.well_formed (generator.field ∙ sym field) (generator.columns ∙ sym fits)
+          square reduced free entries_are)
+          formed
+
       all : HasActionRows (generator_of m (length done)) rows.rows (length rows.rows) sub
       all = subst (λ (x : MatrixValue). HasActionRows x rows.rows (length rows.rows) sub) at_generator acts
 

@@ -1,5 +1,5 @@
 -- The columns that are no pivots of a span, and rows modulo that span (Parker 1984).
-use Rattle.std.specs.Prelude.{◌≡◌, ℕ, ◌<◌, List, [], length, get_or}
+use Rattle.std.specs.Prelude.{◌≡◌, ◌≢◌, ℕ, ◌+◌, ◌<◌, ◌⊎◌, List, [], length, get_or}
 use Rattle.axe_algebra.specs.Bridge.{matrix_of}
 use Rattle.axe_algebra.specs.Reduced.{IsAscendingListOf}
 use Rattle.axe_algebra.specs.Actions.{IsFree}
@@ -59,3 +59,24 @@ pub record AreReducedAt (rows : MatrixValue) (columns : List ℕ) : Type 0 where
   pub pivots : ArePivotColumns (rows_to_span rows) columns
   pub reduced : IsReducedMatrix (rows_to_span rows) rows
   pub coordinates : AreCoordinateColumns (number_field rows.order) rows.cols rows.rows columns
+
+-- the pivots and the other columns of vectors of length n, both ascending: each column is one of them
+pub record AreComplementary (n : ℕ) (pivots columns : List ℕ) : Type 0 where
+  pub pivots_ascend : (s t : ℕ) → s < t → t < length pivots → get_or pivots s 0 < get_or pivots t 0
+  pub columns_ascend : (s t : ℕ) → s < t → t < length columns → get_or columns s 0 < get_or columns t 0
+  pub pivots_below : (t : ℕ) → t < length pivots → get_or pivots t 0 < n
+  pub columns_below : (t : ℕ) → t < length columns → get_or columns t 0 < n
+  pub apart : (s t : ℕ) → s < length pivots → t < length columns → get_or pivots s 0 ≢ get_or columns t 0
+  pub every : (j : ℕ) → j < n →
+      ((t : ℕ) × (t < length pivots) × (get_or pivots t 0 ≡ j)) ⊎ ((t : ℕ) × (t < length columns) × (get_or columns t 0 ≡ j))
+
+-- the next pivot that was not taken, after so many that were and so many other columns, is the next column
+abbrev pub IsNextPivot : List ℕ → ℕ → ℕ → Type 0
+IsNextPivot pivots taken passed = (taken < length pivots) × (get_or pivots taken 0 ≡ taken + passed)
+
+-- a reduced basis with these pivots times g, at the pivots, by the basis's entries at the other columns: the rows of g at
+-- the pivots, plus the entries times the rows of g at the other columns (the reduced row echelon form of any linear
+-- algebra text)
+abbrev pub matrix_within : List ℕ → List ℕ → MatrixValue → MatrixValue → MatrixValue
+matrix_within pivots columns entries g =
+    matrix_with_product (matrix_at pivots (rows_chosen pivots g)) 1 entries (matrix_at pivots (rows_chosen columns g))

@@ -1,7 +1,7 @@
 //! The action of a module on a submodule and modulo it: a reduced basis that is known to be one of a submodule is not
 //! tested to be one.
 
-ghost use Rattle.std.specs.Prelude.{◌≡◌, ◌<◌, ◌≤◌, length, None, IfOk};
+ghost use Rattle.std.specs.Prelude.{◌≡◌, ◌<◌, ◌≤◌, ◌+◌, ◌^◌, ◌↔◌, length, IsTrue, None, IfOk};
 ghost use Rattle.axe_algebra.specs.SpansOfLists.{IsIndependent};
 ghost use Rattle.axe_field.specs.NumberFields.{number_field};
 ghost use Rattle.axe_row.specs.Refusals.{Answers};
@@ -10,11 +10,12 @@ ghost use Rattle.axe_matrix.specs.Matrices.{IsMatrix};
 ghost use Rattle.axe_echelon.specs.Echelons.{IsSpanOfRows};
 ghost use Rattle.axe_spin.specs.Modules.{IsModule, IsInvariantIn};
 ghost use Rattle.axe_action.specs.Actions.{IsBasisAction, IsActionModulo};
-ghost use Rattle.axe_action.specs.Coordinates.{HasImagesIn, HasActionRows, AreCoordinateColumns};
-ghost use Rattle.axe_action.specs.FreeColumns.{AreFreeColumns, AreReducedAt, rows_to_span};
+ghost use Rattle.axe_action.specs.Coordinates.{matrix_at, rows_chosen};
+ghost use Rattle.axe_action.specs.FreeColumns.{AreFreeColumns, AreReducedAt, AreComplementary, IsNextPivot, rows_to_span};
+ghost use Rattle.axe_action.specs.FreeColumns.{matrix_within, matrix_modulo};
 
 use super::columns::{columns_of, coordinate_columns};
-use super::quotients::{free_columns, generator_on_cosets, quotient_action};
+use super::quotients::{free_columns, quotient_action};
 use super::subspaces::action_over;
 use axe_echelon::{Echelon, span_of};
 use axe_matrix::{Matrix, Refusal};
@@ -96,8 +97,8 @@ fn both_actions(
 }
 
 /// The action of a module on a submodule, over its reduced basis, and that modulo it. Its pivots are given too, and the
-/// other columns. Each generator is dropped as soon as its two parts are made, so that beside what is left of the
-/// module the parts take memory, and one product.
+/// other columns. Row by row each generator becomes its parts, so that beside what is left of the module they alone take
+/// memory.
 fn actions_at_pivots(
     alloc: Global,
     module: Module,
@@ -122,34 +123,87 @@ fn actions_at_pivots(
     let mut subs = Vec::new(alloc);
     let mut quotients = Vec::new(alloc);
     for generator in module.into_generators() {
-        let quotient = generator_on_cosets(alloc, &generator, pivots, columns, &entries)?;
-        quotients.push(quotient)?;
-        let sub = generator_at_columns(alloc, generator, rows, pivots)?;
+        let (sub, quotient) = generator_parts(alloc, generator, pivots, columns, &entries)?;
         subs.push(sub)?;
+        quotients.push(quotient)?;
     }
     Ok((Module::new(subs)?, Module::new(quotients)?))
 }
 
-/// The matrix by which a generator acts on rows whose images are in their span: the entries of the images at the
-/// columns of the coordinates. These are the rows times the generator's entries there.
-fn generator_at_columns(
+/// The matrices by which a generator acts on a reduced basis with these pivots, whose entries at the other columns are
+/// given, and modulo its span. A row of the basis is 1 at its pivot and 0 at the others, and modulo the span a vector is,
+/// at the other columns, itself minus the combination of the entries' rows with its entries at the pivots.
+fn generator_parts(
     alloc: Global,
     generator: Matrix,
-    rows: &Matrix,
+    pivots: &[usize],
     columns: &[usize],
-) -> Result<Matrix, Refusal>
+    entries: &Matrix,
+) -> Result<(Matrix, Matrix), Refusal>
     requires square { length generator.rows ≡ generator.cols }
-    requires generator_well_formed { IsMatrix generator }
-    requires well_formed { IsMatrix rows.now }
-    requires some_row { 1 ≤ length rows.now.rows }
-    requires field { rows.now.order ≡ generator.order }
-    requires fits { rows.now.cols ≡ generator.cols }
-    requires coordinates { AreCoordinateColumns (number_field rows.now.order) rows.now.cols rows.now.rows columns.now }
-    requires within { HasImagesIn generator rows.now.rows rows.now.rows }
-    ensures { Answers None (HasActionRows generator rows.now.rows (length rows.now.rows)) result }
+    requires field { entries.now.order ≡ generator.order }
+    requires some_pivot { 1 ≤ length pivots.now }
+    requires some_column { 1 ≤ length columns.now }
+    requires complementary { AreComplementary generator.cols pivots.now columns.now }
+    requires as_many { length entries.now.rows ≡ length pivots.now }
+    requires width { entries.now.cols ≡ length columns.now }
+    requires well_formed { IsMatrix entries.now }
+    ensures sub { Answers None
+        (λ parts. parts.0 ≡ matrix_within pivots.now columns.now entries.now generator) result }
+    ensures quotient { Answers None
+        (λ parts. parts.1 ≡ matrix_modulo pivots.now columns.now entries.now generator) result }
+    ensures well_formed { IfOk result (λ parts. IsMatrix parts.0 × IsMatrix parts.1) }
 {
-    let at_columns = columns_of(alloc, &generator, columns)?;
-    // Its memory is free again before the product is made.
-    drop(generator);
-    rows.mul(alloc, &at_columns)
+    let (mut sub, across, mut quotient) = blocks_of(alloc, generator, pivots, columns)?;
+    sub.add_product(alloc, 1, entries, &across)?;
+    let minus_one = entries.field().neg(1);
+    quotient.add_product(alloc, minus_one, &across, entries)?;
+    Ok((sub, quotient))
+}
+
+/// Three of the four blocks of a generator: of its rows at the pivots the entries at the pivots, and of its rows at the
+/// other columns the entries at the pivots, and at the other columns. Each row is dropped when its entries are taken.
+fn blocks_of(
+    alloc: Global,
+    generator: Matrix,
+    pivots: &[usize],
+    columns: &[usize],
+) -> Result<(Matrix, Matrix, Matrix), Refusal>
+    requires square { length generator.rows ≡ generator.cols }
+    requires some_pivot { 1 ≤ length pivots.now }
+    requires some_column { 1 ≤ length columns.now }
+    requires pivots_fit { length pivots.now ≤ most_columns }
+    requires columns_fit { length columns.now ≤ most_columns }
+    requires complementary { AreComplementary generator.cols pivots.now columns.now }
+    ensures at_pivots { Answers None
+        (λ blocks. blocks.0 ≡ matrix_at pivots.now (rows_chosen pivots.now generator)) result }
+    ensures across { Answers None
+        (λ blocks. blocks.1 ≡ matrix_at pivots.now (rows_chosen columns.now generator)) result }
+    ensures at_columns { Answers None
+        (λ blocks. blocks.2 ≡ matrix_at columns.now (rows_chosen columns.now generator)) result }
+    ensures well_formed { IfOk result (λ blocks. IsMatrix blocks.0 × IsMatrix blocks.1 × IsMatrix blocks.2) }
+{
+    let field = *generator.field();
+    let mut at_pivots = Matrix::with_capacity(alloc, field, pivots.len(), pivots.len())?;
+    let mut across = Matrix::with_capacity(alloc, field, pivots.len(), columns.len())?;
+    let mut at_columns = Matrix::with_capacity(alloc, field, columns.len(), columns.len())?;
+    for row in generator.into_rows() {
+        let entries = row.select(alloc, pivots)?;
+        if is_next_pivot(pivots, at_pivots.rows(), across.rows()) {
+            at_pivots.append(entries)?;
+        } else {
+            across.append(entries)?;
+            let others = row.select(alloc, columns)?;
+            at_columns.append(others)?;
+        }
+    }
+    Ok((at_pivots, across, at_columns))
+}
+
+/// Whether the next column is a pivot, where so many pivots and so many other columns were before it.
+fn is_next_pivot(pivots: &[usize], taken: usize, passed: usize) -> bool
+    requires { taken + passed < 2 ^ 32 }
+    ensures { IsTrue result ↔ IsNextPivot pivots.now taken passed }
+{
+    taken < pivots.len() && pivots[taken] == taken + passed
 }

@@ -1,4 +1,4 @@
--- Rows that are lifted by those of a section: they are not refused, and how many they are.
+-- Rows that are lifted by those of a section: what the product answers, and how many they are.
 use Rattle.std.proofs.Common.{◌≡◌, length, None, Result, sym, ap, subst, ◌∙◌}
 use Rattle.axe_field.specs.Order.{order_number}
 use Rattle.axe_field.specs.NumberFields.{number_field}
@@ -9,12 +9,6 @@ use Rattle.axe_matrix.proofs.ProductLaws.{length-product, product_refusal-none}
 use Rattle.axe_series.specs.Sections.{SectionValue, lifted_rows}
 use Rattle.axe_chop.specs.Stages.{IsSection}
 use Rattle.axe_chop.specs.Searches.{IsLift}
-
--- coordinates over a section have a product with its rows
-pub lift_accepted : (section : SectionValue) (t : MatrixValue) → IsSection section → t.order ≡ section.action.order →
-    t.cols ≡ section.action.dim → product_refusal t section.rows ≡ None
-lift_accepted section t is field columns =
-    product_refusal-none t section.rows (ap order_number (field ∙ sym is.field)) (columns ∙ sym is.count)
 
 -- a product with a matrix that is the given one
 pub product_answered : (coordinates rows other : MatrixValue) (result : Result MatrixValue Refusal) → other ≡ rows →

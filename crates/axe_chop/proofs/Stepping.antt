@@ -361,10 +361,6 @@ module _ (m : ModuleValue) (seed words : ℕ) (found : Found.Found) (sections : 
             (placed_run (found_value found) section seed word v words rest (found_value next) outcome placed decides run);
       }
 
-    pub less_after_place : most_left rest < most_left sections
-    less_after_place =
-        omega (arith, ap most_left left, first_of_module.action_formed.over.positive)
-
 -- ---- the basis where a section stays undecided
 
 -- the rows of the sections that are left are still to come

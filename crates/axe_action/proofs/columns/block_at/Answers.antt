@@ -1,4 +1,4 @@
-use Rattle.std.proofs.Common.{◌≡◌, ◌<◌, [], length, get_or, ap, sym, ◌∙◌, arith}
+use Rattle.std.proofs.Common.{◌≡◌, ◌<◌, length, ap, sym, ◌∙◌, arith}
 use Rattle.axe_row.specs.Rows.{RowValue}
 use Rattle.axe_action.specs.Coordinates.{entries_at, rows_chosen}
 use Rattle.axe_action.proofs.ColumnLaws.{entries_more, entries_all}

@@ -1,15 +1,14 @@
-use Rattle.std.proofs.Common.{rules, ◌≡◌, ◌≢◌, ◌≤◌, ◌+◌, [], ◌∷◌, ◌++◌, length, get_or, refl, ap, sym, ◌∙◌, subst, arith}
+use Rattle.std.proofs.Common.{◌≡◌, ◌≢◌, ◌≤◌, ◌∷◌, length, refl, ap, sym, ◌∙◌, subst, arith}
 use Rattle.std.specs.Vec.Iter.{into_iter_items}
 use Rattle.std.proofs.lemmas.List.{nil_from_length}
 use Rattle.std.proofs.lemmas.Result.{IfOk-from_err}
-use Rattle.axe_algebra.specs.ListArithmetic.{transpose}
 use Rattle.axe_row.specs.declared.refusals.Refusal.TheVariants.{Memory}
 use Rattle.axe_matrix.specs.Matrices.{MatrixValue, transposed_matrix}
 use Rattle.axe_matrix.proofs.TransposeLaws.{transpose_refusal-none}
 use Rattle.axe_echelon.proofs.Exits.{no_memory, memory_if_accepted}
 use Rattle.axe_spin.specs.Modules.{IsModule, generator_of}
 use Rattle.axe_spin.specs.Generators.{IsGeneratorMatrix}
-use Rattle.axe_action.proofs.GeneratorLists.{AreGeneratorsOf, AreNewGenerators, generators_none, generators_next, module_of_made}
+use Rattle.axe_action.proofs.GeneratorLists.{AreGeneratorsOf, generators_none, generators_next, module_of_made}
 use Rattle.axe_action.proofs.GeneratorLists.{generators_whole, next_generator, next_is, generators_left, all_made, all_fit}
 use Rattle.axe_action.proofs.DualLaws.{transposed_if_accepted, transposed_generator, dual_is}
 use Rattle.axe_action.proofs.duals.into_dual.Goals as goal

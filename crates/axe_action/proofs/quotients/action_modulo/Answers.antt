@@ -12,7 +12,7 @@ use Rattle.axe_action.specs.Coordinates.{HasImagesIn, HasActionRows}
 use Rattle.axe_action.specs.FreeColumns.{HasRowsModulo, rows_to_span, row_at}
 use Rattle.axe_action.proofs.GeneratorLists.{AreNewGenerators, generators_more, all_taken, some_made, made_fit}
 use Rattle.axe_action.proofs.SubRows.{module_rows_over, outside_invariant}
-use Rattle.axe_action.proofs.QuotientRows.{IsQuotientOf, free_within, modulo_is_generator, modulo_made}
+use Rattle.axe_action.proofs.QuotientRows.{IsQuotientOf, modulo_is_generator, modulo_made}
 use Rattle.axe_action.proofs.CosetLaws.{cosets_count, rows_modulo}
 use Rattle.axe_action.proofs.SplitLaws.{cosets_of_reduced}
 use Rattle.axe_action.proofs.quotients.action_modulo.Goals as goal

@@ -1,4 +1,4 @@
-use Rattle.std.proofs.Common.{◌≡◌, length, ap, sym, ◌∙◌}
+use Rattle.std.proofs.Common.{length, ap, sym, ◌∙◌}
 use Rattle.axe_field.specs.Arithmetic.{field_neg}
 use Rattle.axe_matrix.specs.Matrices.{MatrixValue}
 use Rattle.axe_matrix.specs.Products.{matrix_with_product}

@@ -1,7 +1,6 @@
-use Rattle.std.proofs.Common.{◌≡◌, ◌≤◌, Ok, length, sym, subst, arith}
+use Rattle.std.proofs.Common.{Ok, length, sym, subst, arith}
 use Rattle.std.specs.Vec.Iter.{into_iter_items}
 use Rattle.std.proofs.lemmas.List.{nil_from_length}
-use Rattle.axe_row.specs.Refusals.{Answers}
 use Rattle.axe_echelon.proofs.Exits.{no_memory}
 use Rattle.axe_action.specs.Actions.{IsBasisAction, IsActionModulo}
 use Rattle.axe_action.specs.FreeColumns.{rows_to_span}
@@ -11,7 +10,7 @@ use Rattle.axe_action.proofs.SubRows.{IsActionOf, module_rows_over, action_made}
 use Rattle.axe_action.proofs.QuotientRows.{IsQuotientOf, modulo_made}
 use Rattle.axe_action.proofs.CosetLaws.{cosets_count}
 use Rattle.axe_action.proofs.SubmoduleLaws.{invariant_answers}
-use Rattle.axe_action.proofs.SplitLaws.{cosets_of_reduced, images_of_next, columns_of_next, sub_next, quotient_next}
+use Rattle.axe_action.proofs.SplitLaws.{cosets_of_reduced, complementary_next, sub_next, quotient_next}
 use Rattle.axe_action.proofs.submodules.actions_at_pivots.Goals as goal
 
 pub loop-generator-init : goal.loop-generator-init
@@ -22,39 +21,36 @@ loop-generator-init c = record {
   quotients = generators_none _ _ _ c.new-quotients.result.items c.new-quotients.ensures.items;
 }
 
-pub generator_on_cosets-requires-clause-columns_within : goal.generator_on_cosets-requires-clause-columns_within
-generator_on_cosets-requires-clause-columns_within c =
-    columns_of_next c.args.module c.args.rows.now c.into_generators-generator-items.ensures.well_formed c.requires.well_formed c.requires.field c.requires.fits
-    c.requires.invariant c.loop-generator.yielded (into_iter_items c.loop-generator.generator-iterator) c.loop-generator.invariant.left c.in-Some.generator
-    (into_iter_items c.next.new.self) c.in-Some.ensures.steps.0 c.args.columns.now c.requires.free
+pub generator_parts-requires-clause-complementary : goal.generator_parts-requires-clause-complementary
+generator_parts-requires-clause-complementary c =
+    complementary_next c.args.module c.args.rows.now c.into_generators-generator-items.ensures.well_formed c.requires.well_formed c.requires.field
+    c.requires.fits c.requires.invariant c.loop-generator.yielded (into_iter_items c.loop-generator.generator-iterator) c.loop-generator.invariant.left
+    c.in-Some.generator (into_iter_items c.next.new.self) c.in-Some.ensures.steps.0
+    c.args.pivots.now c.args.columns.now c.requires.reduced c.requires.free
 
-pub generator_on_cosets-requires-clause-as_many : goal.generator_on_cosets-requires-clause-as_many
-generator_on_cosets-requires-clause-as_many c =
+pub generator_parts-requires-clause-as_many : goal.generator_parts-requires-clause-as_many
+generator_parts-requires-clause-as_many c =
     cosets_count (rows_to_span c.args.rows.now) c.args.pivots.now c.args.columns.now c.in_ok-entries.entries
     (cosets_of_reduced c.args.rows.now c.args.pivots.now c.args.columns.now c.in_ok-entries.entries c.requires.well_formed c.requires.reduced c.requires.free
     c.in_ok-entries.ensures.entries)
-
-pub generator_at_columns-requires-clause-within : goal.generator_at_columns-requires-clause-within
-generator_at_columns-requires-clause-within c =
-    images_of_next c.args.module c.args.rows.now c.into_generators-generator-items.ensures.well_formed c.requires.well_formed c.requires.field c.requires.fits
-    c.requires.invariant c.loop-generator.yielded (into_iter_items c.loop-generator.generator-iterator) c.loop-generator.invariant.left c.in-Some.generator
-    (into_iter_items c.next.new.self) c.in-Some.ensures.steps.0
 
 pub loop-generator-preserved : goal.loop-generator-preserved
 loop-generator-preserved c = record {
   left = generators_left c.args.module c.loop-generator.yielded (into_iter_items c.loop-generator.generator-iterator) c.loop-generator.invariant.left
       c.in-Some.generator (into_iter_items c.next.new.self) c.in-Some.ensures.steps.0;
-  subs = sub_next c.args.module c.args.rows.now c.into_generators-generator-items.ensures.well_formed c.requires.well_formed c.requires.field c.requires.fits
-      c.requires.invariant c.loop-generator.yielded (into_iter_items c.loop-generator.generator-iterator) c.loop-generator.invariant.left c.in-Some.generator
-      (into_iter_items c.next.new.self) c.in-Some.ensures.steps.0 c.in_ok-sub.sub c.loop-generator.subs.items c.push-in-loop-generator.new.self.items
-      c.in_ok-sub.ensures c.loop-generator.invariant.subs c.in_ok-push-2.ensures.items;
+  subs = sub_next c.args.module c.args.rows.now c.into_generators-generator-items.ensures.well_formed c.requires.well_formed c.requires.field
+      c.requires.fits c.requires.invariant c.loop-generator.yielded (into_iter_items c.loop-generator.generator-iterator) c.loop-generator.invariant.left
+      c.in-Some.generator (into_iter_items c.next.new.self) c.in-Some.ensures.steps.0
+      c.args.pivots.now c.args.columns.now c.in_ok-entries.entries c.in_ok-sub.sub c.loop-generator.subs.items c.push.new.self.items
+      c.requires.reduced c.requires.free c.in_ok-entries.ensures.entries c.in_ok-sub.ensures.sub c.in_ok-sub.ensures.well_formed.0
+      c.loop-generator.invariant.subs c.in_ok-push.ensures.items;
   quotients = quotient_next c.args.module c.args.rows.now c.into_generators-generator-items.ensures.well_formed c.requires.well_formed c.requires.field
       c.requires.fits c.requires.invariant c.loop-generator.yielded (into_iter_items c.loop-generator.generator-iterator) c.loop-generator.invariant.left
-      c.in-Some.generator (into_iter_items c.next.new.self) c.in-Some.ensures.steps.0 c.args.pivots.now c.args.columns.now c.in_ok-entries.entries
-      c.in_ok-quotient.quotient c.loop-generator.quotients.items c.push.new.self.items
+      c.in-Some.generator (into_iter_items c.next.new.self) c.in-Some.ensures.steps.0
+      c.args.pivots.now c.args.columns.now c.in_ok-entries.entries c.in_ok-sub.quotient c.loop-generator.quotients.items c.push-in-loop-generator.new.self.items
       (cosets_of_reduced c.args.rows.now c.args.pivots.now c.args.columns.now c.in_ok-entries.entries c.requires.well_formed c.requires.reduced c.requires.free
       c.in_ok-entries.ensures.entries)
-      c.in_ok-quotient.ensures.modulo c.in_ok-quotient.ensures.well_formed c.loop-generator.invariant.quotients c.in_ok-push.ensures.items;
+      c.in_ok-sub.ensures.quotient c.in_ok-sub.ensures.well_formed.1 c.loop-generator.invariant.quotients c.in_ok-push-2.ensures.items;
 }
 
 pub returns-in_err-new-clause-sub : goal.returns-in_err-new-clause-sub

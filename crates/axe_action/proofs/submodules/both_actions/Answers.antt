@@ -1,6 +1,5 @@
-use Rattle.std.proofs.Common.{◌≡◌, ◌+◌, Ok, Err, None, length, arith}
+use Rattle.std.proofs.Common.{Ok, Err, arith}
 use Rattle.axe_echelon.proofs.Exits.{no_memory}
-use Rattle.axe_spin.specs.Modules.{rows_refusal, SpansModule}
 use Rattle.axe_action.proofs.SubmoduleLaws.{rows_accepted, not_everything, free_and_rows, proper_answers}
 use Rattle.axe_action.proofs.submodules.both_actions.Goals as goal
 

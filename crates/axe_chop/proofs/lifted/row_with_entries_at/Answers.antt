@@ -1,5 +1,4 @@
-use Rattle.std.proofs.Common.{◌≡◌, ◌<◌, length, get_or, ap, sym, subst, ◌∙◌, arith}
-use Rattle.axe_row.specs.Rows.{RowValue}
+use Rattle.std.proofs.Common.{◌≡◌, ◌<◌, length, get_or, sym, subst, ◌∙◌, arith}
 use Rattle.axe_field.specs.Arithmetic.{field_add}
 use Rattle.axe_chop.proofs.Placements.{placed_none, placed_count, placed_more, placed_all}
 use Rattle.axe_chop.proofs.lifted.row_with_entries_at.Goals as goal

@@ -1,7 +1,7 @@
 use Rattle.std.proofs.Common.{sym, ap, subst}
 use Rattle.axe_series.specs.Sections.{SectionValue}
 use Rattle.axe_chop.specs.Stages.{IsSection}
-use Rattle.axe_chop.proofs.Stepping.{pushed_first, popped_as, popped_none, decided_as, true_as, reached_first, reached_end, forms_like_first, first_rows_like, rest_rows_like, room_left, room_first, answered_open, reached_cut, less_after_cut, reached_placed, less_after_place}
+use Rattle.axe_chop.proofs.Stepping.{pushed_first, popped_as, popped_none, decided_as, true_as, reached_first, reached_end, forms_like_first, first_rows_like, rest_rows_like, room_left, room_first, answered_open, reached_cut, less_after_cut, reached_placed}
 use Rattle.axe_chop.proofs.search.search.Goals as goal
 
 pub loop-section-init : goal.loop-section-init

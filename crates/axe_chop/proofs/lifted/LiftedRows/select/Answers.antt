@@ -1,4 +1,4 @@
-use Rattle.std.proofs.Common.{◌≡◌, ◌<◌, All, length, get_or, map, sym, ap, subst, ◌∙◌, arith}
+use Rattle.std.proofs.Common.{◌≡◌, get_or, map, sym, ap, subst, ◌∙◌, arith}
 use Rattle.axe_matrix.specs.Matrices.{identity_matrix}
 use Rattle.axe_chop.specs.Vectors.{unit_vectors, chosen_rows}
 use Rattle.axe_chop.specs.Kept.{kept_rows, AreKept}
