@@ -1,14 +1,10 @@
 -- The transposed module by its generators, and annihilators as spaces that are orthogonal to rows.
-use Rattle.std.specs.Prelude.{◌≡◌, ℕ, ◌<◌, List, [], length, get_or, None, Result, Ok, Err, IfOk}
-use Rattle.std.proofs.lemmas.List.{length-map, get_or-map, ext_get_or}
-use Rattle.axe_algebra.specs.NumberField.{NumberField}
-use Rattle.axe_algebra.specs.Vectors.{transposed}
-use Rattle.axe_algebra.specs.Bridge.{field_of}
-use Rattle.axe_algebra.specs.Lists.{entry, IsMatrixOver, IsSquareOver}
+use Rattle.std.specs.Prelude.{◌≡◌, ℕ, List, [], length, get_or, None, Result, Ok, Err, IfOk}
+use Rattle.std.proofs.lemmas.List.{length-map, get_or-map}
+use Rattle.axe_algebra.specs.Lists.{entry}
 use Rattle.axe_algebra.specs.ListArithmetic.{transpose, transposed_generators}
 use Rattle.axe_algebra.specs.SpansOfLists.{IsAnnihilatorBasis}
-use Rattle.axe_algebra.proofs.ListEntries.{table_length, same_matrix}
-use Rattle.axe_algebra.proofs.ListProducts.{matrix_of_transpose, transpose_over}
+use Rattle.axe_algebra.proofs.ListEntries.{table_length}
 use Rattle.axe_field.specs.NumberFields.{number_field}
 use Rattle.axe_row.specs.Refusals.{Answers}
 use Rattle.axe_row.specs.declared.refusals.Refusal.{Refusal}
@@ -19,7 +15,7 @@ use Rattle.axe_spin.specs.Modules.{ModuleValue, IsModule, generator_of, rows_of_
 use Rattle.axe_spin.specs.Generators.{IsGeneratorMatrix}
 use Rattle.axe_action.specs.Actions.{dual_module, IsAnnihilatorMatrix}
 use Rattle.axe_action.proofs.GeneratorLists.{AreNewGenerators, generators_are}
-use mathlib.Core.Path.{sym, ◌∙◌, ap, subst}
+use mathlib.Core.Path.{sym, ◌∙◌, ap}
 use native.Mathlib.Omega.{arith}
 
 -- a transpose has a row for each column
@@ -65,33 +61,3 @@ annihilator_of_orthogonal rows (Ok basis) null orthogonal = record {
   basis_of_annihilator = orthogonal;
 }
 annihilator_of_orthogonal rows (Err refusal) null orthogonal = null
-
--- the transpose of the transpose of a square list of rows is that list
-pub transpose_twice : (K : NumberField) (n : ℕ) (rows : List (List ℕ)) → IsSquareOver K n rows → transpose n (transpose n rows) ≡ rows
-transpose_twice K n rows square =
-    same_matrix K n (transpose n (transpose n rows)) rows (length-transpose n (transpose n rows) ∙ sym square.length_is) twice square.matrix
-    (matrix_of_transpose K n (transpose n rows) once ∙ ap (transposed (field_of K)) (matrix_of_transpose K n rows square.matrix))
-  where
-    once : IsMatrixOver K n (transpose n rows)
-    once = subst (λ k. IsMatrixOver K k (transpose n rows)) square.length_is (transpose_over K n rows square.matrix)
-
-    twice : IsMatrixOver K n (transpose n (transpose n rows))
-    twice = subst (λ k. IsMatrixOver K k (transpose n (transpose n rows))) (length-transpose n rows) (transpose_over K n (transpose n rows) once)
-
--- a module is the transposed module of its transposed module
-pub dual_twice : (m : ModuleValue) → IsModule m → dual_module (dual_module m) ≡ m
-dual_twice m h = λ k. record { order = m.order; dim = m.dim; generators = same k }
-  where
-    once : List (List (List ℕ))
-    once = transposed_generators m.dim m.generators
-
-    same : transposed_generators m.dim once ≡ m.generators
-    same =
-        ext_get_or [] (transposed_generators m.dim once) m.generators
-        (length-map once (transpose m.dim) ∙ length-map m.generators (transpose m.dim))
-        (λ i below.
-        let inside : i < length once = omega (arith, below, length-map once (transpose m.dim)) in
-        let small : i < length m.generators = omega (arith, inside, length-map m.generators (transpose m.dim)) in
-        get_or-map (transpose m.dim) once i [] [] inside
-        ∙ ap (transpose m.dim) (get_or-map (transpose m.dim) m.generators i [] [] small)
-        ∙ transpose_twice (number_field m.order) m.dim (get_or m.generators i []) (h.over.square i [] small))

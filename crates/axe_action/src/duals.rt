@@ -24,21 +24,6 @@ pub fn dual(alloc: Global, module: &Module) -> Result<Module, Refusal>
     Module::new(transposes)
 }
 
-/// The transposed module in the place of a module: as [`dual`], of a module that is moved in. Each generator is dropped as
-/// soon as its transpose is made, so that beside what is left of the module only the transposes take memory.
-pub fn into_dual(alloc: Global, module: Module) -> Result<Module, Refusal>
-    ensures transposed { Answers None (λ dual. dual ≡ dual_module «module») result }
-    ensures well_formed { IfOk result IsModule }
-{
-    let mut transposes = Vec::new(alloc);
-    for generator in module.into_generators() {
-        let transpose = generator.transpose(alloc)?;
-        drop(generator);
-        transposes.push(transpose)?;
-    }
-    Module::new(transposes)
-}
-
 /// The annihilator of the rows of a matrix: the reduced basis of all vectors v with `v w^T = 0` for every row w.
 pub fn annihilator(alloc: Global, rows: &Matrix) -> Result<Matrix, Refusal>
     ensures basis { Answers None (IsAnnihilatorMatrix rows.now) result }

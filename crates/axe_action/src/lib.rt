@@ -11,7 +11,7 @@ mod subspaces;
 
 pub use bases::extend_basis;
 pub use conjugates::conjugate;
-pub use duals::{annihilator, dual, into_dual};
+pub use duals::{annihilator, dual};
 pub use quotients::quotient_action;
 pub use submodules::{Split, split_by_submodule};
 pub use subspaces::{basis_action, sub_action};

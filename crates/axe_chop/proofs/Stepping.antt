@@ -34,14 +34,9 @@ use native.Mathlib.Omega.{arith}
 -- ---- queues
 
 -- the first of a queue is taken out
-popped : {X : Type 0} (before after : List X) (taken : Option X) (x : X) → taken ≡ Some x →
+pub popped : {X : Type 0} (before after : List X) (taken : Option X) (x : X) → taken ≡ Some x →
     before ≡ option_to_list taken ++ after → before ≡ x ∷ after
 popped before after taken x is items = items ∙ ap (λ t. option_to_list t ++ after) is
-
--- also where it is named anew
-pub popped_as : {X : Type 0} (before after : List X) (taken : Option X) (x y : X) → taken ≡ Some x →
-    before ≡ option_to_list taken ++ after → y ≡ x → before ≡ y ∷ after
-popped_as before after taken x y is items same = popped before after taken x is items ∙ ap (λ z. z ∷ after) (sym same)
 
 -- a queue that gives none is empty
 pub popped_none : {X : Type 0} (before after : List X) (taken : Option X) → taken ≡ None → after ≡ drop 1 before →

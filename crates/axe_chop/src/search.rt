@@ -12,7 +12,7 @@ ghost use Rattle.axe_chop.specs.declared.search.Searched.TheVariants.{Open};
 use crate::found::Found;
 use crate::section::Section;
 use axe_matrix::{Matrix, Refusal};
-use axe_norton::{MAX_WORDS, Verdict};
+use axe_norton::{MAX_WORDS, Verdict, decide};
 use axe_spin::Module;
 use std::alloc::Global;
 use std::collections::VecDeque;
@@ -46,8 +46,7 @@ pub(crate) fn search(
     sections.push_front(Section::whole(module))?;
     let mut found = Found::nothing(alloc, module);
     while let Some(section) = sections.pop_front() {
-        let (section, verdict) = section.decide(alloc, seed, words)?;
-        match verdict {
+        match decide(alloc, section.action(), seed, words)? {
             Verdict::Irreducible { word, vector } => {
                 found.place(alloc, section, seed, word, &vector)?;
             }

@@ -4,9 +4,7 @@ ghost use Rattle.std.specs.Prelude.{◌≡◌, ◌+◌, ◌≤◌, ◌++◌, len
 ghost use Rattle.axe_row.specs.Refusals.{Answers};
 ghost use Rattle.axe_matrix.specs.Limits.{most_rows};
 ghost use Rattle.axe_matrix.specs.Matrices.{IsMatrix};
-ghost use Rattle.axe_spin.specs.Modules.{IsModule};
 ghost use Rattle.axe_norton.specs.Spaces.{IsProperSubmodule};
-ghost use Rattle.axe_norton.specs.Verdicts.{Decides, IsTrueVerdict};
 ghost use Rattle.axe_series.specs.Sections.{whole_section, lifted_rows, IsCut};
 ghost use Rattle.axe_chop.specs.Stages.{IsSection, IsRowsLike};
 ghost use Rattle.axe_chop.specs.Kept.{acting_module};
@@ -14,7 +12,6 @@ ghost use Rattle.axe_chop.specs.Kept.{acting_module};
 use crate::lifted::LiftedRows;
 use axe_action::{Split, split_by_submodule};
 use axe_matrix::{Matrix, Refusal};
-use axe_norton::{MAX_WORDS, Verdict, decide, decide_owned};
 use axe_spin::Module;
 use std::alloc::Global;
 use std::marker::Model;
@@ -66,23 +63,6 @@ impl<'a> Section<'a> {
         ensures well_formed { IsSection self.now }
     {
         self.action.module()
-    }
-
-    /// What the words 0 to `words` of a seed decide of the action on the section, and the section back.
-    pub(crate) fn decide(
-        self,
-        alloc: Global,
-        seed: u64,
-        words: u32,
-    ) -> Result<(Section<'a>, Verdict), Refusal>
-        requires words { words ≤ MAX_WORDS }
-        ensures same { Answers None (λ answer. answer.0 ≡ self.entry) result }
-        ensures decides { Answers None (λ answer. Decides self.entry.action seed words answer.1) result }
-        ensures holds { Answers None (λ answer. IsTrueVerdict self.entry.action answer.1) result }
-    {
-        let Section { action, rows } = self;
-        let (action, verdict) = action.decide(alloc, seed, words)?;
-        Ok((Section { action, rows }, verdict))
     }
 
     /// Appends the lifted rows to a matrix. For want of memory only some first of them are appended.
@@ -163,25 +143,6 @@ impl<'a> Action<'a> {
         match self {
             Action::Whole(module) => module.copy(alloc),
             Action::Part(module) => Ok(module),
-        }
-    }
-
-    /// What the words 0 to `words` of a seed decide of the module that it is, and the action back.
-    fn decide(self, alloc: Global, seed: u64, words: u32) -> Result<(Action<'a>, Verdict), Refusal>
-        requires words { words ≤ MAX_WORDS }
-        ensures same { Answers None (λ answer. acting_module answer.0 ≡ acting_module self.entry) result }
-        ensures decides { Answers None (λ answer. Decides (acting_module self.entry) seed words answer.1) result }
-        ensures holds { Answers None (λ answer. IsTrueVerdict (acting_module self.entry) answer.1) result }
-    {
-        match self {
-            Action::Whole(module) => {
-                let verdict = decide(alloc, module, seed, words)?;
-                Ok((Action::Whole(module), verdict))
-            }
-            Action::Part(module) => {
-                let (module, verdict) = decide_owned(alloc, module, seed, words)?;
-                Ok((Action::Part(module), verdict))
-            }
         }
     }
 }

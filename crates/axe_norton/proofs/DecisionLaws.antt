@@ -1,8 +1,6 @@
 -- What the steps of the test tell, put together: what a word says, and what words decide.
-use Rattle.std.specs.Prelude.{◌≡◌, ℕ, suc, ◌<◌, ◌≤◌, length, Bool, IsTrue, ◌↔◌, None, Result}
-use Rattle.axe_algebra.specs.WordsOfLists.{IsWordOver}
-use Rattle.axe_field.specs.Order.{Order, order_number}
-use Rattle.axe_field.specs.NumberFields.{number_field}
+use Rattle.std.specs.Prelude.{◌≡◌, ℕ, suc, ◌<◌, ◌≤◌, length, Bool, IsTrue, ◌↔◌, Option, None, Result}
+use Rattle.axe_field.specs.Order.{order_number}
 use Rattle.axe_row.specs.Rows.{RowValue}
 use Rattle.axe_row.specs.Refusals.{Answers}
 use Rattle.axe_row.specs.declared.refusals.Refusal.{Refusal}
@@ -17,7 +15,7 @@ use Rattle.axe_norton.specs.declared.verdicts.At.{At}
 use Rattle.axe_norton.specs.declared.verdicts.At.TheVariants.{Irreducible, Left}
 use Rattle.axe_norton.specs.Spaces.{HasFewPoints, TriedGenerate, TransposeGenerates, point_of}
 use Rattle.axe_norton.specs.Searches.{IsReducedIn, IsSquareIn}
-use Rattle.axe_norton.specs.Verdicts.{Tells, Says, LeavesOpen, LeaveOpenBefore, DecidesAt, word_of_seed, IsTrueOf}
+use Rattle.axe_norton.specs.Verdicts.{Tells, Says, LeavesOpen, LeaveOpenBefore, word_of_seed, IsTrueOf}
 use Rattle.axe_norton.proofs.OpenLaws.{own_square, invertible_without_rows, no_rows_of_invertible}
 use Rattle.axe_norton.proofs.SearchLaws.{answered_more, null_accepted, null_is_reduced, some_point_in}
 use Rattle.axe_norton.proofs.TruthLaws.{said_is_true}
@@ -76,26 +74,18 @@ pub value_null : (m : ModuleValue) (word : WordValue) (matrix : MatrixValue) (re
 value_null m word matrix result formed is_value answer =
     null_accepted matrix result (omega (arith, is_value.value.square.length_is, is_value.columns, formed.some_column)) answer
 
--- what the value of a word tells, the word says
-pub said_by : (m : ModuleValue) (word : WordValue) (matrix null : MatrixValue) (answer : At) → IsValueOf m word matrix → IsNullSpaceMatrix matrix null →
-    IsMatrix null → Tells m matrix null answer → Says m word answer
-said_by m word matrix null answer is_value is well_formed tells = record {
-  tested = record { matrix = matrix; is_value = is_value; null_space = null; is_null_space = is; well_formed = well_formed };
-  tells = tells;
-}
+pub said_by : (m : ModuleValue) (word : WordValue) (matrix null : MatrixValue) (result : Result At Refusal) → IsValueOf m word matrix →
+    IsNullSpaceMatrix matrix null → IsMatrix null → Answers None (Tells m matrix null) result → Answers None (Says m word) result
+said_by m word matrix null result is_value is well_formed told = answered_more result (Tells m matrix null) (Says m word) told
+    (λ answer tells. record {
+      tested = record { matrix = matrix; is_value = is_value; null_space = null; is_null_space = is; well_formed = well_formed };
+      tells = tells;
+    })
 
--- and what it tells of a module that came back from a step before
-pub said_of_same : (m tested : ModuleValue) (word : WordValue) (matrix null : MatrixValue) (result : Result (ModuleValue × At) Refusal) → tested ≡ m →
-    IsValueOf m word matrix → IsNullSpaceMatrix matrix null → IsMatrix null → Answers None (λ answer. Tells tested matrix null answer.1) result →
-    Answers None (λ answer. Says m word answer.1) result
-said_of_same m tested word matrix null result same is_value is well_formed told =
-    answered_more result (λ answer. Tells tested matrix null answer.1) (λ answer. Says m word answer.1) told
-    (λ answer tells. said_by m word matrix null answer.1 is_value is well_formed (subst (λ (t : ModuleValue). Tells t matrix null answer.1) same tells))
-
-pub truth_told : (m : ModuleValue) (word : WordValue) (result : Result (ModuleValue × At) Refusal) → IsModule m → IsWordIn m word →
-    Answers None (λ answer. Says m word answer.1) result → Answers None (λ answer. IsTrueOf m answer.1) result
-truth_told m word result is is_word said = answered_more result (λ answer. Says m word answer.1) (λ answer. IsTrueOf m answer.1) said
-    (λ answer says. said_is_true m is word answer.1 is_word says)
+pub truth_told : (m : ModuleValue) (word : WordValue) (result : Result At Refusal) → IsModule m → IsWordIn m word → Answers None (Says m word) result →
+    Answers None (IsTrueOf m) result
+truth_told m word result is is_word said = answered_more result (Says m word) (IsTrueOf m) said
+    (λ answer says. said_is_true m is word answer is_word says)
 
 -- few points are counted by the order of the field and the number of rows
 pub few_is_few : (null : MatrixValue) (q n : ℕ) (few : Bool) → q ≡ order_number null.order → n ≡ length null.rows → (IsTrue few ↔ (point_count q n ≤ most_points)) →
@@ -110,13 +100,6 @@ pub word_drawn : (m : ModuleValue) (seed j q k : ℕ) (word : WordValue) → wor
     word ≡ word_of_seed m seed j
 word_drawn m seed j q k word is order count = is ∙ ap (λ p. drawn_word seed j p k) order ∙ ap (drawn_word seed j (order_number m.order)) count
 
--- a word that is drawn is one in the module
-pub drawn_in : (m : ModuleValue) (q k : ℕ) (word : WordValue) → ((o : Order) → order_number o ≡ q → IsWordOver (number_field o) k word) → q ≡ order_number m.order →
-    k ≡ length m.generators → IsWordIn m word
-drawn_in m q k word over order count = record {
-  over = subst (λ gens. IsWordOver (number_field m.order) gens word) count (over m.order (sym order));
-}
-
 pub none_before : (m : ModuleValue) (seed : ℕ) → LeaveOpenBefore m seed 0
 none_before m seed i before = absurd (omega arith)
 
@@ -128,15 +111,6 @@ open_more m seed j next word is before same left i below = at (ℕ_discrete i j)
     at : Dec (i ≡ j) → LeavesOpen m (word_of_seed m seed i)
     at (yes here) = subst (LeavesOpen m) (same ∙ ap (word_of_seed m seed) (sym here)) left
     at (no other) = before i (omega arith)
-
--- a word that does not leave it open, after such words, decides
-pub decided_at : (m tested : ModuleValue) (seed words j : ℕ) (word : WordValue) (answer : At) → j ≤ words → LeaveOpenBefore m seed j → tested ≡ m →
-    word ≡ word_of_seed m seed j → Says tested word answer → DecidesAt m seed words j answer
-decided_at m tested seed words j word answer within before same drawn says = record {
-  within = within;
-  before = before;
-  says = subst (λ w. Says m w answer) drawn (subst (λ (t : ModuleValue). Says t word answer) same says);
-}
 
 -- all words leave it open
 pub undecided : (m : ModuleValue) (seed words j : ℕ) → words < j → LeaveOpenBefore m seed j → (i : ℕ) → i ≤ words → LeavesOpen m (word_of_seed m seed i)

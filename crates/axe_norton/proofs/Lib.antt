@@ -1,7 +1,6 @@
 pub mod PointLaws
 pub mod TestedLaws
 pub mod TruthLaws
-pub mod GivenBack
 pub mod OpenLaws
 pub mod SearchLaws
 pub mod DecisionLaws

@@ -26,7 +26,7 @@ use std::alloc::Global;
 /// proper space shows the module to be reducible, by the reduced basis of that space. Where none does, so does the
 /// first point of the null space of the transpose of x, where it generates a proper space in the transposed module, by
 /// the annihilator of that space. Where that generates everything, too, the module is irreducible if all points were
-/// tried, and else left open. A copy of the module is tested.
+/// tried, and else left open.
 pub fn decide_at(alloc: Global, module: &Module, word: &Word) -> Result<At, Refusal>
     requires word { IsWordIn «module».now word.now }
     ensures says { Answers None (Says «module».now word.now) result }
@@ -34,113 +34,86 @@ pub fn decide_at(alloc: Global, module: &Module, word: &Word) -> Result<At, Refu
 {
     let value = word.value(alloc, module)?;
     let null = null_space(alloc, &value)?;
-    let copy = module.copy(alloc)?;
-    let (_, answer) = test_matrix(alloc, copy, value, null, false)?;
-    Ok(answer)
+    test_matrix(alloc, module, value, null, false)
 }
 
 /// What the words 0 to `words` of a seed decide of a module: what the first of them says that doesn't leave the module
 /// open, as [`decide_at`] tells it, with the number of that word where it shows the module to be irreducible. It is
 /// undecided exactly where each of them leaves it open; word 0, whose value is zero, decides every module with at most
-/// [`MOST_POINTS`] points. There are at most [`MAX_WORDS`] words beside word 0. A copy of the module is asked:
-/// [`decide_owned`] needs none.
+/// [`MOST_POINTS`] points. There are at most [`MAX_WORDS`] words beside word 0.
 pub fn decide(alloc: Global, module: &Module, seed: u64, words: u32) -> Result<Verdict, Refusal>
     requires words { words ≤ MAX_WORDS }
     ensures decides { Answers None (Decides «module».now seed words) result }
     ensures holds { Answers None (IsTrueVerdict «module».now) result }
 {
-    let copy = module.copy(alloc)?;
-    let (_, verdict) = decide_owned(alloc, copy, seed, words)?;
-    Ok(verdict)
-}
-
-/// What the words 0 to `words` of a seed decide of a module, as [`decide`] tells it, and the module back. So the
-/// transposed module can take its place while it is asked, and needs no memory beside it.
-pub fn decide_owned(
-    alloc: Global,
-    mut module: Module,
-    seed: u64,
-    words: u32,
-) -> Result<(Module, Verdict), Refusal>
-    requires words { words ≤ MAX_WORDS }
-    ensures same { Answers None (λ answer. answer.0 ≡ «module») result }
-    ensures decides { Answers None (λ answer. Decides «module» seed words answer.1) result }
-    ensures holds { Answers None (λ answer. IsTrueVerdict «module» answer.1) result }
-{
     let order = module.field().order();
     let gens = module.gens() as u8;
     for number in 0..words + 1 {
         let word = nth_word(seed, number, order, gens);
-        let (tested, answer) = test_word_of_seed(alloc, module, &word, seed, number)?;
-        module = tested;
-        match answer {
+        match test_word_of_seed(alloc, module, &word, seed, number)? {
             At::Irreducible(vector) => {
-                let verdict = Verdict::Irreducible {
+                return Ok(Verdict::Irreducible {
                     word: number,
                     vector,
-                };
-                return Ok((module, verdict));
+                })
             }
-            At::Reducible(space) => return Ok((module, Verdict::Reducible(space))),
+            At::Reducible(space) => return Ok(Verdict::Reducible(space)),
             At::Left => {}
         }
     }
-    Ok((module, Verdict::Undecided))
+    Ok(Verdict::Undecided)
 }
 
-/// What a word of a seed says of a module, as [`decide_at`] tells it, and the module back. The words after its number
-/// may be asked first whether the module is irreducible, so that not all of many points need be tried.
+/// What a word of a seed says of a module, as [`decide_at`] tells it. The words after its number may be asked first
+/// whether the module is irreducible, so that not all of many points need be tried.
 fn test_word_of_seed(
     alloc: Global,
-    module: Module,
+    module: &Module,
     word: &Word,
     seed: u64,
     number: u32,
-) -> Result<(Module, At), Refusal>
-    requires word { IsWordIn «module» word.now }
+) -> Result<At, Refusal>
+    requires word { IsWordIn «module».now word.now }
     requires number { number ≤ MAX_WORDS }
-    ensures same { Answers None (λ answer. answer.0 ≡ «module») result }
-    ensures says { Answers None (λ answer. Says «module» word.now answer.1) result }
-    ensures holds { Answers None (λ answer. IsTrueOf «module» answer.1) result }
+    ensures says { Answers None (Says «module».now word.now) result }
+    ensures holds { Answers None (IsTrueOf «module».now) result }
 {
-    let value = word.value(alloc, &module)?;
+    let value = word.value(alloc, module)?;
     let null = null_space(alloc, &value)?;
-    let (module, irreducible) = is_known_irreducible(alloc, module, &null, seed, number)?;
+    let irreducible = is_known_irreducible(alloc, module, &null, seed, number)?;
     test_matrix(alloc, module, value, null, irreducible)
 }
 
 /// What a square matrix, the value of a word, and its null space tell of a module, which may be known to be
-/// irreducible; and the module back.
+/// irreducible.
 pub(crate) fn test_matrix(
     alloc: Global,
-    module: Module,
+    module: &Module,
     value: Matrix,
     null: Matrix,
     irreducible: bool,
-) -> Result<(Module, At), Refusal>
-    requires irreducible { IsTrue irreducible → IsIrreducibleModule «module» }
-    requires square { IsSquareIn «module» value }
+) -> Result<At, Refusal>
+    requires irreducible { IsTrue irreducible → IsIrreducibleModule «module».now }
+    requires square { IsSquareIn «module».now value }
     requires null { IsNullSpaceMatrix value null }
     requires null_well_formed { IsMatrix null }
-    ensures same { Answers None (λ answer. answer.0 ≡ «module») result }
-    ensures tells { Answers None (λ answer. Tells «module» value null answer.1) result }
-    ensures well_formed { IsModule «module» }
+    ensures tells { Answers None (Tells «module».now value null) result }
+    ensures well_formed { IsModule «module».now }
 {
     let few = few_points(module.field().order(), null.rows(), MOST_POINTS);
     if null.rows() == 0 {
-        return Ok((module, At::Left));
+        return Ok(At::Left);
     }
     let first = first_point(alloc, &null)?;
-    if let Some(space) = tried_space(alloc, &module, null, few, irreducible)? {
-        return Ok((module, At::Reducible(space)));
+    if let Some(space) = tried_space(alloc, module, null, few, irreducible)? {
+        return Ok(At::Reducible(space));
     }
-    let (module, transposed) = transposed_space(alloc, module, value)?;
-    if let Some(space) = transposed {
-        return Ok((module, At::Reducible(space)));
+    if let Some(space) = transposed_space(alloc, module, value)? {
+        return Ok(At::Reducible(space));
     }
     if few {
-        Ok((module, At::Irreducible(first)))
+        Ok(At::Irreducible(first))
     } else {
-        Ok((module, At::Left))
+        Ok(At::Left)
     }
 }

@@ -7,7 +7,7 @@ mod others;
 mod spaces;
 mod verdicts;
 
-pub use decisions::{decide, decide_at, decide_owned};
+pub use decisions::{decide, decide_at};
 pub use verdicts::{At, Verdict};
 
 /// The most points of a null space that are all tried. Of a null space with more points the first alone is.

@@ -1,6 +1,6 @@
 //! Other words of a seed, asked whether a module is irreducible where it would take long to see it by one word.
 
-ghost use Rattle.std.specs.Prelude.{◌≡◌, ◌≤◌, IsTrue, None};
+ghost use Rattle.std.specs.Prelude.{◌≤◌, IsTrue, None};
 ghost use Rattle.axe_row.specs.Refusals.{Answers};
 ghost use Rattle.axe_matrix.specs.Matrices.{IsMatrix};
 ghost use Rattle.axe_norton.specs.Searches.{IsReducedIn};
@@ -24,75 +24,72 @@ const MANY_POINTS: usize = 32;
 /// How many words are asked.
 const WORDS_ASKED: u32 = 8;
 
-/// Whether some words of a seed, those after a number, show a module to be irreducible; and the module back. They are
-/// asked only where all points of a space of its vectors, of which there are many, would have to be tried, and where
-/// the first of them generates everything.
+/// Whether some words of a seed, those after a number, show a module to be irreducible. They are asked only where all
+/// points of a space of its vectors, of which there are many, would have to be tried, and where the first of them
+/// generates everything.
 pub(crate) fn is_known_irreducible(
     alloc: Global,
-    module: Module,
+    module: &Module,
     basis: &Matrix,
     seed: u64,
     number: u32,
-) -> Result<(Module, bool), Refusal>
-    requires basis { IsReducedIn «module» basis.now }
+) -> Result<bool, Refusal>
+    requires basis { IsReducedIn «module».now basis.now }
     requires well_formed { IsMatrix basis.now }
     requires number { number ≤ MAX_WORDS }
-    ensures same { Answers None (λ answer. answer.0 ≡ «module») result }
-    ensures known { Answers None (λ answer. IsTrue answer.1 → IsIrreducibleModule «module») result }
+    ensures { Answers None
+        (λ known. IsTrue known → IsIrreducibleModule «module».now) result }
 {
     let (order, rows) = (module.field().order(), basis.rows());
     if rows == 0 || few_points(order, rows, MANY_POINTS) || !few_points(order, rows, MOST_POINTS) {
-        return Ok((module, false));
+        return Ok(false);
     }
     let first = first_point(alloc, basis)?;
-    if proper_space(alloc, &module, first)?.is_some() {
-        return Ok((module, false));
+    if proper_space(alloc, module, first)?.is_some() {
+        return Ok(false);
     }
     others_show_irreducible(alloc, module, seed, number, rows / 2)
 }
 
 /// Whether one of some words of a seed, those after a number, shows a module to be irreducible by a null space of so
-/// many dimensions at most; and the module back.
+/// many dimensions at most.
 fn others_show_irreducible(
     alloc: Global,
-    mut module: Module,
+    module: &Module,
     seed: u64,
     number: u32,
     most: usize,
-) -> Result<(Module, bool), Refusal>
+) -> Result<bool, Refusal>
     requires number { number ≤ MAX_WORDS }
-    ensures same { Answers None (λ answer. answer.0 ≡ «module») result }
-    ensures known { Answers None (λ answer. IsTrue answer.1 → IsIrreducibleModule «module») result }
+    ensures { Answers None
+        (λ known. IsTrue known → IsIrreducibleModule «module».now) result }
 {
     for other in number + 1..number + 1 + WORDS_ASKED {
-        let (tested, answer) = test_other(alloc, module, seed, other, most)?;
-        module = tested;
-        match answer {
-            At::Irreducible(_) => return Ok((module, true)),
-            At::Reducible(_) => return Ok((module, false)),
+        match test_other(alloc, module, seed, other, most)? {
+            At::Irreducible(_) => return Ok(true),
+            At::Reducible(_) => return Ok(false),
             At::Left => {}
         }
     }
-    Ok((module, false))
+    Ok(false)
 }
 
 /// What is true of a module by a word of a seed, whose value has a null space of so many dimensions at most: where it
-/// has more, nothing is told. The module comes back with it.
+/// has more, nothing is told.
 fn test_other(
     alloc: Global,
-    module: Module,
+    module: &Module,
     seed: u64,
     number: u32,
     most: usize,
-) -> Result<(Module, At), Refusal>
-    ensures same { Answers None (λ answer. answer.0 ≡ «module») result }
-    ensures holds { Answers None (λ answer. IsTrueOf «module» answer.1) result }
+) -> Result<At, Refusal>
+    ensures { Answers None (IsTrueOf «module».now) result }
 {
     let word = nth_word(seed, number, module.field().order(), module.gens() as u8);
-    let value = word.value(alloc, &module)?;
+    let value = word.value(alloc, module)?;
     let null = null_space(alloc, &value)?;
     if null.rows() > most {
-        return Ok((module, At::Left));
+        return Ok(At::Left);
     }
     test_matrix(alloc, module, value, null, false)
 }

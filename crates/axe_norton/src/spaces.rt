@@ -12,7 +12,7 @@ ghost use Rattle.axe_norton.specs.Spaces.{HasFewPoints, IsIrreducibleModule};
 ghost use Rattle.axe_norton.specs.Searches.{IsReducedIn, IsSquareIn, FindsProper, FindsFirstOf, FindsFirst};
 ghost use Rattle.axe_norton.specs.Searches.{IsTransposedPointRow, FindsTransposed};
 
-use axe_action::{annihilator, into_dual};
+use axe_action::{annihilator, dual};
 use axe_echelon::orthogonal_point;
 use axe_matrix::{Matrix, Refusal, Row};
 use axe_spin::{Module, generated_space};
@@ -110,30 +110,28 @@ fn first_proper_of_all(
 }
 
 /// The reduced basis of the annihilator of the space that the first point of the null space of the transpose of a
-/// singular matrix generates in the transposed module, or `None` where that point generates everything there; and the
-/// module back. The transposed module takes the module's place until the point is spun: beside it, or kept for further
-/// words, it would take as much memory as the module once more.
+/// singular matrix generates in the transposed module, or `None` where that point generates everything there. The
+/// transposed module is made for this alone: to keep it for further words would take as much memory as the module.
 pub(crate) fn transposed_space(
     alloc: Global,
-    module: Module,
+    module: &Module,
     matrix: Matrix,
-) -> Result<(Module, Option<Matrix>), Refusal>
-    requires square { IsSquareIn «module» matrix }
+) -> Result<Option<Matrix>, Refusal>
+    requires square { IsSquareIn «module».now matrix }
     requires singular { ¬ (IsInvertibleMatrix matrix) }
-    ensures same { Answers None (λ answer. answer.0 ≡ «module») result }
-    ensures finds { Answers None (λ answer. FindsTransposed «module» matrix answer.1) result }
+    ensures { Answers None (FindsTransposed «module».now matrix) result }
 {
-    // `cols` and `dim` are called for what they ensure beside the numbers: that the matrix is one, and the module.
-    prove!(matrix.cols() == module.dim());
+    // `cols` is called for what it ensures beside the number: that the matrix is one.
+    prove!(matrix.cols() >= 1);
     let point = transposed_point(alloc, &matrix)?;
     // Its memory is free again before the transposed module is made.
     drop(matrix);
-    let transposed = into_dual(alloc, module)?;
+    let transposed = dual(alloc, module)?;
     let generated = proper_space(alloc, &transposed, point)?;
-    let module = into_dual(alloc, transposed)?;
+    drop(transposed);
     match generated {
-        Some(space) => Ok((module, Some(annihilator(alloc, &space)?))),
-        None => Ok((module, None)),
+        Some(space) => Ok(Some(annihilator(alloc, &space)?)),
+        None => Ok(None),
     }
 }
 

@@ -1,7 +1,6 @@
-use Rattle.std.proofs.Common.{sym, ap, subst}
-use Rattle.axe_series.specs.Sections.{SectionValue}
+use Rattle.std.proofs.Common.{sym, subst}
 use Rattle.axe_chop.specs.Stages.{IsSection}
-use Rattle.axe_chop.proofs.Stepping.{pushed_first, popped_as, popped_none, decided_as, true_as, reached_first, reached_end, forms_like_first, first_rows_like, rest_rows_like, room_left, room_first, answered_open, reached_cut, less_after_cut, reached_placed}
+use Rattle.axe_chop.proofs.Stepping.{pushed_first, popped, popped_none, decided_as, true_as, reached_first, reached_end, forms_like_first, first_rows_like, rest_rows_like, room_left, room_first, answered_open, reached_cut, less_after_cut, reached_placed}
 use Rattle.axe_chop.proofs.search.search.Goals as goal
 
 pub loop-section-init : goal.loop-section-init
@@ -14,107 +13,96 @@ loop-section-init c =
 pub place-requires-clause-decided : goal.place-requires-clause-decided
 place-requires-clause-decided c = (
   c.args.words,
-  decided_as c.in-Some.section.action _ c.args.seed c.args.words _ _ (ap (λ (s : SectionValue). s.action) (sym c.in_ok-section.ensures.same)) c.in-Irreducible.is c.in_ok-section.ensures.decides,
+  decided_as c.action.result.now _ c.args.seed c.args.words _ _ c.action.ensures.value c.in-Irreducible.is c.in_ok-word.ensures.decides,
 )
 
 pub place-requires-clause-like : goal.place-requires-clause-like
 place-requires-clause-like c =
     forms_like_first c.args.module.now c.args.seed c.args.words c.loop-section.found c.loop-section.sections.items c.loop-section.invariant
-    c.in_ok-section.section c.pop_front.new.self.items
-    (popped_as _ _ c.pop_front.result c.in-Some.section c.in_ok-section.section c.in-Some.is c.pop_front.ensures.items
-    c.in_ok-section.ensures.same)
+    c.in-Some.section c.pop_front.new.self.items
+    (popped _ _ c.pop_front.result c.in-Some.section c.in-Some.is c.pop_front.ensures.items)
 
 pub place-requires-clause-field : goal.place-requires-clause-field
 place-requires-clause-field c =
     sym (first_rows_like c.args.module.now c.args.seed c.args.words c.loop-section.found c.loop-section.sections.items c.loop-section.invariant
-    c.in_ok-section.section c.pop_front.new.self.items
-    (popped_as _ _ c.pop_front.result c.in-Some.section c.in_ok-section.section c.in-Some.is c.pop_front.ensures.items
-    c.in_ok-section.ensures.same)).field
+    c.in-Some.section c.pop_front.new.self.items
+    (popped _ _ c.pop_front.result c.in-Some.section c.in-Some.is c.pop_front.ensures.items)).field
 
 pub place-requires-clause-fits : goal.place-requires-clause-fits
 place-requires-clause-fits c =
     sym (first_rows_like c.args.module.now c.args.seed c.args.words c.loop-section.found c.loop-section.sections.items c.loop-section.invariant
-    c.in_ok-section.section c.pop_front.new.self.items
-    (popped_as _ _ c.pop_front.result c.in-Some.section c.in_ok-section.section c.in-Some.is c.pop_front.ensures.items
-    c.in_ok-section.ensures.same)).columns
+    c.in-Some.section c.pop_front.new.self.items
+    (popped _ _ c.pop_front.result c.in-Some.section c.in-Some.is c.pop_front.ensures.items)).columns
 
 pub place-requires-clause-room : goal.place-requires-clause-room
 place-requires-clause-room c =
     room_first c.args.module.now c.args.seed c.args.words c.loop-section.found c.loop-section.sections.items c.loop-section.invariant
-    c.in_ok-section.section c.pop_front.new.self.items
-    (popped_as _ _ c.pop_front.result c.in-Some.section c.in_ok-section.section c.in-Some.is c.pop_front.ensures.items
-    c.in_ok-section.ensures.same)
+    c.in-Some.section c.pop_front.new.self.items
+    (popped _ _ c.pop_front.result c.in-Some.section c.in-Some.is c.pop_front.ensures.items)
 
 pub place-requires-clause-few_forms : goal.place-requires-clause-few_forms
 place-requires-clause-few_forms c = c.loop-section.invariant.few_forms
 
 pub put_parts-requires : goal.put_parts-requires
 put_parts-requires c = record {
-  space = true_as c.in-Some.section.action _ _ _ (ap (λ (s : SectionValue). s.action) (sym c.in_ok-section.ensures.same)) c.in-Reducible.is c.in_ok-section.ensures.holds;
+  space = true_as c.action.result.now _ _ _ c.action.ensures.value c.in-Reducible.is c.in_ok-word.ensures.holds;
 }
 
 pub open_at-requires-clause-like : goal.open_at-requires-clause-like
 open_at-requires-clause-like c =
     first_rows_like c.args.module.now c.args.seed c.args.words c.loop-section.found c.loop-section.sections.items c.loop-section.invariant
-    c.in_ok-section.section c.pop_front.new.self.items
-    (popped_as _ _ c.pop_front.result c.in-Some.section c.in_ok-section.section c.in-Some.is c.pop_front.ensures.items
-    c.in_ok-section.ensures.same)
+    c.in-Some.section c.pop_front.new.self.items
+    (popped _ _ c.pop_front.result c.in-Some.section c.in-Some.is c.pop_front.ensures.items)
 
 pub open_at-requires-clause-room : goal.open_at-requires-clause-room
 open_at-requires-clause-room c =
     room_left c.args.module.now c.args.seed c.args.words c.loop-section.found c.loop-section.sections.items c.loop-section.invariant
-    c.in_ok-section.section c.pop_front.new.self.items
-    (popped_as _ _ c.pop_front.result c.in-Some.section c.in_ok-section.section c.in-Some.is c.pop_front.ensures.items
-    c.in_ok-section.ensures.same)
+    c.in-Some.section c.pop_front.new.self.items
+    (popped _ _ c.pop_front.result c.in-Some.section c.in-Some.is c.pop_front.ensures.items)
 
 pub open_at-requires-clause-after_like : goal.open_at-requires-clause-after_like
 open_at-requires-clause-after_like c =
     rest_rows_like c.args.module.now c.args.seed c.args.words c.loop-section.found c.loop-section.sections.items c.loop-section.invariant
-    c.in_ok-section.section c.pop_front.new.self.items
-    (popped_as _ _ c.pop_front.result c.in-Some.section c.in_ok-section.section c.in-Some.is c.pop_front.ensures.items
-    c.in_ok-section.ensures.same)
+    c.in-Some.section c.pop_front.new.self.items
+    (popped _ _ c.pop_front.result c.in-Some.section c.in-Some.is c.pop_front.ensures.items)
 
 pub returns-in-Undecided : goal.returns-in-Undecided
 returns-in-Undecided c =
     answered_open c.args.module.now c.args.seed c.args.words c.loop-section.found c.loop-section.sections.items c.loop-section.invariant
-    c.in_ok-section.section c.pop_front.new.self.items
-    (popped_as _ _ c.pop_front.result c.in-Some.section c.in_ok-section.section c.in-Some.is c.pop_front.ensures.items
-    c.in_ok-section.ensures.same)
-    c.open_at.result (decided_as c.in-Some.section.action _ c.args.seed c.args.words _ _ (ap (λ (s : SectionValue). s.action) (sym c.in_ok-section.ensures.same)) c.in-Undecided.is c.in_ok-section.ensures.decides)
+    c.in-Some.section c.pop_front.new.self.items
+    (popped _ _ c.pop_front.result c.in-Some.section c.in-Some.is c.pop_front.ensures.items)
+    c.open_at.result (decided_as c.action.result.now _ c.args.seed c.args.words _ _ c.action.ensures.value c.in-Undecided.is c.in_ok-word.ensures.decides)
     c.open_at.ensures.opened c.open_at.ensures.well_formed
 
 pub loop-section-preserved-in_ok-place-in-Irreducible : goal.loop-section-preserved-in_ok-place-in-Irreducible
 loop-section-preserved-in_ok-place-in-Irreducible c =
     reached_placed c.args.module.now c.args.seed c.args.words c.loop-section.found c.loop-section.sections.items c.loop-section.invariant
-    c.in_ok-section.section c.pop_front.new.self.items
-    (popped_as _ _ c.pop_front.result c.in-Some.section c.in_ok-section.section c.in-Some.is c.pop_front.ensures.items
-    c.in_ok-section.ensures.same)
-    _ _ (decided_as c.in-Some.section.action _ c.args.seed c.args.words _ _
-    (ap (λ (s : SectionValue). s.action) (sym c.in_ok-section.ensures.same)) c.in-Irreducible.is c.in_ok-section.ensures.decides)
+    c.in-Some.section c.pop_front.new.self.items
+    (popped _ _ c.pop_front.result c.in-Some.section c.in-Some.is c.pop_front.ensures.items)
+    _ _ (decided_as c.action.result.now _ c.args.seed c.args.words _ _
+    c.action.ensures.value c.in-Irreducible.is c.in_ok-word.ensures.decides)
     c.place.new.self c.in_ok-place-in-Irreducible.ensures.placed c.in_ok-place-in-Irreducible.ensures.basis
     c.in_ok-place-in-Irreducible.ensures.well_formed
 
 pub loop-section-preserved-in_ok-place-in-Irreducible-2 : goal.loop-section-preserved-in_ok-place-in-Irreducible-2
 loop-section-preserved-in_ok-place-in-Irreducible-2 c =
     reached_placed c.args.module.now c.args.seed c.args.words c.loop-section.found c.loop-section.sections.items c.loop-section.invariant
-    c.in_ok-section.section c.pop_front.new.self.items
-    (popped_as _ _ c.pop_front.result c.in-Some.section c.in_ok-section.section c.in-Some.is c.pop_front.ensures.items
-    c.in_ok-section.ensures.same)
-    _ _ (decided_as c.in-Some.section.action _ c.args.seed c.args.words _ _
-    (ap (λ (s : SectionValue). s.action) (sym c.in_ok-section.ensures.same)) c.in-Irreducible.is c.in_ok-section.ensures.decides)
+    c.in-Some.section c.pop_front.new.self.items
+    (popped _ _ c.pop_front.result c.in-Some.section c.in-Some.is c.pop_front.ensures.items)
+    _ _ (decided_as c.action.result.now _ c.args.seed c.args.words _ _
+    c.action.ensures.value c.in-Irreducible.is c.in_ok-word.ensures.decides)
     c.place.new.self c.in_ok-place-in-Irreducible.ensures.placed c.in_ok-place-in-Irreducible.ensures.basis
     c.in_ok-place-in-Irreducible.ensures.well_formed
 
 pub loop-section-preserved : goal.loop-section-preserved
 loop-section-preserved c =
     reached_cut c.args.module.now c.args.seed c.args.words c.loop-section.found c.loop-section.sections.items c.loop-section.invariant
-    c.in_ok-section.section c.pop_front.new.self.items
-    (popped_as _ _ c.pop_front.result c.in-Some.section c.in_ok-section.section c.in-Some.is c.pop_front.ensures.items
-    c.in_ok-section.ensures.same)
-    _ (decided_as c.in-Some.section.action _ c.args.seed c.args.words _ _
-    (ap (λ (s : SectionValue). s.action) (sym c.in_ok-section.ensures.same)) c.in-Reducible.is c.in_ok-section.ensures.decides)
-    (true_as c.in-Some.section.action _ _ _ (ap (λ (s : SectionValue). s.action) (sym c.in_ok-section.ensures.same))
-    c.in-Reducible.is c.in_ok-section.ensures.holds)
+    c.in-Some.section c.pop_front.new.self.items
+    (popped _ _ c.pop_front.result c.in-Some.section c.in-Some.is c.pop_front.ensures.items)
+    _ (decided_as c.action.result.now _ c.args.seed c.args.words _ _
+    c.action.ensures.value c.in-Reducible.is c.in_ok-word.ensures.decides)
+    (true_as c.action.result.now _ _ _ c.action.ensures.value
+    c.in-Reducible.is c.in_ok-word.ensures.holds)
     c.in_ok-put_parts-in-Reducible.ensures.sub c.in_ok-put_parts-in-Reducible.ensures.quotient
     c.in_ok-put_parts-in-Reducible.ensures.cut c.put_parts.new.sections.items
     c.in_ok-put_parts-in-Reducible.ensures.order
@@ -122,13 +110,12 @@ loop-section-preserved c =
 pub loop-section-smaller : goal.loop-section-smaller
 loop-section-smaller c =
     less_after_cut c.args.module.now c.args.seed c.args.words c.loop-section.found c.loop-section.sections.items c.loop-section.invariant
-    c.in_ok-section.section c.pop_front.new.self.items
-    (popped_as _ _ c.pop_front.result c.in-Some.section c.in_ok-section.section c.in-Some.is c.pop_front.ensures.items
-    c.in_ok-section.ensures.same)
-    _ (decided_as c.in-Some.section.action _ c.args.seed c.args.words _ _
-    (ap (λ (s : SectionValue). s.action) (sym c.in_ok-section.ensures.same)) c.in-Reducible.is c.in_ok-section.ensures.decides)
-    (true_as c.in-Some.section.action _ _ _ (ap (λ (s : SectionValue). s.action) (sym c.in_ok-section.ensures.same))
-    c.in-Reducible.is c.in_ok-section.ensures.holds)
+    c.in-Some.section c.pop_front.new.self.items
+    (popped _ _ c.pop_front.result c.in-Some.section c.in-Some.is c.pop_front.ensures.items)
+    _ (decided_as c.action.result.now _ c.args.seed c.args.words _ _
+    c.action.ensures.value c.in-Reducible.is c.in_ok-word.ensures.decides)
+    (true_as c.action.result.now _ _ _ c.action.ensures.value
+    c.in-Reducible.is c.in_ok-word.ensures.holds)
     c.in_ok-put_parts-in-Reducible.ensures.sub c.in_ok-put_parts-in-Reducible.ensures.quotient
     c.in_ok-put_parts-in-Reducible.ensures.cut c.put_parts.new.sections.items
     c.in_ok-put_parts-in-Reducible.ensures.order

@@ -7,12 +7,12 @@ use Rattle.axe_norton.proofs.decisions.test_matrix.Goals as goal
 
 pub returns-then-rows-eq0-clause-tells : goal.returns-then-rows-eq0-clause-tells
 returns-then-rows-eq0-clause-tells c =
-    left_without_rows c.args.module c.args.value c.args.null c.requires.square c.requires.null c.requires.null_well_formed
+    left_without_rows c.args.module.now c.args.value c.args.null c.requires.square c.requires.null c.requires.null_well_formed
     (sym c.rows-2.ensures.count ∙ c.if-rows-eq0.true)
 
 pub tried_space-requires-clause-basis : goal.tried_space-requires-clause-basis
 tried_space-requires-clause-basis c =
-    null_in_module c.args.module c.args.value c.args.null c.requires.square c.requires.null c.requires.null_well_formed
+    null_in_module c.args.module.now c.args.value c.args.null c.requires.square c.requires.null c.requires.null_well_formed
 
 pub tried_space-requires-clause-few : goal.tried_space-requires-clause-few
 tried_space-requires-clause-few c =
@@ -23,7 +23,7 @@ tried_space-requires-clause-few c =
 pub transposed_space-requires-clause-singular : goal.transposed_space-requires-clause-singular
 transposed_space-requires-clause-singular c =
     let some : 0 < length c.args.null.rows = omega (arith, c.rows-2.ensures.count, c.if-rows-eq0.false) in
-    singular_with_rows c.args.module c.args.value c.args.null c.requires.square c.requires.null c.requires.null_well_formed some
+    singular_with_rows c.args.module.now c.args.value c.args.null c.requires.square c.requires.null c.requires.null_well_formed some
 
 pub returns-then-few-clause-tells : goal.returns-then-few-clause-tells
 returns-then-few-clause-tells c =
@@ -32,8 +32,8 @@ returns-then-few-clause-tells c =
     few_is_few c.args.null c.order.result c.rows.result c.few_points-few.result
     (c.order.ensures.value ∙ ap order_number (c.field.ensures.order ∙ sym (c.requires.null.field ∙ c.requires.square.field)))
     c.rows.ensures.count c.few_points-few.ensures in
-    irreducible_told c.args.module c.args.value c.args.null c.requires.square c.requires.null c.requires.null_well_formed some
-    c.in_ok-first.first (few.0 c.if-few.true) (rw c.in_default.is at c.in_ok-space.ensures) (rw c.in_default-transposed.is at c.in_ok-module.ensures.finds)
+    irreducible_told c.args.module.now c.args.value c.args.null c.requires.square c.requires.null c.requires.null_well_formed some
+    c.in_ok-first.first (few.0 c.if-few.true) (rw c.in_default.is at c.in_ok-space.ensures) (rw c.in_default-2.is at c.in_ok-space-2.ensures)
     c.in_ok-first.ensures.first
 
 pub returns-else-few-clause-tells : goal.returns-else-few-clause-tells
@@ -43,9 +43,9 @@ returns-else-few-clause-tells c =
     few_is_few c.args.null c.order.result c.rows.result c.few_points-few.result
     (c.order.ensures.value ∙ ap order_number (c.field.ensures.order ∙ sym (c.requires.null.field ∙ c.requires.square.field)))
     c.rows.ensures.count c.few_points-few.ensures in
-    left_told c.args.module c.args.value c.args.null c.requires.square c.requires.null c.requires.null_well_formed some
+    left_told c.args.module.now c.args.value c.args.null c.requires.square c.requires.null c.requires.null_well_formed some
     (λ is_few. not_both c.few_points-few.result (few.1 is_few) c.if-few.false) (rw c.in_default.is at c.in_ok-space.ensures)
-    (rw c.in_default-transposed.is at c.in_ok-module.ensures.finds)
+    (rw c.in_default-2.is at c.in_ok-space-2.ensures)
 
 pub first_point-requires-clause-reduced : goal.first_point-requires-clause-reduced
 first_point-requires-clause-reduced c = null_is_reduced c.args.value c.args.null c.requires.null
