@@ -163,9 +163,6 @@ module _ (g : MatrixValue) (pivots columns : List ℕ) (both : AreComplementary 
       more = entries_more pivots (rows_chosen columns g) l b across row blocks.across (row_is ∙ ap (entries_at pivots) place) is
 
   -- there is room for it
-  pub pivot_room : IsNextPivot pivots k l → length a.rows < length pivots
-  pivot_room next = omega (arith, blocks.at_pivots.count, next.0)
-
   pub column_room : k + l < g.cols → ¬ (IsNextPivot pivots k l) → (length b.rows < length columns) × (length c.rows < length columns)
   column_room below not =
       let next : (l < length columns) × (get_or columns l 0 ≡ k + l) = next_column g.cols pivots columns both k l blocks.taken below not in

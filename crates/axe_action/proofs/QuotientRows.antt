@@ -2,7 +2,7 @@
 use Rattle.std.specs.Prelude.{◌≡◌, ℕ, ◌+◌, ◌<◌, ◌≤◌, List, [], length, get_or, None, Result, Bool, true, false, not, IsTrue, ◌↔◌}
 use Rattle.std.specs.List.{All}
 use Rattle.std.proofs.lemmas.List.{length-map}
-use Rattle.std.proofs.lemmas.List.Elements.{All-from_get_or, All-map, All-weaker}
+use Rattle.std.proofs.lemmas.List.Elements.{All-map, All-weaker}
 use Rattle.axe_algebra.specs.NumberField.{NumberField}
 use Rattle.axe_algebra.specs.Bridge.{matrix_of}
 use Rattle.axe_algebra.specs.Lists.{IsMatrixOver, IsSquareOver}
@@ -61,9 +61,6 @@ pub some_free : (m : ModuleValue) (rows : MatrixValue) (e : EchelonValue) (colum
 some_free m rows e columns none span free small =
     let vectors : AreVectors m rows = vectors_of m rows none in
     omega (arith, free_count e columns span.well_formed free, span.columns, vectors.columns)
-
-pub free_within : (e : EchelonValue) (columns : List ℕ) → AreFreeColumns e columns → All (λ column. column < e.cols) columns
-free_within e columns free = All-from_get_or (λ column. column < e.cols) columns 0 (λ t below. (free.each t below).below)
 
 -- the rows are taken into their span by generator j, and the matrix is its action modulo that span
 abbrev pub IsQuotientOf : ModuleValue → MatrixValue → List ℕ → ℕ → List (List ℕ) → Type 0

@@ -13,7 +13,7 @@ use Rattle.axe_action.proofs.QuotientRows.{IsQuotientOf, modulo_is_generator}
 use Rattle.axe_action.proofs.CosetLaws.{AreCosets, rows_modulo}
 use Rattle.axe_action.proofs.SubmoduleLaws.{at_columns_act}
 use Rattle.axe_action.proofs.ReducedProducts.{complementary, within_is_product}
-use mathlib.Core.Path.{refl, sym, ◌∙◌, subst}
+use mathlib.Core.Path.{sym, ◌∙◌, subst}
 
 -- the entries of the reduced basis at the columns that are no pivots
 pub cosets_of_reduced : (rows : MatrixValue) (pivots columns : List ℕ) (entries : MatrixValue) → IsMatrix rows → AreReducedAt rows pivots →
@@ -63,8 +63,7 @@ module _ (m : ModuleValue) (rows : MatrixValue) (h : IsModule m) (rows_h : IsMat
 
       acts : HasActionRows g rows.rows (length rows.rows) sub
       acts =
-          at_columns_act rows g (matrix_at pivots g) pivots (field ∙ sym generator.field) (fits ∙ sym generator.columns) square refl sub rows_h
-          generator.well_formed reduced.coordinates images_of_next
+          at_columns_act rows g sub pivots (field ∙ sym generator.field) (fits ∙ sym generator.columns) rows_h generator.well_formed reduced.coordinates images_of_next
           (sub_is ∙ within_is_product rows g entries pivots columns rows_h generator.well_formed (generator.field ∙ sym field) (generator.columns ∙ sym fits)
           square reduced free entries_are)
           formed

@@ -8,21 +8,21 @@ use Rattle.axe_field.specs.Order.{order_number}
 use Rattle.axe_field.specs.NumberFields.{number_field, gf}
 use Rattle.axe_row.specs.Refusals.{Answers, AnswersOr}
 use Rattle.axe_row.specs.declared.refusals.Refusal.{Refusal}
-use Rattle.axe_matrix.specs.Matrices.{MatrixValue, IsMatrix, product_refusal, matrix_product}
-use Rattle.axe_matrix.proofs.ProductLaws.{product_refusal-none, IsMatrix-product}
+use Rattle.axe_matrix.specs.Matrices.{MatrixValue, IsMatrix, matrix_product}
+use Rattle.axe_matrix.proofs.ProductLaws.{IsMatrix-product}
 use Rattle.axe_echelon.specs.Echelons.{EchelonValue, IsEchelon, IsSpanOfRows}
 use Rattle.axe_spin.specs.Modules.{ModuleValue, IsInvariantIn, SpansModule, rows_refusal}
 use Rattle.axe_action.specs.Actions.{action_late, quotient_late, IsActionModulo, IsProperActionModulo}
 use Rattle.axe_action.specs.Coordinates.{matrix_at, HasImagesIn, HasActionRows, AreCoordinateColumns}
 use Rattle.axe_action.specs.FreeColumns.{AreFreeColumns, rows_to_span}
 use Rattle.axe_action.proofs.ColumnLaws.{AreImagesAt, action_if_combined, combined_if_within}
-use Rattle.axe_action.proofs.EntryLaws.{lists_at_length, product_at_columns}
+use Rattle.axe_action.proofs.EntryLaws.{product_at_columns}
 use Rattle.axe_action.proofs.ReducedRows.{span_of_independent}
 use Rattle.axe_action.proofs.SubRows.{module_rows_over}
 use Rattle.axe_action.proofs.QuotientSpans.{full_if_spans}
 use Rattle.axe_action.proofs.QuotientRows.{free_count}
 use mathlib.Core.Logic.{inl, inr}
-use mathlib.Core.Path.{refl, sym, ◌∙◌, ap, subst}
+use mathlib.Core.Path.{refl, ◌∙◌, ap, subst}
 use native.Mathlib.Omega.{arith}
 
 -- rows whose span is invariant are not refused
@@ -36,31 +36,23 @@ invariant_answers m rows P (Err refusal) invariant (inr stands) = absurd (stands
 pub rows_accepted : (m : ModuleValue) (rows : MatrixValue) → rows.order ≡ m.order → rows.cols ≡ m.dim → rows_refusal m rows ≡ None
 rows_accepted m rows field fits = rw (eq-eqb _ _ (ap order_number field), eq-eqb _ _ fits) refl
 
--- rows times the entries of a generator at the columns of their coordinates
-module _ (rows g chosen : MatrixValue) (columns : List ℕ) (field : rows.order ≡ g.order) (fits : rows.cols ≡ g.cols) (square : length g.rows ≡ g.cols)
-    (chosen_is : chosen ≡ matrix_at columns g) where
-  pub at_columns_accepted : product_refusal rows chosen ≡ None
-  at_columns_accepted =
-      product_refusal-none rows chosen (ap order_number (field ∙ sym (ap (λ (x : MatrixValue). x.order) chosen_is)))
-      (fits ∙ sym square ∙ sym (ap (λ (x : MatrixValue). length x.rows) chosen_is ∙ lists_at_length columns g.rows))
-
-  -- they are the action of the generator, where the images of the rows are in their span
-  pub at_columns_act : (action : MatrixValue) → IsMatrix rows → IsMatrix g → AreCoordinateColumns (number_field rows.order) rows.cols rows.rows columns →
-      HasImagesIn g rows.rows rows.rows → action ≡ matrix_product rows chosen → IsMatrix action → HasActionRows g rows.rows (length rows.rows) action
-  at_columns_act action rows_h g_h coordinates within is formed =
-      action_if_combined g rows (matrix_product rows g) action columns are (combined_if_within g rows (matrix_product rows g) action columns are within)
-    where
-      are : AreImagesAt g rows (matrix_product rows g) action columns
-      are = record {
-        field = field;
-        fits = fits;
-        coordinates = coordinates;
-        made = refl;
-        images_well_formed = IsMatrix-product rows g rows_h g_h field;
-        entries = is ∙ ap (matrix_product rows) chosen_is
-            ∙ product_at_columns rows g columns (subst (λ n. All (λ column. column < n) columns) fits coordinates.within);
-        well_formed = formed;
-      }
+-- rows times the entries of a generator at the columns of their coordinates are its action, where their images are in their span
+pub at_columns_act : (rows g action : MatrixValue) (columns : List ℕ) → rows.order ≡ g.order → rows.cols ≡ g.cols → IsMatrix rows → IsMatrix g →
+    AreCoordinateColumns (number_field rows.order) rows.cols rows.rows columns → HasImagesIn g rows.rows rows.rows →
+    action ≡ matrix_product rows (matrix_at columns g) → IsMatrix action → HasActionRows g rows.rows (length rows.rows) action
+at_columns_act rows g action columns field fits rows_h g_h coordinates within is formed =
+    action_if_combined g rows (matrix_product rows g) action columns are (combined_if_within g rows (matrix_product rows g) action columns are within)
+  where
+    are : AreImagesAt g rows (matrix_product rows g) action columns
+    are = record {
+      field = field;
+      fits = fits;
+      coordinates = coordinates;
+      made = refl;
+      images_well_formed = IsMatrix-product rows g rows_h g_h field;
+      entries = is ∙ product_at_columns rows g columns (subst (λ n. All (λ column. column < n) columns) fits coordinates.within);
+      well_formed = formed;
+    }
 
 -- fewer independent rows than the dimension don't span everything
 pub not_everything : (m : ModuleValue) (rows : MatrixValue) → rows.order ≡ m.order → rows.cols ≡ m.dim → IsMatrix rows →
