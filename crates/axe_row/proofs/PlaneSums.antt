@@ -1,5 +1,5 @@
 -- A row plus a multiple of another, by their planes.
-use Rattle.std.proofs.Common.{◌≡◌, ◌≢◌, ℕ, zero, suc, ◌+◌, ◌*◌, ◌%◌, ◌<◌, ◌≤◌, Bool, true, false, List, [], ◌∷◌, length, get_or, cond, ltb, sym, ap, subst, ◌∙◌, arith, lit<}
+use Rattle.std.proofs.Common.{◌≡◌, ◌≢◌, ℕ, zero, suc, ◌+◌, ◌*◌, ◌%◌, ◌<◌, ◌≤◌, Bool, true, false, List, [], ◌∷◌, length, get_or, cond, ltb, refl, sym, ap, subst, ◌∙◌, arith, lit<}
 use Rattle.std.proofs.lemmas.Bool.{lt-ltb}
 use Rattle.std.proofs.lemmas.List.{ext_get_or, get_or_past}
 use Rattle.axe_algebra.specs.Lists.{entry}
@@ -230,6 +230,16 @@ abbrev pub IsSummed : Plane → List ℕ → Plane → Plane → Plane → Plane
 IsSummed plane f c l q after =
     IsPlane (prime_of_plane plane)
     (digits_with_multiples (prime_of_plane plane) (digits_of plane) f (digits_of c) (digits_of l) (digits_of q)) after
+
+-- a plane without digits stays as it is
+pub IsSummed-none : (plane c l q : Plane) (f : List ℕ) → length (digits_of plane) ≡ 0 → IsSummed plane f c l q plane
+IsSummed-none plane c l q f none = record {
+  prime = refl;
+  digits_are =
+      ext_get_or 0 (digits_of plane) _
+      (sym (length-digits_with_multiples (prime_of_plane plane) (digits_of plane) f (digits_of c) (digits_of l) (digits_of q)))
+      (λ e inside. absurd (omega (arith, none, inside)));
+}
 
 summed_plane : (p n : ℕ) (plane c l q after : Plane) (f : List ℕ) → 0 < p → IsPlaneOf p n plane → IsSummed plane f c l q after → IsPlaneOf p n after
 summed_plane p n plane c l q after f positive h e = record {

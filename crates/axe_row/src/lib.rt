@@ -385,6 +385,10 @@ impl Row {
         };
         let Higher { linear, quadratic } = &mut **higher;
         add_multiples(linear, start, [m[0][1], m[1][1], m[2][1]], c, l, q);
+        // Over a field of degree 2 no coefficient of x^2 is left to be added to.
+        if self.field.degree() == 2 {
+            return;
+        }
         add_multiples(quadratic, start, [m[0][2], m[1][2], m[2][2]], c, l, q);
     }
 }

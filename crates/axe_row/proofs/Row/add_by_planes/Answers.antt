@@ -4,8 +4,8 @@ use Rattle.axe_row.specs.HigherPlanes.{linear_of, quadratic_of}
 use Rattle.axe_row.proofs.FirstEntries.{zeros_before_in_planes}
 use Rattle.axe_row.proofs.KeptPlanes.{other_alone, kept_planes, kept_view, kept_not_prime}
 use Rattle.axe_row.proofs.PrimeRows.{other_length, prime_planes_sum, prime_row_sum, scalar_is_digit}
-use Rattle.axe_row.proofs.RowPlanes.{IsRow-of_planes, length_of_row, with_length}
-use Rattle.axe_row.proofs.PlaneSums.{summands, addable_constant, addable_linear, addable_quadratic, reach_constant, reach_linear, reach_quadratic, summed_planes, summed_entries, row_after}
+use Rattle.axe_row.proofs.RowPlanes.{IsRow-of_planes, length_of_row, no_quadratic, with_length}
+use Rattle.axe_row.proofs.PlaneSums.{summands, addable_constant, addable_linear, addable_quadratic, reach_constant, reach_linear, reach_quadratic, summed_planes, summed_entries, row_after, IsSummed-none}
 use Rattle.axe_row.proofs.Row.add_by_planes.Goals as goal
 
 -- a row of one plane alone
@@ -89,6 +89,33 @@ add_multiples-requires-3-clause-within c =
 pub add_multiples-requires-3-clause-zeros : goal.add_multiples-requires-3-clause-zeros
 add_multiples-requires-3-clause-zeros c =
     zeros_before_in_planes _ _ _ _ c.args.start _ (kept_planes _ _ _ _ c.other.invariant _ _ _ c.in-Some.is c.deref.ensures c.deref-2.ensures) (kept_view _ c.other.inside.constant _ _ _ _ _ c.other.view_is c.in-Some.is c.deref.ensures c.deref-2.ensures) c.requires.zeros
+
+pub invariant_of-self-then-degree-eq2 : goal.invariant_of-self-then-degree-eq2
+invariant_of-self-then-degree-eq2 c =
+    let kept = kept_planes _ _ _ _ c.self.invariant _ _ _ c.in-Some-higher.is c.deref_mut.ensures.value c.deref_mut.ensures.value in
+    let none = no_quadratic _ _ _ kept.quadratic (λ three. omega (arith, three, c.degree.ensures, c.if-degree-eq2.true)) in
+    record {
+      planes =
+          with_length _ _ _ _ _ (summed_planes _ _ _ _ _ _ _ _ _ _ _ _ _ _ _
+          (summands _ _ _ _ _ _ _ _ _ _ _ _ (kept_planes _ _ _ _ c.self.invariant _ _ _ c.in-Some-higher.is c.deref_mut.ensures.value c.deref_mut.ensures.value) (kept_planes _ _ _ _ c.other.invariant _ _ _ c.in-Some.is c.deref.ensures c.deref-2.ensures) (kept_view _ c.self.inside.constant _ _ _ _ _ c.self.view_is c.in-Some-higher.is c.deref_mut.ensures.value c.deref_mut.ensures.value) (kept_view _ c.other.inside.constant _ _ _ _ _ c.other.view_is c.in-Some.is c.deref.ensures c.deref-2.ensures) c.requires.field c.requires.fits c.requires.element c.plane_matrix-m.ensures.value)
+          c.add_multiples.ensures c.add_multiples-2.ensures (IsSummed-none _ c.other.inside.constant c.deref.result.now.linear c.deref-2.result.now.quadratic _ none));
+      needed = kept_not_prime _ _ _ _ c.self.invariant _ c.in-Some-higher.is;
+    }
+
+pub returns-then-degree-eq2-clause-sum : goal.returns-then-degree-eq2-clause-sum
+returns-then-degree-eq2-clause-sum c =
+    let same =
+    ap (λ (r : RowValue). r.order) c.other.view_is ∙ c.requires.field ∙ sym (ap (λ (r : RowValue). r.order) c.self.view_is) in
+    let kept = kept_planes _ _ _ _ c.self.invariant _ _ _ c.in-Some-higher.is c.deref_mut.ensures.value c.deref_mut.ensures.value in
+    let none = no_quadratic _ _ _ kept.quadratic (λ three. omega (arith, three, c.degree.ensures, c.if-degree-eq2.true)) in
+    row_after _ _ _ c.self.inside.constant c.deref_mut.result.now.linear c.deref_mut.result.now.quadratic
+    c.other.inside.constant c.deref.result.now.linear c.deref-2.result.now.quadratic _ _ _ (kept_view _ c.self.inside.constant _ _ _ _ _ c.self.view_is c.in-Some-higher.is c.deref_mut.ensures.value c.deref_mut.ensures.value) (kept_view _ c.other.inside.constant _ _ _ _ _ c.other.view_is c.in-Some.is c.deref.ensures c.deref-2.ensures) same
+    (summed_entries _ _ _ _ _ _ _ _ _ _ _ _ _ _ _
+    (summands _ _ _ _ _ _ _ _ _ _ _ _ (kept_planes _ _ _ _ c.self.invariant _ _ _ c.in-Some-higher.is c.deref_mut.ensures.value c.deref_mut.ensures.value) (kept_planes _ _ _ _ c.other.invariant _ _ _ c.in-Some.is c.deref.ensures c.deref-2.ensures) (kept_view _ c.self.inside.constant _ _ _ _ _ c.self.view_is c.in-Some-higher.is c.deref_mut.ensures.value c.deref_mut.ensures.value) (kept_view _ c.other.inside.constant _ _ _ _ _ c.other.view_is c.in-Some.is c.deref.ensures c.deref-2.ensures) c.requires.field c.requires.fits c.requires.element c.plane_matrix-m.ensures.value)
+    c.add_multiples.ensures c.add_multiples-2.ensures (IsSummed-none _ c.other.inside.constant c.deref.result.now.linear c.deref-2.result.now.quadratic _ none))
+
+pub returns-then-degree-eq2-clause-well_formed : goal.returns-then-degree-eq2-clause-well_formed
+returns-then-degree-eq2-clause-well_formed c = IsRow-of_planes _ _ _ _ _ (invariant_of-self-then-degree-eq2 c).planes
 
 pub invariant_of-self-2 : goal.invariant_of-self-2
 invariant_of-self-2 c = record {
