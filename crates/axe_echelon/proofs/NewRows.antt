@@ -1,10 +1,13 @@
 -- The rows that are not in the span of those before them.
-use Rattle.std.specs.Prelude.{◌≡◌, ℕ, suc, ◌+◌, ◌<◌, List, [], ◌∷◌, ◌++◌, length, get_or, take, drop}
-use Rattle.std.proofs.Math.Seq.{take-suc}
+use Rattle.std.specs.Prelude.{◌≡◌, ℕ, zero, suc, ◌+◌, ◌<◌, ◌≤◌, List, [], ◌∷◌, ◌++◌, length, get_or, take, drop}
+use Rattle.std.proofs.Math.Seq.{take-suc, take-length}
 use Rattle.std.proofs.lemmas.List.{get_or_append_left, get_or-append-add}
 use Rattle.axe_algebra.specs.NumberField.{NumberField}
+use Rattle.std.proofs.lemmas.List.Elements.{All-push}
+use Rattle.axe_algebra.specs.Lists.{IsMatrixOver, IsVectorOver}
 use Rattle.axe_algebra.specs.SpansOfLists.{IsSpanned, HaveSameSpan}
-use Rattle.axe_algebra.proofs.ListSpans.{appended_length, appended_spans, appended_row_spanned, appended_same_span}
+use Rattle.axe_algebra.proofs.ListEntries.{row_over}
+use Rattle.axe_algebra.proofs.ListSpans.{appended_length, appended_spans, appended_row_spanned, appended_same_span, spanned_or_not}
 use Rattle.axe_algebra.proofs.ListVectors.{same_span_refl, same_span_sym, same_span_trans, same_span_by_rows, spanned_within}
 use Rattle.axe_echelon.specs.Echelons.{AreNewRows, none, new, old}
 use Rattle.axe_echelon.proofs.FormLaws.{below_or_at}
@@ -77,3 +80,33 @@ module _ (K : NumberField) where
 
   pub new_rows_are_one : (rows kept others : List (List ℕ)) → AreNewRows K rows kept → AreNewRows K rows others → kept ≡ others
   new_rows_are_one rows kept others first second = one_list first second refl
+
+  -- and there is one, for the rows of a matrix
+  some_of_first : (n : ℕ) (rows : List (List ℕ)) → IsMatrixOver K n rows → (i : ℕ) → i ≤ length rows →
+      (kept : List (List ℕ)) × AreNewRows K (take i rows) kept × IsMatrixOver K n kept
+  some_of_first n rows over zero few = ([], none, λ t row below. absurd (omega (arith, below)))
+  some_of_first n rows over (suc i) few = from (some_of_first n rows over i (omega (arith, few)))
+    where
+      row : List ℕ
+      row = get_or rows i []
+
+      of_row : IsVectorOver K n row
+      of_row = row_over K n rows i over (omega (arith, few))
+
+      next : {kept : List (List ℕ)} → AreNewRows K (take (i + 1) rows) kept → AreNewRows K (take (suc i) rows) kept
+      next {kept} are = subst (λ k. AreNewRows K (take k rows) kept) (let same : i + 1 ≡ suc i = omega arith in same) are
+
+      from : (kept : List (List ℕ)) × AreNewRows K (take i rows) kept × IsMatrixOver K n kept →
+          (kept : List (List ℕ)) × AreNewRows K (take (suc i) rows) kept × IsMatrixOver K n kept
+      from (kept, are, of_kept) = cases (spanned_or_not K n kept row of_kept of_row.length_is)
+        where
+          cases : Dec (IsSpanned K kept row) → (kept : List (List ℕ)) × AreNewRows K (take (suc i) rows) kept × IsMatrixOver K n kept
+          cases (yes spanned) = (kept, next (old_row rows kept i row are (omega (arith, few)) refl spanned), of_kept)
+          cases (no outside) =
+              (kept ++ row ∷ [], next (new_row rows kept i row are (omega (arith, few)) refl outside), All-push (IsVectorOver K n) kept row of_kept of_row)
+
+  pub some_new_rows : (n : ℕ) (rows : List (List ℕ)) → IsMatrixOver K n rows → (kept : List (List ℕ)) × AreNewRows K rows kept
+  some_new_rows n rows over = whole (some_of_first n rows over (length rows) (omega arith))
+    where
+      whole : (kept : List (List ℕ)) × AreNewRows K (take (length rows) rows) kept × IsMatrixOver K n kept → (kept : List (List ℕ)) × AreNewRows K rows kept
+      whole (kept, are, of_kept) = (kept, subst (λ l. AreNewRows K l kept) (take-length rows) are)
