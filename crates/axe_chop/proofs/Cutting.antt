@@ -2,7 +2,7 @@
 use Rattle.std.proofs.Common.{◌≡◌, ℕ, List, ◌+◌, ◌<◌, ◌≤◌, ◌++◌, length, map, refl, sym, ap, subst, ◌∙◌, arith}
 use Rattle.std.specs.List.{All}
 use Rattle.std.proofs.Math.Seq.{take-append_seam, drop-append_seam}
-use Rattle.std.proofs.lemmas.List.Elements.{All-append}
+use Rattle.std.proofs.lemmas.List.Elements.{All-append, All-from_get_or}
 use Rattle.std.proofs.lemmas.List.{length-take-le, length-append, length-map}
 use Rattle.axe_algebra.specs.Lists.{IsMatrixOver, IsVectorOver, unit_row}
 use Rattle.axe_algebra.specs.SpansOfLists.{IsIndependent}
@@ -17,7 +17,6 @@ use Rattle.axe_echelon.proofs.SomeMatrix.{matrix_of_rows_over}
 use Rattle.axe_spin.specs.Modules.{ModuleValue, IsModule}
 use Rattle.axe_action.specs.Actions.{IsBasisAction, IsActionModulo, IsExtendedMatrix}
 use Rattle.axe_action.specs.FreeColumns.{AreFreeColumns, rows_to_span}
-use Rattle.axe_action.proofs.QuotientRows.{free_within}
 use Rattle.axe_action.proofs.UnitRows.{extended_by_units}
 use Rattle.axe_norton.specs.Spaces.{IsProperSubmodule}
 use Rattle.axe_norton.proofs.TruthLaws.{rows_over_field}
@@ -199,7 +198,7 @@ module _ (section : SectionValue) (space : MatrixValue) (columns : List ℕ) (at
   dimension = at.proper.columns ∙ sym at.is_section.count
 
   pub columns_within : All (λ column. column < length section.rows.rows) columns
-  columns_within = subst (λ n. All (λ column. column < n) columns) dimension (free_within (rows_to_span space) columns at.free)
+  columns_within = subst (λ n. All (λ column. column < n) columns) dimension (All-from_get_or (λ column. column < space.cols) columns 0 (λ t below. (at.free.each t below).below))
 
   pub columns_fit : length columns ≤ most_rows
   columns_fit = omega (
