@@ -10,7 +10,8 @@ pub mod QuotientRows
 pub mod RepresentativeLaws
 pub mod EntryLaws
 pub mod CosetLaws
-pub mod SpanChanges
+pub mod ModuloLaws
+pub mod QuotientImages
 pub mod SubmoduleLaws
 pub mod BlockLaws
 pub mod ReducedProducts

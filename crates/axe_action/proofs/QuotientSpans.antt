@@ -2,28 +2,54 @@
 use Rattle.std.specs.Prelude.{◌≡◌, ℕ, ◌<◌, ◌≤◌, List, length, Bool, true, false, None, Result, Err, IsTrue, ◌↔◌}
 use Rattle.axe_algebra.specs.NumberField.{NumberField}
 use Rattle.axe_algebra.specs.Field.{Field}
-use Rattle.axe_algebra.specs.Vectors.{unit_matrix}
-use Rattle.axe_algebra.specs.Bridge.{field_of, matrix_of}
-use Rattle.axe_algebra.specs.Lists.{IsMatrixOver}
-use Rattle.axe_algebra.specs.SpansOfLists.{HaveSameSpan, IsIndependent, SpansEverything}
+use Rattle.axe_algebra.specs.Vectors.{unit_matrix, subtract}
+use Rattle.axe_algebra.specs.Bridge.{field_of, vector_of, matrix_of}
+use Rattle.axe_algebra.specs.Lists.{IsVectorOver, IsMatrixOver}
+use Rattle.axe_algebra.specs.SpansOfLists.{IsSpanned, IsRepresentative, HaveSameSpan, IsIndependent, SpansEverything}
+use Rattle.axe_algebra.proofs.FieldLaws.{zero-add, neg-neg, neg-sum_of_two}
 use Rattle.axe_algebra.proofs.ProductLaws.{unit_is_matrix}
-use Rattle.axe_algebra.proofs.Spanning.{span_within}
+use Rattle.axe_algebra.proofs.Spanning.{span_same, span_subtract, span_within}
 use Rattle.axe_algebra.proofs.Exchange.{exchange}
 use Rattle.axe_algebra.proofs.Isomorphisms.{unit_rows_independent}
+use Rattle.axe_algebra.proofs.ReducedBases.{zero_at_pivots_is_zero}
+use Rattle.axe_algebra.proofs.ListEntries.{rows_length}
 use Rattle.axe_algebra.proofs.ListSpans.{enough_rows_span, independent_rows_are_few}
 use Rattle.axe_field.specs.NumberFields.{number_field}
+use Rattle.axe_row.specs.Operations.{IsZeroVector}
 use Rattle.axe_row.specs.Refusals.{AnswersOr}
 use Rattle.axe_row.specs.declared.refusals.Refusal.{Refusal}
 use Rattle.axe_row.specs.declared.refusals.Refusal.TheVariants.{WholeSpace}
 use Rattle.axe_matrix.specs.Matrices.{MatrixValue}
 use Rattle.axe_echelon.specs.Echelons.{EchelonValue, IsSpanOfRows}
 use Rattle.axe_echelon.proofs.Exits.{answered_late, stands_late}
+use Rattle.axe_echelon.proofs.EliminationLaws.{zero_row_of_vector}
 use Rattle.axe_spin.specs.Modules.{ModuleValue, rows_refusal, IsInvariantIn, SpansModule}
 use Rattle.axe_spin.proofs.SeedLaws.{AreVectors, vectors_of}
 use Rattle.axe_action.specs.Actions.{quotient_late, action_late, IsActionModulo, IsProperActionModulo}
 use mathlib.Core.Logic.{inl, inr}
-use mathlib.Core.Path.{refl, ◌∙◌, subst}
+use mathlib.Core.Path.{refl, sym, ◌∙◌, ap, subst, fun_ext}
 use native.Mathlib.Omega.{arith}
+
+-- the representative of a vector of the span is zero
+pub zero_of_spanned : (K : NumberField) (n : ℕ) (rows : List (List ℕ)) (v x : List ℕ) → IsMatrixOver K n rows → IsVectorOver K n x →
+    IsRepresentative K rows v x → IsSpanned K rows v → IsZeroVector x
+zero_of_spanned K n rows v x over over_x is spanned =
+    zero_row_of_vector K n x over_x
+    (zero_at_pivots_is_zero F n (length rows) (matrix_of K rows) (vector_of K x) (rows_length K n rows over)
+    (span_same F (length rows) (matrix_of K rows) (vector_of K x) (subtract F (vector_of K v) (subtract F (vector_of K v) (vector_of K x)))
+    (fun_ext λ j. sym (difference (vector_of K v j) (vector_of K x j)))
+    (span_subtract F (length rows) (matrix_of K rows) (vector_of K v) (subtract F (vector_of K v) (vector_of K x)) spanned is.in_coset))
+    is.at_pivots)
+  where
+    F : Field
+    F = field_of K
+
+    difference : (a b : F.Element) → F.add a (F.neg (F.add a (F.neg b))) ≡ b
+    difference a b =
+        ap (F.add a) (neg-sum_of_two F a (F.neg b))
+        ∙ sym (F.add_assoc a (F.neg a) (F.neg (F.neg b)))
+        ∙ ap (λ (e : F.Element). F.add e (F.neg (F.neg b))) (F.add-neg a)
+        ∙ zero-add F (F.neg (F.neg b)) ∙ neg-neg F b
 
 -- what a test tells
 pub test_failed : (P : Type 0) (b : Bool) → (IsTrue b ↔ P) → b ≡ false → ¬ P
@@ -85,7 +111,7 @@ module _ (m : ModuleValue) (rows : MatrixValue) (e : EchelonValue) (none : rows_
   answered : (refusal : Refusal) → quotient_late m rows refusal → Answer (Err refusal)
   answered refusal = stands_late (rows_refusal m rows) (IsProperActionModulo m rows) (quotient_late m rows) refusal none
 
-  pub proper : ¬ (length e.rows ≡ m.dim) → ¬ (SpansModule m rows)
+  proper : ¬ (length e.rows ≡ m.dim) → ¬ (SpansModule m rows)
   proper few = λ all.
       few (full_if_spans (number_field m.order) m.dim rows.rows e.rows span_of_vectors.over span_of_vectors.independent span_of_vectors.same all)
 

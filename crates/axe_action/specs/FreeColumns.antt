@@ -3,7 +3,7 @@ use Rattle.std.specs.Prelude.{◌≡◌, ◌≢◌, ℕ, ◌+◌, ◌<◌, ◌�
 use Rattle.axe_algebra.specs.Bridge.{matrix_of}
 use Rattle.axe_algebra.specs.Reduced.{IsAscendingListOf}
 use Rattle.axe_algebra.specs.Actions.{IsFree}
-use Rattle.axe_algebra.specs.Lists.{IsVectorOver}
+use Rattle.axe_algebra.specs.Lists.{IsVectorOver, unit_row}
 use Rattle.axe_algebra.specs.SpansOfLists.{IsRepresentative}
 use Rattle.axe_field.specs.Arithmetic.{field_neg}
 use Rattle.axe_field.specs.NumberFields.{number_field, gf}
@@ -37,6 +37,10 @@ pub record HasRowsModulo (e : EchelonValue) (columns : List ℕ) (vectors : ℕ 
   pub well_formed : IsMatrix matrix
   pub each : (t : ℕ) → t < i → IsRowModulo e columns (vectors t) (get_or matrix.rows t [])
 
+-- the matrix has as its rows all unit vectors modulo the rows' span, in order
+abbrev pub HasUnitsModulo : EchelonValue → List ℕ → MatrixValue → Type 0
+HasUnitsModulo e columns matrix = HasRowsModulo e columns (unit_row e.cols) e.cols matrix
+
 -- the rows of a matrix, as the rows of a span
 abbrev pub rows_to_span : MatrixValue → EchelonValue
 rows_to_span rows = record { order = rows.order; cols = rows.cols; rows = rows.rows }
@@ -44,6 +48,14 @@ rows_to_span rows = record { order = rows.order; cols = rows.cols; rows = rows.r
 -- the row of g with the index that is number t of the list
 abbrev pub row_at : List (List ℕ) → List ℕ → ℕ → List ℕ
 row_at g indices t = get_or g (get_or indices t 0) []
+
+-- the matrix has as its rows those of m with the first i of these indices
+pub record HasRowsAt (m : MatrixValue) (indices : List ℕ) (i : ℕ) (matrix : MatrixValue) : Type 0 where
+  pub field : matrix.order ≡ m.order
+  pub width : matrix.cols ≡ m.cols
+  pub count : length matrix.rows ≡ i
+  pub well_formed : IsMatrix matrix
+  pub each : (t : ℕ) → t < i → get_or matrix.rows t [] ≡ row_at m.rows indices t
 
 -- the rows of g at these columns, modulo a span with these pivots and no others than them, by the entries of its reduced
 -- basis at the columns: the rows' entries at the columns, minus their entries at the pivots times those (the reduced row

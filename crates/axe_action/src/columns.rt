@@ -4,11 +4,10 @@ ghost use Rattle.std.specs.Prelude.{◌≡◌, ◌<◌, ◌≤◌, ◌↔◌, le
 ghost use Rattle.axe_algebra.specs.SpansOfLists.{IsIndependent};
 ghost use Rattle.axe_field.specs.NumberFields.{number_field};
 ghost use Rattle.axe_row.specs.Refusals.{Answers};
-ghost use Rattle.axe_matrix.specs.Limits.{most_columns, most_rows};
+ghost use Rattle.axe_matrix.specs.Limits.{most_columns};
 ghost use Rattle.axe_matrix.specs.Matrices.{IsMatrix, matrix_product};
 ghost use Rattle.axe_echelon.specs.Echelons.{IsEchelon, IsSpanOfRows};
 ghost use Rattle.axe_action.specs.Coordinates.{ArePivotColumns, AreCoordinateColumns, IsIdentityAt, matrix_at};
-ghost use Rattle.axe_action.specs.Coordinates.{rows_chosen};
 ghost use Rattle.axe_action.specs.FreeColumns.{AreReducedAt};
 
 use axe_echelon::Echelon;
@@ -80,30 +79,6 @@ pub(crate) fn columns_of(
     let mut entries = Matrix::with_capacity(alloc, *matrix.field(), columns.len(), matrix.rows())?;
     for index in 0..matrix.rows() {
         let row = matrix.row(index).select(alloc, columns)?;
-        entries.append(row)?;
-    }
-    Ok(entries)
-}
-
-/// The matrix of the entries of the rows with some indices at some columns.
-pub(crate) fn block_at(
-    alloc: Global,
-    matrix: &Matrix,
-    indices: &[usize],
-    columns: &[usize],
-) -> Result<Matrix, Refusal>
-    requires some_column { 1 ≤ length columns.now }
-    requires columns_fit { length columns.now ≤ most_columns }
-    requires indices_fit { length indices.now ≤ most_rows }
-    requires rows_within { All (λ index. index < length matrix.now.rows) indices.now }
-    requires within { All (λ column. column < matrix.now.cols) columns.now }
-    ensures entries { Answers None
-        (λ entries. entries ≡ matrix_at columns.now (rows_chosen indices.now matrix.now)) result }
-    ensures well_formed { IfOk result IsMatrix }
-{
-    let mut entries = Matrix::with_capacity(alloc, *matrix.field(), columns.len(), indices.len())?;
-    for index in indices {
-        let row = matrix.row(*index).select(alloc, columns)?;
         entries.append(row)?;
     }
     Ok(entries)

@@ -1,19 +1,22 @@
 //! The action of a module modulo an invariant space.
 
 ghost use Rattle.std.specs.Prelude.{◌≡◌, ◌<◌, ◌≤◌, ◌↔◌, length, All, IsTrue, None, IfOk};
-ghost use Rattle.axe_row.specs.Refusals.{Answers, AnswersOr};
-ghost use Rattle.axe_matrix.specs.Limits.{most_columns};
-ghost use Rattle.axe_matrix.specs.Matrices.{IsMatrix};
+ghost use Rattle.axe_algebra.specs.Lists.{unit_row};
+ghost use Rattle.axe_row.specs.Refusals.{Answers, AnswersOr, RefusedAs};
+ghost use Rattle.axe_row.specs.declared.refusals.Refusal.TheVariants.{NotInvariant};
+ghost use Rattle.axe_matrix.specs.Limits.{most_rows};
+ghost use Rattle.axe_matrix.specs.Matrices.{IsMatrix, matrix_product};
 ghost use Rattle.axe_echelon.specs.Echelons.{IsEchelon};
 ghost use Rattle.axe_spin.specs.Modules.{IsModule, rows_refusal, IsInvariantIn};
+ghost use Rattle.axe_spin.specs.Spinning.{has_only_zeros};
 ghost use Rattle.axe_action.specs.Actions.{quotient_late, action_late, IsActionModulo, IsProperActionModulo};
-ghost use Rattle.axe_action.specs.FreeColumns.{IsFreeColumn, AreFreeColumns, AreReducedAt, rows_to_span, matrix_modulo};
+ghost use Rattle.axe_action.specs.Coordinates.{HasImagesIn};
+ghost use Rattle.axe_action.specs.FreeColumns.{IsFreeColumn, AreFreeColumns, IsRowModulo, HasRowsModulo};
+ghost use Rattle.axe_action.specs.FreeColumns.{HasUnitsModulo, HasRowsAt, rows_to_span, row_at};
 
-use super::columns::{block_at, columns_of, pivot_columns};
-use super::subspaces::generator_on_basis;
 use axe_echelon::{Echelon, span_of};
-use axe_matrix::{Matrix, Refusal};
-use axe_spin::Module;
+use axe_matrix::{Matrix, Refusal, Row};
+use axe_spin::{Module, has_only_zeros};
 use std::alloc::Global;
 
 /// The action of a module modulo the span of the rows of a matrix, which may be zero, over the unit vectors of the
@@ -31,15 +34,11 @@ pub fn quotient_action(alloc: Global, module: &Module, rows: &Matrix) -> Result<
     if span.rank() == module.dim() {
         return Err(Refusal::WholeSpace);
     }
-    if span.rank() == 0 {
-        return module.copy(alloc);
-    }
-    let pivots = pivot_columns(alloc, &span)?;
     let columns = free_columns(alloc, &span)?;
-    let basis = span.reduced(alloc)?;
+    let units = units_modulo(alloc, &span, &columns)?;
     // Its memory is free again before the products are made.
     drop(span);
-    action_modulo(alloc, module, &basis, &pivots, &columns)
+    action_modulo(alloc, module, rows, &columns, &units)
 }
 
 /// The columns that are no pivots of a span, ascending.
@@ -64,65 +63,120 @@ fn is_free(span: &Echelon, column: usize) -> bool
     !span.is_pivot(column)
 }
 
-/// The action of a module modulo a span, which has this reduced basis of one row at least, with these pivots, over the
-/// unit vectors of the other columns. A basis whose images are not in its span is refused as NotInvariant.
+/// The matrix of all unit vectors modulo a span, in order, so that a vector times it is the vector modulo the span: the
+/// entries, at the columns that are no pivots, of the one vector of the coset that is 0 at each pivot.
+fn units_modulo(alloc: Global, span: &Echelon, columns: &[usize]) -> Result<Matrix, Refusal>
+    requires free { AreFreeColumns span.now columns.now }
+    requires some_column { 1 ≤ length columns.now }
+    ensures { Answers None (HasUnitsModulo span.now columns.now) result }
+{
+    let mut units = Matrix::with_capacity(alloc, *span.field(), columns.len(), span.cols())?;
+    for column in 0..span.cols() {
+        let row = unit_modulo(alloc, span, columns, column)?;
+        units.append(row)?;
+    }
+    Ok(units)
+}
+
+/// The unit vector of a column modulo a span.
+fn unit_modulo(
+    alloc: Global,
+    span: &Echelon,
+    columns: &[usize],
+    column: usize,
+) -> Result<Row, Refusal>
+    requires within { All (λ column. column < span.now.cols) columns.now }
+    requires below { column < span.now.cols }
+    ensures modulo { Answers None
+        (λ row. IsRowModulo span.now columns.now (unit_row span.now.cols column) row.entries) result }
+    ensures same_field { Answers None (λ row. row.order ≡ span.now.order) result }
+{
+    let mut unit = Row::unit(alloc, *span.field(), span.cols(), column)?;
+    span.reduce(&mut unit);
+    unit.select(alloc, columns)
+}
+
+/// The action of a module modulo the span of rows, over the unit vectors of the columns that are no pivots. All unit
+/// vectors modulo the span are given too.
 fn action_modulo(
     alloc: Global,
     module: &Module,
-    basis: &Matrix,
-    pivots: &[usize],
+    rows: &Matrix,
     columns: &[usize],
+    units: &Matrix,
 ) -> Result<Module, Refusal>
-    requires some_row { 1 ≤ length basis.now.rows }
-    requires field { basis.now.order ≡ «module».now.order }
-    requires fits { basis.now.cols ≡ «module».now.dim }
-    requires well_formed { IsMatrix basis.now }
-    requires reduced { AreReducedAt basis.now pivots.now }
-    requires free { AreFreeColumns (rows_to_span basis.now) columns.now }
-    requires some_column { 1 ≤ length columns.now }
-    requires columns_fit { length columns.now ≤ most_columns }
+    requires field { rows.now.order ≡ «module».now.order }
+    requires fits { rows.now.cols ≡ «module».now.dim }
+    requires well_formed { IsMatrix rows.now }
+    requires free { AreFreeColumns (rows_to_span rows.now) columns.now }
+    requires columns_fit { length columns.now ≤ most_rows }
+    requires units { HasUnitsModulo (rows_to_span rows.now) columns.now units.now }
     ensures action { AnswersOr None
-        (λ action. IsInvariantIn «module».now basis.now × IsActionModulo «module».now basis.now action)
-        (action_late «module».now basis.now) result }
+        (λ action. IsInvariantIn «module».now rows.now × IsActionModulo «module».now rows.now action)
+        (action_late «module».now rows.now) result }
     ensures well_formed { IfOk result IsModule }
 {
-    let entries = columns_of(alloc, basis, columns)?;
     let mut actions = Vec::new(alloc);
     for number in 0..module.gens() {
-        let generator = module.generator(number);
-        generator_on_basis(alloc, generator, basis, pivots)?;
-        let action = generator_on_cosets(alloc, generator, pivots, columns, &entries)?;
+        let action = generator_modulo(alloc, module.generator(number), rows, columns, units)?;
         actions.push(action)?;
     }
     Module::new(actions)
 }
 
-/// The matrix by which a generator acts modulo a span with these pivots and other columns: its rows at these columns,
-/// modulo the span. At these columns a vector modulo the span is the vector minus the combination, with its entries at
-/// the pivots, of the rows of the entries: those of the span's reduced basis there.
-pub(crate) fn generator_on_cosets(
+/// The matrix by which a generator acts modulo the span of rows: its rows at the columns that are no pivots, modulo the
+/// span. Its product with all unit vectors modulo the span has all its rows modulo the span, and the product of the
+/// rows with that product has their images modulo the span: they are zero exactly where the images are in the span,
+/// else the rows are refused as NotInvariant.
+fn generator_modulo(
     alloc: Global,
     generator: &Matrix,
-    pivots: &[usize],
+    rows: &Matrix,
     columns: &[usize],
-    entries: &Matrix,
+    units: &Matrix,
 ) -> Result<Matrix, Refusal>
     requires square { length generator.now.rows ≡ generator.now.cols }
-    requires field { entries.now.order ≡ generator.now.order }
-    requires some_pivot { 1 ≤ length pivots.now }
-    requires some_column { 1 ≤ length columns.now }
-    requires pivots_within { All (λ column. column < generator.now.cols) pivots.now }
-    requires columns_within { All (λ column. column < generator.now.cols) columns.now }
-    requires as_many { length entries.now.rows ≡ length pivots.now }
-    requires width { entries.now.cols ≡ length columns.now }
-    requires well_formed { IsMatrix entries.now }
-    ensures modulo { Answers None
-        (λ action. action ≡ matrix_modulo pivots.now columns.now entries.now generator.now) result }
-    ensures well_formed { IfOk result IsMatrix }
+    requires generator_well_formed { IsMatrix generator.now }
+    requires field { rows.now.order ≡ generator.now.order }
+    requires fits { rows.now.cols ≡ generator.now.cols }
+    requires well_formed { IsMatrix rows.now }
+    requires free { AreFreeColumns (rows_to_span rows.now) columns.now }
+    requires columns_fit { length columns.now ≤ most_rows }
+    requires units { HasUnitsModulo (rows_to_span rows.now) columns.now units.now }
+    ensures { AnswersOr None
+        (λ action. HasImagesIn generator.now rows.now.rows rows.now.rows
+        × HasRowsModulo (rows_to_span rows.now) columns.now (row_at generator.now.rows columns.now)
+        (length columns.now) action)
+        (RefusedAs NotInvariant (¬ (HasImagesIn generator.now rows.now.rows rows.now.rows))) result }
 {
-    let mut action = block_at(alloc, generator, columns, columns)?;
-    let at_pivots = block_at(alloc, generator, columns, pivots)?;
-    let minus_one = generator.field().neg(1);
-    action.add_product(alloc, minus_one, &at_pivots, entries)?;
-    Ok(action)
+    let images = generator.mul(alloc, units)?;
+    if !has_zero_product(alloc, rows, &images)? {
+        return Err(Refusal::NotInvariant);
+    }
+    rows_at(alloc, &images, columns)
+}
+
+/// Whether the product of two matrices is zero.
+fn has_zero_product(alloc: Global, first: &Matrix, second: &Matrix) -> Result<bool, Refusal>
+    requires field { first.now.order ≡ second.now.order }
+    requires fits { first.now.cols ≡ length second.now.rows }
+    ensures { Answers None
+        (λ zero. zero ≡ has_only_zeros (matrix_product first.now second.now).rows) result }
+{
+    let product = first.mul(alloc, second)?;
+    Ok(has_only_zeros(&product))
+}
+
+/// The matrix of the rows of a matrix with these indices, in their order.
+fn rows_at(alloc: Global, matrix: &Matrix, indices: &[usize]) -> Result<Matrix, Refusal>
+    requires within { All (λ index. index < length matrix.now.rows) indices.now }
+    requires indices_fit { length indices.now ≤ most_rows }
+    ensures { Answers None (HasRowsAt matrix.now indices.now (length indices.now)) result }
+{
+    let mut chosen = Matrix::with_capacity(alloc, *matrix.field(), matrix.cols(), indices.len())?;
+    for index in indices {
+        let row = matrix.row(*index).copy(alloc)?;
+        chosen.append(row)?;
+    }
+    Ok(chosen)
 }

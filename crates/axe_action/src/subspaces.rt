@@ -116,7 +116,7 @@ fn action_on_basis(
 /// The matrix by which a generator acts on rows, where the coordinates of the vectors of their span are the entries at
 /// some columns: the entries of the images there. The rows combine to the images with these exactly where the span is
 /// invariant.
-pub(crate) fn generator_on_basis(
+fn generator_on_basis(
     alloc: Global,
     generator: &Matrix,
     basis: &Matrix,
