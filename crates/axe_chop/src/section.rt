@@ -102,12 +102,12 @@ impl<'a> Section<'a> {
         ensures { Answers None (λ parts. IsCut self.entry space parts.0 parts.1) result }
     {
         let Section { action, rows } = self;
-        let module = action.into_module(alloc)?;
         let Split {
             sub,
             quotient,
             columns,
-        } = split_by_submodule(alloc, module, &space)?;
+        } = split_by_submodule(alloc, action.module(), &space)?;
+        drop(action);
         // The rows of the submodule are lifted, and the unit vectors that extend them to a basis: these lift to the rows
         // at their columns.
         let sub_rows = rows.lift(alloc, space)?;
@@ -133,16 +133,6 @@ impl<'a> Action<'a> {
         match self {
             Action::Whole(module) => module,
             Action::Part(module) => module,
-        }
-    }
-
-    /// The module that it is, as one of its own: the module of a whole section is copied.
-    fn into_module(self, alloc: Global) -> Result<Module, Refusal>
-        ensures { Answers None (λ «module». «module» ≡ acting_module self.entry) result }
-    {
-        match self {
-            Action::Whole(module) => module.copy(alloc),
-            Action::Part(module) => Ok(module),
         }
     }
 }
