@@ -35,20 +35,21 @@ pub struct Split {
 
 /// The two actions of a module that come of a submodule, which has independent rows as a basis and is neither zero nor
 /// everything: that of [`basis_action`] on it and that of [`quotient_action`] modulo it, for rows whose span is known
-/// to be invariant. After the rows, the unit vectors of the columns make the basis that [`extend_basis`] gives.
+/// to be invariant. After the rows, the unit vectors of the columns make the basis that [`extend_basis`] gives. The module
+/// is taken apart, so that beside what is left of it the two actions alone take memory.
 ///
 /// [`basis_action`]: crate::basis_action
 /// [`quotient_action`]: crate::quotient_action
 /// [`extend_basis`]: crate::extend_basis
-pub fn split_by_submodule(alloc: Global, module: &Module, rows: &Matrix) -> Result<Split, Refusal>
-    requires field { rows.now.order ≡ «module».now.order }
-    requires fits { rows.now.cols ≡ «module».now.dim }
+pub fn split_by_submodule(alloc: Global, module: Module, rows: &Matrix) -> Result<Split, Refusal>
+    requires field { rows.now.order ≡ «module».order }
+    requires fits { rows.now.cols ≡ «module».dim }
     requires some_row { 1 ≤ length rows.now.rows }
     requires independent { IsIndependent (number_field rows.now.order) rows.now.rows }
-    requires proper { length rows.now.rows < «module».now.dim }
-    requires invariant { IsInvariantIn «module».now rows.now }
-    ensures sub { Answers None (λ split. IsBasisAction «module».now rows.now split.sub) result }
-    ensures quotient { Answers None (λ split. IsActionModulo «module».now rows.now split.quotient) result }
+    requires proper { length rows.now.rows < «module».dim }
+    requires invariant { IsInvariantIn «module» rows.now }
+    ensures sub { Answers None (λ split. IsBasisAction «module» rows.now split.sub) result }
+    ensures quotient { Answers None (λ split. IsActionModulo «module» rows.now split.quotient) result }
     ensures columns { Answers None (λ split. AreFreeColumns (rows_to_span rows.now) split.columns.items) result }
     ensures well_formed { IfOk result (λ split. IsModule split.sub × IsModule split.quotient) }
 {
@@ -66,35 +67,34 @@ pub fn split_by_submodule(alloc: Global, module: &Module, rows: &Matrix) -> Resu
 /// too, and the columns that are no pivots of it.
 fn both_actions(
     alloc: Global,
-    module: &Module,
+    module: Module,
     rows: &Matrix,
     span: Echelon,
     columns: &[usize],
 ) -> Result<(Module, Module), Refusal>
-    requires field { rows.now.order ≡ «module».now.order }
-    requires fits { rows.now.cols ≡ «module».now.dim }
+    requires field { rows.now.order ≡ «module».order }
+    requires fits { rows.now.cols ≡ «module».dim }
     requires some_row { 1 ≤ length rows.now.rows }
     requires independent { IsIndependent (number_field rows.now.order) rows.now.rows }
     requires well_formed { IsMatrix rows.now }
     requires span { IsSpanOfRows rows.now span }
     requires free { AreFreeColumns (rows_to_span rows.now) columns.now }
-    requires proper { length rows.now.rows < «module».now.dim }
-    requires invariant { IsInvariantIn «module».now rows.now }
-    ensures sub { Answers None (λ actions. IsBasisAction «module».now rows.now actions.0) result }
-    ensures quotient { Answers None (λ actions. IsActionModulo «module».now rows.now actions.1) result }
+    requires proper { length rows.now.rows < «module».dim }
+    requires invariant { IsInvariantIn «module» rows.now }
+    ensures sub { Answers None (λ actions. IsBasisAction «module» rows.now actions.0) result }
+    ensures quotient { Answers None (λ actions. IsActionModulo «module» rows.now actions.1) result }
     ensures well_formed { IfOk result (λ actions. IsModule actions.0 × IsModule actions.1) }
 {
     let Some(pivots) = coordinate_columns(alloc, rows, &span)? else {
         // Rows that are no reduced basis are rare here: they go the way of rows that may span no submodule.
-        let sub = action_over(alloc, module, rows, &span)?;
-        let quotient = quotient_action(alloc, module, rows)?;
+        let sub = action_over(alloc, &module, rows, &span)?;
+        let quotient = quotient_action(alloc, &module, rows)?;
         return Ok((sub, quotient));
     };
     // A submodule mostly comes as its reduced basis, and then products do. The memory of the span is free again before
-    // the module is copied: of the copy each generator is gone when its parts are made.
+    // the actions are made.
     drop(span);
-    let copy = module.copy(alloc)?;
-    actions_at_pivots(alloc, copy, rows, &pivots, columns)
+    actions_at_pivots(alloc, module, rows, &pivots, columns)
 }
 
 /// The action of a module on a submodule, over its reduced basis, and that modulo it. Its pivots are given too, and the

@@ -8,7 +8,6 @@ use mathlib.Core.List.{map-map}
 use Rattle.indexmap.specs.IndexMap.{values}
 use Rattle.axe_algebra.specs.Blocks.{block_start}
 use Rattle.axe_algebra.specs.Lists.{listed}
-use Rattle.axe_field.specs.Order.{Order}
 use Rattle.axe_matrix.specs.Matrices.{MatrixValue}
 use Rattle.axe_spin.specs.Modules.{ModuleValue, IsModule}
 use Rattle.axe_iso.specs.Forms.{FormValue}
@@ -20,8 +19,8 @@ use Rattle.axe_report.specs.Reports.{FactorValue, ReportValue, names, dims, mult
 use Rattle.axe_report.specs.declared.report.ReportHeader.{ReportHeader}
 use Rattle.axe_report.proofs.NumberedFactors.{AreNumbered, numbered_report, numbered_by_parts}
 use Rattle.axe_chop.specs.Chopped.{dims_of, multiplicities_in, IsNamed}
-use Rattle.axe_chop.specs.Answers.{IsChopped, factor_modules}
-use Rattle.axe_chop.specs.Reported.{dims_of_factors, reported_factor, entry_factor, series_report}
+use Rattle.axe_chop.specs.Answers.{factor_modules}
+use Rattle.axe_chop.specs.Reported.{dims_of_factors, reported_factor, entry_factor, module_header, series_report, IsFoundUnder}
 use Rattle.axe_chop.specs.declared.chopped.Factor.{Factor}
 use Rattle.axe_chop.specs.declared.chopped.Chopped.{Chopped}
 use Rattle.axe_chop.proofs.AnswerLaws.{chopped_is_series}
@@ -48,23 +47,25 @@ sizes_add_up : (f : ℕ → ℕ) (places : List ℕ) → block_start (map f plac
 sizes_add_up f [] = refl
 sizes_add_up f (p ∷ places) = ap (λ n. f p + n) (sizes_add_up f places) ∙ sym (sum_by-cons f p places)
 
+-- the header of a module keeps its relations
+pub header_fits : (m : ModuleValue) (seed words : ℕ) → IsModule m → seed < 2 ^ 64 → words ≤ most_words →
+    IsReportHeader (module_header m seed words)
+header_fits m seed words is small few = record {
+  some_dim = omega (arith, is.over.positive);
+  dim = is.dim_fits;
+  some_generator = is.some_generator;
+  gens = is.generators_fit;
+  seed = small;
+  words = few;
+}
+
 module _ (m : ModuleValue) (seed words : ℕ) (basis : MatrixValue) (factors : List ModuleValue) (places : List ℕ)
     (is : IsModule m) (small : seed < 2 ^ 64) (few : words ≤ most_words) (series : IsSeries m basis factors places) where
   abbrev ds : List ℕ
   ds = dims_of_factors factors
 
   abbrev header : ReportHeader
-  header = record { field = m.order; dim = m.dim; gens = length m.generators; seed = seed; words = words }
-
-  header_fits : IsReportHeader header
-  header_fits = record {
-    some_dim = omega (arith, is.over.positive);
-    dim = is.dim_fits;
-    some_generator = is.some_generator;
-    gens = is.generators_fit;
-    seed = small;
-    words = few;
-  }
+  header = module_header m seed words
 
   count : length ds ≡ length factors
   count = length-map factors (λ (factor : ModuleValue). factor.dim)
@@ -86,11 +87,11 @@ module _ (m : ModuleValue) (seed words : ℕ) (basis : MatrixValue) (factors : L
       get_or-map (λ p. get_or ds p 0) places at.0 0 0 at.1 ∙ ap (λ p. get_or ds p 0) at.2 in
       omega (arith, positive, size)
 
-  pub series_has_report : IsReport (series_report m seed words factors places)
+  pub series_has_report : IsReport (series_report (module_header m seed words) factors places)
   unfolding series_report
   series_has_report =
       subst (λ n. IsReport (record { header = header; factors = listed n (reported_factor factors places); series = places })) count
-      (numbered_report ds places numbered some_dimension header header_fits whole)
+      (numbered_report ds places numbered some_dimension header (header_fits m seed words is small few) whole)
 
 -- ---- what is named is reported so
 
@@ -139,30 +140,22 @@ module _ (found : FoundValue) (chopped : Chopped) (named : IsNamed found chopped
       ∙ ap (λ n. listed n (reported_factor (factor_modules chopped) chopped.series.items))
       (length-map (factor_modules chopped) (λ (m : ModuleValue). m.dim))
 
--- what a report says of a module, of its factors as they are named, and of their places
-module _ (m : ModuleValue) (seed words : ℕ) (chopped : Chopped) (answer : IsChopped m seed words chopped) (field : Order) (dim gens : ℕ)
-    (factors : List FactorValue) (series : List ℕ) (order_is : field ≡ m.order) (dim_is : dim ≡ m.dim) (gens_is : gens ≡ length m.generators)
+-- what a report says under a header, of factors as they are named and of their places
+module _ (header : ReportHeader) (chopped : Chopped) (found : IsFoundUnder header chopped) (factors : List FactorValue) (series : List ℕ)
     (factors_are : factors ≡ map entry_factor chopped.factors.entries) (series_is : series ≡ chopped.series.items) where
   abbrev report : ReportValue
-  report = record {
-    header = record { field = field; dim = dim; gens = gens; seed = seed; words = words };
-    factors = factors;
-    series = series;
-  }
+  report = record { header = header; factors = factors; series = series }
 
-  pub reported : report ≡ series_report m seed words (factor_modules chopped) chopped.series.items
+  pub reported : report ≡ series_report header (factor_modules chopped) chopped.series.items
   unfolding series_report
   reported =
       let all : factors ≡ listed (length (factor_modules chopped)) (reported_factor (factor_modules chopped) chopped.series.items) =
-      factors_are ∙ named_is_reported answer.found chopped answer.named in
-      λ i. record {
-        header = record { field = order_is i; dim = dim_is i; gens = gens_is i; seed = seed; words = words };
-        factors = all i;
-        series = series_is i;
-      }
+      factors_are ∙ named_is_reported found.chopped_is.found chopped found.chopped_is.named in
+      λ i. record { header = header; factors = all i; series = series_is i }
 
-  pub reported_is_report : IsModule m → seed < 2 ^ 64 → words ≤ most_words → IsReport report
-  reported_is_report is small few =
-      subst IsReport (sym reported)
-      (series_has_report m seed words chopped.basis (factor_modules chopped) chopped.series.items is small few
-      (chopped_is_series m is seed words chopped answer))
+  pub reported_is_report : IsReportHeader header → IsReport report
+  reported_is_report formed =
+      let under : ReportHeader → ReportValue = λ h. series_report h (factor_modules chopped) chopped.series.items in
+      subst IsReport (sym (reported ∙ ap under found.header_is))
+      (series_has_report found.m header.seed header.words chopped.basis (factor_modules chopped) chopped.series.items found.is_module formed.seed formed.words
+      (chopped_is_series found.m found.is_module header.seed header.words chopped found.chopped_is))

@@ -8,7 +8,7 @@ use Rattle.axe_chop.specs.Vectors.{unit_vectors}
 use Rattle.axe_chop.specs.declared.lifted.KeptRows.{KeptRows}
 use Rattle.axe_chop.specs.declared.lifted.KeptRows.TheVariants.{Identity, Units, Rows}
 use Rattle.axe_chop.specs.declared.section.Action.{Action}
-use Rattle.axe_chop.specs.declared.section.Action.TheVariants.{Whole, Part}
+use Rattle.axe_chop.specs.declared.section.Action.TheVariants.{Lent, Owned}
 
 -- the lifted rows that are kept: all unit vectors, those of some columns, or rows of any kind
 abbrev pub kept_rows : KeptRows → MatrixValue
@@ -27,10 +27,10 @@ pub record AreKept (kept : KeptRows) : Type 0 where
   pub well_formed : IsMatrix (kept_rows kept)
   pub within : HasColumnsWithin kept
 
--- the module that acts on a section: the module itself, or the action on a part of it
+-- the module that acts on a section, lent or its own
 abbrev pub acting_module : Action → ModuleValue
-acting_module (Whole m) = m.now
-acting_module (Part m) = m
+acting_module (Lent m) = m.now
+acting_module (Owned m) = m
 
 -- the section that is kept
 abbrev pub kept_section : Action → MatrixValue → SectionValue

@@ -1,11 +1,14 @@
 -- The report of a composition series.
-use Rattle.std.specs.Prelude.{ℕ, List, [], length, map, get_or, string_bytes, String}
+use Rattle.std.specs.Prelude.{◌≡◌, ℕ, List, [], length, map, get_or, string_bytes, String}
 use Rattle.std.specs.declared.alloc.Global.{Global}
 use Rattle.axe_algebra.specs.Lists.{listed}
-use Rattle.axe_spin.specs.Modules.{ModuleValue}
+use Rattle.axe_spin.specs.Modules.{ModuleValue, IsModule}
 use Rattle.axe_report.specs.Names.{count_of, names_of}
 use Rattle.axe_report.specs.Reports.{FactorValue, ReportValue}
+use Rattle.axe_report.specs.declared.report.ReportHeader.{ReportHeader}
+use Rattle.axe_chop.specs.Answers.{IsChopped}
 use Rattle.axe_chop.specs.declared.chopped.Factor.{Factor}
+use Rattle.axe_chop.specs.declared.chopped.Chopped.{Chopped}
 
 -- the dimensions of factors
 abbrev pub dims_of_factors : List ModuleValue → List ℕ
@@ -19,13 +22,25 @@ reported_factor factors places number = record {
   multiplicity = count_of number places;
 }
 
--- the report of a composition series of m with these factors and places, found by the words 0 to `words` of a seed
-unfoldable pub series_report : ModuleValue → ℕ → ℕ → List ModuleValue → List ℕ → ReportValue
-series_report m seed words factors places = record {
-  header = record { field = m.order; dim = m.dim; gens = length m.generators; seed = seed; words = words };
+-- the header of the report of a composition series of m that the words 0 to `words` of a seed find
+abbrev pub module_header : ModuleValue → ℕ → ℕ → ReportHeader
+module_header m seed words =
+    record { field = m.order; dim = m.dim; gens = length m.generators; seed = seed; words = words }
+
+-- the report of a composition series with these factors and places, under a header
+unfoldable pub series_report : ReportHeader → List ModuleValue → List ℕ → ReportValue
+series_report header factors places = record {
+  header = header;
   factors = listed (length factors) (reported_factor factors places);
   series = places;
 }
+
+-- the composition series is what the words find of a module with this header
+pub record IsFoundUnder (header : ReportHeader) (chopped : Chopped) : Type 0 where
+  pub m : ModuleValue
+  pub is_module : IsModule m
+  pub header_is : header ≡ module_header m header.seed header.words
+  pub chopped_is : IsChopped m header.seed header.words chopped
 
 -- what a report says of a factor under its name
 abbrev pub entry_factor : String Global × Factor → FactorValue

@@ -3,11 +3,13 @@
 ghost use Rattle.std.specs.Prelude.{◌≤◌};
 ghost use Rattle.axe_field.specs.Order.{order_number};
 ghost use Rattle.axe_word.specs.PointsOfMatrix.{point_count, most_points};
+ghost use Rattle.axe_chop.specs.Kept.{acting_module};
 ghost use Rattle.axe_chop.specs.Answers.{AnswersChop, IsTrueAnswer, IsNotUndecided};
 
 use crate::chopped::{Chopped, named};
 use crate::fault::ChopFault;
 use crate::search::{Searched, search};
+use crate::section::Action;
 use axe_norton::MAX_WORDS;
 use axe_spin::Module;
 use std::alloc::Global;
@@ -24,8 +26,40 @@ pub fn chop(alloc: Global, module: &Module, seed: u64, words: u32) -> Result<Cho
     ensures small { point_count (order_number «module».now.order) «module».now.dim ≤ most_points →
         IsNotUndecided result }
 {
-    prove!(module.dim() >= 1);
-    match search(alloc, module, seed, words)? {
+    chop_action(alloc, Action::Lent(module), seed, words)
+}
+
+/// What [`chop`] gives, for a module that is given away: the first cut takes it apart, so that its matrices take no
+/// memory beside those of its sections.
+pub fn chop_owned(
+    alloc: Global,
+    module: Module,
+    seed: u64,
+    words: u32,
+) -> Result<Chopped, ChopFault>
+    requires words { words ≤ MAX_WORDS }
+    ensures run { AnswersChop «module» seed words result }
+    ensures holds { IsTrueAnswer «module» seed words result }
+    ensures small { point_count (order_number «module».order) «module».dim ≤ most_points → IsNotUndecided result }
+{
+    chop_action(alloc, Action::Owned(module), seed, words)
+}
+
+/// What [`chop`] gives of a module, lent or not.
+fn chop_action(
+    alloc: Global,
+    action: Action<'_>,
+    seed: u64,
+    words: u32,
+) -> Result<Chopped, ChopFault>
+    requires words { words ≤ MAX_WORDS }
+    ensures run { AnswersChop (acting_module action.entry) seed words result }
+    ensures holds { IsTrueAnswer (acting_module action.entry) seed words result }
+    ensures small { point_count (order_number (acting_module action.entry).order) (acting_module action.entry).dim ≤ most_points →
+        IsNotUndecided result }
+{
+    prove!(action.module().dim() >= 1);
+    match search(alloc, action, seed, words)? {
         Searched::Complete(found) => Ok(named(alloc, found)?),
         Searched::Open { basis, offset, dim } => Err(ChopFault::Undecided { basis, offset, dim }),
     }

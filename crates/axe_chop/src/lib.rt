@@ -11,6 +11,6 @@ mod search;
 mod section;
 
 pub use chopped::{Chopped, Factor};
-pub use chopping::chop;
+pub use chopping::{chop, chop_owned};
 pub use fault::ChopFault;
-pub use reported::{report_of, series_have_reports};
+pub use reported::{header_of, report_of, report_under, series_have_reports};

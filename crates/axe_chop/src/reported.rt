@@ -5,10 +5,10 @@ ghost use Rattle.axe_matrix.specs.Matrices.{MatrixValue};
 ghost use Rattle.axe_spin.specs.Modules.{ModuleValue, IsModule};
 ghost use Rattle.axe_series.specs.Series.{IsSeries};
 ghost use Rattle.axe_report.specs.Limits.{most_words};
-ghost use Rattle.axe_report.specs.Reports.{IsReport};
+ghost use Rattle.axe_report.specs.Reports.{IsReportHeader, IsReport};
 ghost use Rattle.axe_report.specs.declared.fault.ReportFault.TheVariants.{Memory};
 ghost use Rattle.axe_chop.specs.Answers.{IsChopped, factor_modules};
-ghost use Rattle.axe_chop.specs.Reported.{entry_factor, series_report};
+ghost use Rattle.axe_chop.specs.Reported.{entry_factor, module_header, series_report, IsFoundUnder};
 
 use crate::chopped::Chopped;
 use axe_norton::MAX_WORDS;
@@ -28,16 +28,41 @@ pub fn report_of(
     requires words { words ≤ MAX_WORDS }
     requires chopped { IsChopped «module».now seed words chopped.now }
     ensures report { IfOk result (λ report. report
-        ≡ series_report «module».now seed words (factor_modules chopped.now) chopped.now.series.items) }
+        ≡ series_report (module_header «module».now seed words) (factor_modules chopped.now) chopped.now.series.items) }
     ensures memory { IfErr result (λ fault. fault ≡ Memory) }
 {
-    let header = ReportHeader {
+    report_under(alloc, header_of(module, seed, words), chopped)
+}
+
+/// The header of the report of a composition series of a module that is found by the words 0 to `words` of a seed.
+pub fn header_of(module: &Module, seed: u64, words: u32) -> ReportHeader
+    requires words { words ≤ MAX_WORDS }
+    ensures header { result ≡ module_header «module».now seed words }
+    ensures relations { IsReportHeader result }
+    ensures well_formed { IsModule «module».now }
+{
+    ReportHeader {
         field: *module.field(),
         dim: module.dim(),
         gens: module.gens(),
         seed,
         words,
-    };
+    }
+}
+
+/// The report of a composition series under the header that [`header_of`] gave before the module was given away to
+/// [`crate::chop_owned`]. Its only fault is Memory.
+pub fn report_under(
+    alloc: Global,
+    header: ReportHeader,
+    chopped: &Chopped,
+) -> Result<Report, ReportFault>
+    requires relations { IsReportHeader header }
+    requires found { IsFoundUnder header chopped.now }
+    ensures report { IfOk result (λ report. report
+        ≡ series_report header (factor_modules chopped.now) chopped.now.series.items) }
+    ensures memory { IfErr result (λ fault. fault ≡ Memory) }
+{
     let factors = report_factors(alloc, chopped)?;
     let series = chopped.series.clone()?;
     Ok(Report::new(header, factors, series))
@@ -59,5 +84,5 @@ fn report_factors(alloc: Global, chopped: &Chopped) -> Result<Vec<ReportFactor>,
 pub fn series_have_reports()
     ensures { (m : ModuleValue) (seed words : ℕ) (basis : MatrixValue) (factors : List ModuleValue) (places : List ℕ) →
         IsModule m → seed < 2 ^ 64 → words ≤ most_words → IsSeries m basis factors places →
-        IsReport (series_report m seed words factors places) }
+        IsReport (series_report (module_header m seed words) factors places) }
 {}

@@ -5,15 +5,15 @@ ghost use Rattle.axe_row.specs.Refusals.{Answers};
 ghost use Rattle.axe_matrix.specs.Limits.{most_rows};
 ghost use Rattle.axe_matrix.specs.Matrices.{IsMatrix};
 ghost use Rattle.axe_norton.specs.Spaces.{IsProperSubmodule};
+ghost use Rattle.axe_chop.specs.Kept.{acting_module};
 ghost use Rattle.axe_chop.specs.Stages.{IsRowsLike, sections_dim, with_sections};
 ghost use Rattle.axe_chop.specs.Searches.{ArePartsBefore, IsSearched};
 ghost use Rattle.axe_chop.specs.declared.search.Searched.TheVariants.{Open};
 
 use crate::found::Found;
-use crate::section::Section;
+use crate::section::{Action, Section};
 use axe_matrix::{Matrix, Refusal};
 use axe_norton::{MAX_WORDS, Verdict, decide};
-use axe_spin::Module;
 use std::alloc::Global;
 use std::collections::VecDeque;
 
@@ -30,21 +30,21 @@ pub(crate) enum Searched {
     },
 }
 
-/// What the words 0 to `words` of a seed find of a module: sections are decided in turn, from the bottom; a reducible
+/// What the words 0 to `words` of a seed find of a module, lent or not: sections are decided in turn, from the bottom; a reducible
 /// one is cut in two, and an irreducible one has the next place.
 pub(crate) fn search(
     alloc: Global,
-    module: &Module,
+    action: Action<'_>,
     seed: u64,
     words: u32,
 ) -> Result<Searched, Refusal>
     requires words { words ≤ MAX_WORDS }
-    ensures { Answers None (IsSearched «module».now seed words) result }
+    ensures { Answers None (IsSearched (acting_module action.entry) seed words) result }
 {
+    let mut found = Found::nothing(alloc, action.module());
     // Sections still to be decided, the lowest one first.
     let mut sections = VecDeque::new(alloc);
-    sections.push_front(Section::whole(module))?;
-    let mut found = Found::nothing(alloc, module);
+    sections.push_front(Section::whole(action))?;
     while let Some(section) = sections.pop_front() {
         match decide(alloc, section.action(), seed, words)? {
             Verdict::Irreducible { word, vector } => {

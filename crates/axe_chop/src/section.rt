@@ -24,13 +24,13 @@ pub(crate) struct Section<'a> {
     rows: LiftedRows,
 }
 
-/// The action on a section.
+/// The module that acts on a section.
 #[derive(Drop)]
 pub(crate) enum Action<'a> {
-    /// The module itself.
-    Whole(&'a Module),
-    /// The action on a part of it.
-    Part(Module),
+    /// A module that is lent.
+    Lent(&'a Module),
+    /// A module of its own.
+    Owned(Module),
 }
 
 impl<'a> Model for Section<'a> {
@@ -47,14 +47,13 @@ impl<'a> Model for Section<'a> {
 
 impl<'a> Section<'a> {
     /// A module as its own section, with the unit vectors.
-    pub(crate) fn whole(module: &'a Module) -> Section<'a>
-        ensures whole { result ≡ whole_section «module».now }
+    pub(crate) fn whole(action: Action<'a>) -> Section<'a>
+        ensures whole { result ≡ whole_section (acting_module action.entry) }
         ensures well_formed { IsSection result }
     {
-        Section {
-            action: Action::Whole(module),
-            rows: LiftedRows::identity(*module.field(), module.dim()),
-        }
+        let module = action.module();
+        let rows = LiftedRows::identity(*module.field(), module.dim());
+        Section { action, rows }
     }
 
     /// The action on the section.
@@ -92,7 +91,7 @@ impl<'a> Section<'a> {
 
     /// The two sections into which a submodule cuts the section: first the submodule's, then the quotient by it. The
     /// rows of `space` are a basis of the submodule, which is neither zero nor everything. The action on the section is
-    /// gone before rows are lifted.
+    /// taken apart, and gone before rows are lifted.
     pub(crate) fn cut(
         self,
         alloc: Global,
@@ -102,23 +101,23 @@ impl<'a> Section<'a> {
         ensures { Answers None (λ parts. IsCut self.entry space parts.0 parts.1) result }
     {
         let Section { action, rows } = self;
+        let module = action.into_module(alloc)?;
         let Split {
             sub,
             quotient,
             columns,
-        } = split_by_submodule(alloc, action.module(), &space)?;
-        drop(action);
+        } = split_by_submodule(alloc, module, &space)?;
         // The rows of the submodule are lifted, and the unit vectors that extend them to a basis: these lift to the rows
         // at their columns.
         let sub_rows = rows.lift(alloc, space)?;
         let quotient_rows = rows.select(alloc, columns)?;
         Ok((
             Section {
-                action: Action::Part(sub),
+                action: Action::Owned(sub),
                 rows: LiftedRows::of_matrix(sub_rows),
             },
             Section {
-                action: Action::Part(quotient),
+                action: Action::Owned(quotient),
                 rows: quotient_rows,
             },
         ))
@@ -127,12 +126,22 @@ impl<'a> Section<'a> {
 
 impl<'a> Action<'a> {
     /// The module that it is.
-    fn module(&self) -> &Module
+    pub(crate) fn module(&self) -> &Module
         ensures { result.now ≡ acting_module self.now }
     {
         match self {
-            Action::Whole(module) => module,
-            Action::Part(module) => module,
+            Action::Lent(module) => module,
+            Action::Owned(module) => module,
+        }
+    }
+
+    /// The module that it is, or a copy of one that is lent.
+    fn into_module(self, alloc: Global) -> Result<Module, Refusal>
+        ensures { Answers None (λ m. m ≡ acting_module self.entry) result }
+    {
+        match self {
+            Action::Lent(module) => module.copy(alloc),
+            Action::Owned(module) => Ok(module),
         }
     }
 }

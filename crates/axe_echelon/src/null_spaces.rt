@@ -74,7 +74,8 @@ fn orthogonal_to(alloc: Global, space: &Subspace) -> Result<Matrix, Refusal>
     ensures well_formed { Answers None IsMatrix result }
 {
     let reduced = reduced_where_many(alloc, space)?;
-    let mut orthogonal = Matrix::empty(alloc, *space.field(), space.cols());
+    let count = space.cols().saturating_sub(space.dim());
+    let mut orthogonal = Matrix::with_capacity(alloc, *space.field(), space.cols(), count)?;
     for column in (0..space.cols()).rev() {
         if space.is_pivot(column) {
             continue;

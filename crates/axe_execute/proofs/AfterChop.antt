@@ -7,10 +7,11 @@ use Rattle.axe_spin.specs.Modules.{ModuleValue, IsModule}
 use Rattle.axe_series.specs.Runs.{Outcome, complete, open_section}
 use Rattle.axe_series.specs.Series.{basis_of_rows, factors_of_forms}
 use Rattle.axe_report.specs.Names.{letters, constituent_name, names_after, names_of}
+use Rattle.axe_report.specs.declared.report.ReportHeader.{ReportHeader}
 use Rattle.axe_report.specs.Passing.{IsSpelling}
 use Rattle.axe_report.proofs.Letters.{some_letter}
 use Rattle.axe_report.proofs.Unique.{no_prefix}
-use Rattle.axe_chop.specs.Reported.{dims_of_factors, series_report}
+use Rattle.axe_chop.specs.Reported.{dims_of_factors, module_header, series_report}
 use Rattle.axe_chop.proofs.SeriesReports.{series_has_report}
 use Rattle.axe_file.specs.Packed.{packed}
 use Rattle.axe_folder.specs.declared.fault.FolderFault.TheVariants as folder
@@ -105,10 +106,10 @@ record PutsReportLast (name : List ℕ) (plan : Plan) : Type 0 where
   spared : Spare (report_file name) middle
   steps_are : plan.steps ≡ Remove (report_file name) ∷ (middle ++ Put (report_file name) plan.shown ∷ [])
 
-series_puts_report_last : (name : List ℕ) (m : ModuleValue) (seed words : ℕ) (basis : MatrixValue) (factors : List ModuleValue) (places : List ℕ) →
-    PutsReportLast name (series_plan name m seed words basis factors places)
+series_puts_report_last : (name : List ℕ) (header : ReportHeader) (basis : MatrixValue) (factors : List ModuleValue) (places : List ℕ) →
+    PutsReportLast name (series_plan name header basis factors places)
 unfolding series_plan
-series_puts_report_last name m seed words basis factors places = record {
+series_puts_report_last name header basis factors places = record {
   middle = Put (name ++ codes ".bas") (packed basis) ∷ put_factors name (names_of (dims_of_factors factors)) factors;
   spared = (basis_file_differs name, factors_spare name (names_of (dims_of_factors factors)) factors (all_names_nonempty (dims_of_factors factors)));
   steps_are = refl;
@@ -117,7 +118,7 @@ series_puts_report_last name m seed words basis factors places = record {
 answer_puts_report_last : (name : List ℕ) (m : ModuleValue) (seed words : ℕ) (outcome : Outcome) →
     IfOk (chop_answer name m seed words outcome) (PutsReportLast name)
 answer_puts_report_last name m seed words (complete found) =
-    series_puts_report_last name m seed words (basis_of_rows m found.rows) (factors_of_forms found.forms) found.places
+    series_puts_report_last name (module_header m seed words) (basis_of_rows m found.rows) (factors_of_forms found.forms) found.places
 answer_puts_report_last name m seed words (open_section rows offset dim) = tt
 
 plan_puts_report_last : (generators seed words : ℕ) (name : List ℕ) (files : Files) (plan : Plan) → ChopPlan generators seed words name files (Ok plan) →
@@ -184,7 +185,7 @@ shown_is_report : (generators seed words : ℕ) (name : List ℕ) (files : Files
     IsWordCount words → WritesSeries generators seed words name files plan → IsSpelling plan.shown
 unfolding series_plan
 shown_is_report generators seed words name files plan counted small few writes = (
-  series_report writes.m seed words writes.factors writes.places,
+  series_report (module_header writes.m seed words) writes.factors writes.places,
   series_has_report writes.m seed words writes.basis writes.factors writes.places is small (omega (arith, few.fits)) writes.series,
   ap (λ (p : Plan). p.shown) writes.plan_is,
 )

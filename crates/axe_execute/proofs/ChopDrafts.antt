@@ -1,5 +1,5 @@
 -- The draft of `chop`: its steps, and what it says of what the words find.
-use Rattle.std.proofs.Common.{◌≡◌, refl, sym, ◌∙◌, ap, subst, ℕ, List, [], ◌∷◌, ◌++◌, append_assoc, append-nil, codes, map, string_bytes, String, Result, Ok, Err}
+use Rattle.std.proofs.Common.{◌≡◌, sym, ◌∙◌, ap, ℕ, List, [], ◌∷◌, ◌++◌, append_assoc, append-nil, codes, map, string_bytes, String, Result, Ok, Err}
 use Rattle.std.specs.declared.alloc.Global.{Global}
 use Rattle.std.specs.Map.{keys_of, values_of}
 use mathlib.Core.List.{map-map}
@@ -8,10 +8,10 @@ use Rattle.axe_matrix.specs.Matrices.{MatrixValue}
 use Rattle.axe_spin.specs.Modules.{ModuleValue}
 use Rattle.axe_iso.specs.Forms.{FormValue}
 use Rattle.axe_series.specs.Runs.{complete, open_section}
-use Rattle.axe_series.specs.Series.{basis_of_rows, factors_of_forms}
+use Rattle.axe_series.specs.Series.{factors_of_forms}
 use Rattle.axe_report.specs.Names.{names_of}
-use Rattle.axe_chop.specs.Chopped.{IsNamed, dims_of}
-use Rattle.axe_chop.specs.Reported.{dims_of_factors}
+use Rattle.axe_report.specs.declared.report.ReportHeader.{ReportHeader}
+use Rattle.axe_chop.specs.Reported.{dims_of_factors, module_header}
 use Rattle.axe_chop.specs.Answers.{IsChopped, IsUndecided, factor_modules}
 use Rattle.axe_chop.specs.declared.chopped.Factor.{Factor}
 use Rattle.axe_chop.specs.declared.chopped.Chopped.{Chopped}
@@ -80,13 +80,13 @@ module _ (m : ModuleValue) (seed words : ℕ) (chopped : Chopped) (is : IsChoppe
 
   -- the plan of the series is what is found
   pub found_plan_of_series : (name : List ℕ) (answer : Result Plan Problem) →
-      Is (Ok (series_plan name m seed words chopped.basis (factor_modules chopped) chopped.series.items)) answer → FoundPlan name m seed words answer
+      Is (Ok (series_plan name (module_header m seed words) chopped.basis (factor_modules chopped) chopped.series.items)) answer → FoundPlan name m seed words answer
   unfolding FoundPlan
   found_plan_of_series name answer right = (Ok (complete is.found), is.run, sym plan_is ∙ right)
     where
-      plan_is : Ok (series_plan name m seed words chopped.basis (factor_modules chopped) chopped.series.items)
+      plan_is : Ok (series_plan name (module_header m seed words) chopped.basis (factor_modules chopped) chopped.series.items)
           ≡ chop_answer name m seed words (complete is.found)
-      plan_is = λ j. Ok (series_plan name m seed words (is.basis_is j) (modules_are j) (is.named.series j))
+      plan_is = λ j. Ok (series_plan name (module_header m seed words) (is.basis_is j) (modules_are j) (is.named.series j))
 
 -- the section that stays undecided is what is found
 pub found_open_section : (name : List ℕ) (m : ModuleValue) (seed words : ℕ) (basis b : MatrixValue) (offset o dim d : ℕ) → b ≡ basis → o ≡ offset →
@@ -97,14 +97,14 @@ found_open_section name m seed words basis b offset o dim d is_basis is_offset i
 
 -- ---- the draft of a series
 
-pub series_drafted : (name : List ℕ) (m : ModuleValue) (seed words : ℕ) (basis : MatrixValue) (factors : List ModuleValue) (places : List ℕ)
+pub series_drafted : (name : List ℕ) (header : ReportHeader) (basis : MatrixValue) (factors : List ModuleValue) (places : List ℕ)
     (names : List (List ℕ)) (removed based stem reported text copy : List ℕ) (a b c d e : Plan) → a ≡ record { steps = []; shown = [] } →
     b ≡ with_step a (Remove removed) → c ≡ with_step b (Put based (packed basis)) → d ≡ with_steps c (put_factors stem names factors) →
     e ≡ with_step d (Put reported copy) → removed ≡ name ++ codes ".rep" → based ≡ name ++ codes ".bas" → stem ≡ name → reported ≡ name ++ codes ".rep" →
-    names ≡ names_of (dims_of_factors factors) → copy ≡ text → text ≡ series_report_bytes m seed words factors places →
-    with_text e text ≡ series_plan name m seed words basis factors places
+    names ≡ names_of (dims_of_factors factors) → copy ≡ text → text ≡ series_report_bytes header factors places →
+    with_text e text ≡ series_plan name header basis factors places
 unfolding series_plan
-series_drafted name m seed words basis factors places names removed based stem reported text copy a b c d e of_a of_b of_c of_d of_e is_removed is_based
+series_drafted name header basis factors places names removed based stem reported text copy a b c d e of_a of_b of_c of_d of_e is_removed is_based
     is_stem is_reported are_names is_copy is_text =
     ap (λ plan. with_text plan text) (of_e ∙ ap (λ plan. with_step plan (Put reported copy))
     (of_d ∙ ap (λ plan. with_steps plan (put_factors stem names factors))

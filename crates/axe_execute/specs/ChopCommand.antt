@@ -6,7 +6,8 @@ use Rattle.axe_series.specs.Runs.{Outcome, complete, open_section, RunOf}
 use Rattle.axe_series.specs.Series.{IsSeries, IsOpenSection, basis_of_rows, factors_of_forms}
 use Rattle.axe_report.specs.Names.{names_of}
 use Rattle.axe_report.specs.Spelling.{report_bytes}
-use Rattle.axe_chop.specs.Reported.{dims_of_factors, series_report}
+use Rattle.axe_report.specs.declared.report.ReportHeader.{ReportHeader}
+use Rattle.axe_chop.specs.Reported.{dims_of_factors, module_header, series_report}
 use Rattle.axe_file.specs.Packed.{packed}
 use Rattle.axe_folder.specs.Files.{Files}
 use Rattle.axe_plan.specs.Plans.{Step, Put, Remove, Plan, Problem, StaysOpen}
@@ -22,23 +23,24 @@ put_factors name (constituent ∷ constituents) (factor ∷ factors) =
     put_generators (name ++ constituent) factor ++ put_factors name constituents factors
 
 -- the bytes of the report of a composition series
-abbrev pub series_report_bytes : ModuleValue → ℕ → ℕ → List ModuleValue → List ℕ → List ℕ
-series_report_bytes m seed words factors places = report_bytes (series_report m seed words factors places)
+abbrev pub series_report_bytes : ReportHeader → List ModuleValue → List ℕ → List ℕ
+series_report_bytes header factors places = report_bytes (series_report header factors places)
 
--- the plan that a composition series of m gives: an earlier report is taken away, the basis is put, then each factor
--- under its name, and last the report, which is shown, too
-unfoldable pub series_plan : List ℕ → ModuleValue → ℕ → ℕ → MatrixValue → List ModuleValue → List ℕ → Plan
-series_plan name m seed words basis factors places = record {
+-- the plan that a composition series gives: an earlier report is taken away, the basis is put, then each factor under its
+-- name, and last the report with its header, which is shown, too
+unfoldable pub series_plan : List ℕ → ReportHeader → MatrixValue → List ModuleValue → List ℕ → Plan
+series_plan name header basis factors places = record {
   steps = Remove (name ++ codes ".rep") ∷ Put (name ++ codes ".bas") (packed basis)
       ∷ put_factors name (names_of (dims_of_factors factors)) factors
-      ++ Put (name ++ codes ".rep") (series_report_bytes m seed words factors places) ∷ [];
-  shown = series_report_bytes m seed words factors places;
+      ++ Put (name ++ codes ".rep") (series_report_bytes header factors places) ∷ [];
+  shown = series_report_bytes header factors places;
 }
 
 -- the answer to what a run finds: the plan of the series, or that a section stays undecided
 abbrev pub chop_answer : List ℕ → ModuleValue → ℕ → ℕ → Outcome → Result Plan Problem
 chop_answer name m seed words (complete found) =
-    Ok (series_plan name m seed words (basis_of_rows m found.rows) (factors_of_forms found.forms) found.places)
+    Ok (series_plan name (module_header m seed words) (basis_of_rows m found.rows) (factors_of_forms found.forms)
+    found.places)
 chop_answer name m seed words (open_section rows offset dim) = Err (StaysOpen (basis_of_rows m rows) offset dim)
 
 -- what the words 0 to `words` of a seed find of a module is put and shown
@@ -63,7 +65,7 @@ pub record WritesSeries (count seed words : ℕ) (name : List ℕ) (files : File
   pub factors : List ModuleValue
   pub places : List ℕ
   pub series : IsSeries m basis factors places
-  pub plan_is : plan ≡ series_plan name m seed words basis factors places
+  pub plan_is : plan ≡ series_plan name (module_header m seed words) basis factors places
 
 -- each of the words 0 to `words` of the seed leaves the section open that the basis shows of the module with these
 -- packed generators

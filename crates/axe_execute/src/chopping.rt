@@ -2,9 +2,11 @@
 ghost use Rattle.std.specs.Prelude.{◌≡◌, ◌++◌, IsTrue, [], map, Ok, IfOk, IfErr, OnOk, string_bytes};
 ghost use Rattle.indexmap.specs.IndexMap.{keys, values};
 ghost use Rattle.axe_arguments.specs.Counts.{IsWordCount};
-ghost use Rattle.axe_chop.specs.Answers.{IsChopped, factor_modules};
+ghost use Rattle.axe_chop.specs.Answers.{factor_modules};
+ghost use Rattle.axe_chop.specs.Reported.{IsFoundUnder};
 ghost use Rattle.axe_chop.specs.declared.chopped.Factor.{Factor};
 ghost use Rattle.axe_fault.specs.declared.fault.Fault.TheVariants.{Memory};
+ghost use Rattle.axe_report.specs.Reports.{IsReportHeader};
 ghost use Rattle.axe_plan.specs.Meanings.{Is};
 ghost use Rattle.axe_plan.specs.Inputs.{numbered_names, module_in};
 ghost use Rattle.axe_plan.specs.Outcome.{Agrees, Reads};
@@ -12,11 +14,11 @@ ghost use Rattle.axe_plan.specs.Drafts.{plan_in, with_steps};
 ghost use Rattle.axe_execute.specs.ChopCommand.{put_factors, series_report_bytes, series_plan, FoundPlan, ChopPlan};
 
 use axe_arguments::{GeneratorCount, Name, WordCount};
-use axe_chop::{ChopFault, Chopped, Factor, chop, report_of};
+use axe_chop::{ChopFault, Chopped, Factor, chop_owned, header_of, report_under};
 use axe_fault::Fault;
 use axe_folder::Folder;
 use axe_plan::{Draft, module_of, read_generators};
-use axe_report::{ReportFault, write_report};
+use axe_report::{ReportFault, ReportHeader, write_report};
 use axe_spin::Module;
 use indexmap::IndexMap;
 use std::alloc::{AllocError, Global};
@@ -34,7 +36,7 @@ pub(crate) fn chop_draft<F: Folder>(
         (numbered_names name.now generators) plan_in result (ChopPlan generators seed words name.now) }
 {
     let module = read_module(alloc, folder, name, generators)?;
-    found_draft(alloc, name, &module, seed, words.get())
+    found_draft(alloc, name, module, seed, words.get())
 }
 
 /// The module with the generators of the files NAME.1 to NAME.N.
@@ -57,15 +59,16 @@ fn read_module<F: Folder>(
 fn found_draft(
     alloc: Global,
     name: &Name,
-    module: &Module,
+    module: Module,
     seed: u64,
     words: u32,
 ) -> Result<Draft, Fault>
     requires words { IsWordCount words }
-    ensures { Agrees [] plan_in result (FoundPlan name.now «module».now seed words) }
+    ensures { Agrees [] plan_in result (FoundPlan name.now «module» seed words) }
 {
-    match chop(alloc, module, seed, words) {
-        Ok(chopped) => series_draft(alloc, name, module, &chopped, seed, words),
+    let header = header_of(&module, seed, words);
+    match chop_owned(alloc, module, seed, words) {
+        Ok(chopped) => series_draft(alloc, name, header, &chopped),
         Err(ChopFault::Undecided { basis, offset, dim }) => {
             Err(Fault::Undecided { basis, offset, dim })
         }
@@ -73,22 +76,20 @@ fn found_draft(
     }
 }
 
-/// The draft of a composition series: an earlier report is taken away, the basis is put, then each factor, and last the
+/// The draft of a composition series with a header for its report: an earlier report is taken away, the basis is put, then each factor, and last the
 /// report, which is shown, too.
 fn series_draft(
     alloc: Global,
     name: &Name,
-    module: &Module,
+    header: ReportHeader,
     chopped: &Chopped,
-    seed: u64,
-    words: u32,
 ) -> Result<Draft, Fault>
-    requires words { IsWordCount words }
-    requires chopped { IsChopped «module».now seed words chopped.now }
-    ensures { Agrees [] plan_in result (Is (Ok (series_plan name.now «module».now seed words
-        chopped.now.basis (factor_modules chopped.now) chopped.now.series.items))) }
+    requires relations { IsReportHeader header }
+    requires found { IsFoundUnder header chopped.now }
+    ensures { Agrees [] plan_in result (Is (Ok (series_plan name.now header chopped.now.basis
+        (factor_modules chopped.now) chopped.now.series.items))) }
 {
-    let Ok(report) = report_text(alloc, module, chopped, seed, words) else {
+    let Ok(report) = report_text(alloc, header, chopped) else {
         return Err(Fault::Memory);
     };
     let copy = Vec::from_slice(alloc, report.as_slice())?;
@@ -104,17 +105,15 @@ fn series_draft(
 /// The text of the report of a composition series.
 fn report_text(
     alloc: Global,
-    module: &Module,
+    header: ReportHeader,
     chopped: &Chopped,
-    seed: u64,
-    words: u32,
 ) -> Result<Vec<u8>, ReportFault>
-    requires words { IsWordCount words }
-    requires chopped { IsChopped «module».now seed words chopped.now }
+    requires relations { IsReportHeader header }
+    requires found { IsFoundUnder header chopped.now }
     ensures { IfOk result (λ text. text.items
-        ≡ series_report_bytes «module».now seed words (factor_modules chopped.now) chopped.now.series.items) }
+        ≡ series_report_bytes header (factor_modules chopped.now) chopped.now.series.items) }
 {
-    let report = report_of(alloc, module, chopped, seed, words)?;
+    let report = report_under(alloc, header, chopped)?;
     write_report(alloc, &report)
 }
 

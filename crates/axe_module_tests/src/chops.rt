@@ -4,7 +4,7 @@ ghost use Rattle.axe_chop.specs.Answers.{IsChopped};
 
 use crate::tables::{Topic, each_call};
 use crate::values::module_of;
-use axe_chop::{ChopFault, Chopped, chop, report_of};
+use axe_chop::{ChopFault, Chopped, chop, chop_owned, header_of, report_of, report_under};
 use axe_matrix::Refusal;
 use axe_report::{ReportFault, write_report};
 use axe_spin::Module;
@@ -28,6 +28,10 @@ chop | 2: 0100/1100/0011/0010 | 2a 2a | 2 | 2: 0001/0010/0100/1100
 chop | 4: 20/03 | 1a 1b | 1 1 | 4: 01/10
 chop | 5: 0 | 1a | 1 | 5: 1
 chop | 2: 1000/0100/0010/0001 | 1a 1a 1a 1a | 4 | 2: 0001/0010/0100/1000
+# Modules that are given away.
+chop_owned | 2: 01/11 | 2a | 1 | 2: 01/11
+chop_owned | 3: 010/100/001, 3: 010/001/100 | 1a 1b 1a | 2 1 | 3: 111/012/001
+chop_owned | 2: 0100/1100/0011/0010 | 2a 2a | 2 | 2: 0001/0010/0100/1100
 ";
 
 /// The same modules, and the reports of their composition series.
@@ -119,14 +123,33 @@ fn is_series(
     is_same_matrix(alloc, &chopped.basis, basis)
 }
 
-fn chops(alloc: Global, line: &str) -> Result<bool, TableFault> {
-    let (module, series, counts, basis) = four_fields(line)?;
-    let module = module_of(alloc, module)?;
-    match chop(alloc, &module, SEED, WORDS) {
+/// Whether an answer of `chop` is the composition series that is written so.
+fn is_answer(
+    alloc: Global,
+    answer: Result<Chopped, ChopFault>,
+    series: &str,
+    counts: &str,
+    basis: &str,
+) -> Result<bool, TableFault> {
+    match answer {
         Ok(chopped) => is_series(alloc, &chopped, series, counts, basis),
         Err(ChopFault::Undecided { .. }) => Ok(false),
         Err(ChopFault::Memory) => Err(TableFault::Refused(Refusal::Memory)),
     }
+}
+
+fn chops(alloc: Global, line: &str) -> Result<bool, TableFault> {
+    let (module, series, counts, basis) = four_fields(line)?;
+    let module = module_of(alloc, module)?;
+    let answer = chop(alloc, &module, SEED, WORDS);
+    is_answer(alloc, answer, series, counts, basis)
+}
+
+fn chops_owned(alloc: Global, line: &str) -> Result<bool, TableFault> {
+    let (module, series, counts, basis) = four_fields(line)?;
+    let module = module_of(alloc, module)?;
+    let answer = chop_owned(alloc, module, SEED, WORDS);
+    is_answer(alloc, answer, series, counts, basis)
 }
 
 /// The text of the report of a composition series.
@@ -137,16 +160,32 @@ fn report_text(alloc: Global, module: &Module, chopped: &Chopped) -> Result<Vec<
     write_report(alloc, &report)
 }
 
+/// The text of the report under the module's header.
+fn text_under_header(
+    alloc: Global,
+    module: &Module,
+    chopped: &Chopped,
+) -> Result<Vec<u8>, ReportFault>
+    requires { IsChopped «module».now SEED WORDS chopped.now }
+{
+    let header = header_of(module, SEED, WORDS);
+    let report = report_under(alloc, header, chopped)?;
+    write_report(alloc, &report)
+}
+
 /// Whether the report of a module's composition series is this text.
 fn is_reported(alloc: Global, module: &str, text: &str) -> Result<bool, TableFault> {
     let module = module_of(alloc, module)?;
     let Ok(chopped) = chop(alloc, &module, SEED, WORDS) else {
         return Ok(false);
     };
-    match report_text(alloc, &module, &chopped) {
-        Ok(bytes) => Ok(bytes.as_slice() == text.as_bytes()),
-        Err(_) => Err(TableFault::Refused(Refusal::Memory)),
-    }
+    let Ok(report) = report_text(alloc, &module, &chopped) else {
+        return Err(TableFault::Refused(Refusal::Memory));
+    };
+    let Ok(under_header) = text_under_header(alloc, &module, &chopped) else {
+        return Err(TableFault::Refused(Refusal::Memory));
+    };
+    Ok(report.as_slice() == text.as_bytes() && under_header.as_slice() == text.as_bytes())
 }
 
 /// Whether a call answers what its line says.
@@ -158,6 +197,7 @@ pub(crate) fn answers(
 ) -> Result<bool, TableFault> {
     match call {
         "chop" => chops(alloc, line),
+        "chop_owned" => chops_owned(alloc, line),
         _ => panic!(rt; "no such call: {call}"),
     }
 }

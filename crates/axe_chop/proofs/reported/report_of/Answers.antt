@@ -1,18 +1,24 @@
-use Rattle.std.proofs.Common.{◌∙◌, arith}
-use Rattle.std.proofs.lemmas.List.Elements.{same_from_all_zip}
-use Rattle.axe_chop.proofs.SeriesReports.{reported, reported_is_report}
+use Rattle.std.proofs.Common.{◌≡◌, refl, sym, subst, IfOk}
+use Rattle.axe_report.specs.Reports.{ReportValue}
+use Rattle.axe_report.specs.declared.report.ReportHeader.{ReportHeader}
+use Rattle.axe_chop.specs.Answers.{factor_modules}
+use Rattle.axe_chop.specs.Reported.{series_report, IsFoundUnder}
 use Rattle.axe_chop.proofs.reported.report_of.Goals as goal
 
-pub new-requires : goal.new-requires
-new-requires c =
-    reported_is_report c.args.module.now c.args.seed c.args.words c.args.chopped.now c.requires.chopped c.field.result.now c.dim.result c.gens.result
-    c.in_ok-factors.factors.items c.in_ok-series.series.items c.field.ensures.order c.dim.ensures.count c.gens.ensures.count c.in_ok-factors.ensures
-    (same_from_all_zip _ _ _ c.in_ok-series.ensures.cases.0 (λ x y same. same))
-    c.dim.ensures.well_formed (omega (arith, c.ranges.seed.fits)) (omega (arith, c.requires.words))
+pub report_under-requires-clause-found : goal.report_under-requires-clause-found
+report_under-requires-clause-found c =
+    subst (λ (header : ReportHeader). IsFoundUnder header c.args.chopped.now) (sym c.header_of.ensures.header) (record {
+      m = c.args.module.now;
+      is_module = c.header_of.ensures.well_formed;
+      header_is = refl;
+      chopped_is = c.requires.chopped;
+    })
+
+pub report_under-requires-clause-relations : goal.report_under-requires-clause-relations
+report_under-requires-clause-relations c = c.header_of.ensures.relations
 
 pub returns-clause-report : goal.returns-clause-report
 returns-clause-report c =
-    c.new.ensures
-    ∙ reported c.args.module.now c.args.seed c.args.words c.args.chopped.now c.requires.chopped c.field.result.now c.dim.result c.gens.result
-    c.in_ok-factors.factors.items c.in_ok-series.series.items c.field.ensures.order c.dim.ensures.count c.gens.ensures.count c.in_ok-factors.ensures
-    (same_from_all_zip _ _ _ c.in_ok-series.ensures.cases.0 (λ x y same. same))
+    subst (λ (header : ReportHeader). IfOk c.report_under.result (λ (report : ReportValue). report
+    ≡ series_report header (factor_modules c.args.chopped.now) c.args.chopped.now.series.items))
+    c.header_of.ensures.header c.report_under.ensures.report

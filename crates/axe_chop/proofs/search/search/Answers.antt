@@ -1,12 +1,15 @@
-use Rattle.std.proofs.Common.{sym, subst}
+use Rattle.std.proofs.Common.{[], sym, subst, ap, ◌∙◌}
+use Rattle.axe_spin.specs.Modules.{ModuleValue}
+use Rattle.axe_series.specs.Series.{basis_of_rows}
+use Rattle.axe_chop.specs.Kept.{acting_module}
 use Rattle.axe_chop.specs.Stages.{IsSection}
 use Rattle.axe_chop.proofs.Stepping.{pushed_first, popped, popped_none, decided_as, true_as, reached_first, reached_end, forms_like_first, first_rows_like, rest_rows_like, room_left, room_first, answered_open, reached_cut, less_after_cut, reached_placed}
 use Rattle.axe_chop.proofs.search.search.Goals as goal
 
 pub loop-section-init : goal.loop-section-init
 loop-section-init c =
-    reached_first c.args.module.now c.args.seed c.args.words c.nothing-found.result c.push_front.new.self.items
-    c.nothing-found.ensures.basis c.nothing-found.ensures.forms c.nothing-found.ensures.places c.nothing-found.ensures.well_formed
+    reached_first (acting_module c.args.action) c.args.seed c.args.words c.nothing-found.result c.push_front.new.self.items
+    (c.nothing-found.ensures.basis ∙ ap (λ (m : ModuleValue). basis_of_rows m []) c.module.ensures) c.nothing-found.ensures.forms c.nothing-found.ensures.places c.nothing-found.ensures.well_formed
     (subst IsSection c.whole.ensures.whole c.whole.ensures.well_formed)
     (pushed_first _ _ _ _ c.whole.ensures.whole c.new-sections.ensures.items c.in_ok-push_front.ensures.items)
 
@@ -18,25 +21,25 @@ place-requires-clause-decided c = (
 
 pub place-requires-clause-like : goal.place-requires-clause-like
 place-requires-clause-like c =
-    forms_like_first c.args.module.now c.args.seed c.args.words c.loop-section.found c.loop-section.sections.items c.loop-section.invariant
+    forms_like_first (acting_module c.args.action) c.args.seed c.args.words c.loop-section.found c.loop-section.sections.items c.loop-section.invariant
     c.in-Some.section c.pop_front.new.self.items
     (popped _ _ c.pop_front.result c.in-Some.section c.in-Some.is c.pop_front.ensures.items)
 
 pub place-requires-clause-field : goal.place-requires-clause-field
 place-requires-clause-field c =
-    sym (first_rows_like c.args.module.now c.args.seed c.args.words c.loop-section.found c.loop-section.sections.items c.loop-section.invariant
+    sym (first_rows_like (acting_module c.args.action) c.args.seed c.args.words c.loop-section.found c.loop-section.sections.items c.loop-section.invariant
     c.in-Some.section c.pop_front.new.self.items
     (popped _ _ c.pop_front.result c.in-Some.section c.in-Some.is c.pop_front.ensures.items)).field
 
 pub place-requires-clause-fits : goal.place-requires-clause-fits
 place-requires-clause-fits c =
-    sym (first_rows_like c.args.module.now c.args.seed c.args.words c.loop-section.found c.loop-section.sections.items c.loop-section.invariant
+    sym (first_rows_like (acting_module c.args.action) c.args.seed c.args.words c.loop-section.found c.loop-section.sections.items c.loop-section.invariant
     c.in-Some.section c.pop_front.new.self.items
     (popped _ _ c.pop_front.result c.in-Some.section c.in-Some.is c.pop_front.ensures.items)).columns
 
 pub place-requires-clause-room : goal.place-requires-clause-room
 place-requires-clause-room c =
-    room_first c.args.module.now c.args.seed c.args.words c.loop-section.found c.loop-section.sections.items c.loop-section.invariant
+    room_first (acting_module c.args.action) c.args.seed c.args.words c.loop-section.found c.loop-section.sections.items c.loop-section.invariant
     c.in-Some.section c.pop_front.new.self.items
     (popped _ _ c.pop_front.result c.in-Some.section c.in-Some.is c.pop_front.ensures.items)
 
@@ -50,25 +53,25 @@ put_parts-requires c = record {
 
 pub open_at-requires-clause-like : goal.open_at-requires-clause-like
 open_at-requires-clause-like c =
-    first_rows_like c.args.module.now c.args.seed c.args.words c.loop-section.found c.loop-section.sections.items c.loop-section.invariant
+    first_rows_like (acting_module c.args.action) c.args.seed c.args.words c.loop-section.found c.loop-section.sections.items c.loop-section.invariant
     c.in-Some.section c.pop_front.new.self.items
     (popped _ _ c.pop_front.result c.in-Some.section c.in-Some.is c.pop_front.ensures.items)
 
 pub open_at-requires-clause-room : goal.open_at-requires-clause-room
 open_at-requires-clause-room c =
-    room_left c.args.module.now c.args.seed c.args.words c.loop-section.found c.loop-section.sections.items c.loop-section.invariant
+    room_left (acting_module c.args.action) c.args.seed c.args.words c.loop-section.found c.loop-section.sections.items c.loop-section.invariant
     c.in-Some.section c.pop_front.new.self.items
     (popped _ _ c.pop_front.result c.in-Some.section c.in-Some.is c.pop_front.ensures.items)
 
 pub open_at-requires-clause-after_like : goal.open_at-requires-clause-after_like
 open_at-requires-clause-after_like c =
-    rest_rows_like c.args.module.now c.args.seed c.args.words c.loop-section.found c.loop-section.sections.items c.loop-section.invariant
+    rest_rows_like (acting_module c.args.action) c.args.seed c.args.words c.loop-section.found c.loop-section.sections.items c.loop-section.invariant
     c.in-Some.section c.pop_front.new.self.items
     (popped _ _ c.pop_front.result c.in-Some.section c.in-Some.is c.pop_front.ensures.items)
 
 pub returns-in-Undecided : goal.returns-in-Undecided
 returns-in-Undecided c =
-    answered_open c.args.module.now c.args.seed c.args.words c.loop-section.found c.loop-section.sections.items c.loop-section.invariant
+    answered_open (acting_module c.args.action) c.args.seed c.args.words c.loop-section.found c.loop-section.sections.items c.loop-section.invariant
     c.in-Some.section c.pop_front.new.self.items
     (popped _ _ c.pop_front.result c.in-Some.section c.in-Some.is c.pop_front.ensures.items)
     c.open_at.result (decided_as c.action.result.now _ c.args.seed c.args.words _ _ c.action.ensures.value c.in-Undecided.is c.in_ok-word.ensures.decides)
@@ -76,7 +79,7 @@ returns-in-Undecided c =
 
 pub loop-section-preserved-in_ok-place-in-Irreducible : goal.loop-section-preserved-in_ok-place-in-Irreducible
 loop-section-preserved-in_ok-place-in-Irreducible c =
-    reached_placed c.args.module.now c.args.seed c.args.words c.loop-section.found c.loop-section.sections.items c.loop-section.invariant
+    reached_placed (acting_module c.args.action) c.args.seed c.args.words c.loop-section.found c.loop-section.sections.items c.loop-section.invariant
     c.in-Some.section c.pop_front.new.self.items
     (popped _ _ c.pop_front.result c.in-Some.section c.in-Some.is c.pop_front.ensures.items)
     _ _ (decided_as c.action.result.now _ c.args.seed c.args.words _ _
@@ -86,7 +89,7 @@ loop-section-preserved-in_ok-place-in-Irreducible c =
 
 pub loop-section-preserved-in_ok-place-in-Irreducible-2 : goal.loop-section-preserved-in_ok-place-in-Irreducible-2
 loop-section-preserved-in_ok-place-in-Irreducible-2 c =
-    reached_placed c.args.module.now c.args.seed c.args.words c.loop-section.found c.loop-section.sections.items c.loop-section.invariant
+    reached_placed (acting_module c.args.action) c.args.seed c.args.words c.loop-section.found c.loop-section.sections.items c.loop-section.invariant
     c.in-Some.section c.pop_front.new.self.items
     (popped _ _ c.pop_front.result c.in-Some.section c.in-Some.is c.pop_front.ensures.items)
     _ _ (decided_as c.action.result.now _ c.args.seed c.args.words _ _
@@ -96,7 +99,7 @@ loop-section-preserved-in_ok-place-in-Irreducible-2 c =
 
 pub loop-section-preserved : goal.loop-section-preserved
 loop-section-preserved c =
-    reached_cut c.args.module.now c.args.seed c.args.words c.loop-section.found c.loop-section.sections.items c.loop-section.invariant
+    reached_cut (acting_module c.args.action) c.args.seed c.args.words c.loop-section.found c.loop-section.sections.items c.loop-section.invariant
     c.in-Some.section c.pop_front.new.self.items
     (popped _ _ c.pop_front.result c.in-Some.section c.in-Some.is c.pop_front.ensures.items)
     _ (decided_as c.action.result.now _ c.args.seed c.args.words _ _
@@ -109,7 +112,7 @@ loop-section-preserved c =
 
 pub loop-section-smaller : goal.loop-section-smaller
 loop-section-smaller c =
-    less_after_cut c.args.module.now c.args.seed c.args.words c.loop-section.found c.loop-section.sections.items c.loop-section.invariant
+    less_after_cut (acting_module c.args.action) c.args.seed c.args.words c.loop-section.found c.loop-section.sections.items c.loop-section.invariant
     c.in-Some.section c.pop_front.new.self.items
     (popped _ _ c.pop_front.result c.in-Some.section c.in-Some.is c.pop_front.ensures.items)
     _ (decided_as c.action.result.now _ c.args.seed c.args.words _ _
@@ -122,5 +125,5 @@ loop-section-smaller c =
 
 pub returns : goal.returns
 returns c =
-    reached_end c.args.module.now c.args.seed c.args.words c.loop-section.found c.loop-section.sections.items c.loop-section.invariant
+    reached_end (acting_module c.args.action) c.args.seed c.args.words c.loop-section.found c.loop-section.sections.items c.loop-section.invariant
     (popped_none _ _ c.pop_front.result c.in_default.is c.pop_front.ensures.rest c.pop_front.ensures.items)

@@ -1,9 +1,19 @@
-use Rattle.std.proofs.Common.{◌≡◌, ◌-◌, suc, Bool, true, false, arith}
-use Rattle.axe_echelon.proofs.OrthogonalSpaces.{orthogonal_pivot, orthogonal_column, orthogonal_whole}
+use Rattle.std.proofs.Common.{◌≡◌, ◌-◌, ◌∙◌, suc, [], Bool, true, false, arith}
+use Rattle.axe_echelon.proofs.OrthogonalSpaces.{orthogonal_none, orthogonal_pivot, orthogonal_column, orthogonal_whole}
 use Rattle.axe_echelon.proofs.null_spaces.orthogonal_to.Goals as goal
 
 not_both : (b : Bool) → b ≡ true → b ≡ false → ⊥
 not_both b t f = cc
+
+pub loop-column-init : goal.loop-column-init
+loop-column-init c = record {
+  so_far = orthogonal_none c.args.space.now c.cols-column.result c.in_ok-orthogonal.orthogonal
+      (c.in_ok-orthogonal.ensures.no_rows
+      ∙ (λ i. record { order = c.field.ensures.order i; cols = c.cols-2.ensures.count i; rows = [] }))
+      c.cols-column.ensures.count;
+  reduced = c.in_ok-reduced.ensures;
+  well_formed = c.in_ok-orthogonal.ensures.well_formed;
+}
 
 pub loop-column-preserved : goal.loop-column-preserved
 loop-column-preserved c =

@@ -7,33 +7,33 @@ use Rattle.axe_chop.proofs.section.Section.cut.Goals as goal
 
 pub split_by_submodule-requires-clause-field : goal.split_by_submodule-requires-clause-field
 split_by_submodule-requires-clause-field c =
-    let opened : IsOpened (kept_section c.self.inside.action c.self.inside.rows) c.args.self c.args.space c.module.result.now =
-    record { same = c.self.view_is; is_section = c.self.invariant; proper = c.requires.space; action_is = c.module.ensures } in
-    (to_split (kept_section c.self.inside.action c.self.inside.rows) c.args.self c.args.space c.module.result.now opened).field
+    let opened : IsOpened (kept_section c.self.inside.action c.self.inside.rows) c.args.self c.args.space c.in_ok-module.module =
+    record { same = c.self.view_is; is_section = c.self.invariant; proper = c.requires.space; action_is = c.in_ok-module.ensures } in
+    (to_split (kept_section c.self.inside.action c.self.inside.rows) c.args.self c.args.space c.in_ok-module.module opened).field
 
 pub split_by_submodule-requires-clause-fits : goal.split_by_submodule-requires-clause-fits
 split_by_submodule-requires-clause-fits c =
-    let opened : IsOpened (kept_section c.self.inside.action c.self.inside.rows) c.args.self c.args.space c.module.result.now =
-    record { same = c.self.view_is; is_section = c.self.invariant; proper = c.requires.space; action_is = c.module.ensures } in
-    (to_split (kept_section c.self.inside.action c.self.inside.rows) c.args.self c.args.space c.module.result.now opened).columns
+    let opened : IsOpened (kept_section c.self.inside.action c.self.inside.rows) c.args.self c.args.space c.in_ok-module.module =
+    record { same = c.self.view_is; is_section = c.self.invariant; proper = c.requires.space; action_is = c.in_ok-module.ensures } in
+    (to_split (kept_section c.self.inside.action c.self.inside.rows) c.args.self c.args.space c.in_ok-module.module opened).columns
 
 pub split_by_submodule-requires-clause-some_row : goal.split_by_submodule-requires-clause-some_row
 split_by_submodule-requires-clause-some_row c =
-    let opened : IsOpened (kept_section c.self.inside.action c.self.inside.rows) c.args.self c.args.space c.module.result.now =
-    record { same = c.self.view_is; is_section = c.self.invariant; proper = c.requires.space; action_is = c.module.ensures } in
-    (to_split (kept_section c.self.inside.action c.self.inside.rows) c.args.self c.args.space c.module.result.now opened).nonzero
+    let opened : IsOpened (kept_section c.self.inside.action c.self.inside.rows) c.args.self c.args.space c.in_ok-module.module =
+    record { same = c.self.view_is; is_section = c.self.invariant; proper = c.requires.space; action_is = c.in_ok-module.ensures } in
+    (to_split (kept_section c.self.inside.action c.self.inside.rows) c.args.self c.args.space c.in_ok-module.module opened).nonzero
 
 pub split_by_submodule-requires-clause-proper : goal.split_by_submodule-requires-clause-proper
 split_by_submodule-requires-clause-proper c =
-    let opened : IsOpened (kept_section c.self.inside.action c.self.inside.rows) c.args.self c.args.space c.module.result.now =
-    record { same = c.self.view_is; is_section = c.self.invariant; proper = c.requires.space; action_is = c.module.ensures } in
-    (to_split (kept_section c.self.inside.action c.self.inside.rows) c.args.self c.args.space c.module.result.now opened).proper
+    let opened : IsOpened (kept_section c.self.inside.action c.self.inside.rows) c.args.self c.args.space c.in_ok-module.module =
+    record { same = c.self.view_is; is_section = c.self.invariant; proper = c.requires.space; action_is = c.in_ok-module.ensures } in
+    (to_split (kept_section c.self.inside.action c.self.inside.rows) c.args.self c.args.space c.in_ok-module.module opened).proper
 
 pub split_by_submodule-requires-clause-invariant : goal.split_by_submodule-requires-clause-invariant
 split_by_submodule-requires-clause-invariant c =
-    let opened : IsOpened (kept_section c.self.inside.action c.self.inside.rows) c.args.self c.args.space c.module.result.now =
-    record { same = c.self.view_is; is_section = c.self.invariant; proper = c.requires.space; action_is = c.module.ensures } in
-    (to_split (kept_section c.self.inside.action c.self.inside.rows) c.args.self c.args.space c.module.result.now opened).invariant
+    let opened : IsOpened (kept_section c.self.inside.action c.self.inside.rows) c.args.self c.args.space c.in_ok-module.module =
+    record { same = c.self.view_is; is_section = c.self.invariant; proper = c.requires.space; action_is = c.in_ok-module.ensures } in
+    (to_split (kept_section c.self.inside.action c.self.inside.rows) c.args.self c.args.space c.in_ok-module.module opened).invariant
 
 pub split_by_submodule-requires-clause-independent : goal.split_by_submodule-requires-clause-independent
 split_by_submodule-requires-clause-independent c =
@@ -41,35 +41,35 @@ split_by_submodule-requires-clause-independent c =
 
 pub lift-requires-clause-field : goal.lift-requires-clause-field
 lift-requires-clause-field c =
-    let opened : IsOpened (kept_section c.self.inside.action c.self.inside.rows) c.args.self c.args.space c.module.result.now =
-    record { same = c.self.view_is; is_section = c.self.invariant; proper = c.requires.space; action_is = c.module.ensures } in
-    lift_field (kept_section c.self.inside.action c.self.inside.rows) c.args.self c.args.space c.module.result.now opened
+    let opened : IsOpened (kept_section c.self.inside.action c.self.inside.rows) c.args.self c.args.space c.in_ok-module.module =
+    record { same = c.self.view_is; is_section = c.self.invariant; proper = c.requires.space; action_is = c.in_ok-module.ensures } in
+    lift_field (kept_section c.self.inside.action c.self.inside.rows) c.args.self c.args.space c.in_ok-module.module opened
 
 pub lift-requires-clause-fits : goal.lift-requires-clause-fits
 lift-requires-clause-fits c =
-    let opened : IsOpened (kept_section c.self.inside.action c.self.inside.rows) c.args.self c.args.space c.module.result.now =
-    record { same = c.self.view_is; is_section = c.self.invariant; proper = c.requires.space; action_is = c.module.ensures } in
-    lift_fits (kept_section c.self.inside.action c.self.inside.rows) c.args.self c.args.space c.module.result.now opened
+    let opened : IsOpened (kept_section c.self.inside.action c.self.inside.rows) c.args.self c.args.space c.in_ok-module.module =
+    record { same = c.self.view_is; is_section = c.self.invariant; proper = c.requires.space; action_is = c.in_ok-module.ensures } in
+    lift_fits (kept_section c.self.inside.action c.self.inside.rows) c.args.self c.args.space c.in_ok-module.module opened
 
 pub select-requires-clause-within : goal.select-requires-clause-within
 select-requires-clause-within c =
-    let opened : IsOpened (kept_section c.self.inside.action c.self.inside.rows) c.args.self c.args.space c.module.result.now =
-    record { same = c.self.view_is; is_section = c.self.invariant; proper = c.requires.space; action_is = c.module.ensures } in
+    let opened : IsOpened (kept_section c.self.inside.action c.self.inside.rows) c.args.self c.args.space c.in_ok-module.module =
+    record { same = c.self.view_is; is_section = c.self.invariant; proper = c.requires.space; action_is = c.in_ok-module.ensures } in
     columns_within (kept_section c.self.inside.action c.self.inside.rows) c.args.space c.in_ok-sub.field-0.columns.items
-    (cut_at (kept_section c.self.inside.action c.self.inside.rows) c.args.self c.args.space c.module.result.now opened c.in_ok-sub.field-0.columns.items c.in_ok-sub.ensures.columns)
+    (cut_at (kept_section c.self.inside.action c.self.inside.rows) c.args.self c.args.space c.in_ok-module.module opened c.in_ok-sub.field-0.columns.items c.in_ok-sub.ensures.columns)
 
 pub select-requires-clause-places_fit : goal.select-requires-clause-places_fit
 select-requires-clause-places_fit c =
-    let opened : IsOpened (kept_section c.self.inside.action c.self.inside.rows) c.args.self c.args.space c.module.result.now =
-    record { same = c.self.view_is; is_section = c.self.invariant; proper = c.requires.space; action_is = c.module.ensures } in
+    let opened : IsOpened (kept_section c.self.inside.action c.self.inside.rows) c.args.self c.args.space c.in_ok-module.module =
+    record { same = c.self.view_is; is_section = c.self.invariant; proper = c.requires.space; action_is = c.in_ok-module.ensures } in
     columns_fit (kept_section c.self.inside.action c.self.inside.rows) c.args.space c.in_ok-sub.field-0.columns.items
-    (cut_at (kept_section c.self.inside.action c.self.inside.rows) c.args.self c.args.space c.module.result.now opened c.in_ok-sub.field-0.columns.items c.in_ok-sub.ensures.columns)
+    (cut_at (kept_section c.self.inside.action c.self.inside.rows) c.args.self c.args.space c.in_ok-module.module opened c.in_ok-sub.field-0.columns.items c.in_ok-sub.ensures.columns)
 
 pub invariant_of-result : goal.invariant_of-result
 invariant_of-result c =
-    let opened : IsOpened (kept_section c.self.inside.action c.self.inside.rows) c.args.self c.args.space c.module.result.now =
-    record { same = c.self.view_is; is_section = c.self.invariant; proper = c.requires.space; action_is = c.module.ensures } in
-    let split : IsSplit c.module.result.now c.args.space c.in_ok-sub.field-0.sub c.in_ok-sub.field-0.quotient
+    let opened : IsOpened (kept_section c.self.inside.action c.self.inside.rows) c.args.self c.args.space c.in_ok-module.module =
+    record { same = c.self.view_is; is_section = c.self.invariant; proper = c.requires.space; action_is = c.in_ok-module.ensures } in
+    let split : IsSplit c.in_ok-module.module c.args.space c.in_ok-sub.field-0.sub c.in_ok-sub.field-0.quotient
     c.in_ok-sub.field-0.columns.items = record {
       acts = c.in_ok-sub.ensures.sub;
       modulo = c.in_ok-sub.ensures.quotient;
@@ -77,16 +77,16 @@ invariant_of-result c =
       sub_module = c.in_ok-sub.ensures.well_formed.0;
       quotient_module = c.in_ok-sub.ensures.well_formed.1;
     } in
-    sub_kept (kept_section c.self.inside.action c.self.inside.rows) c.args.self c.args.space c.module.result.now opened
+    sub_kept (kept_section c.self.inside.action c.self.inside.rows) c.args.self c.args.space c.in_ok-module.module opened
     c.in_ok-sub.field-0.sub c.in_ok-sub.field-0.quotient c.in_ok-sub.field-0.columns.items split c.of_matrix.result
     c.in_ok-quotient_rows.quotient_rows (c.of_matrix.ensures.same ∙ c.in_ok-sub_rows.ensures.lifted) c.in_ok-quotient_rows.ensures
     (subst IsMatrix (sym c.of_matrix.ensures.same) c.in_ok-sub_rows.ensures.well_formed)
 
 pub invariant_of-result-2 : goal.invariant_of-result-2
 invariant_of-result-2 c =
-    let opened : IsOpened (kept_section c.self.inside.action c.self.inside.rows) c.args.self c.args.space c.module.result.now =
-    record { same = c.self.view_is; is_section = c.self.invariant; proper = c.requires.space; action_is = c.module.ensures } in
-    let split : IsSplit c.module.result.now c.args.space c.in_ok-sub.field-0.sub c.in_ok-sub.field-0.quotient
+    let opened : IsOpened (kept_section c.self.inside.action c.self.inside.rows) c.args.self c.args.space c.in_ok-module.module =
+    record { same = c.self.view_is; is_section = c.self.invariant; proper = c.requires.space; action_is = c.in_ok-module.ensures } in
+    let split : IsSplit c.in_ok-module.module c.args.space c.in_ok-sub.field-0.sub c.in_ok-sub.field-0.quotient
     c.in_ok-sub.field-0.columns.items = record {
       acts = c.in_ok-sub.ensures.sub;
       modulo = c.in_ok-sub.ensures.quotient;
@@ -94,16 +94,16 @@ invariant_of-result-2 c =
       sub_module = c.in_ok-sub.ensures.well_formed.0;
       quotient_module = c.in_ok-sub.ensures.well_formed.1;
     } in
-    quotient_kept (kept_section c.self.inside.action c.self.inside.rows) c.args.self c.args.space c.module.result.now opened
+    quotient_kept (kept_section c.self.inside.action c.self.inside.rows) c.args.self c.args.space c.in_ok-module.module opened
     c.in_ok-sub.field-0.sub c.in_ok-sub.field-0.quotient c.in_ok-sub.field-0.columns.items split c.of_matrix.result
     c.in_ok-quotient_rows.quotient_rows (c.of_matrix.ensures.same ∙ c.in_ok-sub_rows.ensures.lifted) c.in_ok-quotient_rows.ensures
     (subst IsMatrix (sym c.of_matrix.ensures.same) c.in_ok-sub_rows.ensures.well_formed)
 
 pub returns : goal.returns
 returns c =
-    let opened : IsOpened (kept_section c.self.inside.action c.self.inside.rows) c.args.self c.args.space c.module.result.now =
-    record { same = c.self.view_is; is_section = c.self.invariant; proper = c.requires.space; action_is = c.module.ensures } in
-    let split : IsSplit c.module.result.now c.args.space c.in_ok-sub.field-0.sub c.in_ok-sub.field-0.quotient
+    let opened : IsOpened (kept_section c.self.inside.action c.self.inside.rows) c.args.self c.args.space c.in_ok-module.module =
+    record { same = c.self.view_is; is_section = c.self.invariant; proper = c.requires.space; action_is = c.in_ok-module.ensures } in
+    let split : IsSplit c.in_ok-module.module c.args.space c.in_ok-sub.field-0.sub c.in_ok-sub.field-0.quotient
     c.in_ok-sub.field-0.columns.items = record {
       acts = c.in_ok-sub.ensures.sub;
       modulo = c.in_ok-sub.ensures.quotient;
@@ -111,7 +111,7 @@ returns c =
       sub_module = c.in_ok-sub.ensures.well_formed.0;
       quotient_module = c.in_ok-sub.ensures.well_formed.1;
     } in
-    parts_kept (kept_section c.self.inside.action c.self.inside.rows) c.args.self c.args.space c.module.result.now opened
+    parts_kept (kept_section c.self.inside.action c.self.inside.rows) c.args.self c.args.space c.in_ok-module.module opened
     c.in_ok-sub.field-0.sub c.in_ok-sub.field-0.quotient c.in_ok-sub.field-0.columns.items split c.of_matrix.result
     c.in_ok-quotient_rows.quotient_rows (c.of_matrix.ensures.same ∙ c.in_ok-sub_rows.ensures.lifted) c.in_ok-quotient_rows.ensures
     (subst IsMatrix (sym c.of_matrix.ensures.same) c.in_ok-sub_rows.ensures.well_formed)
