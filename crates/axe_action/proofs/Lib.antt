@@ -12,6 +12,7 @@ pub mod EntryLaws
 pub mod CosetLaws
 pub mod ModuloLaws
 pub mod QuotientImages
+pub mod LeadingLaws
 pub mod SubmoduleLaws
 pub mod BlockLaws
 pub mod ReducedProducts

@@ -15,13 +15,13 @@ use Rattle.axe_algebra.proofs.Exchange.{exchange}
 use Rattle.axe_algebra.proofs.ElementNumbers.{element_zero, element_one}
 use Rattle.axe_algebra.proofs.ReducedBases.{reduced_basis, reduced_spans, reduced_independent, same_size}
 use Rattle.axe_algebra.proofs.ListEntries.{rows_length, listed_at}
+use Rattle.axe_field.specs.Order.{Order}
 use Rattle.axe_field.specs.NumberFields.{number_field, gf}
 use Rattle.axe_row.specs.Rows.{RowValue}
 use Rattle.axe_matrix.specs.Matrices.{MatrixValue, IsMatrix}
 use Rattle.axe_echelon.specs.Echelons.{EchelonValue, IsEchelon, IsReducedMatrix, IsSpanOfRows}
 use Rattle.axe_echelon.proofs.ReducedLaws.{pivot-below}
 use Rattle.axe_action.specs.Coordinates.{entries_at, ArePivotColumns, AreCoordinateColumns, IsIdentityAt}
-use Rattle.axe_action.specs.FreeColumns.{rows_to_span, AreReducedAt}
 use Rattle.axe_action.proofs.ColumnLaws.{coordinates_of_reduced}
 use mathlib.Core.Path.{refl, sym, ◌∙◌, ap, subst}
 use native.Mathlib.Omega.{arith}
@@ -82,40 +82,39 @@ module _ (rows : MatrixValue) (e : EchelonValue) (columns : List ℕ) where
       (All-from_get_or (λ column. column < e.cols) columns 0
       (λ t below. pivot-below e span.well_formed (get_or columns t 0) (pivots.each t below)))
 
+-- the entries of rows that are the identity at some columns
+module _ (o : Order) (columns : List ℕ) (rows : List (List ℕ)) (count : length columns ≡ length rows) (identity : IsIdentityAt columns rows) where
+  abbrev K : NumberField
+  K = number_field o
+
+  entry_is : (s t : ℕ) → s < length rows → t < length rows → get_or (get_or rows t []) (get_or columns s 0) 0 ≡ cond (eqb t s) 1 0
+  entry_is s t inside below =
+      let small : s < length columns = omega (arith, inside, count) in
+      sym (get_or-map (λ column. get_or (get_or rows t []) column 0) columns s 0 0 small)
+      ∙ ap (λ (v : List ℕ). get_or v s 0) (identity t below)
+      ∙ listed_at (length columns) (λ j. cond (eqb t j) 1 0) s 0 small
+
+  pub one_at_identity : (t : ℕ) → t < length rows → matrix_of K rows t (get_or columns t 0) ≡ (gf o).one
+  one_at_identity t below =
+      ap (element K) (entry_is t t below below ∙ ap (λ b. cond b 1 0) (eq-eqb t t refl)) ∙ element_one K
+
+  pub zero_at_identity : (s t : ℕ) → s < length rows → t < length rows → s ≢ t → matrix_of K rows t (get_or columns s 0) ≡ (gf o).zero
+  zero_at_identity s t inside below other =
+      ap (element K) (entry_is s t inside below ∙ ap (λ b. cond b 1 0) (ne_eqb t s (λ same. other (sym same)))) ∙ element_zero K
+
 -- rows that are the identity at the pivots are the reduced basis
 reduced_at_identity : (rows : MatrixValue) (e : EchelonValue) (columns : List ℕ) → IsSpanOfRows rows e → ArePivotColumns e columns →
     length columns ≡ length rows.rows → IsIdentityAt columns rows.rows → IsReducedMatrix e rows
 reduced_at_identity rows e columns span pivots count identity = record { field = sym span.field; columns = sym span.columns; basis = basis }
   where
-    K : NumberField
-    K = number_field e.order
-
-    place : ℕ → ℕ
-    place s = get_or columns s 0
-
-    entry_is : (s t : ℕ) → s < length rows.rows → t < length rows.rows → get_or (get_or rows.rows t []) (place s) 0 ≡ cond (eqb t s) 1 0
-    entry_is s t inside below =
-        let small : s < length columns = omega (arith, inside, count) in
-        sym (get_or-map (λ column. get_or (get_or rows.rows t []) column 0) columns s 0 0 small)
-        ∙ ap (λ (v : List ℕ). get_or v s 0) (identity t below)
-        ∙ listed_at (length columns) (λ j. cond (eqb t j) 1 0) s 0 small
-
-    one : (t : ℕ) → t < length rows.rows → matrix_of K rows.rows t (place t) ≡ (gf e.order).one
-    one t below =
-        ap (element K) (entry_is t t below below ∙ ap (λ b. cond b 1 0) (eq-eqb t t refl)) ∙ element_one K
-
-    zero : (s t : ℕ) → s < length rows.rows → t < length rows.rows → s ≢ t → matrix_of K rows.rows t (place s) ≡ (gf e.order).zero
-    zero s t inside below other =
-        ap (element K) (entry_is s t inside below ∙ ap (λ b. cond b 1 0) (ne_eqb t s (λ same. other (sym same)))) ∙ element_zero K
-
-    basis : IsReducedBasis K e.rows rows.rows
+    basis : IsReducedBasis (number_field e.order) e.rows rows.rows
     basis = record {
-      pivots = place;
-      are_pivots = subst (λ r. Reduced.IsAscendingListOf (IsPivot K e.rows) r place) count pivots;
+      pivots = λ s. get_or columns s 0;
+      are_pivots = subst (λ r. Reduced.IsAscendingListOf (IsPivot (number_field e.order) e.rows) r (λ s. get_or columns s 0)) count pivots;
       in_span = subst (λ o. Spans.SpanWithin (gf o) (length rows.rows) (matrix_of (number_field o) rows.rows) (length e.rows)
           (matrix_of (number_field o) e.rows)) (sym span.field) span.same.forth;
-      one = one;
-      zero = zero;
+      one = one_at_identity e.order columns rows.rows count identity;
+      zero = zero_at_identity e.order columns rows.rows count identity;
     }
 
 -- and their coordinates are the entries there
@@ -124,19 +123,3 @@ pub coordinates_at_identity : (rows : MatrixValue) (e : EchelonValue) (columns :
     AreCoordinateColumns (number_field rows.order) rows.cols rows.rows columns
 coordinates_at_identity rows e columns rows_h span pivots count identity =
     coordinates_of_reduced e rows columns span.well_formed (reduced_at_identity rows e columns span pivots count identity) rows_h pivots
-
--- independent rows are those of their span
-pub span_of_independent : (rows : MatrixValue) (e : EchelonValue) → IsIndependent (number_field rows.order) rows.rows → IsSpanOfRows rows e →
-    e ≡ rows_to_span rows
-span_of_independent rows e independent span = λ i. record { order = span.field i; cols = span.columns i; rows = span.all independent i }
-
-pub reduced_at : (rows : MatrixValue) (e : EchelonValue) (columns : List ℕ) → IsMatrix rows → IsIndependent (number_field rows.order) rows.rows →
-    IsSpanOfRows rows e → ArePivotColumns e columns → IsIdentityAt columns rows.rows → AreReducedAt rows columns
-reduced_at rows e columns rows_h independent span pivots identity = record {
-  pivots = subst (λ x. ArePivotColumns x columns) (span_of_independent rows e independent span) pivots;
-  reduced = subst (λ x. IsReducedMatrix x rows) (span_of_independent rows e independent span) (reduced_at_identity rows e columns span pivots count identity);
-  coordinates = coordinates_at_identity rows e columns rows_h span pivots count identity;
-}
-  where
-    count : length columns ≡ length rows.rows
-    count = columns_as_many rows e columns independent span pivots

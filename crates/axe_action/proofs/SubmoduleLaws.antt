@@ -1,5 +1,5 @@
 -- What is known of submodules: the calls that test for them don't refuse them, and answer what is asked of them.
-use Rattle.std.specs.Prelude.{◌≡◌, ℕ, ◌+◌, ◌<◌, List, length, None, Result, Ok, Err, All}
+use Rattle.std.specs.Prelude.{◌≡◌, ℕ, ◌<◌, List, length, None, Result, Ok, Err, All}
 use Rattle.std.proofs.lemmas.Bool.{eq-eqb}
 use Rattle.axe_algebra.specs.Bridge.{matrix_of}
 use Rattle.axe_algebra.specs.SpansOfLists.{IsIndependent, HaveSameSpan}
@@ -10,17 +10,13 @@ use Rattle.axe_row.specs.Refusals.{Answers, AnswersOr}
 use Rattle.axe_row.specs.declared.refusals.Refusal.{Refusal}
 use Rattle.axe_matrix.specs.Matrices.{MatrixValue, IsMatrix, matrix_product}
 use Rattle.axe_matrix.proofs.ProductLaws.{IsMatrix-product}
-use Rattle.axe_echelon.specs.Echelons.{EchelonValue, IsEchelon, IsSpanOfRows}
 use Rattle.axe_spin.specs.Modules.{ModuleValue, IsInvariantIn, SpansModule, rows_refusal}
 use Rattle.axe_action.specs.Actions.{action_late, quotient_late, IsActionModulo, IsProperActionModulo}
 use Rattle.axe_action.specs.Coordinates.{matrix_at, HasImagesIn, HasActionRows, AreCoordinateColumns}
-use Rattle.axe_action.specs.FreeColumns.{AreFreeColumns, rows_to_span}
 use Rattle.axe_action.proofs.ColumnLaws.{AreImagesAt, action_if_combined, combined_if_within}
 use Rattle.axe_action.proofs.EntryLaws.{product_at_columns}
-use Rattle.axe_action.proofs.ReducedRows.{span_of_independent}
 use Rattle.axe_action.proofs.SubRows.{module_rows_over}
 use Rattle.axe_action.proofs.QuotientSpans.{full_if_spans}
-use Rattle.axe_action.proofs.QuotientRows.{free_count}
 use mathlib.Core.Logic.{inl, inr}
 use mathlib.Core.Path.{refl, ◌∙◌, ap, subst}
 use native.Mathlib.Omega.{arith}
@@ -70,12 +66,6 @@ not_everything m rows field fits rows_h independent small = λ all.
       forth = span_row (gf m.order) (length rows.rows) (matrix_of (number_field m.order) rows.rows);
       back = span_row (gf m.order) (length rows.rows) (matrix_of (number_field m.order) rows.rows);
     }
-
--- the columns that are no pivots are no more than those of the rows, and there is one where there are fewer rows
-pub free_and_rows : (rows : MatrixValue) (e : EchelonValue) (columns : List ℕ) → IsIndependent (number_field rows.order) rows.rows → IsSpanOfRows rows e →
-    AreFreeColumns (rows_to_span rows) columns → length rows.rows + length columns ≡ rows.cols
-free_and_rows rows e columns independent span free =
-    free_count (rows_to_span rows) columns (subst IsEchelon (span_of_independent rows e independent span) span.well_formed) free
 
 -- a proper submodule is not refused by the call that tests for one
 pub proper_answers : (m : ModuleValue) (rows : MatrixValue) (result : Result ModuleValue Refusal) → rows_refusal m rows ≡ None →

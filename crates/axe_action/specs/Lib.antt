@@ -1,3 +1,4 @@
 pub mod Actions
 pub mod Coordinates
+pub mod LeadingColumns
 pub mod FreeColumns

@@ -8,7 +8,6 @@ ghost use Rattle.axe_matrix.specs.Limits.{most_columns};
 ghost use Rattle.axe_matrix.specs.Matrices.{IsMatrix, matrix_product};
 ghost use Rattle.axe_echelon.specs.Echelons.{IsEchelon, IsSpanOfRows};
 ghost use Rattle.axe_action.specs.Coordinates.{ArePivotColumns, AreCoordinateColumns, IsIdentityAt, matrix_at};
-ghost use Rattle.axe_action.specs.FreeColumns.{AreReducedAt};
 
 use axe_echelon::Echelon;
 use axe_matrix::{Matrix, Refusal, Row};
@@ -23,9 +22,8 @@ pub(crate) fn coordinate_columns(
 ) -> Result<Option<Vec<usize>>, Refusal>
     requires independent { IsIndependent (number_field rows.now.order) rows.now.rows }
     requires span { IsSpanOfRows rows.now span.now }
-    ensures coordinates { Answers None (λ found. IfSome found (λ columns.
+    ensures { Answers None (λ found. IfSome found (λ columns.
         AreCoordinateColumns (number_field rows.now.order) rows.now.cols rows.now.rows columns.items)) result }
-    ensures reduced { Answers None (λ found. IfSome found (λ columns. AreReducedAt rows.now columns.items)) result }
 {
     let pivots = pivot_columns(alloc, span)?;
     let reduced = is_identity_at(alloc, rows, &pivots)?;
@@ -34,7 +32,11 @@ pub(crate) fn coordinate_columns(
 
 /// Whether the entries of each row at some columns, as many as rows, are the unit vector of the row's number. The first
 /// row where they are not decides.
-fn is_identity_at(alloc: Global, rows: &Matrix, columns: &[usize]) -> Result<bool, Refusal>
+pub(crate) fn is_identity_at(
+    alloc: Global,
+    rows: &Matrix,
+    columns: &[usize],
+) -> Result<bool, Refusal>
     requires as_many { length columns.now ≡ length rows.now.rows }
     requires within { All (λ column. column < rows.now.cols) columns.now }
     ensures identity { Answers None (λ identity. IsTrue identity ↔ IsIdentityAt columns.now rows.now.rows) result }

@@ -5,6 +5,7 @@ mod bases;
 mod columns;
 mod conjugates;
 mod duals;
+mod leading;
 mod quotients;
 mod submodules;
 mod subspaces;

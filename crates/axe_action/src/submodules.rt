@@ -7,17 +7,17 @@ ghost use Rattle.axe_field.specs.NumberFields.{number_field};
 ghost use Rattle.axe_row.specs.Refusals.{Answers};
 ghost use Rattle.axe_matrix.specs.Limits.{most_columns};
 ghost use Rattle.axe_matrix.specs.Matrices.{IsMatrix};
-ghost use Rattle.axe_echelon.specs.Echelons.{IsSpanOfRows};
 ghost use Rattle.axe_spin.specs.Modules.{IsModule, IsInvariantIn};
 ghost use Rattle.axe_action.specs.Actions.{IsBasisAction, IsActionModulo};
 ghost use Rattle.axe_action.specs.Coordinates.{matrix_at, rows_chosen};
 ghost use Rattle.axe_action.specs.FreeColumns.{AreFreeColumns, AreReducedAt, AreComplementary, IsNextPivot, rows_to_span};
 ghost use Rattle.axe_action.specs.FreeColumns.{matrix_within, matrix_modulo};
 
-use super::columns::{columns_of, coordinate_columns};
+use super::columns::columns_of;
+use super::leading::{other_columns, reduced_pivots};
 use super::quotients::{free_columns, quotient_action};
 use super::subspaces::action_over;
-use axe_echelon::{Echelon, span_of};
+use axe_echelon::span_of;
 use axe_matrix::{Matrix, Refusal};
 use axe_spin::Module;
 use std::alloc::Global;
@@ -53,9 +53,35 @@ pub fn split_by_submodule(alloc: Global, module: Module, rows: &Matrix) -> Resul
     ensures columns { Answers None (λ split. AreFreeColumns (rows_to_span rows.now) split.columns.items) result }
     ensures well_formed { IfOk result (λ split. IsModule split.sub × IsModule split.quotient) }
 {
-    let span = span_of(alloc, rows)?;
-    let columns = free_columns(alloc, &span)?;
-    let (sub, quotient) = both_actions(alloc, module, rows, span, &columns)?;
+    match reduced_pivots(alloc, rows)? {
+        // A submodule mostly comes as its reduced basis, and then products do.
+        Some(pivots) => split_at_pivots(alloc, module, rows, &pivots),
+        // Other rows are rare here: they go the way of rows that may span no submodule.
+        None => split_by_span(alloc, &module, rows),
+    }
+}
+
+/// The two actions that come of a submodule's reduced basis, whose pivots are given too.
+fn split_at_pivots(
+    alloc: Global,
+    module: Module,
+    rows: &Matrix,
+    pivots: &[usize],
+) -> Result<Split, Refusal>
+    requires field { rows.now.order ≡ «module».order }
+    requires fits { rows.now.cols ≡ «module».dim }
+    requires some_row { 1 ≤ length rows.now.rows }
+    requires independent { IsIndependent (number_field rows.now.order) rows.now.rows }
+    requires proper { length rows.now.rows < «module».dim }
+    requires invariant { IsInvariantIn «module» rows.now }
+    requires reduced { AreReducedAt rows.now pivots.now }
+    ensures sub { Answers None (λ split. IsBasisAction «module» rows.now split.sub) result }
+    ensures quotient { Answers None (λ split. IsActionModulo «module» rows.now split.quotient) result }
+    ensures columns { Answers None (λ split. AreFreeColumns (rows_to_span rows.now) split.columns.items) result }
+    ensures well_formed { IfOk result (λ split. IsModule split.sub × IsModule split.quotient) }
+{
+    let columns = other_columns(alloc, rows.cols(), pivots)?;
+    let (sub, quotient) = actions_at_pivots(alloc, module, rows, pivots, &columns)?;
     Ok(Split {
         sub,
         quotient,
@@ -63,38 +89,29 @@ pub fn split_by_submodule(alloc: Global, module: Module, rows: &Matrix) -> Resul
     })
 }
 
-/// The action of a module on a submodule, over independent rows that span it, and that modulo it. Their span is given
-/// too, and the columns that are no pivots of it.
-fn both_actions(
-    alloc: Global,
-    module: Module,
-    rows: &Matrix,
-    span: Echelon,
-    columns: &[usize],
-) -> Result<(Module, Module), Refusal>
-    requires field { rows.now.order ≡ «module».order }
-    requires fits { rows.now.cols ≡ «module».dim }
+/// The two actions that come of a submodule, by an echelon form of independent rows that span it.
+fn split_by_span(alloc: Global, module: &Module, rows: &Matrix) -> Result<Split, Refusal>
+    requires field { rows.now.order ≡ «module».now.order }
+    requires fits { rows.now.cols ≡ «module».now.dim }
     requires some_row { 1 ≤ length rows.now.rows }
     requires independent { IsIndependent (number_field rows.now.order) rows.now.rows }
-    requires well_formed { IsMatrix rows.now }
-    requires span { IsSpanOfRows rows.now span }
-    requires free { AreFreeColumns (rows_to_span rows.now) columns.now }
-    requires proper { length rows.now.rows < «module».dim }
-    requires invariant { IsInvariantIn «module» rows.now }
-    ensures sub { Answers None (λ actions. IsBasisAction «module» rows.now actions.0) result }
-    ensures quotient { Answers None (λ actions. IsActionModulo «module» rows.now actions.1) result }
-    ensures well_formed { IfOk result (λ actions. IsModule actions.0 × IsModule actions.1) }
+    requires proper { length rows.now.rows < «module».now.dim }
+    requires invariant { IsInvariantIn «module».now rows.now }
+    ensures sub { Answers None (λ split. IsBasisAction «module».now rows.now split.sub) result }
+    ensures quotient { Answers None (λ split. IsActionModulo «module».now rows.now split.quotient) result }
+    ensures columns { Answers None (λ split. AreFreeColumns (rows_to_span rows.now) split.columns.items) result }
+    ensures well_formed { IfOk result (λ split. IsModule split.sub × IsModule split.quotient) }
 {
-    let Some(pivots) = coordinate_columns(alloc, rows, &span)? else {
-        // Rows that are no reduced basis are rare here: they go the way of rows that may span no submodule.
-        let sub = action_over(alloc, &module, rows, &span)?;
-        let quotient = quotient_action(alloc, &module, rows)?;
-        return Ok((sub, quotient));
-    };
-    // A submodule mostly comes as its reduced basis, and then products do. The memory of the span is free again before
-    // the actions are made.
+    let span = span_of(alloc, rows)?;
+    let columns = free_columns(alloc, &span)?;
+    let sub = action_over(alloc, module, rows, &span)?;
     drop(span);
-    actions_at_pivots(alloc, module, rows, &pivots, columns)
+    let quotient = quotient_action(alloc, module, rows)?;
+    Ok(Split {
+        sub,
+        quotient,
+        columns,
+    })
 }
 
 /// The action of a module on a submodule, over its reduced basis, and that modulo it. Its pivots are given too, and the

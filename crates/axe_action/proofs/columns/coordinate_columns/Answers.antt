@@ -1,6 +1,6 @@
 use Rattle.std.proofs.Common.{◌≡◌, ◌<◌, ℕ, List, All, length, subst, sym}
 use Rattle.axe_action.specs.Coordinates.{IsIdentityAt}
-use Rattle.axe_action.proofs.ReducedRows.{columns_as_many, columns_within, coordinates_at_identity, reduced_at}
+use Rattle.axe_action.proofs.ReducedRows.{columns_as_many, columns_within, coordinates_at_identity}
 use Rattle.axe_action.proofs.columns.coordinate_columns.Goals as goal
 
 pub is_identity_at-requires-clause-as_many : goal.is_identity_at-requires-clause-as_many
@@ -13,23 +13,13 @@ is_identity_at-requires-clause-within c =
     subst (λ (columns : List ℕ). All (λ column. column < c.args.rows.now.cols) columns) (sym c.deref.ensures.value)
     (columns_within c.args.rows.now c.args.span.now c.in_ok-pivots.pivots.items c.requires.span c.in_ok-pivots.ensures.pivots)
 
-pub returns-then-reduced-clause-coordinates : goal.returns-then-reduced-clause-coordinates
-returns-then-reduced-clause-coordinates c =
+pub returns-then-reduced : goal.returns-then-reduced
+returns-then-reduced c =
     let identity : IsIdentityAt c.deref.result.now c.args.rows.now.rows = c.in_ok-reduced.ensures.identity.0 c.if-reduced.true in
     coordinates_at_identity c.args.rows.now c.args.span.now c.in_ok-pivots.pivots.items c.is_identity_at.ensures.well_formed c.requires.span
     c.in_ok-pivots.ensures.pivots
     (columns_as_many c.args.rows.now c.args.span.now c.in_ok-pivots.pivots.items c.requires.independent c.requires.span c.in_ok-pivots.ensures.pivots)
     (subst (λ (columns : List ℕ). IsIdentityAt columns c.args.rows.now.rows) c.deref.ensures.value identity)
 
-pub returns-then-reduced-clause-reduced : goal.returns-then-reduced-clause-reduced
-returns-then-reduced-clause-reduced c =
-    let identity : IsIdentityAt c.deref.result.now c.args.rows.now.rows = c.in_ok-reduced.ensures.identity.0 c.if-reduced.true in
-    reduced_at c.args.rows.now c.args.span.now c.in_ok-pivots.pivots.items c.is_identity_at.ensures.well_formed c.requires.independent c.requires.span
-    c.in_ok-pivots.ensures.pivots
-    (subst (λ (columns : List ℕ). IsIdentityAt columns c.args.rows.now.rows) c.deref.ensures.value identity)
-
-pub returns-else-reduced-clause-coordinates : goal.returns-else-reduced-clause-coordinates
-returns-else-reduced-clause-coordinates c = tt
-
-pub returns-else-reduced-clause-reduced : goal.returns-else-reduced-clause-reduced
-returns-else-reduced-clause-reduced c = tt
+pub returns-else-reduced : goal.returns-else-reduced
+returns-else-reduced c = tt
