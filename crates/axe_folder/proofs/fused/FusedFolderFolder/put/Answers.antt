@@ -8,3 +8,9 @@ returns-then-may_tear-clause-puts c =
     let same : c.self-2.inside.inside ≡ c.args.self.now.files = search rules in
     half_put c.put-then-may_tear.result c.self-2.inside.inside c.args.self.now.files c.args.name.now c.args.bytes.now
     (length c.args.bytes.now / 2) c.put-then-may_tear.new.self same c.put-then-may_tear.ensures.puts c.put-then-may_tear.ensures.no_device
+
+pub returns-then-passes-clause-puts : goal.returns-then-passes-clause-puts
+returns-then-passes-clause-puts c = search rules
+
+pub returns-then-may_tear-clause-tears : goal.returns-then-may_tear-clause-tears
+returns-then-may_tear-clause-tears c = search rules
