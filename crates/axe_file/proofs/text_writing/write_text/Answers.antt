@@ -32,3 +32,6 @@ unfolding text_of
 returns-clause-text c =
     let m = c.args.matrix.now in
     c.loop-index.invariant.0 ∙ ap (λ (rows : List (List ℕ)). text_header m ++ flat_map text_row rows) (take_all c.loop-index.index m.rows (omega (arith, c.rows-index-end.ensures.count)))
+
+pub loop-index-init : goal.loop-index-init
+loop-index-init c = search rules

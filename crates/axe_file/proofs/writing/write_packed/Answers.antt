@@ -1,4 +1,5 @@
 use Rattle.std.proofs.Common.{◌*◌, ◌≤◌, length, ◌++◌, List, ℕ, ap, ◌∙◌, arith}
+use Rattle.std.proofs.lemmas.Grind.{common_steps}
 use Rattle.std.specs.List.{flat_map}
 use Rattle.std.proofs.lemmas.List.{take_all}
 use Rattle.axe_file.specs.Packed.{packed, packed_header, packed_row}
@@ -32,3 +33,6 @@ returns-clause-spelling c =
     c.loop-index.invariant.0
     ∙ ap (λ (rows : List (List ℕ)). packed_header m.order (length m.rows) m.cols ++ flat_map (packed_row m.order m.cols) rows)
     (take_all c.loop-index.index m.rows (omega (arith, c.rows-index-end.ensures.count)))
+
+pub loop-index-preserved : goal.loop-index-preserved
+loop-index-preserved c = grind (arith, common_steps)

@@ -1,0 +1,8 @@
+use Rattle.std.proofs.Common.{rules}
+use Rattle.axe_file.proofs.laws.limits_are_named.Goals as goal
+
+pub returns-clause-packed : goal.returns-clause-packed
+returns-clause-packed c = search rules
+
+pub returns-clause-text : goal.returns-clause-text
+returns-clause-text c = search rules
