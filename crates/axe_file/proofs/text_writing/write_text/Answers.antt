@@ -1,5 +1,5 @@
 use Rattle.std.proofs.Common.{rules, ◌≡◌, ◌+◌, ◌++◌, ◌∷◌, [], List, ℕ, length, map, take, get_or, sym, ap, ◌∙◌, take_all, arith}
-use Rattle.std.proofs.lemmas.List.{take_more, flat_map_more, length-map}
+use Rattle.std.proofs.lemmas.List.{append-nil, take_more, flat_map_more, length-map}
 use Rattle.std.specs.List.{flat_map}
 use Rattle.axe_file.specs.TextGrammar.{digit_code}
 use Rattle.axe_file.specs.TextWriting.{text_header, in_lines, text_row, text_of}
@@ -34,4 +34,5 @@ returns-clause-text c =
     c.loop-index.invariant.0 ∙ ap (λ (rows : List (List ℕ)). text_header m ++ flat_map text_row rows) (take_all c.loop-index.index m.rows (omega (arith, c.rows-index-end.ensures.count)))
 
 pub loop-index-init : goal.loop-index-init
-loop-index-init c = search rules
+loop-index-init c =
+    (c.in_ok-text.ensures ∙ sym (append-nil (text_header c.args.matrix.now)), omega (arith, c.in_ok-digits.digits.ok.0, c.in_ok-digits.ensures.len))
