@@ -1,4 +1,4 @@
-use Rattle.std.proofs.Common.{◌≡◌, ◌+◌, subst, arith}
+use Rattle.std.proofs.Common.{rules, ◌≡◌, ◌+◌, subst, arith}
 use Rattle.axe_word.proofs.DrawingLaws.{IsDrawnUpTo, IsDrawnUpTo-none, IsDrawnUpTo-more, IsDrawnUpTo-all}
 use Rattle.axe_word.proofs.drawing.draw_term.Goals as goal
 
@@ -13,3 +13,6 @@ returns-clause-drawn c =
     let all : c.loop.counter ≡ c.draw-count.result = omega arith in
     let drawn = subst (λ count. IsDrawnUpTo count (1 + c.draw-coefficient.result) c.args.gens c.draw-count.new.generator c.loop.term c.loop.generator) all c.loop.invariant in
     IsDrawnUpTo-all _ _ _ _ _ _ _ _ _ c.draw-coefficient.ensures.drawn c.draw-count.ensures.drawn drawn
+
+pub returns-clause-nonzero : goal.returns-clause-nonzero
+returns-clause-nonzero c = search rules
