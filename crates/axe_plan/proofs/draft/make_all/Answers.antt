@@ -1,4 +1,4 @@
-use Rattle.std.proofs.Common.{ap, sym, ◌∙◌, append_assoc, ◌++◌, [], ◌∷◌}
+use Rattle.std.proofs.Common.{rules, ap, sym, ◌∙◌, append_assoc, ◌++◌, [], ◌∷◌}
 use Rattle.std.specs.Vec.Iter.{into_iter_items}
 use Rattle.axe_plan.specs.Drafts.{step_in}
 use Rattle.axe_plan.specs.Plans.{step_applied}
@@ -11,3 +11,6 @@ loop-change-preserved g c = record {
   made = λ tells. c.in_ok-make.ensures.made tells ∙ ap (step_applied (step_in c.in-Some.change)) (c.loop-change.invariant.made tells) ∙ sym (applied_more c.loop-change.yielded c.in-Some.change _);
   counted = λ tells. c.in_ok-make.ensures.counted tells ∙ c.loop-change.invariant.counted tells;
 }
+
+pub loop-change-init : goal.loop-change-init
+loop-change-init g c = search rules
