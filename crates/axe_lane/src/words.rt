@@ -52,6 +52,59 @@ pub fn put_xor(dst: &mut [u64], a: &[u64], b: &[u64])
     }
 }
 
+/// Adds a row over the field of order 2 to one and another to a second one, in one pass: each word of `first` becomes
+/// its exclusive or with the word of `a` at the same index, and each of `second` its exclusive or with that of `b`.
+pub fn xor_both_into(first: &mut [u64], second: &mut [u64], a: &[u64], b: &[u64])
+    requires second_fits { length second.old ≡ length first.old }
+    requires a_fits { length a.now ≡ length first.old }
+    requires b_fits { length b.now ≡ length first.old }
+    ensures first { first.new ≡ xor_of_words first.old a.now }
+    ensures second { second.new ≡ xor_of_words second.old b.now }
+{
+    let whole = first.len() / SUM_BLOCK;
+    for block in 0..whole {
+        let at = block * SUM_BLOCK;
+        xor_block(first, a, at);
+        xor_block(second, b, at);
+    }
+    let rest = whole * SUM_BLOCK;
+    match first.len() - rest {
+        0 => {}
+        1 => xor_both_words(first, second, a, b, rest),
+        2 => xor_both_pairs(first, second, a, b, rest),
+        _ => {
+            xor_both_pairs(first, second, a, b, rest);
+            xor_both_words(first, second, a, b, rest + 2);
+        }
+    }
+}
+
+/// Adds a row over the field of order 2 to one, and its sum with another to a second one, in one pass: each word of
+/// `first` becomes its exclusive or with the word of `a` at the same index, and each of `second` its exclusive or with
+/// those of `a` and `b`.
+pub fn xor_two_into(first: &mut [u64], second: &mut [u64], a: &[u64], b: &[u64])
+    requires second_fits { length second.old ≡ length first.old }
+    requires a_fits { length a.now ≡ length first.old }
+    requires b_fits { length b.now ≡ length first.old }
+    ensures first { first.new ≡ xor_of_words first.old a.now }
+    ensures second { second.new ≡ xor_of_words second.old (xor_of_words a.now b.now) }
+{
+    let whole = first.len() / SUM_BLOCK;
+    for block in 0..whole {
+        xor_two_block(first, second, a, b, block * SUM_BLOCK);
+    }
+    let rest = whole * SUM_BLOCK;
+    match first.len() - rest {
+        0 => {}
+        1 => xor_two_words(first, second, a, b, rest),
+        2 => xor_two_pairs(first, second, a, b, rest),
+        _ => {
+            xor_two_pairs(first, second, a, b, rest);
+            xor_two_words(first, second, a, b, rest + 2);
+        }
+    }
+}
+
 /// Adds four rows over the field of order 2 to a fifth, in one pass: each word of `dst` becomes its exclusive or with
 /// the words of the four at the same index.
 pub fn xor4_into(dst: &mut [u64], a: &[u64], b: &[u64], c: &[u64], d: &[u64])
@@ -147,6 +200,91 @@ fn xor_pair(dst: &mut [u64], src: &[u64], at: usize)
 {
     let sum = u64x2::from_slice(&dst[at..]) ^ u64x2::from_slice(&src[at..]);
     sum.copy_to_slice(&mut dst[at..]);
+}
+
+/// The blocks of two sums from an index on.
+#[inline(always)]
+fn xor_two_block(first: &mut [u64], second: &mut [u64], a: &[u64], b: &[u64], at: usize)
+    requires first_has_block { at + SUM_BLOCK ≤ length first.old }
+    requires second_has_block { at + SUM_BLOCK ≤ length second.old }
+    requires a_has_block { at + SUM_BLOCK ≤ length a.now }
+    requires b_has_block { at + SUM_BLOCK ≤ length b.now }
+    ensures first { first.new
+        ≡ put_chunk at first.old (zip2 bit_xor (chunk at SUM_BLOCK first.old) (chunk at SUM_BLOCK a.now)) }
+    ensures second { second.new ≡ put_chunk at second.old (zip2 bit_xor (chunk at SUM_BLOCK second.old)
+        (zip2 bit_xor (chunk at SUM_BLOCK a.now) (chunk at SUM_BLOCK b.now))) }
+{
+    let one = u64x4::from_slice(&a[at..]);
+    let both = one ^ u64x4::from_slice(&b[at..]);
+    let sum = u64x4::from_slice(&first[at..]) ^ one;
+    sum.copy_to_slice(&mut first[at..]);
+    let other = u64x4::from_slice(&second[at..]) ^ both;
+    other.copy_to_slice(&mut second[at..]);
+}
+
+/// The pairs of words of two sums from an index on.
+#[inline(always)]
+fn xor_two_pairs(first: &mut [u64], second: &mut [u64], a: &[u64], b: &[u64], at: usize)
+    requires first_has_pair { at + 2 ≤ length first.old }
+    requires second_has_pair { at + 2 ≤ length second.old }
+    requires a_has_pair { at + 2 ≤ length a.now }
+    requires b_has_pair { at + 2 ≤ length b.now }
+    ensures first { first.new ≡ put_chunk at first.old (zip2 bit_xor (chunk at 2 first.old) (chunk at 2 a.now)) }
+    ensures second { second.new ≡ put_chunk at second.old (zip2 bit_xor (chunk at 2 second.old)
+        (zip2 bit_xor (chunk at 2 a.now) (chunk at 2 b.now))) }
+{
+    let one = u64x2::from_slice(&a[at..]);
+    let both = one ^ u64x2::from_slice(&b[at..]);
+    let sum = u64x2::from_slice(&first[at..]) ^ one;
+    sum.copy_to_slice(&mut first[at..]);
+    let other = u64x2::from_slice(&second[at..]) ^ both;
+    other.copy_to_slice(&mut second[at..]);
+}
+
+/// The words of two sums at an index.
+#[inline(always)]
+fn xor_two_words(first: &mut [u64], second: &mut [u64], a: &[u64], b: &[u64], at: usize)
+    requires first_has_word { at < length first.old }
+    requires second_has_word { at < length second.old }
+    requires a_has_word { at < length a.now }
+    requires b_has_word { at < length b.now }
+    ensures first { first.new
+        ≡ slice_set first.old at (bit_xor (slice_index first.old at) (slice_index a.now at)) }
+    ensures second { second.new ≡ slice_set second.old at
+        (bit_xor (slice_index second.old at) (bit_xor (slice_index a.now at) (slice_index b.now at))) }
+{
+    first[at] ^= a[at];
+    second[at] ^= a[at] ^ b[at];
+}
+
+/// The pairs of words of two sums with a row each, from an index on.
+#[inline(always)]
+fn xor_both_pairs(first: &mut [u64], second: &mut [u64], a: &[u64], b: &[u64], at: usize)
+    requires first_has_pair { at + 2 ≤ length first.old }
+    requires second_has_pair { at + 2 ≤ length second.old }
+    requires a_has_pair { at + 2 ≤ length a.now }
+    requires b_has_pair { at + 2 ≤ length b.now }
+    ensures first { first.new ≡ put_chunk at first.old (zip2 bit_xor (chunk at 2 first.old) (chunk at 2 a.now)) }
+    ensures second { second.new ≡ put_chunk at second.old (zip2 bit_xor (chunk at 2 second.old) (chunk at 2 b.now)) }
+{
+    xor_pair(first, a, at);
+    xor_pair(second, b, at);
+}
+
+/// The words of two sums with a row each, at an index.
+#[inline(always)]
+fn xor_both_words(first: &mut [u64], second: &mut [u64], a: &[u64], b: &[u64], at: usize)
+    requires first_has_word { at < length first.old }
+    requires second_has_word { at < length second.old }
+    requires a_has_word { at < length a.now }
+    requires b_has_word { at < length b.now }
+    ensures first { first.new
+        ≡ slice_set first.old at (bit_xor (slice_index first.old at) (slice_index a.now at)) }
+    ensures second { second.new
+        ≡ slice_set second.old at (bit_xor (slice_index second.old at) (slice_index b.now at)) }
+{
+    first[at] ^= a[at];
+    second[at] ^= b[at];
 }
 
 /// The block of a sum of five rows from an index on.

@@ -1,3 +1,4 @@
 pub mod PlaneLaws
 pub mod TableLaws
 pub mod PlaneWords
+pub mod PairSums

@@ -24,6 +24,7 @@ mod byte_table;
 mod bytes;
 mod digits;
 mod numbers;
+mod pairs;
 mod primes;
 mod supports;
 mod tables;

@@ -4,6 +4,7 @@ pub mod UnitRows
 pub mod RowPlanes
 pub mod KeptPlanes
 pub mod PlaneSums
+pub mod PairSums
 pub mod PrimeRows
 pub mod FirstEntries
 pub mod RowSupports
