@@ -14,7 +14,6 @@ pub mod TurnedPieces
 pub mod BaseThree
 pub mod PieceLaws
 pub mod EndLaws
-pub mod EndSums
 pub mod TableLaws
 pub mod TritLaws
 pub mod TritPlaneLaws

@@ -20,7 +20,6 @@ use axe_lane::{any_nonzero, first_set, parity_and, xor_into, xor4_into};
 use std::alloc::{AllocError, Global};
 use std::marker::Model;
 
-mod pairs;
 mod words;
 
 /// A list of digits modulo 2, one in each bit: digit e is bit e mod 64 of word e / 64. The bits from its length on are

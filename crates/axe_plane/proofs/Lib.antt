@@ -1,4 +1,3 @@
 pub mod PlaneLaws
 pub mod TableLaws
 pub mod PlaneWords
-pub mod PairSums

@@ -3,4 +3,3 @@ pub mod Planes
 pub mod Addends
 pub mod FlatTables
 pub mod Tables
-pub mod Pairs

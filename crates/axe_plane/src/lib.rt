@@ -24,7 +24,6 @@ mod byte_table;
 mod bytes;
 mod digits;
 mod numbers;
-mod pairs;
 mod primes;
 mod supports;
 mod tables;

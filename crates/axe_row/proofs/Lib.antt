@@ -4,7 +4,6 @@ pub mod UnitRows
 pub mod RowPlanes
 pub mod KeptPlanes
 pub mod PlaneSums
-pub mod PairSums
 pub mod PrimeRows
 pub mod FirstEntries
 pub mod RowSupports

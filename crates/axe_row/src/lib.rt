@@ -372,17 +372,6 @@ impl Row {
         };
         let (c, l, q) = (&other.constant, &others.linear, &others.quadratic);
         let m = self.field.plane_matrix(scalar);
-        let Some(higher) = &mut self.higher else {
-            return;
-        };
-        let Higher { linear, quadratic } = &mut **higher;
-        // Over a field of degree 2 no coefficient of x^2 is there.
-        if self.field.degree() == 2 {
-            let to_linear = [m[0][1], m[1][1]];
-            self.constant
-                .add_pair_from(linear, start, [m[0][0], m[1][0]], to_linear, c, l);
-            return;
-        }
         add_multiples(
             &mut self.constant,
             start,
@@ -391,7 +380,15 @@ impl Row {
             l,
             q,
         );
+        let Some(higher) = &mut self.higher else {
+            return;
+        };
+        let Higher { linear, quadratic } = &mut **higher;
         add_multiples(linear, start, [m[0][1], m[1][1], m[2][1]], c, l, q);
+        // Over a field of degree 2 no coefficient of x^2 is left to be added to.
+        if self.field.degree() == 2 {
+            return;
+        }
         add_multiples(quadratic, start, [m[0][2], m[1][2], m[2][2]], c, l, q);
     }
 }

@@ -4,7 +4,7 @@ ghost use Rattle.axe_lane.specs.Bytes.{AreBelow, IsSmallPrime};
 
 use axe_lane::{
     add_scaled_bytes, add4_bytes, any_nonzero, bits_of_bytes, dot_bytes, first_byte, first_set,
-    parity_and, put_xor, scale_bytes, xor_both_into, xor_into, xor_two_into, xor4_into,
+    parity_and, put_xor, scale_bytes, xor_into, xor4_into,
 };
 use std::process::Abort;
 
@@ -200,26 +200,6 @@ fn five_rows_of_words_are_summed(rt: &impl Abort, len: usize) -> bool {
     is_right
 }
 
-/// Whether sums of two rows of so many words with a row each, and with a row and a sum, are made word by word.
-fn two_rows_of_words_are_summed(rt: &impl Abort, len: usize) -> bool {
-    assert!(rt; len <= MOST);
-    let (a, b) = (words_of(3), words_of(7));
-    let (one, other) = (words_of(11), words_of(13));
-    let (mut first, mut second) = (one, other);
-    xor_both_into(&mut first[..len], &mut second[..len], &a[..len], &b[..len]);
-    let (mut same, mut sum) = (one, other);
-    xor_two_into(&mut same[..len], &mut sum[..len], &a[..len], &b[..len]);
-    let mut is_right = true;
-    for at in 0..len {
-        is_right = is_right
-            && first[at] == one[at] ^ a[at]
-            && second[at] == other[at] ^ b[at]
-            && same[at] == first[at]
-            && sum[at] == other[at] ^ a[at] ^ b[at];
-    }
-    is_right
-}
-
 /// Whether the bits that 64 bytes from an index on have at a place are taken one by one.
 fn bits_are_taken(rt: &impl Abort, bytes: &[u8], at: usize, place: u8) -> bool {
     assert!(rt; bytes.len() >= 64);
@@ -296,7 +276,6 @@ fn products_are_sums_at_each_length(rt: HostRuntime) {
 #[test]
 fn five_rows_are_summed_at_each_length(rt: HostRuntime) {
     for len in LENGTHS {
-        assert!(rt; two_rows_of_words_are_summed(&rt, len), "{len}");
         assert!(rt; five_rows_of_words_are_summed(&rt, len), "{len}");
         for p in [2, 3, 5, 7] {
             assert!(rt; five_rows_of_bytes_are_summed(&rt, len, p), "{len} {p}");

@@ -1,12 +1,10 @@
-use Rattle.std.proofs.Common.{◌≡◌, arith, refl, ap, sym, ◌∙◌}
-use Rattle.axe_field.specs.Order.{degree_of}
+use Rattle.std.proofs.Common.{arith, refl, ap, sym, ◌∙◌}
 use Rattle.axe_row.specs.Rows.{RowValue}
 use Rattle.axe_row.specs.HigherPlanes.{linear_of, quadratic_of}
 use Rattle.axe_row.proofs.FirstEntries.{zeros_before_in_planes}
 use Rattle.axe_row.proofs.KeptPlanes.{other_alone, kept_planes, kept_view, kept_not_prime}
 use Rattle.axe_row.proofs.PrimeRows.{other_length, prime_planes_sum, prime_row_sum, scalar_is_digit}
 use Rattle.axe_row.proofs.RowPlanes.{IsRow-of_planes, length_of_row, no_quadratic, with_length}
-use Rattle.axe_row.proofs.PairSums.{linear_beside, constant_addend, linear_addend, factors_to_constant, factors_to_linear, constant_digits, linear_digits, constant_summed, linear_summed}
 use Rattle.axe_row.proofs.PlaneSums.{summands, addable_constant, addable_linear, addable_quadratic, reach_constant, reach_linear, reach_quadratic, summed_planes, summed_entries, row_after, IsSummed-none}
 use Rattle.axe_row.proofs.Row.add_by_planes.Goals as goal
 
@@ -92,75 +90,15 @@ pub add_multiples-requires-3-clause-zeros : goal.add_multiples-requires-3-clause
 add_multiples-requires-3-clause-zeros c =
     zeros_before_in_planes _ _ _ _ c.args.start _ (kept_planes _ _ _ _ c.other.invariant _ _ _ c.in-Some.is c.deref.ensures c.deref-2.ensures) (kept_view _ c.other.inside.constant _ _ _ _ _ c.other.view_is c.in-Some.is c.deref.ensures c.deref-2.ensures) c.requires.zeros
 
--- two planes at once, over a field of degree 2
-
-pub add_pair_from-requires-clause-second : goal.add_pair_from-requires-clause-second
-add_pair_from-requires-clause-second c =
-    linear_beside _ _ _ _ _ _ _ _ _ c.plane_matrix-m.result
-    (summands _ _ _ _ _ _ _ _ _ _ _ _ (kept_planes _ _ _ _ c.self.invariant _ _ _ c.in-Some-higher.is c.deref_mut.ensures.value c.deref_mut.ensures.value) (kept_planes _ _ _ _ c.other.invariant _ _ _ c.in-Some.is c.deref.ensures c.deref-2.ensures) (kept_view _ c.self.inside.constant _ _ _ _ _ c.self.view_is c.in-Some-higher.is c.deref_mut.ensures.value c.deref_mut.ensures.value) (kept_view _ c.other.inside.constant _ _ _ _ _ c.other.view_is c.in-Some.is c.deref.ensures c.deref-2.ensures) c.requires.field c.requires.fits c.requires.element c.plane_matrix-m.ensures.value)
-    (omega (arith, c.degree.ensures, c.if-degree-eq2.true))
-
-pub add_pair_from-requires-clause-a : goal.add_pair_from-requires-clause-a
-add_pair_from-requires-clause-a c =
-    constant_addend _ _ _ _ _ _ _ _ _ c.plane_matrix-m.result
-    (summands _ _ _ _ _ _ _ _ _ _ _ _ (kept_planes _ _ _ _ c.self.invariant _ _ _ c.in-Some-higher.is c.deref_mut.ensures.value c.deref_mut.ensures.value) (kept_planes _ _ _ _ c.other.invariant _ _ _ c.in-Some.is c.deref.ensures c.deref-2.ensures) (kept_view _ c.self.inside.constant _ _ _ _ _ c.self.view_is c.in-Some-higher.is c.deref_mut.ensures.value c.deref_mut.ensures.value) (kept_view _ c.other.inside.constant _ _ _ _ _ c.other.view_is c.in-Some.is c.deref.ensures c.deref-2.ensures) c.requires.field c.requires.fits c.requires.element c.plane_matrix-m.ensures.value)
-    (omega (arith, c.degree.ensures, c.if-degree-eq2.true))
-
-pub add_pair_from-requires-clause-b : goal.add_pair_from-requires-clause-b
-add_pair_from-requires-clause-b c =
-    linear_addend _ _ _ _ _ _ _ _ _ c.plane_matrix-m.result
-    (summands _ _ _ _ _ _ _ _ _ _ _ _ (kept_planes _ _ _ _ c.self.invariant _ _ _ c.in-Some-higher.is c.deref_mut.ensures.value c.deref_mut.ensures.value) (kept_planes _ _ _ _ c.other.invariant _ _ _ c.in-Some.is c.deref.ensures c.deref-2.ensures) (kept_view _ c.self.inside.constant _ _ _ _ _ c.self.view_is c.in-Some-higher.is c.deref_mut.ensures.value c.deref_mut.ensures.value) (kept_view _ c.other.inside.constant _ _ _ _ _ c.other.view_is c.in-Some.is c.deref.ensures c.deref-2.ensures) c.requires.field c.requires.fits c.requires.element c.plane_matrix-m.ensures.value)
-    (omega (arith, c.degree.ensures, c.if-degree-eq2.true))
-
-pub add_pair_from-requires-clause-to_first : goal.add_pair_from-requires-clause-to_first
-add_pair_from-requires-clause-to_first c =
-    factors_to_constant _ _ _ _ _ _ _ _ _ c.plane_matrix-m.result
-    (summands _ _ _ _ _ _ _ _ _ _ _ _ (kept_planes _ _ _ _ c.self.invariant _ _ _ c.in-Some-higher.is c.deref_mut.ensures.value c.deref_mut.ensures.value) (kept_planes _ _ _ _ c.other.invariant _ _ _ c.in-Some.is c.deref.ensures c.deref-2.ensures) (kept_view _ c.self.inside.constant _ _ _ _ _ c.self.view_is c.in-Some-higher.is c.deref_mut.ensures.value c.deref_mut.ensures.value) (kept_view _ c.other.inside.constant _ _ _ _ _ c.other.view_is c.in-Some.is c.deref.ensures c.deref-2.ensures) c.requires.field c.requires.fits c.requires.element c.plane_matrix-m.ensures.value)
-    (omega (arith, c.degree.ensures, c.if-degree-eq2.true))
-
-pub add_pair_from-requires-clause-to_second : goal.add_pair_from-requires-clause-to_second
-add_pair_from-requires-clause-to_second c =
-    factors_to_linear _ _ _ _ _ _ _ _ _ c.plane_matrix-m.result
-    (summands _ _ _ _ _ _ _ _ _ _ _ _ (kept_planes _ _ _ _ c.self.invariant _ _ _ c.in-Some-higher.is c.deref_mut.ensures.value c.deref_mut.ensures.value) (kept_planes _ _ _ _ c.other.invariant _ _ _ c.in-Some.is c.deref.ensures c.deref-2.ensures) (kept_view _ c.self.inside.constant _ _ _ _ _ c.self.view_is c.in-Some-higher.is c.deref_mut.ensures.value c.deref_mut.ensures.value) (kept_view _ c.other.inside.constant _ _ _ _ _ c.other.view_is c.in-Some.is c.deref.ensures c.deref-2.ensures) c.requires.field c.requires.fits c.requires.element c.plane_matrix-m.ensures.value)
-    (omega (arith, c.degree.ensures, c.if-degree-eq2.true))
-
-pub add_pair_from-requires-clause-first_digits : goal.add_pair_from-requires-clause-first_digits
-add_pair_from-requires-clause-first_digits c =
-    constant_digits _ _ _ _ _ _ _ _ _ c.plane_matrix-m.result
-    (summands _ _ _ _ _ _ _ _ _ _ _ _ (kept_planes _ _ _ _ c.self.invariant _ _ _ c.in-Some-higher.is c.deref_mut.ensures.value c.deref_mut.ensures.value) (kept_planes _ _ _ _ c.other.invariant _ _ _ c.in-Some.is c.deref.ensures c.deref-2.ensures) (kept_view _ c.self.inside.constant _ _ _ _ _ c.self.view_is c.in-Some-higher.is c.deref_mut.ensures.value c.deref_mut.ensures.value) (kept_view _ c.other.inside.constant _ _ _ _ _ c.other.view_is c.in-Some.is c.deref.ensures c.deref-2.ensures) c.requires.field c.requires.fits c.requires.element c.plane_matrix-m.ensures.value)
-    (omega (arith, c.degree.ensures, c.if-degree-eq2.true))
-
-pub add_pair_from-requires-clause-second_digits : goal.add_pair_from-requires-clause-second_digits
-add_pair_from-requires-clause-second_digits c =
-    linear_digits _ _ _ _ _ _ _ _ _ c.plane_matrix-m.result
-    (summands _ _ _ _ _ _ _ _ _ _ _ _ (kept_planes _ _ _ _ c.self.invariant _ _ _ c.in-Some-higher.is c.deref_mut.ensures.value c.deref_mut.ensures.value) (kept_planes _ _ _ _ c.other.invariant _ _ _ c.in-Some.is c.deref.ensures c.deref-2.ensures) (kept_view _ c.self.inside.constant _ _ _ _ _ c.self.view_is c.in-Some-higher.is c.deref_mut.ensures.value c.deref_mut.ensures.value) (kept_view _ c.other.inside.constant _ _ _ _ _ c.other.view_is c.in-Some.is c.deref.ensures c.deref-2.ensures) c.requires.field c.requires.fits c.requires.element c.plane_matrix-m.ensures.value)
-    (omega (arith, c.degree.ensures, c.if-degree-eq2.true))
-
-pub add_pair_from-requires-clause-within : goal.add_pair_from-requires-clause-within
-add_pair_from-requires-clause-within c =
-    omega (arith, c.requires.within, length_of_row _ c.self.inside.constant (linear_of c.self.inside.field c.self.inside.higher) (quadratic_of c.self.inside.field c.self.inside.higher) _ c.self.view_is)
-
-pub add_pair_from-requires-clause-a_zeros : goal.add_pair_from-requires-clause-a_zeros
-add_pair_from-requires-clause-a_zeros c =
-    (zeros_before_in_planes _ _ _ _ c.args.start _ (kept_planes _ _ _ _ c.other.invariant _ _ _ c.in-Some.is c.deref.ensures c.deref-2.ensures) (kept_view _ c.other.inside.constant _ _ _ _ _ c.other.view_is c.in-Some.is c.deref.ensures c.deref-2.ensures) c.requires.zeros).constant
-
-pub add_pair_from-requires-clause-b_zeros : goal.add_pair_from-requires-clause-b_zeros
-add_pair_from-requires-clause-b_zeros c =
-    (zeros_before_in_planes _ _ _ _ c.args.start _ (kept_planes _ _ _ _ c.other.invariant _ _ _ c.in-Some.is c.deref.ensures c.deref-2.ensures) (kept_view _ c.other.inside.constant _ _ _ _ _ c.other.view_is c.in-Some.is c.deref.ensures c.deref-2.ensures) c.requires.zeros).linear
-
 pub invariant_of-self-then-degree-eq2 : goal.invariant_of-self-then-degree-eq2
 invariant_of-self-then-degree-eq2 c =
     let kept = kept_planes _ _ _ _ c.self.invariant _ _ _ c.in-Some-higher.is c.deref_mut.ensures.value c.deref_mut.ensures.value in
-    let both = (summands _ _ _ _ _ _ _ _ _ _ _ _ (kept_planes _ _ _ _ c.self.invariant _ _ _ c.in-Some-higher.is c.deref_mut.ensures.value c.deref_mut.ensures.value) (kept_planes _ _ _ _ c.other.invariant _ _ _ c.in-Some.is c.deref.ensures c.deref-2.ensures) (kept_view _ c.self.inside.constant _ _ _ _ _ c.self.view_is c.in-Some-higher.is c.deref_mut.ensures.value c.deref_mut.ensures.value) (kept_view _ c.other.inside.constant _ _ _ _ _ c.other.view_is c.in-Some.is c.deref.ensures c.deref-2.ensures) c.requires.field c.requires.fits c.requires.element c.plane_matrix-m.ensures.value) in
-    let two : degree_of c.self.inside.field ≡ 2 = omega (arith, c.degree.ensures, c.if-degree-eq2.true) in
-    let constant = constant_summed _ _ _ _ _ _ _ _ _ c.plane_matrix-m.result both two _ c.add_pair_from.ensures.first in
-    let linear = linear_summed _ _ _ _ _ _ _ _ _ c.plane_matrix-m.result both two _ c.add_pair_from.ensures.second in
     let none = no_quadratic _ _ _ kept.quadratic (λ three. omega (arith, three, c.degree.ensures, c.if-degree-eq2.true)) in
     record {
       planes =
           with_length _ _ _ _ _ (summed_planes _ _ _ _ _ _ _ _ _ _ _ _ _ _ _
-          both
-          constant linear (IsSummed-none _ c.other.inside.constant c.deref.result.now.linear c.deref-2.result.now.quadratic _ none));
+          (summands _ _ _ _ _ _ _ _ _ _ _ _ (kept_planes _ _ _ _ c.self.invariant _ _ _ c.in-Some-higher.is c.deref_mut.ensures.value c.deref_mut.ensures.value) (kept_planes _ _ _ _ c.other.invariant _ _ _ c.in-Some.is c.deref.ensures c.deref-2.ensures) (kept_view _ c.self.inside.constant _ _ _ _ _ c.self.view_is c.in-Some-higher.is c.deref_mut.ensures.value c.deref_mut.ensures.value) (kept_view _ c.other.inside.constant _ _ _ _ _ c.other.view_is c.in-Some.is c.deref.ensures c.deref-2.ensures) c.requires.field c.requires.fits c.requires.element c.plane_matrix-m.ensures.value)
+          c.add_multiples.ensures c.add_multiples-2.ensures (IsSummed-none _ c.other.inside.constant c.deref.result.now.linear c.deref-2.result.now.quadratic _ none));
       needed = kept_not_prime _ _ _ _ c.self.invariant _ c.in-Some-higher.is;
     }
 
@@ -169,16 +107,12 @@ returns-then-degree-eq2-clause-sum c =
     let same =
     ap (λ (r : RowValue). r.order) c.other.view_is ∙ c.requires.field ∙ sym (ap (λ (r : RowValue). r.order) c.self.view_is) in
     let kept = kept_planes _ _ _ _ c.self.invariant _ _ _ c.in-Some-higher.is c.deref_mut.ensures.value c.deref_mut.ensures.value in
-    let both = (summands _ _ _ _ _ _ _ _ _ _ _ _ (kept_planes _ _ _ _ c.self.invariant _ _ _ c.in-Some-higher.is c.deref_mut.ensures.value c.deref_mut.ensures.value) (kept_planes _ _ _ _ c.other.invariant _ _ _ c.in-Some.is c.deref.ensures c.deref-2.ensures) (kept_view _ c.self.inside.constant _ _ _ _ _ c.self.view_is c.in-Some-higher.is c.deref_mut.ensures.value c.deref_mut.ensures.value) (kept_view _ c.other.inside.constant _ _ _ _ _ c.other.view_is c.in-Some.is c.deref.ensures c.deref-2.ensures) c.requires.field c.requires.fits c.requires.element c.plane_matrix-m.ensures.value) in
-    let two : degree_of c.self.inside.field ≡ 2 = omega (arith, c.degree.ensures, c.if-degree-eq2.true) in
-    let constant = constant_summed _ _ _ _ _ _ _ _ _ c.plane_matrix-m.result both two _ c.add_pair_from.ensures.first in
-    let linear = linear_summed _ _ _ _ _ _ _ _ _ c.plane_matrix-m.result both two _ c.add_pair_from.ensures.second in
     let none = no_quadratic _ _ _ kept.quadratic (λ three. omega (arith, three, c.degree.ensures, c.if-degree-eq2.true)) in
     row_after _ _ _ c.self.inside.constant c.deref_mut.result.now.linear c.deref_mut.result.now.quadratic
     c.other.inside.constant c.deref.result.now.linear c.deref-2.result.now.quadratic _ _ _ (kept_view _ c.self.inside.constant _ _ _ _ _ c.self.view_is c.in-Some-higher.is c.deref_mut.ensures.value c.deref_mut.ensures.value) (kept_view _ c.other.inside.constant _ _ _ _ _ c.other.view_is c.in-Some.is c.deref.ensures c.deref-2.ensures) same
     (summed_entries _ _ _ _ _ _ _ _ _ _ _ _ _ _ _
-    both
-    constant linear (IsSummed-none _ c.other.inside.constant c.deref.result.now.linear c.deref-2.result.now.quadratic _ none))
+    (summands _ _ _ _ _ _ _ _ _ _ _ _ (kept_planes _ _ _ _ c.self.invariant _ _ _ c.in-Some-higher.is c.deref_mut.ensures.value c.deref_mut.ensures.value) (kept_planes _ _ _ _ c.other.invariant _ _ _ c.in-Some.is c.deref.ensures c.deref-2.ensures) (kept_view _ c.self.inside.constant _ _ _ _ _ c.self.view_is c.in-Some-higher.is c.deref_mut.ensures.value c.deref_mut.ensures.value) (kept_view _ c.other.inside.constant _ _ _ _ _ c.other.view_is c.in-Some.is c.deref.ensures c.deref-2.ensures) c.requires.field c.requires.fits c.requires.element c.plane_matrix-m.ensures.value)
+    c.add_multiples.ensures c.add_multiples-2.ensures (IsSummed-none _ c.other.inside.constant c.deref.result.now.linear c.deref-2.result.now.quadratic _ none))
 
 pub returns-then-degree-eq2-clause-well_formed : goal.returns-then-degree-eq2-clause-well_formed
 returns-then-degree-eq2-clause-well_formed c = IsRow-of_planes _ _ _ _ _ (invariant_of-self-then-degree-eq2 c).planes
