@@ -40,6 +40,7 @@ pub(crate) fn space_of_rows(alloc: Global, matrix: Matrix) -> Result<Subspace, R
     ensures { Answers None (IsRowSpace matrix) result }
 {
     let mut space = Subspace::zero(alloc, *matrix.field(), matrix.cols());
+    space.reserve(matrix.rows().min(matrix.cols()))?;
     for row in matrix.into_rows() {
         space.insert(row)?;
     }

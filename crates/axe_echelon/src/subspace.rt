@@ -1,6 +1,6 @@
 //! Subspaces, each by an echelon form of it.
 
-ghost use Rattle.std.specs.Prelude.{◌≡◌, ◌<◌, ◌≤◌, ◌↔◌, [], length, get_or, IsTrue, None, IfOk, MatchOption, OnErr};
+ghost use Rattle.std.specs.Prelude.{⊤, ◌≡◌, ◌<◌, ◌≤◌, ◌↔◌, [], length, get_or, IsTrue, None, IfOk, MatchOption, OnErr};
 ghost use Rattle.axe_algebra.specs.SpansOfLists.{IsPivot, IsRepresentative, IsSpanned};
 ghost use Rattle.axe_field.specs.NumberFields.{number_field};
 ghost use Rattle.axe_row.specs.Refusals.{Answers};
@@ -66,6 +66,15 @@ impl Subspace {
             rows: Vec::new(alloc),
             pivots: PivotTable::new(alloc),
         }
+    }
+
+    /// Makes room for so many vectors more: the list of rows doesn't grow before they are inserted.
+    pub(crate) fn reserve(&mut self, rows: usize) -> Result<(), Refusal>
+        ensures same { self.new ≡ self.old }
+        ensures memory { Answers None (λ _. ⊤) result }
+    {
+        self.rows.reserve_exact(rows)?;
+        Ok(())
     }
 
     /// The field of the vectors.

@@ -2,15 +2,17 @@ use Rattle.std.proofs.Common.{[], subst, sym, ◌∙◌, arith}
 use Rattle.std.specs.Vec.Iter.{into_iter_items}
 use Rattle.std.proofs.lemmas.List.{nil_from_length}
 use Rattle.axe_matrix.specs.RowLists.{AreRowsOf}
+use Rattle.axe_echelon.specs.Echelons.{IsEchelon}
 use Rattle.axe_echelon.proofs.RowSpaces.{row_space_none, rows_more, next_field, next_long, space_more, space_whole}
 use Rattle.axe_echelon.proofs.spans.space_of_rows.Goals as goal
 
 pub loop-row-init : goal.loop-row-init
 loop-row-init c = record {
   rows = subst (AreRowsOf c.args.matrix) (sym c.into_iter-row-iterator.ensures.into_iter_gives.0) c.into_rows-row-items.ensures.rows;
-  space = row_space_none c.args.matrix c.zero-space.result
-      (c.zero-space.ensures.no_rows ∙ λ t. record { order = c.field.ensures.order t; cols = c.cols.ensures.count t; rows = [] })
-      c.zero-space.ensures.well_formed;
+  space = row_space_none c.args.matrix c.reserve.new.self
+      (c.reserve.ensures.same ∙ c.zero-space.ensures.no_rows
+      ∙ λ t. record { order = c.field.ensures.order t; cols = c.cols.ensures.count t; rows = [] })
+      (subst IsEchelon (sym c.reserve.ensures.same) c.zero-space.ensures.well_formed);
 }
 
 pub insert-requires-clause-field : goal.insert-requires-clause-field
