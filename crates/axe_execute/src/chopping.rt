@@ -76,8 +76,8 @@ fn found_draft(
     }
 }
 
-/// The draft of a composition series with a header for its report: an earlier report is taken away, the basis is put, then each factor, and last the
-/// report, which is shown, too.
+/// The draft of a composition series with a header for its report: an earlier report is taken away, the basis is put,
+/// then each factor, and last the report, which is shown, too.
 fn series_draft(
     alloc: Global,
     name: &Name,
