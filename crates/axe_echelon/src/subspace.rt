@@ -68,8 +68,9 @@ impl Subspace {
         }
     }
 
-    /// Makes room for so many vectors more: the list of rows doesn't grow before they are inserted.
-    pub(crate) fn reserve(&mut self, rows: usize) -> Result<(), Refusal>
+    /// Makes room for so many vectors more that are new: the list of rows doesn't grow before these are inserted. The space
+    /// stays as it is.
+    pub fn reserve(&mut self, rows: usize) -> Result<(), Refusal>
         ensures same { self.new ≡ self.old }
         ensures memory { Answers None (λ _. ⊤) result }
     {

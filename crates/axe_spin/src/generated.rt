@@ -29,6 +29,8 @@ pub fn generated_space(alloc: Global, module: &Module, seed: &Matrix) -> Result<
 {
     check_seed(module, seed)?;
     let mut space = row_space(alloc, seed)?;
+    // Room for as many rows as there can be: a list that grows by doubling is there twice while it is copied.
+    space.reserve(module.dim().saturating_sub(space.dim()))?;
     make_invariant(alloc, module, &mut space)?;
     Ok(space)
 }
