@@ -22,5 +22,6 @@ pub mod BasisLaws
 pub mod UnitRows
 pub mod ConjugateLaws
 pub mod WholeActions
+pub mod ChangedBases
 pub mod OneAction
 pub mod SomeAction

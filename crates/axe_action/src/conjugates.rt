@@ -1,12 +1,14 @@
 //! Modules over another basis.
 
 ghost use Rattle.std.specs.Prelude.{◌≡◌, length, None, IfOk};
+ghost use Rattle.axe_algebra.specs.SpansOfLists.{IsIndependent};
+ghost use Rattle.axe_field.specs.NumberFields.{number_field};
 ghost use Rattle.axe_row.specs.Refusals.{Answers, unless_refused, AnswersOr, RefusedAs};
 ghost use Rattle.axe_row.specs.declared.refusals.Refusal.TheVariants.{Singular};
 ghost use Rattle.axe_matrix.specs.Matrices.{IsMatrix, matrix_product};
 ghost use Rattle.axe_spin.specs.Modules.{IsModule};
 ghost use Rattle.axe_reduction.specs.Solutions.{IsInvertibleMatrix};
-ghost use Rattle.axe_action.specs.Actions.{conjugate_refusal, IsConjugateModule};
+ghost use Rattle.axe_action.specs.Actions.{conjugate_refusal, IsBasisAction, IsConjugateModule};
 
 use axe_echelon::inverse;
 use axe_matrix::{Matrix, Refusal};
@@ -29,6 +31,49 @@ pub fn conjugate(alloc: Global, module: &Module, basis: &Matrix) -> Result<Modul
         conjugates.push(conjugate)?;
     }
     Module::new(conjugates)
+}
+
+/// The module over a basis of everything, as [`basis_action`] gives it, for a module that is given away: it is taken
+/// apart, so that each generator is gone before the matrix that comes in its place is made.
+///
+/// [`basis_action`]: crate::basis_action
+pub fn change_basis(alloc: Global, module: Module, basis: &Matrix) -> Result<Module, Refusal>
+    requires field { basis.now.order ≡ «module».order }
+    requires square { length basis.now.rows ≡ «module».dim }
+    requires fits { basis.now.cols ≡ «module».dim }
+    requires independent { IsIndependent (number_field basis.now.order) basis.now.rows }
+    ensures action { Answers None (IsBasisAction «module» basis.now) result }
+    ensures well_formed { IfOk result IsModule }
+{
+    prove!(basis.rows() == module.dim());
+    let inverse = inverse(alloc, basis)?;
+    let mut conjugates = Vec::new(alloc);
+    for generator in module.into_generators() {
+        let conjugate = conjugate_of(alloc, basis, generator, &inverse)?;
+        conjugates.push(conjugate)?;
+    }
+    Module::new(conjugates)
+}
+
+/// The product of a basis, a generator and the inverse of the basis. The generator is gone before the second product is
+/// made.
+fn conjugate_of(
+    alloc: Global,
+    basis: &Matrix,
+    generator: Matrix,
+    inverse: &Matrix,
+) -> Result<Matrix, Refusal>
+    requires generator_field { generator.order ≡ basis.now.order }
+    requires inverse_field { inverse.now.order ≡ basis.now.order }
+    requires generator_fits { length generator.rows ≡ basis.now.cols }
+    requires inverse_fits { length inverse.now.rows ≡ generator.cols }
+    ensures product { Answers None
+        (λ product. product ≡ matrix_product (matrix_product basis.now generator) inverse.now) result }
+    ensures well_formed { IfOk result IsMatrix }
+{
+    let images = basis.mul(alloc, &generator)?;
+    drop(generator);
+    images.mul(alloc, inverse)
 }
 
 /// Refuses a matrix that is over another field than a module, or not square of its dimension.

@@ -11,7 +11,7 @@ mod submodules;
 mod subspaces;
 
 pub use bases::extend_basis;
-pub use conjugates::conjugate;
+pub use conjugates::{change_basis, conjugate};
 pub use duals::{annihilator, dual};
 pub use quotients::quotient_action;
 pub use submodules::{Split, split_by_submodule};
