@@ -9,7 +9,7 @@ ghost use Rattle.axe_spin.specs.Spinning.{IsStandardMatrix};
 ghost use Rattle.axe_spin.specs.SpinLaws.{IsVectorOf};
 ghost use Rattle.axe_iso.specs.Forms.{IsForm, IsFormFrom, IsNullVectorOf, HasFewNullPoints};
 
-use axe_action::basis_action;
+use axe_action::{basis_action, change_basis};
 use axe_matrix::{Matrix, Refusal, Row};
 use axe_spin::{Module, standard_basis};
 use std::alloc::Global;
@@ -52,6 +52,19 @@ impl Form {
         ensures well_formed { IsForm self.now }
     {
         &self.basis
+    }
+
+    /// The form with these parts.
+    fn of_parts(matrices: Module, basis: Matrix, word: u32, seed: u64) -> Form
+        requires { IsForm (record { matrices = matrices; basis = basis; word = word; seed = seed }) }
+        ensures { result ≡ record { matrices = matrices; basis = basis; word = word; seed = seed } }
+    {
+        Form {
+            matrices,
+            basis,
+            word,
+            seed,
+        }
     }
 
     /// The number of the word.
@@ -114,10 +127,28 @@ pub(crate) fn form_by_basis(
 {
     prove!(vector.len() == module.dim());
     let matrices = basis_action(alloc, module, &basis)?;
-    Ok(Form {
-        matrices,
-        basis,
-        word,
-        seed,
-    })
+    Ok(Form::of_parts(matrices, basis, word, seed))
+}
+
+/// The standard form of a module as [`form_of`] gives it, for a module that is given away: it is taken apart, so that
+/// each of its generators is gone before the standard matrix that comes in its place is made.
+pub fn form_of_owned(
+    alloc: Global,
+    module: Module,
+    seed: u64,
+    word: u32,
+    vector: &Row,
+) -> Result<Form, Refusal>
+    requires vector { IsVectorOf «module» vector.now }
+    requires null { IsNullVectorOf «module» seed word vector.now.entries }
+    requires generates { GeneratesEverything (number_field «module».order) «module».dim «module».generators
+        vector.now.entries }
+    requires few { HasFewNullPoints «module» seed word }
+    ensures form { Answers None (IsFormFrom «module» seed word vector.now) result }
+    ensures well_formed { IfOk result IsForm }
+{
+    prove!(vector.len() == module.dim());
+    let basis = standard_basis(alloc, &module, vector)?;
+    let matrices = change_basis(alloc, module, &basis)?;
+    Ok(Form::of_parts(matrices, basis, word, seed))
 }

@@ -7,5 +7,5 @@ mod matching;
 mod null_space;
 mod others;
 
-pub use form::{Form, form_of};
+pub use form::{Form, form_of, form_of_owned};
 pub use matching::matches;

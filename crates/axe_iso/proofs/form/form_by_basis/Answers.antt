@@ -4,6 +4,7 @@ use Rattle.axe_algebra.specs.Bridge.{field_of, matrix_of}
 use Rattle.axe_field.specs.NumberFields.{number_field}
 use Rattle.axe_echelon.proofs.Exits.{no_memory}
 use Rattle.axe_action.specs.Actions.{IsBasisAction}
+use Rattle.axe_iso.specs.Forms.{IsFormFrom}
 use Rattle.axe_iso.proofs.FormAnswers.{basis_accepted, basis_invariant, action_refused, action_given}
 use Rattle.axe_iso.proofs.Forming.{form_made, form_is_kept}
 use Rattle.axe_iso.proofs.form.form_by_basis.Goals as goal
@@ -23,19 +24,8 @@ returns-in_err-matrices-clause-form c =
     (basis_invariant c.args.module.now c.args.vector.now c.dim.ensures.well_formed c.requires.generates c.args.basis c.requires.basis)
     c.in_err-matrices.ensures.action)
 
-pub invariant_of-result : goal.invariant_of-result
-invariant_of-result c =
-    let acts : IsBasisAction c.args.module.now c.args.basis c.in_ok-matrices.matrices =
-    action_given c.args.module.now c.args.basis
-    (basis_accepted c.args.module.now c.args.vector.now c.dim.ensures.well_formed c.requires.generates c.args.basis c.requires.basis)
-    c.in_ok-matrices.matrices c.in_ok-matrices.ensures.action in
-    form_is_kept c.args.module.now c.args.seed c.args.word c.args.vector.now _ c.dim.ensures.well_formed c.requires.vector c.requires.generates c.requires.null
-    c.requires.few
-    (form_made c.args.module.now c.args.vector.now c.args.basis c.dim.ensures.well_formed c.requires.vector c.requires.basis c.requires.well_formed
-    c.requires.generates c.in_ok-matrices.matrices acts c.args.seed c.args.word c.in_ok-matrices.ensures.well_formed)
-
-pub returns-clause-well_formed : goal.returns-clause-well_formed
-returns-clause-well_formed c =
+pub of_parts-requires : goal.of_parts-requires
+of_parts-requires c =
     let acts : IsBasisAction c.args.module.now c.args.basis c.in_ok-matrices.matrices =
     action_given c.args.module.now c.args.basis
     (basis_accepted c.args.module.now c.args.vector.now c.dim.ensures.well_formed c.requires.generates c.args.basis c.requires.basis)
@@ -51,5 +41,6 @@ returns-clause-form c =
     action_given c.args.module.now c.args.basis
     (basis_accepted c.args.module.now c.args.vector.now c.dim.ensures.well_formed c.requires.generates c.args.basis c.requires.basis)
     c.in_ok-matrices.matrices c.in_ok-matrices.ensures.action in
-    form_made c.args.module.now c.args.vector.now c.args.basis c.dim.ensures.well_formed c.requires.vector c.requires.basis c.requires.well_formed
-    c.requires.generates c.in_ok-matrices.matrices acts c.args.seed c.args.word c.in_ok-matrices.ensures.well_formed
+    subst (IsFormFrom c.args.module.now c.args.seed c.args.word c.args.vector.now) (sym c.of_parts.ensures)
+    (form_made c.args.module.now c.args.vector.now c.args.basis c.dim.ensures.well_formed c.requires.vector c.requires.basis c.requires.well_formed
+    c.requires.generates c.in_ok-matrices.matrices acts c.args.seed c.args.word c.in_ok-matrices.ensures.well_formed)
