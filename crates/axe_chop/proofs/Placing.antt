@@ -3,7 +3,7 @@ use Rattle.std.proofs.Common.{◌≡◌, ℕ, List, [], ◌∷◌, ◌<◌, ◌+
 use Rattle.axe_row.specs.Rows.{RowValue}
 use Rattle.axe_matrix.specs.Matrices.{MatrixValue}
 use Rattle.axe_spin.specs.Modules.{ModuleValue}
-use Rattle.axe_iso.specs.Forms.{FormValue, IsForm, IsFormFrom}
+use Rattle.axe_iso.specs.Forms.{FormValue, IsFormFrom}
 use Rattle.axe_series.specs.Sections.{SectionValue, lifted_rows}
 use Rattle.axe_series.specs.Runs.{FoundValue, with_place, with_factor, AreOfOthers, IsKnownAs, IsNewForm}
 use Rattle.axe_series.proofs.SomeForm.{IsShownBy, irreducible_is_shown}
@@ -30,12 +30,6 @@ pub shown_in : (m other : ModuleValue) (seed word : ℕ) (v : RowValue) → othe
     IsShownBy other seed word v
 shown_in m other seed word v same (words, decides) =
     subst (λ n. IsShownBy n seed word v) (sym same) (irreducible_is_shown m seed words word v decides)
-
--- the form of an action that is the section's
-pub form_lift_of : (m other : ModuleValue) (seed word : ℕ) (v : RowValue) (form : FormValue) → other ≡ m → IsFormFrom other seed word v form →
-    IsLift m form.basis
-form_lift_of m other seed word v form same from =
-    subst (λ n. IsLift n form.basis) same (form_lift other seed word v form from)
 
 -- a factor that is known of the same forms and the same module
 pub known_in : (forms others : List FormValue) (m n : ModuleValue) (number : ℕ) (t : MatrixValue) → others ≡ forms → n ≡ m →
@@ -69,12 +63,6 @@ placed_as_new old next section seed word v form forms t number others new t_is n
     same =
         (λ i. record { rows = next.rows; forms = forms_is i; places = next.places })
         ∙ ap (λ (found : FoundValue). placed_with_form found form) here
-
--- the form of an action that is the section's is a new one
-pub new_form_of : (m other : ModuleValue) (seed word : ℕ) (v : RowValue) (form : FormValue) → other ≡ m → IsForm form →
-    IsFormFrom other seed word v form → IsNewForm m seed word v form
-new_form_of m other seed word v form same is_form from =
-    record { is_form = is_form; from = subst (λ (n : ModuleValue). IsFormFrom n seed word v form) same from }
 
 -- forms that are none of the same module
 pub others_in : (forms others : List FormValue) (m n : ModuleValue) → others ≡ forms → n ≡ m → AreOfOthers others n → AreOfOthers forms m

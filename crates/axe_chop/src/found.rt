@@ -12,7 +12,7 @@ ghost use Rattle.axe_chop.specs.Stages.{IsActionLike};
 ghost use Rattle.axe_chop.specs.Searches.{FindsKnown, IsPlacedIn, found_value};
 
 use crate::section::Section;
-use axe_iso::{Form, form_of, matches};
+use axe_iso::{Form, matches};
 use axe_matrix::{Matrix, Refusal, Row};
 use axe_spin::Module;
 use std::alloc::Global;
@@ -92,9 +92,8 @@ impl Found {
             (λ _. self.new.basis ≡ record self.old.basis { rows = self.new.basis.rows }) result }
         ensures well_formed { Answers None (λ _. IsMatrix self.new.basis) result }
     {
-        let form = form_of(alloc, section.action(), seed, word, vector)?;
+        let (form, rows) = section.into_form(alloc, seed, word, vector)?;
         let number = self.forms.len();
-        let rows = section.lift(alloc, form.basis().copy(alloc)?)?;
         self.append_place(rows, number)?;
         self.forms.push(form)?;
         Ok(())

@@ -1,17 +1,21 @@
 //! Sections of a module while its composition series is looked for.
 
-ghost use Rattle.std.specs.Prelude.{◌≡◌, ◌+◌, ◌≤◌, ◌++◌, length, None, IfOk};
+ghost use Rattle.std.specs.Prelude.{◌≡◌, ℕ, ◌+◌, ◌≤◌, ◌++◌, length, None, IfOk};
 ghost use Rattle.axe_row.specs.Refusals.{Answers};
 ghost use Rattle.axe_matrix.specs.Limits.{most_rows};
 ghost use Rattle.axe_matrix.specs.Matrices.{IsMatrix};
 ghost use Rattle.axe_norton.specs.Spaces.{IsProperSubmodule};
+ghost use Rattle.axe_norton.specs.Verdicts.{Decides};
+ghost use Rattle.axe_norton.specs.declared.verdicts.Verdict.TheVariants.{Irreducible};
+ghost use Rattle.axe_iso.specs.Forms.{IsForm, IsFormFrom};
 ghost use Rattle.axe_series.specs.Sections.{whole_section, lifted_rows, IsCut};
 ghost use Rattle.axe_chop.specs.Stages.{IsSection, IsRowsLike};
 ghost use Rattle.axe_chop.specs.Kept.{acting_module};
 
 use crate::lifted::LiftedRows;
 use axe_action::{Split, split_by_submodule};
-use axe_matrix::{Matrix, Refusal};
+use axe_iso::{Form, form_of, form_of_owned};
+use axe_matrix::{Matrix, Refusal, Row};
 use axe_spin::Module;
 use std::alloc::Global;
 use std::marker::Model;
@@ -89,6 +93,27 @@ impl<'a> Section<'a> {
         rows.lift(alloc, coordinates)
     }
 
+    /// The standard form of the action on an irreducible section, by the vector that a word of a seed decided it by, and
+    /// the vectors of the module that have the rows of its basis as coordinates. The action is taken apart.
+    pub(crate) fn into_form(
+        self,
+        alloc: Global,
+        seed: u64,
+        word: u32,
+        vector: &Row,
+    ) -> Result<(Form, Matrix), Refusal>
+        requires decided { (words : ℕ) × Decides self.action seed words (Irreducible word vector.now) }
+        ensures form { Answers None (λ parts. IsFormFrom self.entry.action seed word vector.now parts.0) result }
+        ensures lifted { Answers None (λ parts. parts.1 ≡ lifted_rows self.entry parts.0.basis) result }
+        ensures of_section { IsSection self.entry }
+        ensures well_formed { IfOk result (λ parts. IsForm parts.0 × IsMatrix parts.1) }
+    {
+        let Section { action, rows } = self;
+        let form = action.into_form(alloc, seed, word, vector)?;
+        let lifted = rows.lift(alloc, form.basis().copy(alloc)?)?;
+        Ok((form, lifted))
+    }
+
     /// The two sections into which a submodule cuts the section: first the submodule's, then the quotient by it. The
     /// rows of `space` are a basis of the submodule, which is neither zero nor everything. The action on the section is
     /// taken apart, and gone before rows are lifted.
@@ -132,6 +157,18 @@ impl<'a> Action<'a> {
         match self {
             Action::Lent(module) => module,
             Action::Owned(module) => module,
+        }
+    }
+
+    /// The standard form of the module, which a word of a seed showed to be irreducible, by a vector.
+    fn into_form(self, alloc: Global, seed: u64, word: u32, vector: &Row) -> Result<Form, Refusal>
+        requires { (words : ℕ) × Decides (acting_module self) seed words (Irreducible word vector.now) }
+        ensures form { Answers None (IsFormFrom (acting_module self.entry) seed word vector.now) result }
+        ensures well_formed { IfOk result IsForm }
+    {
+        match self {
+            Action::Lent(module) => form_of(alloc, module, seed, word, vector),
+            Action::Owned(module) => form_of_owned(alloc, module, seed, word, vector),
         }
     }
 

@@ -1,0 +1,43 @@
+use Rattle.std.proofs.Common.{◌≡◌, ℕ, sym, ap, subst, ◌∙◌}
+use Rattle.axe_matrix.specs.Matrices.{matrix_product}
+use Rattle.axe_spin.specs.Modules.{ModuleValue}
+use Rattle.axe_norton.specs.Verdicts.{Decides}
+use Rattle.axe_norton.specs.declared.verdicts.Verdict.TheVariants.{Irreducible}
+use Rattle.axe_iso.specs.Forms.{IsFormFrom}
+use Rattle.axe_series.specs.Sections.{SectionValue}
+use Rattle.axe_chop.specs.Kept.{acting_module}
+use Rattle.axe_chop.specs.Searches.{IsLift}
+use Rattle.axe_chop.proofs.Placing.{form_lift}
+use Rattle.axe_chop.proofs.section.Section.into_form.Goals as goal
+
+pub into_form-requires : goal.into_form-requires
+into_form-requires c =
+    let same : acting_module c.self.inside.action ≡ c.args.self.action = ap (λ (s : SectionValue). s.action) c.self.view_is in
+    subst (λ (m : ModuleValue). (words : ℕ) × Decides m c.args.seed words (Irreducible c.args.word c.args.vector.now)) (sym same) c.requires.decided
+
+pub lift-requires-clause-field : goal.lift-requires-clause-field
+lift-requires-clause-field c =
+    let lift : IsLift (acting_module c.self.inside.action) c.in_ok-copy.field-0 =
+    subst (IsLift (acting_module c.self.inside.action)) (sym (c.in_ok-copy.ensures.copied ∙ c.basis.ensures.value))
+    (form_lift (acting_module c.self.inside.action) c.args.seed c.args.word c.args.vector.now c.in_ok-form.form c.in_ok-form.ensures.form) in
+    lift.field ∙ sym c.self.invariant.field
+
+pub lift-requires-clause-fits : goal.lift-requires-clause-fits
+lift-requires-clause-fits c =
+    let lift : IsLift (acting_module c.self.inside.action) c.in_ok-copy.field-0 =
+    subst (IsLift (acting_module c.self.inside.action)) (sym (c.in_ok-copy.ensures.copied ∙ c.basis.ensures.value))
+    (form_lift (acting_module c.self.inside.action) c.args.seed c.args.word c.args.vector.now c.in_ok-form.form c.in_ok-form.ensures.form) in
+    lift.columns ∙ sym c.self.invariant.count
+
+pub returns-clause-form : goal.returns-clause-form
+returns-clause-form c =
+    let same : acting_module c.self.inside.action ≡ c.args.self.action = ap (λ (s : SectionValue). s.action) c.self.view_is in
+    subst (λ (m : ModuleValue). IsFormFrom m c.args.seed c.args.word c.args.vector.now c.in_ok-form.form) same c.in_ok-form.ensures.form
+
+pub returns-clause-lifted : goal.returns-clause-lifted
+returns-clause-lifted c =
+    c.in_ok-lifted.ensures.lifted
+    ∙ (λ i. matrix_product ((c.in_ok-copy.ensures.copied ∙ c.basis.ensures.value) i) (c.self.view_is i).rows)
+
+pub returns-clause-well_formed : goal.returns-clause-well_formed
+returns-clause-well_formed c = (c.in_ok-form.ensures.well_formed, c.in_ok-lifted.ensures.well_formed)
