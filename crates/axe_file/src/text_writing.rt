@@ -19,6 +19,8 @@ pub fn write_text(alloc: Global, matrix: &Matrix) -> Result<Vec<u8>, FileFault>
     ensures memory { IfErr result (λ fault. fault ≡ Memory) }
 {
     let mut text = header_text(alloc, matrix)?;
+    // Room for all lines at once: a text that grows by doubling is there twice while it is copied.
+    text.reserve_exact(length_of_lines(matrix))?;
     let mut digits = vec![in alloc; 0; matrix.cols()]?;
     for index in 0..matrix.rows() {
         spell(matrix.row(index), &mut digits);
@@ -34,6 +36,12 @@ fn header_text(alloc: Global, matrix: &Matrix) -> Result<Vec<u8>, AllocError>
     let (order, rows, columns) = (matrix.field().order(), matrix.rows(), matrix.cols());
     let header = format!(in alloc; "matrix field={order} rows={rows} cols={columns}\n")?;
     Ok(header.into_bytes())
+}
+
+/// How many bytes the lines of the text of a matrix take.
+fn length_of_lines(matrix: &Matrix) -> usize {
+    let columns = matrix.cols();
+    matrix.rows() * (columns + columns.div_ceil(DIGITS_PER_LINE))
 }
 
 /// Writes the digits of the entries of a row into a list of its length.

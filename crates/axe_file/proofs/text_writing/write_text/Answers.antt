@@ -35,4 +35,4 @@ returns-clause-text c =
 
 pub loop-index-init : goal.loop-index-init
 loop-index-init c =
-    (c.in_ok-text.ensures ∙ sym (append-nil (text_header c.args.matrix.now)), omega (arith, c.in_ok-digits.digits.ok.0, c.in_ok-digits.ensures.len))
+    (c.reserve_exact.ensures.items ∙ c.in_ok-text.ensures ∙ sym (append-nil (text_header c.args.matrix.now)), omega (arith, c.in_ok-digits.digits.ok.0, c.in_ok-digits.ensures.len))
