@@ -2,7 +2,7 @@
 
 use crate::tables::{Topic, each_call, is_row, is_still};
 use crate::values::{is_still_module, module_of};
-use axe_iso::{Form, form_of, matches};
+use axe_iso::{Form, form_of, form_of_owned, matches};
 use axe_matrix::Refusal;
 use axe_norton::{At, Verdict, decide, decide_at};
 use axe_spin::Module;
@@ -18,12 +18,14 @@ const SEED: u64 = 1;
 /// - `reducible`: a module that word 0 shows to be reducible, and by which submodule;
 /// - `reducible_at`: the same of the word that is the first generator;
 /// - `form_of`: a module, and the basis of its standard form;
+/// - `form_of_owned`: the same for a module that is given away;
 /// - `matches`: a module, one that is matched with its form, and the isomorphism.
 const DECIDED: &str = "\
 irreducible | 2: 01/11 | 2: 01
 reducible | 2: 10/01 | 2: 01
 reducible_at | 2: 00/01, 2: 11/01 | 2: 01
 form_of | 2: 01/11 | 2: 01/11
+form_of_owned | 2: 01/11 | 2: 01/11
 matches | 2: 01/11 | 2: 11/10 | 2: 01/10
 ";
 
@@ -78,6 +80,21 @@ fn form_by_word_0(rt: &impl Abort, alloc: Global, module: &Module) -> Result<For
     }
 }
 
+/// The same form of a module that is given away.
+fn owned_form_by_word_0(
+    rt: &impl Abort,
+    alloc: Global,
+    module: Module,
+) -> Result<Form, TableFault> {
+    match decide(alloc, &module, SEED, 0)? {
+        Verdict::Irreducible { word, vector } => {
+            Ok(form_of_owned(alloc, module, SEED, word, &vector)?)
+        }
+        Verdict::Reducible(_) => panic!(rt; "a reducible module"),
+        Verdict::Undecided => panic!(rt; "a module that word 0 leaves open"),
+    }
+}
+
 fn decides(rt: &impl Abort, alloc: Global, call: &str, line: &str) -> Result<bool, TableFault> {
     let (text, wanted) = two_fields(line)?;
     let module = module_of(alloc, text)?;
@@ -94,6 +111,12 @@ fn forms(rt: &impl Abort, alloc: Global, line: &str) -> Result<bool, TableFault>
     let module = module_of(alloc, text)?;
     let form = form_by_word_0(rt, alloc, &module)?;
     Ok(is_still(alloc, form.basis(), wanted)? && is_still_module(alloc, &module, text)?)
+}
+
+fn owned_forms(rt: &impl Abort, alloc: Global, line: &str) -> Result<bool, TableFault> {
+    let (text, wanted) = two_fields(line)?;
+    let form = owned_form_by_word_0(rt, alloc, module_of(alloc, text)?)?;
+    is_still(alloc, form.basis(), wanted)
 }
 
 fn matches_form(rt: &impl Abort, alloc: Global, line: &str) -> Result<bool, TableFault> {
@@ -117,6 +140,7 @@ pub(crate) fn answers(
 ) -> Result<bool, TableFault> {
     match call {
         "form_of" => forms(rt, alloc, line),
+        "form_of_owned" => owned_forms(rt, alloc, line),
         "matches" => matches_form(rt, alloc, line),
         _ => decides(rt, alloc, call, line),
     }

@@ -2,7 +2,9 @@
 
 use crate::tables::{Topic, each_call, is_matrix, is_still};
 use crate::values::{assert_independent, is_module, is_still_module, module_of};
-use axe_action::{basis_action, conjugate, dual, extend_basis, quotient_action, sub_action};
+use axe_action::{
+    basis_action, change_basis, conjugate, dual, extend_basis, quotient_action, sub_action,
+};
 use axe_matrix::{Matrix, Refusal};
 use axe_spin::{Module, generate, standard_basis, standard_rows};
 use axe_test_values::{TableFault, matrix_of, three_fields};
@@ -26,6 +28,7 @@ sub_action | 2: 01/10 | 2: 11 | 2: 1
 basis_action | 2: 11/10 | 2: 01/10 | 2: 01/11
 quotient_action | 2: 01/10 | 2: 11 | 2: 1
 conjugate | 2: 010/100/001, 2: 010/001/100 | 2: 011/101/001 | 2: 010/100/001, 2: 010/110/011
+change_basis | 2: 010/100/001, 2: 010/001/100 | 2: 011/101/001 | 2: 010/100/001, 2: 010/110/011
 dual | 2: 00/01, 2: 11/01 | 2: 00 | 2: 00/01, 2: 10/11
 copy | 2: 010/100/001, 2: 010/001/100 | 2: 0x3 | 2: 010/100/001, 2: 010/001/100
 ";
@@ -79,6 +82,19 @@ fn rows_of(
     }
 }
 
+/// A copy of the module, over rows that are a basis of everything.
+fn changed(
+    rt: &impl Abort,
+    alloc: Global,
+    module: &Module,
+    rows: &Matrix,
+) -> Result<Module, Refusal> {
+    assert_independent(rt, alloc, rows)?;
+    assert!(rt; rows.field().order() == module.field().order());
+    assert!(rt; rows.rows() == module.dim() && rows.cols() == module.dim());
+    change_basis(alloc, module.copy(alloc)?, rows)
+}
+
 /// What a call answers that is given a module and rows, and makes a module.
 fn module_from(
     rt: &impl Abort,
@@ -95,6 +111,7 @@ fn module_from(
         }
         "quotient_action" => quotient_action(alloc, module, rows),
         "conjugate" => conjugate(alloc, module, rows),
+        "change_basis" => changed(rt, alloc, module, rows),
         "dual" => dual(alloc, module),
         _ => module.copy(alloc),
     }

@@ -3,7 +3,8 @@
 use crate::tables::{Topic, each_call};
 use crate::values::{assert_independent, is_module, module_of};
 use axe_action::{
-    annihilator, basis_action, conjugate, dual, extend_basis, quotient_action, sub_action,
+    annihilator, basis_action, change_basis, conjugate, dual, extend_basis, quotient_action,
+    sub_action,
 };
 use axe_matrix::{Matrix, Refusal};
 use axe_spin::Module;
@@ -58,18 +59,34 @@ extend_basis | 2: 011 | 2: 011/100/001
 ";
 
 /// - `conjugate`: a module, a basis, and the module over that basis;
-/// - `conjugate_copy`: the same call with a copy of the module.
+/// - `conjugate_copy`: the same call with a copy of the module;
+/// - `change_basis`: a copy of the module, which is given away, over that basis.
 ///
 /// The symmetric group on three points exchanges the first two coordinates, and moves all three round.
 const CONJUGATES: &str = "\
 conjugate | 2: 010/100/001, 2: 010/001/100 | 2: 011/101/001 | 2: 010/100/001, 2: 010/110/011
 conjugate_copy | 2: 010/100/001, 2: 010/001/100 | 2: 011/101/001 | 2: 010/100/001, 2: 010/110/011
+change_basis | 2: 010/100/001, 2: 010/001/100 | 2: 011/101/001 | 2: 010/100/001, 2: 010/110/011
+change_basis | 2: 11/10 | 2: 01/10 | 2: 01/11
 conjugate | 2: 010/100/001, 2: 010/001/100 | 2: 100/010/110 | the matrix has no inverse
 conjugate | 2: 010/100/001, 2: 010/001/100 | 2: 10/01 | the shapes of the operands do not fit
 conjugate | 2: 010/100/001, 2: 010/001/100 | 2: 100/010 | the shapes of the operands do not fit
 conjugate | 2: 010/100/001, 2: 010/001/100 | 3: 100/010/001 | the operands are over different fields
 conjugate | 2: 010/100/001, 2: 010/001/100 | 3: 10/01 | the operands are over different fields
 ";
+
+/// A copy of the module, over rows that are a basis of everything.
+fn changed(
+    rt: &impl Abort,
+    alloc: Global,
+    module: &Module,
+    rows: &Matrix,
+) -> Result<Module, Refusal> {
+    assert_independent(rt, alloc, rows)?;
+    assert!(rt; rows.field().order() == module.field().order());
+    assert!(rt; rows.rows() == module.dim() && rows.cols() == module.dim());
+    change_basis(alloc, module.copy(alloc)?, rows)
+}
 
 /// What a call answers that is given a module and rows.
 fn module_from(
@@ -87,6 +104,7 @@ fn module_from(
             basis_action(alloc, module, rows)
         }
         "conjugate_copy" => conjugate(alloc, &module.copy(alloc)?, rows),
+        "change_basis" => changed(rt, alloc, module, rows),
         _ => conjugate(alloc, module, rows),
     }
 }
@@ -114,7 +132,7 @@ fn answers_of_module(
     let module = module_of(alloc, module)?;
     match call {
         "sub_action" | "quotient_action" | "basis_action" => acts(rt, alloc, call, &module, line),
-        "conjugate" | "conjugate_copy" => acts(rt, alloc, call, &module, line),
+        "conjugate" | "conjugate_copy" | "change_basis" => acts(rt, alloc, call, &module, line),
         "dual" => is_module(alloc, dual(alloc, &module), one_field(line)?),
         _ => Err(TableFault::NotWritten),
     }

@@ -2,7 +2,7 @@
 
 use crate::tables::{Topic, each_call};
 use crate::values::{is_module, module_of};
-use axe_iso::{Form, form_of, matches};
+use axe_iso::{Form, form_of, form_of_owned, matches};
 use axe_matrix::Matrix;
 use axe_norton::{Verdict, decide};
 use axe_spin::Module;
@@ -14,12 +14,14 @@ use std::process::Abort;
 const SEED: u64 = 1;
 
 /// An irreducible module, and its form from the first null point of word 0, the last unit vector: the matrices and the
-/// basis.
+/// basis; `form_of_owned` is given the module away.
 const FORMS: &str = "\
 form_of | 2: 01/11 | 2: 01/11 | 2: 01/11
 # 01 goes to 10 under the first generator.
 form_of | 2: 01/10, 2: 01/11 | 2: 01/10, 2: 11/10 | 2: 01/10
 form_of | 4: 3 | 4: 3 | 4: 1
+form_of_owned | 2: 01/11 | 2: 01/11 | 2: 01/11
+form_of_owned | 2: 01/10, 2: 01/11 | 2: 01/10, 2: 11/10 | 2: 01/10
 ";
 
 /// An irreducible module, a module that is matched with its form, and the isomorphism.
@@ -57,6 +59,21 @@ fn form_by_word_0(rt: &impl Abort, alloc: Global, module: &Module) -> Result<For
     match decide(alloc, module, SEED, 0)? {
         Verdict::Irreducible { word, vector } => {
             Ok(form_of(alloc, module, SEED, word, &vector)?)
+        }
+        Verdict::Reducible(_) => panic!(rt; "a reducible module"),
+        Verdict::Undecided => panic!(rt; "a module that word 0 leaves open"),
+    }
+}
+
+/// The same form of a module that is given away.
+fn owned_form_by_word_0(
+    rt: &impl Abort,
+    alloc: Global,
+    module: Module,
+) -> Result<Form, TableFault> {
+    match decide(alloc, &module, SEED, 0)? {
+        Verdict::Irreducible { word, vector } => {
+            Ok(form_of_owned(alloc, module, SEED, word, &vector)?)
         }
         Verdict::Reducible(_) => panic!(rt; "a reducible module"),
         Verdict::Undecided => panic!(rt; "a module that word 0 leaves open"),
@@ -103,7 +120,11 @@ pub(crate) fn answers(
     line: &str,
 ) -> Result<bool, TableFault> {
     let (module, line) = first_field(line)?;
-    let form = form_by_word_0(rt, alloc, &module_of(alloc, module)?)?;
+    let module = module_of(alloc, module)?;
+    if call == "form_of_owned" {
+        return is_form(alloc, &owned_form_by_word_0(rt, alloc, module)?, line);
+    }
+    let form = form_by_word_0(rt, alloc, &module)?;
     match call {
         "form_of" => is_form(alloc, &form, line),
         "matches" => matches_form(rt, alloc, &form, line),
