@@ -1,20 +1,11 @@
--- Rows taken from matrices beside one another, and matrices made of such rows.
+-- Matrices beside one another that are made of rows.
 use Rattle.std.proofs.Common.{◌≡◌, ℕ, ◌+◌, ◌<◌, List, [], ◌∷◌, ◌++◌, length, get_or, map, sym, ap, ap₂, ◌∙◌, arith}
 use Rattle.std.proofs.lemmas.List.{ext_get_or, get_or-map, length-map, map-append}
-use Rattle.axe_row.specs.Rows.{RowValue}
-use Rattle.axe_matrix.specs.Matrices.{MatrixValue, IsMatrix, row_of}
+use Rattle.axe_matrix.specs.Matrices.{MatrixValue, IsMatrix}
 use Rattle.axe_reduction.specs.Augmented.{AugmentedValue, AreBeside, augmented, rows_beside}
 use Rattle.axe_reduction.specs.AugmentedRows.{whole}
 use Rattle.axe_reduction.specs.declared.augmented_row.AugmentedRow.{AugmentedRow}
-use Rattle.axe_reduction.proofs.BesideLaws.{length-rows_beside, row-rows_beside, same_augmented, view-count}
-
--- a row of each
-pub row_beside : (a b : MatrixValue) (v : AugmentedValue) (i : ℕ) (left right : RowValue) → augmented a b ≡ v → i < length v.rows →
-    left ≡ row_of a i → right ≡ row_of b i → left.entries ++ right.entries ≡ get_or v.rows i []
-row_beside a b v i left right view_is below left_is right_is =
-    ap₂ (λ (x y : RowValue). x.entries ++ y.entries) left_is right_is
-    ∙ sym (row-rows_beside a.rows b.rows i (let count = view-count a b v view_is in omega (arith, count)))
-    ∙ ap (λ (x : AugmentedValue). get_or x.rows i []) view_is
+use Rattle.axe_reduction.proofs.BesideLaws.{length-rows_beside, row-rows_beside, same_augmented}
 
 -- two matrices of the parts of rows, like an augmented matrix
 pub record AreOfRows (v : AugmentedValue) (rows : List AugmentedRow) (a b : MatrixValue) : Type 0 where

@@ -169,12 +169,6 @@ cleared_over a pivots reduced first row over cleared =
     ≡ less_rows (gf o) (length reduced) (λ t. get_or pivots t 0) (matrix_of (number_field o) (map whole reduced)) (vector_of (number_field o) (whole first)))
     over.left_field cleared)
 
-pub reduced_like_at : (a : AugmentedValue) (n : ℕ) (r : GrowingReduction) (row : AugmentedRow) (pivots : List ℕ) (reduced : List AugmentedRow) →
-    IsReductionOfFirst a n r → IsRowOf a row → pivots ≡ r.pivots.items → reduced ≡ r.reduced.items → AreReducedLike row pivots reduced
-reduced_like_at a n r row pivots reduced h over pivots_are reduced_are =
-    subst (λ l. AreReducedLike row l reduced) (sym pivots_are)
-    (subst (λ l. AreReducedLike row r.pivots.items l) (sym reduced_are) (reduced_like a n r row h over))
-
 pub cleared_at : (r : GrowingReduction) (first row : AugmentedRow) (pivots : List ℕ) (reduced : List AugmentedRow) → pivots ≡ r.pivots.items →
     reduced ≡ r.reduced.items → IsClearedBy pivots reduced first row → IsClearedBy r.pivots.items r.reduced.items first row
 cleared_at r first row pivots reduced pivots_are reduced_are h =

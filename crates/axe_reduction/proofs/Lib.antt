@@ -10,6 +10,7 @@ pub mod GrowingLaws
 pub mod InsertedRows
 pub mod JoinedLaws
 pub mod JoinedRows
+pub mod MovedRows
 pub mod ReductionLaws
 pub mod Reordered
 pub mod RowReduction

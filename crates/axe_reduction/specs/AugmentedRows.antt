@@ -8,7 +8,7 @@ use Rattle.axe_field.specs.NumberFields.{number_field, gf}
 use Rattle.axe_field.specs.Order.{Order}
 use Rattle.axe_row.specs.Operations.{row_with_multiple, multiple_row}
 use Rattle.axe_row.specs.Rows.{IsRow}
-use Rattle.axe_reduction.specs.Augmented.{AugmentedValue}
+use Rattle.axe_reduction.specs.Augmented.{AugmentedValue, IsAugmented}
 use Rattle.axe_reduction.specs.Forms.{AreReducedRows, AreReduced, less_rows}
 use Rattle.axe_reduction.specs.declared.augmented_row.AugmentedRow.{AugmentedRow}
 use Rattle.axe_reduction.specs.declared.few.GrowingReduction.{GrowingReduction}
@@ -29,6 +29,11 @@ pub record IsRowOver (order : Order) (left all : ℕ) (row : AugmentedRow) : Typ
 -- a row of the augmented matrix a, or of one like it
 abbrev pub IsRowOf : AugmentedValue → AugmentedRow → Type 0
 IsRowOf a row = IsRowOver a.order a.left a.cols row
+
+-- the rows of the augmented matrix a, in their order
+pub record AreRowsInOrder (a : AugmentedValue) (rows : List AugmentedRow) : Type 0 where
+  pub entries : map whole rows ≡ a.rows
+  pub alike : All (IsRowOf a) rows
 
 -- a row over the field of another, with its columns
 abbrev pub IsRowLike : AugmentedRow → AugmentedRow → Type 0
@@ -92,3 +97,9 @@ pub record IsReductionOfFirst (a : AugmentedValue) (n : ℕ) (r : GrowingReducti
   pub rest_over : All (IsRowOf a) r.rest.items
   pub reduces : AreReduced (number_field a.order) a.left a.cols (listed n (λ i. get_or a.rows i [])) r.pivots.items
       (map whole r.reduced.items) (map whole r.rest.items)
+
+-- what reduces the first rows of an augmented matrix before, of which this row is the next, reduces these and it after
+abbrev pub GoesOnBy : AugmentedRow → GrowingReduction → GrowingReduction → Type 0
+GoesOnBy row before after =
+    (a : AugmentedValue) (n : ℕ) → IsAugmented a → IsReductionOfFirst a n before → whole row ≡ get_or a.rows n [] →
+    IsRowOf a row → IsReductionOfFirst a (n + 1) after

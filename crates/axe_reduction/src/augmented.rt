@@ -7,7 +7,7 @@ ghost use Rattle.axe_matrix.specs.Limits.{most_rows, most_columns};
 ghost use Rattle.axe_matrix.specs.Matrices.{IsMatrix};
 ghost use Rattle.axe_reduction.specs.Augmented.{IsAugmented, AreAlike, augmented, right_part};
 ghost use Rattle.axe_reduction.specs.Augmented.{some_rows, entries_at_columns, with_rows, with_product};
-ghost use Rattle.axe_reduction.specs.AugmentedRows.{IsRowOf, whole};
+ghost use Rattle.axe_reduction.specs.AugmentedRows.{IsRowOf, AreRowsInOrder, whole};
 
 use crate::augmented_row::AugmentedRow;
 use axe_field::Field;
@@ -136,15 +136,26 @@ impl Augmented {
         Ok(Augmented { left, right })
     }
 
-    /// A copy of a row.
-    pub(crate) fn row_copy(&self, alloc: Global, row: usize) -> Result<AugmentedRow, Refusal>
-        requires { row < length self.now.rows }
-        ensures copied { Answers None (λ copy. whole copy ≡ get_or self.now.rows row []) result }
-        ensures alike { IfOk result (IsRowOf self.now) }
+    /// The same columns over the same field, without a row. It takes no memory.
+    pub(crate) fn without_rows(&self, alloc: Global) -> Augmented
+        ensures { result ≡ record self.now { rows = [] } }
     {
-        let left = self.left.row(row).copy(alloc)?;
-        let right = self.right.row(row).copy(alloc)?;
-        Ok(AugmentedRow { left, right })
+        Augmented {
+            left: Matrix::empty(alloc, *self.left.field(), self.left.cols()),
+            right: Matrix::empty(alloc, *self.right.field(), self.right.cols()),
+        }
+    }
+
+    /// The rows themselves, in their order. They move, and none is copied.
+    pub(crate) fn into_rows(self, alloc: Global) -> Result<Vec<AugmentedRow>, Refusal>
+        ensures { Answers None (λ rows. AreRowsInOrder self rows.items) result }
+    {
+        let Augmented { left, right } = self;
+        let mut rows = Vec::with_capacity(alloc, left.rows())?;
+        for (left, right) in left.into_rows().into_iter().zip(right.into_rows()) {
+            rows.push(AugmentedRow { left, right })?;
+        }
+        Ok(rows)
     }
 
     /// The augmented matrix of some rows over the field of this one, with its columns.

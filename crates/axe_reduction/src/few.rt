@@ -1,16 +1,16 @@
 //! Reductions of a few rows, one after the other.
 
-ghost use Rattle.std.specs.Prelude.{◌≡◌, ◌+◌, ◌<◌, None, length, All};
+ghost use Rattle.std.specs.Prelude.{◌≡◌, None, length, All};
 ghost use Rattle.axe_lane.specs.Entries.{IsFirstNonzero};
 ghost use Rattle.axe_row.specs.Refusals.{Answers};
 ghost use Rattle.axe_reduction.specs.AugmentedRows.{IsRowLike, AreReducedLike, IsClearedBy};
-ghost use Rattle.axe_reduction.specs.AugmentedRows.{count_below, IsInsertedAt, IsReductionOfFirst};
+ghost use Rattle.axe_reduction.specs.AugmentedRows.{count_below, IsInsertedAt, GoesOnBy};
 ghost use Rattle.axe_reduction.specs.Reductions.{IsReductionOf};
 
 use crate::augmented::Augmented;
 use crate::augmented_row::{AugmentedRow, cancel_in_each};
 use crate::reduction::Reduction;
-use axe_matrix::Refusal;
+use axe_matrix::{MAX_ROWS, Refusal};
 use std::alloc::Global;
 
 /// The reduction of the first of a few rows, which grows row by row.
@@ -26,15 +26,14 @@ struct GrowingReduction {
 }
 
 impl GrowingReduction {
-    /// Goes on from the rows before an index to the row there.
-    fn insert(&mut self, alloc: Global, rows: &Augmented, index: usize) -> Result<(), Refusal>
-        requires index { index < length rows.now.rows }
-        requires before { IsReductionOfFirst rows.now index self.old }
-        ensures { Answers None (λ _. IsReductionOfFirst rows.now (index + 1) self.new) result }
+    /// Goes on to one more row: what reduces the first rows of an augmented matrix, of which this row is the next, then
+    /// reduces these and this one.
+    fn insert(&mut self, row: AugmentedRow) -> Result<(), Refusal>
+        requires row { IsRowLike row row }
+        requires reduced { AreReducedLike row self.old.pivots.items self.old.reduced.items }
+        ensures { Answers None (λ _. GoesOnBy row self.old self.new) result }
     {
-        // `rows` is called for what it ensures beside the number: that this is an augmented matrix.
-        prove!(index < rows.rows());
-        let mut row = rows.row_copy(alloc, index)?;
+        let mut row = row;
         clear(&mut row, &self.pivots, &self.reduced);
         let Some(pivot) = row.left.first_nonzero() else {
             self.rest.push(row)?;
@@ -80,25 +79,28 @@ fn clear(row: &mut AugmentedRow, pivots: &[usize], reduced: &[AugmentedRow])
     }
 }
 
-/// The reduction of an augmented matrix, row by row.
-pub(crate) fn reduction_of_few(alloc: Global, rows: &Augmented) -> Result<Reduction, Refusal>
-    ensures { Answers None (IsReductionOf rows.now) result }
+/// The reduction of an augmented matrix, row by row. The rows move, and none is copied.
+pub(crate) fn reduction_of_few(alloc: Global, rows: Augmented) -> Result<Reduction, Refusal>
+    ensures { Answers None (IsReductionOf rows) result }
 {
+    // `rows` is called for what it ensures beside the number: that this is an augmented matrix.
+    prove!(rows.rows() <= MAX_ROWS);
+    let shape = rows.without_rows(alloc);
     let mut growing = GrowingReduction {
         reduced: Vec::new(alloc),
         pivots: Vec::new(alloc),
         rest: Vec::new(alloc),
     };
-    for index in 0..rows.rows() {
-        growing.insert(alloc, rows, index)?;
+    for row in rows.into_rows(alloc)? {
+        growing.insert(row)?;
     }
     let GrowingReduction {
         reduced,
         pivots,
         rest,
     } = growing;
-    let reduced = rows.with_rows_of(alloc, reduced)?;
-    let rest = rows.with_rows_of(alloc, rest)?;
+    let reduced = shape.with_rows_of(alloc, reduced)?;
+    let rest = shape.with_rows_of(alloc, rest)?;
     Ok(Reduction {
         reduced,
         pivots,

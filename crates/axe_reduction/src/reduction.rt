@@ -79,7 +79,7 @@ pub(crate) fn reduction_of(alloc: Global, rows: Augmented) -> Result<Reduction, 
     ensures { Answers None (IsReductionOf rows) result }
 {
     if rows.rows() <= FEW_ROWS {
-        return reduction_of_few(alloc, &rows);
+        return reduction_of_few(alloc, rows);
     }
     let half = rows.rows() / 2;
     let (first, second) = rows.split(half)?;

@@ -15,12 +15,12 @@ reduction_of-requires t c =
       arith,
       count,
       c.if-rows-le-FEW_ROWS.false,
-      c.rows-2.ensures.count,
+      c.rows.ensures.count,
       c.rows-half.ensures.count,
       c.requires,
       c.decreases,
     ) in
-    (falls, omega (arith, count, c.if-rows-le-FEW_ROWS.false, c.rows-2.ensures.count, c.rows-half.ensures.count, c.requires))
+    (falls, omega (arith, count, c.if-rows-le-FEW_ROWS.false, c.rows.ensures.count, c.rows-half.ensures.count, c.requires))
 
 pub reduction_of-requires-2 : goal.reduction_of-requires-2
 reduction_of-requires-2 t c =
@@ -32,7 +32,7 @@ reduction_of-requires-2 t c =
       arith,
       count,
       c.if-rows-le-FEW_ROWS.false,
-      c.rows-2.ensures.count,
+      c.rows.ensures.count,
       c.rows-half.ensures.count,
       c.requires,
       c.decreases,
@@ -42,7 +42,7 @@ reduction_of-requires-2 t c =
         arith,
         count,
         c.if-rows-le-FEW_ROWS.false,
-        c.rows-2.ensures.count,
+        c.rows.ensures.count,
         c.rows-half.ensures.count,
         c.requires,
       ),
@@ -52,7 +52,7 @@ pub join-requires-clause-room : goal.join-requires-clause-room
 join-requires-clause-room t c =
     (both_fit _ (c.rows-half.result / 2) (length c.args.rows.rows - c.rows-half.result / 2) _ _ _ _ c.in_ok-first-2.first.pivots.items
     c.in_ok-first-2.first.reduced _ _ _ _
-    (omega (arith, c.rows-half.ensures.count, c.rows-2.ensures.well_formed.rows_fit))
+    (omega (arith, c.rows-half.ensures.count, c.rows.ensures.well_formed.rows_fit))
     c.in_ok-first.ensures.first c.in_ok-first.ensures.after c.in_ok-second.ensures.cleared c.in_ok-first-2.ensures.count
     c.in_ok-second-2.ensures.count).0
 
@@ -60,7 +60,7 @@ pub join-requires-clause-rest_room : goal.join-requires-clause-rest_room
 join-requires-clause-rest_room t c =
     (both_fit _ (c.rows-half.result / 2) (length c.args.rows.rows - c.rows-half.result / 2) _ _ _ _ c.in_ok-first-2.first.pivots.items
     c.in_ok-first-2.first.reduced _ _ _ _
-    (omega (arith, c.rows-half.ensures.count, c.rows-2.ensures.well_formed.rows_fit))
+    (omega (arith, c.rows-half.ensures.count, c.rows.ensures.well_formed.rows_fit))
     c.in_ok-first.ensures.first c.in_ok-first.ensures.after c.in_ok-second.ensures.cleared c.in_ok-first-2.ensures.count
     c.in_ok-second-2.ensures.count).1
 
@@ -68,7 +68,7 @@ pub returns : goal.returns
 returns t c =
     answers_more c.join.result _ _ c.join.ensures (λ r join.
     join_reduces c.args.rows (c.rows-half.result / 2) (length c.args.rows.rows - c.rows-half.result / 2) c.in_ok-first-2.first
-    c.in_ok-second-2.second r c.rows-2.ensures.well_formed
+    c.in_ok-second-2.second r c.rows.ensures.well_formed
     (omega (arith, c.rows-half.ensures.count))
     (subst (λ (a : AugmentedValue). IsReductionOf a c.in_ok-first-2.first) c.in_ok-first.ensures.first
     c.in_ok-first-2.ensures)
