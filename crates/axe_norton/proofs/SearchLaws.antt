@@ -38,7 +38,7 @@ use Rattle.axe_action.specs.Actions.{dual_module, IsAnnihilatorMatrix}
 use Rattle.axe_word.specs.PointsOfMatrix.{points_of, IsReduced}
 use Rattle.axe_word.proofs.PointSums.{last_row_is_first_point}
 use Rattle.axe_norton.specs.Spaces.{IsIrreducibleModule, GeneratesModule, GeneratesProper, one_row, point_of, HasFewPoints, IsTried, TriedGenerate, TransposedPoint, TransposeGenerates, IsTransposedSpace}
-use Rattle.axe_norton.specs.Searches.{IsReducedIn, IsSquareIn, FindsProper, FindsFirstOf, FindsFirst, IsTransposedPointRow}
+use Rattle.axe_norton.specs.Searches.{IsReducedIn, IsSquareIn, FindsProper, IsProperSpaceOf, FindsFirstOf, FindsFirst, IsTransposedPointRow}
 use Rattle.axe_norton.proofs.PointLaws.{point_is, some_point}
 use Rattle.axe_norton.proofs.TruthLaws.{rows_over_field}
 use mathlib.Core.Logic.{inl, inr}
@@ -88,12 +88,20 @@ module _ (m : ModuleValue) (v : List ℕ) (space : EchelonValue) (is : IsGenerat
   everything_generated full =
       generates_everything (number_field m.order) m.dim m.generators v space.rows over_space is.generated independent_space full
 
-  pub proper_generated : (basis : MatrixValue) → IsReducedMatrix space basis → IsMatrix basis → length space.rows ≢ m.dim → GeneratesProper m v basis
-  proper_generated basis reduced well_formed less = record {
-    generated = generated_matrix m (one_row m v) basis space is reduced;
-    well_formed = well_formed;
+  pub proper_generated : length space.rows ≢ m.dim → IsProperSpaceOf m v space
+  proper_generated less = record {
+    generated = is;
     proper = λ all. less (everything_is_full (number_field m.order) m.dim m.generators v space.rows over_space is.generated independent_space all);
   }
+
+-- and this is the reduced basis of that space
+pub proper_reduced : (m : ModuleValue) (v : List ℕ) (space : EchelonValue) (basis : MatrixValue) → IsProperSpaceOf m v space → IsReducedMatrix space basis →
+    IsMatrix basis → GeneratesProper m v basis
+proper_reduced m v space basis proper reduced well_formed = record {
+  generated = generated_matrix m (one_row m v) basis space proper.generated reduced;
+  well_formed = well_formed;
+  proper = proper.proper;
+}
 
 -- ---- points of a space in a module
 

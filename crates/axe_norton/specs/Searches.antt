@@ -1,10 +1,12 @@
 -- What the steps of the test find: proper spaces that points generate, or none.
-use Rattle.std.specs.Prelude.{◌≡◌, ℕ, ◌<◌, List, [], length, get_or, Option, Some, None}
+use Rattle.std.specs.Prelude.{◌≡◌, ℕ, ◌<◌, List, [], ◌∷◌, length, get_or, Option, Some, None}
 use Rattle.axe_algebra.specs.Lists.{IsSquareOver}
 use Rattle.axe_field.specs.NumberFields.{number_field}
 use Rattle.axe_row.specs.Rows.{RowValue}
 use Rattle.axe_matrix.specs.Matrices.{MatrixValue}
+use Rattle.axe_echelon.specs.Echelons.{EchelonValue}
 use Rattle.axe_spin.specs.Modules.{ModuleValue}
+use Rattle.axe_spin.specs.Spinning.{IsGeneratedSpace}
 use Rattle.axe_word.specs.PointsOfMatrix.{IsReduced}
 use Rattle.axe_norton.specs.Spaces.{GeneratesModule, GeneratesProper, TriedGenerate, IsFirstProperSpace, point_of}
 use Rattle.axe_norton.specs.Spaces.{TransposedPoint, TransposeGenerates, IsTransposedSpace}
@@ -25,6 +27,16 @@ pub record IsSquareIn (m : ModuleValue) (matrix : MatrixValue) : Type 0 where
 abbrev pub FindsProper : ModuleValue → List ℕ → Option MatrixValue → Type 0
 FindsProper m v None = GeneratesModule m v
 FindsProper m v (Some space) = GeneratesProper m v space
+
+-- the vector generates a proper space, and this is an echelon form of it
+pub record IsProperSpaceOf (m : ModuleValue) (v : List ℕ) (space : EchelonValue) : Type 0 where
+  pub generated : IsGeneratedSpace m (v ∷ []) space
+  pub proper : ¬ (GeneratesModule m v)
+
+-- the same question, answered by an echelon form of the space
+abbrev pub FindsProperSpace : ModuleValue → List ℕ → Option EchelonValue → Type 0
+FindsProperSpace m v None = GeneratesModule m v
+FindsProperSpace m v (Some space) = IsProperSpaceOf m v space
 
 -- the space is what the first of the vectors that generates a proper space generates
 pub record IsFirstProperOf (m : ModuleValue) (vectors : List (List ℕ)) (space : MatrixValue) : Type 0 where

@@ -10,14 +10,32 @@ ghost use Rattle.axe_reduction.specs.Solutions.{IsInvertibleMatrix};
 ghost use Rattle.axe_word.specs.PointsOfMatrix.{points_of};
 ghost use Rattle.axe_norton.specs.Spaces.{HasFewPoints, IsIrreducibleModule};
 ghost use Rattle.axe_norton.specs.Searches.{IsReducedIn, IsSquareIn, FindsProper, FindsFirstOf, FindsFirst};
+ghost use Rattle.axe_norton.specs.Searches.{FindsProperSpace};
 ghost use Rattle.axe_norton.specs.Searches.{IsTransposedPointRow, FindsTransposed};
 
 use axe_action::{annihilator, dual};
-use axe_echelon::orthogonal_point;
+use axe_echelon::{Subspace, orthogonal_point};
 use axe_matrix::{Matrix, Refusal, Row};
 use axe_spin::{Module, generated_space};
 use axe_word::{Points, first_point};
 use std::alloc::Global;
+
+/// The space that a vector other than zero generates in a module, or `None` where that is everything.
+fn proper_subspace(alloc: Global, module: &Module, vector: Row) -> Result<Option<Subspace>, Refusal>
+    requires field { vector.order ≡ «module».now.order }
+    requires fits { length vector.entries ≡ «module».now.dim }
+    requires nonzero { ¬ (IsZeroVector vector.entries) }
+    ensures { Answers None (FindsProperSpace «module».now vector.entries) result }
+{
+    let mut seed = Matrix::empty(alloc, *module.field(), module.dim());
+    seed.append(vector)?;
+    let space = generated_space(alloc, module, &seed)?;
+    if space.dim() == module.dim() {
+        Ok(None)
+    } else {
+        Ok(Some(space))
+    }
+}
 
 /// The reduced basis of the space that a vector other than zero generates in a module, or `None` where that is
 /// everything.
@@ -31,13 +49,9 @@ pub(crate) fn proper_space(
     requires nonzero { ¬ (IsZeroVector vector.entries) }
     ensures { Answers None (FindsProper «module».now vector.entries) result }
 {
-    let mut seed = Matrix::empty(alloc, *module.field(), module.dim());
-    seed.append(vector)?;
-    let space = generated_space(alloc, module, &seed)?;
-    if space.dim() == module.dim() {
-        Ok(None)
-    } else {
-        Ok(Some(space.into_reduced(alloc)?))
+    match proper_subspace(alloc, module, vector)? {
+        Some(space) => Ok(Some(space.into_reduced(alloc)?)),
+        None => Ok(None),
     }
 }
 
@@ -127,12 +141,14 @@ pub(crate) fn transposed_space(
     // Its memory is free again before the transposed module is made.
     drop(matrix);
     let transposed = dual(alloc, module)?;
-    let generated = proper_space(alloc, &transposed, point)?;
+    let generated = proper_subspace(alloc, &transposed, point)?;
+    // Its memory is free again before the rows of the space are moved into a basis.
     drop(transposed);
-    match generated {
-        Some(space) => Ok(Some(annihilator(alloc, &space)?)),
-        None => Ok(None),
-    }
+    let Some(space) = generated else {
+        return Ok(None);
+    };
+    let basis = space.into_reduced(alloc)?;
+    Ok(Some(annihilator(alloc, &basis)?))
 }
 
 /// The first point of the null space of the transpose of a singular matrix.

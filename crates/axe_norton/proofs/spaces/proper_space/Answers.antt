@@ -1,22 +1,7 @@
-use Rattle.std.proofs.Common.{[], ◌∷◌, sym, ◌∙◌}
-use Rattle.axe_spin.specs.Spinning.{IsGeneratedSpace}
-use Rattle.axe_norton.proofs.SearchLaws.{seed_of_row, seed_accepted, everything_generated, proper_generated}
+use Rattle.axe_norton.proofs.SearchLaws.{proper_reduced}
 use Rattle.axe_norton.proofs.spaces.proper_space.Goals as goal
 
-pub returns-then-dim : goal.returns-then-dim
-returns-then-dim c =
-    let seed = seed_of_row c.args.module.now _ _ c.empty-seed.result c.append.new.self c.args.vector.entries c.field.ensures.order c.dim.ensures.count
-    c.empty-seed.ensures.no_rows c.in_ok-append.ensures.appended in
-    let is : IsGeneratedSpace c.args.module.now (c.args.vector.entries ∷ []) c.in_ok-space.space =
-    seed_accepted c.args.module.now c.args.vector.entries c.append.new.self _ seed c.requires.nonzero c.in_ok-space.ensures in
-    everything_generated c.args.module.now c.args.vector.entries c.in_ok-space.space is
-    (sym c.dim-2.ensures.count ∙ c.if-dim.true ∙ c.dim-3.ensures.count)
-
-pub returns : goal.returns
-returns c =
-    let seed = seed_of_row c.args.module.now _ _ c.empty-seed.result c.append.new.self c.args.vector.entries c.field.ensures.order c.dim.ensures.count
-    c.empty-seed.ensures.no_rows c.in_ok-append.ensures.appended in
-    let is : IsGeneratedSpace c.args.module.now (c.args.vector.entries ∷ []) c.in_ok-space.space =
-    seed_accepted c.args.module.now c.args.vector.entries c.append.new.self _ seed c.requires.nonzero c.in_ok-space.ensures in
-    proper_generated c.args.module.now c.args.vector.entries c.in_ok-space.space is c.in_ok-into_reduced.field-0 c.in_ok-into_reduced.ensures.basis
-    c.in_ok-into_reduced.ensures.matrix_well_formed (λ full. c.if-dim.false (c.dim-2.ensures.count ∙ full ∙ sym c.dim-3.ensures.count))
+pub returns-in_ok-into_reduced-in-Some : goal.returns-in_ok-into_reduced-in-Some
+returns-in_ok-into_reduced-in-Some c =
+    proper_reduced c.args.module.now c.args.vector.entries c.in-Some.space c.in_ok-into_reduced-in-Some.field-0 (rw c.in-Some.is at c.in_ok-space.ensures)
+    c.in_ok-into_reduced-in-Some.ensures.basis c.in_ok-into_reduced-in-Some.ensures.matrix_well_formed
