@@ -28,7 +28,7 @@ use Rattle.axe_norton.specs.Searches.{IsReducedIn, FindsProper, FindsFirst, Find
 use Rattle.axe_norton.proofs.TestedLaws.{IsNullSpaceOver, transposed_over, null_point}
 use Rattle.axe_norton.proofs.TruthLaws.{dual_is_module}
 use Rattle.axe_norton.proofs.OpenLaws.{own_square, value_square}
-use Rattle.axe_norton.proofs.SearchLaws.{everything_generated, proper_generated, point_in, some_point_in, found_of_all, found_of_first, transposed_point_is}
+use Rattle.axe_norton.proofs.SearchLaws.{everything_generated, proper_generated, proper_reduced, point_in, some_point_in, found_of_all, found_of_first, transposed_point_is}
 use Rattle.axe_series.proofs.SomeAnnihilator.{some_annihilator}
 use mathlib.Core.Logic.{inl, inr}
 use mathlib.Core.Path.{refl, sym, subst}
@@ -93,8 +93,8 @@ module _ (m : ModuleValue) (is : IsModule m) where
           by_size (yes full) = (None, everything_generated m v spanned generated_space full)
           by_size (no less) = (
             Some space,
-            proper_generated m v spanned generated_space space
-                (record { field = refl; columns = refl; basis = generated.reduced }) well less,
+            proper_reduced m v spanned space (proper_generated m v spanned generated_space less)
+                (record { field = refl; columns = refl; basis = generated.reduced }) well,
           )
 
   -- the first so many vectors generate everything
