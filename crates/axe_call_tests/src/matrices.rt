@@ -31,7 +31,7 @@ same | 2: 010/100/001 | 2: 010/001/100 | no
 /// - `identity`: the order of a field, how many rows, and the identity;
 /// - `zero`: the order of a field, how many rows and columns, and the matrix of zeros;
 /// - `append`: a matrix, a row, and the matrix with the row below its own;
-/// - `append_matrix`: a matrix, another, and the matrix with the rows of the other below its own;
+/// - `append_rows`, `append_matrix`: a matrix, another, and the matrix with the rows of the other below its own;
 /// - `split`: a matrix, how many rows, the matrix of so many first rows, and that of those after them;
 /// - `reverse`: a matrix, and the matrix with its rows in the opposite order;
 /// - `into_rows`: a matrix, and the matrix into which its rows move one by one;
@@ -42,6 +42,8 @@ identity | 2 | 2 | 2: 10/01
 zero | 2 | 2 | 2 | 2: 00/00
 append | 3: 12 | 3: 01 | 3: 12/01
 append | 3: 0x2 | 3: 21 | 3: 21
+append_rows | 2: 10 | 2: 11/01 | 2: 10/11/01
+append_rows | 3: 12 | 3: 0x2 | 3: 12
 append_matrix | 3: 12 | 3: 01/22 | 3: 12/01/22
 append_matrix | 3: 12 | 3: 0x2 | 3: 12
 split | 3: 12/01/22 | 1 | 3: 12 | 3: 01/22
@@ -171,21 +173,31 @@ fn appends(
 }
 
 /// Puts the rows of a matrix below those of another, which is of the same shape.
-fn append_matrix(rt: &impl Abort, matrix: &mut Matrix, other: Matrix) -> Result<(), Refusal> {
+fn append_matrix(
+    rt: &impl Abort,
+    alloc: Global,
+    call: &str,
+    matrix: &mut Matrix,
+    other: Matrix,
+) -> Result<(), Refusal> {
     assert!(rt; other.field() == matrix.field());
     assert!(rt; other.cols() == matrix.cols());
     assert!(rt; matrix.rows() + other.rows() <= MAX_ROWS);
-    matrix.append_matrix(other)
+    match call {
+        "append_rows" => matrix.append_rows(alloc, &other),
+        _ => matrix.append_matrix(other),
+    }
 }
 
 fn appends_matrix(
     rt: &impl Abort,
     alloc: Global,
+    call: &str,
     matrix: &mut Matrix,
     line: &str,
 ) -> Result<bool, TableFault> {
     let (other, wanted) = two_fields(line)?;
-    append_matrix(rt, matrix, matrix_of(alloc, other)?)?;
+    append_matrix(rt, alloc, call, matrix, matrix_of(alloc, other)?)?;
     is_same_matrix(alloc, matrix, wanted)
 }
 
@@ -357,7 +369,7 @@ fn answers_of_matrix(
         "row" => gives_row(rt, alloc, matrix, line),
         "same" => compares(alloc, matrix, line),
         "append" => appends(rt, alloc, matrix, line),
-        "append_matrix" => appends_matrix(rt, alloc, matrix, line),
+        "append_rows" | "append_matrix" => appends_matrix(rt, alloc, call, matrix, line),
         "reverse" => reverses(alloc, matrix, line),
         "block" => takes_block(rt, alloc, matrix, line),
         "copy" | "transpose" => gives_matrix(alloc, call, matrix, line),

@@ -6,9 +6,9 @@ use Rattle.axe_row.specs.Refusals.{Answers}
 use Rattle.axe_row.specs.declared.refusals.Refusal.{Refusal}
 use Rattle.axe_matrix.specs.Matrices.{MatrixValue, matrix_product, product_refusal}
 use Rattle.axe_matrix.proofs.ProductLaws.{length-product, product_refusal-none}
+use Rattle.axe_spin.specs.Modules.{ModuleValue}
 use Rattle.axe_series.specs.Sections.{SectionValue, lifted_rows}
 use Rattle.axe_chop.specs.Stages.{IsSection}
-use Rattle.axe_chop.specs.Searches.{IsLift}
 
 -- a product with a matrix that is the given one
 pub product_answered : (coordinates rows other : MatrixValue) (result : Result MatrixValue Refusal) → other ≡ rows →
@@ -23,6 +23,12 @@ product_answered coordinates rows other result same field fits answers =
 -- as many rows are lifted as are given
 pub lifted_rows_count : (section : SectionValue) (t : MatrixValue) → length (lifted_rows section t).rows ≡ length t.rows
 lifted_rows_count section t = length-product (number_field t.order) section.rows.cols t.rows section.rows.rows
+
+-- a square matrix of vectors of the module, by which the lifted rows of a section with this action are lifted
+pub record IsLift (m : ModuleValue) (t : MatrixValue) : Type 0 where
+  pub field : t.order ≡ m.order
+  pub columns : t.cols ≡ m.dim
+  pub count : length t.rows ≡ m.dim
 
 -- the rows of the section, lifted by t
 pub record IsLifted (section : SectionValue) (t rows : MatrixValue) : Type 0 where

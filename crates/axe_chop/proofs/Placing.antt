@@ -9,7 +9,8 @@ use Rattle.axe_series.specs.Runs.{FoundValue, with_place, with_factor, AreOfOthe
 use Rattle.axe_series.proofs.SomeForm.{IsShownBy, irreducible_is_shown}
 use Rattle.axe_norton.specs.Verdicts.{Decides}
 use Rattle.axe_norton.specs.declared.verdicts.Verdict.TheVariants.{Irreducible}
-use Rattle.axe_chop.specs.Searches.{IsLift, IsPlacedIn}
+use Rattle.axe_chop.specs.Searches.{IsPlacedIn}
+use Rattle.axe_chop.proofs.Lifting.{IsLift}
 
 -- the isomorphism to a known factor is a square matrix of the module's vectors
 pub known_lift : {forms : _} (m : ModuleValue) (number : ℕ) (t : MatrixValue) → IsKnownAs forms m number t → IsLift m t

@@ -11,7 +11,7 @@ use Rattle.axe_row.specs.Refusals.{Answers}
 use Rattle.axe_row.specs.Rows.{RowValue}
 use Rattle.axe_matrix.specs.Limits.{most_rows, most_columns}
 use Rattle.axe_matrix.specs.Matrices.{MatrixValue, IsMatrix}
-use Rattle.axe_spin.specs.Modules.{ModuleValue}
+use Rattle.axe_spin.specs.Modules.{ModuleValue, IsModule}
 use Rattle.axe_norton.specs.declared.verdicts.Verdict
 use Rattle.axe_norton.specs.declared.verdicts.Verdict.TheVariants.{Irreducible, Reducible, Undecided}
 use Rattle.axe_norton.specs.Spaces.{IsProperSubmodule}
@@ -22,7 +22,7 @@ use Rattle.axe_series.specs.Series.{basis_of_rows}
 use Rattle.axe_series.specs.Runs.{FoundValue, nothing_found, Outcome, complete, Runs, all_found, undecided, reducible, known, new, RunOf}
 use Rattle.axe_series.proofs.FewPoints.{dimensions_of_parts}
 use Rattle.axe_series.proofs.OneCut.{reducible_is_matrix}
-use Rattle.axe_chop.specs.Stages.{IsSection, IsActionLike, IsSectionOf, IsRowsLike, sections_dim, with_sections, IsStageOf}
+use Rattle.axe_chop.specs.Stages.{IsSection, IsActionLike, IsRowsLike, sections_dim, with_sections}
 use Rattle.axe_chop.specs.Searches.{IsPlacedIn, as_known, as_new, found_value, IsSearched}
 use Rattle.axe_chop.specs.declared.found.Found
 use Rattle.axe_chop.proofs.Lifting.{lifted_rows_count}
@@ -128,6 +128,24 @@ appended_is_matrix basis rows is is_rows field columns room = record {
 }
 
 -- ---- the stages
+
+-- a section of m: a module like it, with as many vectors of m as its dimension
+pub record IsSectionOf (m : ModuleValue) (section : SectionValue) : Type 0 where
+  pub action_formed : IsModule section.action
+  pub like : IsActionLike m section.action
+  pub field : section.rows.order ≡ m.order
+  pub columns : section.rows.cols ≡ m.dim
+  pub count : length section.rows.rows ≡ section.action.dim
+
+-- what the code holds of m while it is chopped: the rows of the basis so far, the forms of factors over the field of m
+-- with as many generators, and the sections still to be decided; all rows together are as many as the dimension
+pub record IsStageOf (m : ModuleValue) (basis : MatrixValue) (forms : List FormValue)
+    (sections : List SectionValue) : Type 0 where
+  pub field : basis.order ≡ m.order
+  pub columns : basis.cols ≡ m.dim
+  pub forms_like : All (λ (form : FormValue). IsActionLike m form.matrices) forms
+  pub sections_of : All (IsSectionOf m) sections
+  pub total : length basis.rows + sections_dim sections ≡ m.dim
 
 -- a module is chopped so far: what is found and the sections that are left are of it, and what a run from here finds is
 -- what a run finds of the module

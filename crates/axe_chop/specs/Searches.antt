@@ -1,5 +1,5 @@
 -- What the steps of the search find, and what it answers.
-use Rattle.std.specs.Prelude.{◌≡◌, ℕ, List, ◌∷◌, length, Option, Some, None}
+use Rattle.std.specs.Prelude.{◌≡◌, ℕ, List, ◌∷◌, Option, Some, None}
 use Rattle.axe_row.specs.Rows.{RowValue}
 use Rattle.axe_matrix.specs.Matrices.{MatrixValue, IsMatrix}
 use Rattle.axe_spin.specs.Modules.{ModuleValue}
@@ -20,12 +20,6 @@ found_value found = record { rows = found.basis.rows; forms = found.forms.items;
 abbrev pub FindsKnown : List FormValue → ModuleValue → Option (ℕ × MatrixValue) → Type 0
 FindsKnown forms m None = AreOfOthers forms m
 FindsKnown forms m (Some found) = IsKnownAs forms m found.0 found.1
-
--- a square matrix of vectors of the module, by which the lifted rows of a section with this action are lifted
-pub record IsLift (m : ModuleValue) (t : MatrixValue) : Type 0 where
-  pub field : t.order ≡ m.order
-  pub columns : t.cols ≡ m.dim
-  pub count : length t.rows ≡ m.dim
 
 -- one more place, for an irreducible section: that of a known factor, or that of a new one
 pub data IsPlacedIn (found : FoundValue) (section : SectionValue) (seed word : ℕ) (v : RowValue) : FoundValue →

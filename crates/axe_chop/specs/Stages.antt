@@ -1,9 +1,7 @@
 -- The stages between a module and its composition series, as the code holds them.
 use Rattle.std.specs.Prelude.{◌≡◌, ℕ, ◌+◌, List, [], ◌∷◌, ◌++◌, length}
-use Rattle.std.specs.List.{All}
 use Rattle.axe_matrix.specs.Matrices.{MatrixValue, IsMatrix}
 use Rattle.axe_spin.specs.Modules.{ModuleValue, IsModule}
-use Rattle.axe_iso.specs.Forms.{FormValue}
 use Rattle.axe_series.specs.Sections.{SectionValue, rows_of_sections}
 
 -- a section's rows are as many as its action's dimension, over the same field
@@ -17,14 +15,6 @@ pub record IsSection (section : SectionValue) : Type 0 where
 pub record IsActionLike (m action : ModuleValue) : Type 0 where
   pub field : action.order ≡ m.order
   pub generators : length action.generators ≡ length m.generators
-
--- a section of m: a module like it, with as many vectors of m as its dimension
-pub record IsSectionOf (m : ModuleValue) (section : SectionValue) : Type 0 where
-  pub action_formed : IsModule section.action
-  pub like : IsActionLike m section.action
-  pub field : section.rows.order ≡ m.order
-  pub columns : section.rows.cols ≡ m.dim
-  pub count : length section.rows.rows ≡ section.action.dim
 
 -- a section with rows over the field and of the columns of a matrix, as many as its dimension
 pub record IsRowsLike (basis : MatrixValue) (section : SectionValue) : Type 0 where
@@ -40,13 +30,3 @@ with_sections basis sections = record basis { rows = basis.rows ++ rows_of_secti
 abbrev pub sections_dim : List SectionValue → ℕ
 sections_dim [] = 0
 sections_dim (section ∷ rest) = section.action.dim + sections_dim rest
-
--- what the code holds of m while it is chopped: the rows of the basis so far, the forms of factors over the field of m
--- with as many generators, and the sections still to be decided; all rows together are as many as the dimension
-pub record IsStageOf (m : ModuleValue) (basis : MatrixValue) (forms : List FormValue)
-    (sections : List SectionValue) : Type 0 where
-  pub field : basis.order ≡ m.order
-  pub columns : basis.cols ≡ m.dim
-  pub forms_like : All (λ (form : FormValue). IsActionLike m form.matrices) forms
-  pub sections_of : All (IsSectionOf m) sections
-  pub total : length basis.rows + sections_dim sections ≡ m.dim

@@ -3,6 +3,7 @@
 ghost use Rattle.std.specs.Prelude.{◌≡◌, ◌<◌, ◌≤◌, ◌^◌, ℕ, List, map, IfOk, IfErr};
 ghost use Rattle.axe_matrix.specs.Matrices.{MatrixValue};
 ghost use Rattle.axe_spin.specs.Modules.{ModuleValue, IsModule};
+ghost use Rattle.axe_norton.specs.Verdicts.{last_word};
 ghost use Rattle.axe_series.specs.Series.{IsSeries};
 ghost use Rattle.axe_report.specs.Limits.{most_words};
 ghost use Rattle.axe_report.specs.Reports.{IsReportHeader, IsReport};
@@ -11,7 +12,6 @@ ghost use Rattle.axe_chop.specs.Answers.{IsChopped, factor_modules};
 ghost use Rattle.axe_chop.specs.Reported.{entry_factor, module_header, series_report, IsFoundUnder};
 
 use crate::chopped::Chopped;
-use axe_norton::MAX_WORDS;
 use axe_report::{Report, ReportFactor, ReportFault, ReportHeader};
 use axe_spin::Module;
 use std::alloc::{AllocError, Global};
@@ -25,7 +25,7 @@ pub fn report_of(
     seed: u64,
     words: u32,
 ) -> Result<Report, ReportFault>
-    requires words { words ≤ MAX_WORDS }
+    requires words { words ≤ last_word }
     requires chopped { IsChopped «module».now seed words chopped.now }
     ensures report { IfOk result (λ report. report
         ≡ series_report (module_header «module».now seed words) (factor_modules chopped.now) chopped.now.series.items) }
@@ -36,7 +36,7 @@ pub fn report_of(
 
 /// The header of the report of a composition series of a module that is found by the words 0 to `words` of a seed.
 pub fn header_of(module: &Module, seed: u64, words: u32) -> ReportHeader
-    requires words { words ≤ MAX_WORDS }
+    requires words { words ≤ last_word }
     ensures header { result ≡ module_header «module».now seed words }
     ensures relations { IsReportHeader result }
     ensures well_formed { IsModule «module».now }

@@ -5,6 +5,7 @@ ghost use Rattle.axe_row.specs.Refusals.{Answers};
 ghost use Rattle.axe_matrix.specs.Limits.{most_rows};
 ghost use Rattle.axe_matrix.specs.Matrices.{IsMatrix};
 ghost use Rattle.axe_norton.specs.Spaces.{IsProperSubmodule};
+ghost use Rattle.axe_norton.specs.Verdicts.{last_word};
 ghost use Rattle.axe_chop.specs.Kept.{acting_module};
 ghost use Rattle.axe_chop.specs.Stages.{IsRowsLike, sections_dim, with_sections};
 ghost use Rattle.axe_chop.specs.Searches.{ArePartsBefore, IsSearched};
@@ -13,7 +14,7 @@ ghost use Rattle.axe_chop.specs.declared.search.Searched.TheVariants.{Open};
 use crate::found::Found;
 use crate::section::{Action, Section};
 use axe_matrix::{Matrix, Refusal};
-use axe_norton::{MAX_WORDS, Verdict, decide};
+use axe_norton::{Verdict, decide};
 use std::alloc::Global;
 use std::collections::VecDeque;
 
@@ -38,7 +39,7 @@ pub(crate) fn search(
     seed: u64,
     words: u32,
 ) -> Result<Searched, Refusal>
-    requires words { words ≤ MAX_WORDS }
+    requires words { words ≤ last_word }
     ensures { Answers None (IsSearched (acting_module action.entry) seed words) result }
 {
     let mut found = Found::nothing(alloc, action.module());

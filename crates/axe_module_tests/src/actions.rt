@@ -3,12 +3,14 @@
 use crate::tables::{Topic, each_call};
 use crate::values::{assert_independent, is_module, module_of};
 use axe_action::{
-    annihilator, basis_action, change_basis, conjugate, dual, extend_basis, quotient_action,
-    sub_action,
+    Split, annihilator, basis_action, change_basis, conjugate, dual, extend_basis, quotient_action,
+    split_by_submodule, sub_action,
 };
 use axe_matrix::{Matrix, Refusal};
 use axe_spin::Module;
-use axe_test_values::{TableFault, first_field, is_matrix, matrix_of, one_field, two_fields};
+use axe_test_values::{
+    TableFault, first_field, four_fields, is_matrix, matrix_of, number_of, one_field, two_fields,
+};
 use std::alloc::Global;
 use std::process::Abort;
 
@@ -45,6 +47,17 @@ quotient_action | 2: 01/10 | 2: 10 | the space is not invariant
 quotient_action | 2: 01/10 | 3: 11 | the operands are over different fields
 quotient_action | 2: 01/10 | 3: 0x3 | the operands are over different fields
 quotient_action | 2: 01/10 | 2: 110 | the shapes of the operands do not fit
+";
+
+/// - `split_by_submodule`: a copy of the module, which is given away, rows that span a submodule, the action on it over
+///   these rows, the action modulo it, and the columns that are no pivots.
+///
+/// The permutations of three points: rows that are no reduced basis, and the reduced basis of the same space.
+const SPLITS: &str = "\
+split_by_submodule | 2: 010/100/001, 2: 010/001/100 | 2: 110/011 | 2: 10/11, 2: 01/11 | 2: 1, 2: 1 | 2
+split_by_submodule | 2: 010/100/001, 2: 010/001/100 | 2: 101/011 | 2: 01/10, 2: 11/10 | 2: 1, 2: 1 | 2
+# The space of the sum of all points: on it everything is fixed.
+split_by_submodule | 2: 010/100/001, 2: 010/001/100 | 2: 111 | 2: 1, 2: 1 | 2: 11/01, 2: 01/11 | 1 2
 ";
 
 /// - `dual`: a module, and the module with the transposes;
@@ -121,6 +134,47 @@ fn acts(
     is_module(alloc, module_from(rt, alloc, call, module, &rows), wanted)
 }
 
+/// A copy of the module, split by independent rows that span a submodule.
+fn split(
+    rt: &impl Abort,
+    alloc: Global,
+    module: &Module,
+    rows: &Matrix,
+) -> Result<Split, Refusal> {
+    assert_independent(rt, alloc, rows)?;
+    assert!(rt; rows.field().order() == module.field().order() && rows.cols() == module.dim());
+    assert!(rt; rows.rows() >= 1 && rows.rows() < module.dim());
+    // A space that is not invariant is refused here.
+    drop(sub_action(alloc, module, rows)?);
+    split_by_submodule(alloc, module.copy(alloc)?, rows)
+}
+
+/// Whether numbers are those that are written so, with a space between two of them.
+fn are_numbers(numbers: &[usize], text: &str) -> Result<bool, TableFault> {
+    let mut count = 0;
+    for word in text.split(' ') {
+        if count >= numbers.len() || numbers[count] != number_of(word)? {
+            return Ok(false);
+        }
+        count += 1;
+    }
+    Ok(count == numbers.len())
+}
+
+fn splits(
+    rt: &impl Abort,
+    alloc: Global,
+    module: &Module,
+    line: &str,
+) -> Result<bool, TableFault> {
+    let (rows, sub, quotient, columns) = four_fields(line)?;
+    let rows = matrix_of(alloc, rows)?;
+    let split = split(rt, alloc, module, &rows)?;
+    Ok(are_numbers(&split.columns, columns)?
+        && is_module(alloc, Ok(split.sub), sub)?
+        && is_module(alloc, Ok(split.quotient), quotient)?)
+}
+
 /// The calls that are given a module first.
 fn answers_of_module(
     rt: &impl Abort,
@@ -133,6 +187,7 @@ fn answers_of_module(
     match call {
         "sub_action" | "quotient_action" | "basis_action" => acts(rt, alloc, call, &module, line),
         "conjugate" | "conjugate_copy" | "change_basis" => acts(rt, alloc, call, &module, line),
+        "split_by_submodule" => splits(rt, alloc, &module, line),
         "dual" => is_module(alloc, dual(alloc, &module), one_field(line)?),
         _ => Err(TableFault::NotWritten),
     }
@@ -186,6 +241,11 @@ fn modules_act_on_invariant_spaces_and_modulo_them(rt: HostRuntime) -> Result<()
 #[test]
 fn modules_do_not_act_on_other_spaces_and_modulo_them(rt: HostRuntime) -> Result<(), TableFault> {
     each_call(&rt, rt.alloc(), Topic::Actions, REFUSED)
+}
+
+#[test]
+fn modules_are_split_by_submodules(rt: HostRuntime) -> Result<(), TableFault> {
+    each_call(&rt, rt.alloc(), Topic::Actions, SPLITS)
 }
 
 #[test]

@@ -8,7 +8,7 @@ use axe_chop::{ChopFault, Chopped, chop, chop_owned, header_of, report_of, repor
 use axe_matrix::Refusal;
 use axe_report::{ReportFault, write_report};
 use axe_spin::Module;
-use axe_test_values::{TableFault, four_fields, is_same_matrix};
+use axe_test_values::{TableFault, four_fields, is_same_matrix, number_of};
 use std::alloc::{AllocError, Global};
 use std::process::Abort;
 
@@ -69,13 +69,22 @@ const REPORTS: [(&str, &str); 7] = [
     ),
 ];
 
-/// The companion matrix of x^10 + x^3 + 1, which is irreducible; each value is zero or invertible.
+/// A module, how many rows of the basis stand before the section that word 0 leaves open, the section's dimension, and
+/// the basis.
 const OPEN: &str = "\
-2: 0100000000/0010000000/0001000000/0000100000/0000010000/0000001000/0000000100/0000000010/0000000001/1001000000";
-
-/// The identity matrix of that dimension.
-const IDENTITY: &str = "\
-2: 1000000000/0100000000/0010000000/0001000000/0000100000/0000010000/0000001000/0000000100/0000000010/0000000001";
+# The companion matrix of x^10 + x^3 + 1, which is irreducible; each value is zero or invertible.
+open | 2: 0100000000/0010000000/0001000000/0000100000/0000010000/0000001000/0000000100/0000000010/0000000001/1001000000 \
+| 0 | 10 | \
+2: 1000000000/0100000000/0010000000/0001000000/0000100000/0000010000/0000001000/0000000100/0000000010/0000000001
+# The same below a line: it is the first section, and the line is still to be treated.
+open | 2: 10000000000/00100000000/00010000000/00001000000/00000100000/00000010000/00000001000/00000000100/00000000010/\
+00000000001/01001000000 | 0 | 10 | 2: 01000000000/00100000000/00010000000/00001000000/00000100000/00000010000/\
+00000001000/00000000100/00000000010/00000000001/10000000000
+# The same above a line, which is found before it.
+open | 2: 01000000000/00100000000/00010000000/00001000000/00000100000/00000010000/00000001000/00000000100/00000000010/\
+10010000000/00000000001 | 1 | 10 | 2: 00000000001/10000000000/01000000000/00100000000/00010000000/00001000000/\
+00000100000/00000010000/00000001000/00000000100/00000000010
+";
 
 /// Puts a word behind the words of a text.
 fn push_word(words: &mut String, word: &str) -> Result<(), AllocError> {
@@ -152,6 +161,19 @@ fn chops_owned(alloc: Global, line: &str) -> Result<bool, TableFault> {
     is_answer(alloc, answer, series, counts, basis)
 }
 
+/// Whether the words 0 to 0 leave a section open, and where.
+fn stays_open(alloc: Global, line: &str) -> Result<bool, TableFault> {
+    let (module, before, size, rows) = four_fields(line)?;
+    let module = module_of(alloc, module)?;
+    match chop(alloc, &module, SEED, 0) {
+        Ok(_) => Ok(false),
+        Err(ChopFault::Undecided { basis, offset, dim }) => Ok(offset == number_of(before)?
+            && dim == number_of(size)?
+            && is_same_matrix(alloc, &basis, rows)?),
+        Err(ChopFault::Memory) => Err(TableFault::Refused(Refusal::Memory)),
+    }
+}
+
 /// The text of the report of a composition series.
 fn report_text(alloc: Global, module: &Module, chopped: &Chopped) -> Result<Vec<u8>, ReportFault>
     requires { IsChopped «module».now SEED WORDS chopped.now }
@@ -198,6 +220,7 @@ pub(crate) fn answers(
     match call {
         "chop" => chops(alloc, line),
         "chop_owned" => chops_owned(alloc, line),
+        "open" => stays_open(alloc, line),
         _ => panic!(rt; "no such call: {call}"),
     }
 }
@@ -216,15 +239,6 @@ fn series_are_reported(rt: HostRuntime) -> Result<(), TableFault> {
 }
 
 #[test]
-fn a_section_may_stay_undecided(rt: HostRuntime) -> Result<(), TableFault> {
-    let module = module_of(rt.alloc(), OPEN)?;
-    match chop(rt.alloc(), &module, SEED, 0) {
-        Ok(_) => panic!(&rt; "decided"),
-        Err(ChopFault::Undecided { basis, offset, dim }) => {
-            assert!(&rt; offset == 0 && dim == 10);
-            assert!(&rt; is_same_matrix(rt.alloc(), &basis, IDENTITY)?);
-            Ok(())
-        }
-        Err(ChopFault::Memory) => Err(TableFault::Refused(Refusal::Memory)),
-    }
+fn sections_may_stay_undecided(rt: HostRuntime) -> Result<(), TableFault> {
+    each_call(&rt, rt.alloc(), Topic::Chops, OPEN)
 }

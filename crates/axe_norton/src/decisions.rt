@@ -8,12 +8,12 @@ ghost use Rattle.axe_spin.specs.Modules.{IsModule};
 ghost use Rattle.axe_word.specs.Words.{IsWordIn};
 ghost use Rattle.axe_norton.specs.Searches.{IsSquareIn};
 ghost use Rattle.axe_norton.specs.Spaces.{IsIrreducibleModule};
-ghost use Rattle.axe_norton.specs.Verdicts.{Tells, Says, IsTrueOf, Decides, IsTrueVerdict};
+ghost use Rattle.axe_norton.specs.Verdicts.{last_word, Tells, Says, IsTrueOf, Decides, IsTrueVerdict};
 
 use crate::others::is_known_irreducible;
 use crate::spaces::{transposed_space, tried_space};
 use crate::verdicts::{At, Verdict};
-use crate::{MAX_WORDS, MOST_POINTS};
+use crate::MOST_POINTS;
 use axe_echelon::null_space;
 use axe_matrix::{Matrix, Refusal};
 use axe_spin::Module;
@@ -40,9 +40,9 @@ pub fn decide_at(alloc: Global, module: &Module, word: &Word) -> Result<At, Refu
 /// What the words 0 to `words` of a seed decide of a module: what the first of them says that doesn't leave the module
 /// open, as [`decide_at`] tells it, with the number of that word where it shows the module to be irreducible. It is
 /// undecided exactly where each of them leaves it open; word 0, whose value is zero, decides every module with at most
-/// [`MOST_POINTS`] points. There are at most [`MAX_WORDS`] words beside word 0.
+/// [`MOST_POINTS`] points. There are at most [`crate::MAX_WORDS`] words beside word 0.
 pub fn decide(alloc: Global, module: &Module, seed: u64, words: u32) -> Result<Verdict, Refusal>
-    requires words { words ≤ MAX_WORDS }
+    requires words { words ≤ last_word }
     ensures decides { Answers None (Decides «module».now seed words) result }
     ensures holds { Answers None (IsTrueVerdict «module».now) result }
 {
@@ -74,7 +74,7 @@ fn test_word_of_seed(
     number: u32,
 ) -> Result<At, Refusal>
     requires word { IsWordIn «module».now word.now }
-    requires number { number ≤ MAX_WORDS }
+    requires number { number ≤ last_word }
     ensures says { Answers None (Says «module».now word.now) result }
     ensures holds { Answers None (IsTrueOf «module».now) result }
 {

@@ -5,12 +5,12 @@ ghost use Rattle.axe_row.specs.Refusals.{Answers};
 ghost use Rattle.axe_matrix.specs.Matrices.{IsMatrix};
 ghost use Rattle.axe_norton.specs.Searches.{IsReducedIn};
 ghost use Rattle.axe_norton.specs.Spaces.{IsIrreducibleModule};
-ghost use Rattle.axe_norton.specs.Verdicts.{IsTrueOf};
+ghost use Rattle.axe_norton.specs.Verdicts.{last_word, IsTrueOf};
 
 use crate::decisions::test_matrix;
 use crate::spaces::proper_space;
 use crate::verdicts::At;
-use crate::{MAX_WORDS, MOST_POINTS};
+use crate::MOST_POINTS;
 use axe_echelon::null_space;
 use axe_matrix::{Matrix, Refusal};
 use axe_spin::Module;
@@ -36,7 +36,7 @@ pub(crate) fn is_known_irreducible(
 ) -> Result<bool, Refusal>
     requires basis { IsReducedIn «module».now basis.now }
     requires well_formed { IsMatrix basis.now }
-    requires number { number ≤ MAX_WORDS }
+    requires number { number ≤ last_word }
     ensures { Answers None
         (λ known. IsTrue known → IsIrreducibleModule «module».now) result }
 {
@@ -60,7 +60,7 @@ fn others_show_irreducible(
     number: u32,
     most: usize,
 ) -> Result<bool, Refusal>
-    requires number { number ≤ MAX_WORDS }
+    requires number { number ≤ last_word }
     ensures { Answers None
         (λ known. IsTrue known → IsIrreducibleModule «module».now) result }
 {

@@ -6,7 +6,7 @@ use Rattle.axe_norton.specs.declared.verdicts.Verdict.TheVariants.{Irreducible}
 use Rattle.axe_iso.specs.Forms.{IsFormFrom}
 use Rattle.axe_series.specs.Sections.{SectionValue}
 use Rattle.axe_chop.specs.Kept.{acting_module}
-use Rattle.axe_chop.specs.Searches.{IsLift}
+use Rattle.axe_chop.proofs.Lifting.{IsLift}
 use Rattle.axe_chop.proofs.Placing.{form_lift}
 use Rattle.axe_chop.proofs.section.Section.into_form.Goals as goal
 
