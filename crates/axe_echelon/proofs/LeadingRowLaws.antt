@@ -21,7 +21,7 @@ use Rattle.axe_echelon.specs.Echelons.{EchelonValue}
 use Rattle.axe_echelon.specs.Steps.{inserted_rows, echelon_rows, pivots, echelon_of, IsStep, AreTabledSteps, IsPivotRow}
 use Rattle.axe_echelon.specs.Subspaces.{step_of, steps_of}
 use Rattle.axe_echelon.specs.PivotTables.{marks_in, marks_of, HasRoom, IsPivotAt}
-use Rattle.axe_echelon.specs.LeadingRows.{IsLeadingRow, IsRowOf, HasRowsFrom, IsTakenOut, IsClearedAfter}
+use Rattle.axe_echelon.specs.LeadingRows.{IsLeadingRow, HasPivotAt, HasRowsFrom, IsTakenOut, IsClearedAfter}
 use Rattle.axe_echelon.specs.declared.Step.{Step}
 use Rattle.axe_echelon.specs.declared.pivot_table.PivotTable.{PivotTable}
 use Rattle.axe_echelon.specs.declared.subspace.PivotRow.{PivotRow}
@@ -51,16 +51,16 @@ module _ (rows after : List PivotRow) (table told : PivotTable) (column : ℕ) (
 
   -- the table has the rows that are left for the columns after the one that was taken
   left_found : (order : Order) (cols : ℕ) → HasRowsFrom order cols column rows table → get_or (marks_of table) column 0 ≢ 0 → column < length table.rows.items →
-      (j : ℕ) → suc column ≤ j → get_or (marks_of told) j 0 ≢ 0 → IsRowOf after j (get_or told.rows.items j 0)
+      (j : ℕ) → suc column ≤ j → get_or (marks_of told) j 0 ≢ 0 → HasPivotAt after j (get_or told.rows.items j 0)
   left_found order cols has marked inside j later marked_j = at (dec_lt index (length after))
     where
-      here : IsRowOf rows column index
+      here : HasPivotAt rows column index
       here = has.found column (omega arith) marked
 
       place : ℕ
       place = get_or table.rows.items j 0
 
-      there : IsRowOf rows j place
+      there : HasPivotAt rows j place
       there = has.found j (omega (arith, later)) (λ none. marked_j (ap (λ (l : List ℕ). get_or l j 0) out.marks ∙ none))
 
       some_row : PivotRow
@@ -72,15 +72,15 @@ module _ (rows after : List PivotRow) (table told : PivotTable) (column : ℕ) (
           let is : p ≡ get_or rows index p = get_or_default rows index some_row p here.within in
           absurd (omega (arith, later, sym (here.pivot p is) ∙ there.pivot p (is ∙ ap (λ k. get_or rows k p) (sym same))))
 
-      stays : place < length after → IsRowOf after j place
+      stays : place < length after → HasPivotAt after j place
       stays below = record {
         within = below;
         pivot = λ p is. there.pivot p (is ∙ out.others place p apart below);
       }
 
-      at : Dec (index < length after) → IsRowOf after j (get_or told.rows.items j 0)
+      at : Dec (index < length after) → HasPivotAt after j (get_or told.rows.items j 0)
       at (no last) =
-          subst (IsRowOf after j) (sym (ap (λ (l : List ℕ). get_or l j 0) (out.kept (omega (arith, last)))))
+          subst (HasPivotAt after j) (sym (ap (λ (l : List ℕ). get_or l j 0) (out.kept (omega (arith, last)))))
           (stays (omega (arith, last, apart, there.within, here.within, out.count)))
       at (yes within) = moves (ℕ_discrete j moved.pivot)
         where
@@ -93,9 +93,9 @@ module _ (rows after : List PivotRow) (table told : PivotTable) (column : ℕ) (
           was_last : moved ≡ get_or rows (length after) moved
           was_last = is ∙ out.moved moved within
 
-          moves : Dec (j ≡ moved.pivot) → IsRowOf after j (get_or told.rows.items j 0)
+          moves : Dec (j ≡ moved.pivot) → HasPivotAt after j (get_or told.rows.items j 0)
           moves (yes same) =
-              subst (IsRowOf after j)
+              subst (HasPivotAt after j)
               (sym (ap₂ (λ (l : List ℕ) (k : ℕ). get_or l k 0) (out.noted moved within is) same
               ∙ get_or-set_same table.rows.items moved.pivot index 0
               (let room = (has.room j (λ none. marked_j (ap (λ (l : List ℕ). get_or l j 0) out.marks ∙ none))).rows in
@@ -103,7 +103,7 @@ module _ (rows after : List PivotRow) (table told : PivotTable) (column : ℕ) (
               let fit : moved.pivot < cols = subst (λ (p : PivotRow). p.pivot < cols) (sym was_last) led in omega (arith, room, fit))))
               (record { within = within; pivot = λ p p_is. ap (λ (q : PivotRow). q.pivot) (p_is ∙ get_or_default after index p moved within ∙ sym is) ∙ sym same })
           moves (no other) =
-              subst (IsRowOf after j)
+              subst (HasPivotAt after j)
               (sym (ap (λ (l : List ℕ). get_or l j 0) (out.noted moved within is) ∙ get_or-set_other table.rows.items moved.pivot j index 0 other))
               (stays (below_last (ℕ_discrete place (length after))))
             where
@@ -138,7 +138,7 @@ module _ (rows after : List PivotRow) (table told : PivotTable) (column : ℕ) (
       IsLeadingRow order cols (record { pivot = column; row = row })
   taken_leads order cols has marked = subst (IsLeadingRow order cols) same (has.each index some_row here.within)
     where
-      here : IsRowOf rows column index
+      here : HasPivotAt rows column index
       here = has.found column (omega arith) marked
 
       some_row : PivotRow
@@ -360,7 +360,7 @@ module _ (o : Order) (n : ℕ) (rows : List PivotRow) (table : PivotTable) (tabl
     marked = λ j. (pivot_if_marked o n steps table j tabled, marked_if_pivot o n steps table j tabled);
   }
     where
-      found : {j index : ℕ} → IsPivotAt (pivots steps) index j → IsRowOf rows j index
+      found : {j index : ℕ} → IsPivotAt (pivots steps) index j → HasPivotAt rows j index
       found {j} {index} at = record {
         within = below;
         pivot = λ p p_is. sym (pivot_of_steps steps index (step_of o n index p) (omega (arith, below, length-steps_from o n 0 rows)) (step_of_row o n rows index p below p_is)) ∙ at.is;
@@ -390,7 +390,7 @@ moved_other e column rows table m half unmarked = record {
 -- a column that is a pivot has a row, which the table tells of
 module _ (e : EchelonValue) (column : ℕ) (rows : List PivotRow) (table : PivotTable) (m : MatrixValue) (half : IsHalfMoved e column rows table m)
     (marked : get_or (marks_of table) column 0 ≢ 0) where
-  here : IsRowOf rows column (get_or table.rows.items column 0)
+  here : HasPivotAt rows column (get_or table.rows.items column 0)
   here = half.left.found column (omega arith) marked
 
   pub row_there : get_or table.rows.items column 0 < length rows

@@ -27,7 +27,7 @@ use Rattle.axe_row.proofs.OperationLaws.{get_or-multiple, length-multiple}
 use Rattle.axe_echelon.specs.Echelons.{EchelonValue, IsEchelon}
 use Rattle.axe_echelon.specs.Steps.{inserted_rows, echelon_rows, echelon_of, IsStep, AreSteps, IsNextStep, AreTabledSteps}
 use Rattle.axe_echelon.specs.PivotTables.{marks_of, HasRoom}
-use Rattle.axe_echelon.specs.Subspaces.{step_of, steps_from, steps_of, IsNextRow, SpansOneMore}
+use Rattle.axe_echelon.specs.Subspaces.{step_of, steps_from, steps_of, IsNextEchelonRow, SpansOneMore}
 use Rattle.axe_echelon.specs.declared.Step.{Step}
 use Rattle.axe_echelon.specs.declared.pivot_table.PivotTable.{PivotTable}
 use Rattle.axe_echelon.specs.declared.subspace.PivotRow.{PivotRow}
@@ -186,7 +186,7 @@ module _ (e : EchelonValue) (h : IsEchelon e) (first row : RowValue) (represents
   -- the row that a new vector gives: its representative, scaled
   pub next_row_of : (scaled : RowValue) (pivot scalar number : ℕ) (q : Order) → IsFirstNonzero row.entries pivot → length e.rows < e.cols → q ≡ e.order →
       number ≡ get_or row.entries pivot 0 → IsElement q scalar → field_mul q number scalar ≡ 1 → scaled ≡ multiple_row scalar row → IsRow scaled →
-      IsNextRow e first.entries (record { pivot = pivot; row = scaled })
+      IsNextEchelonRow e first.entries (record { pivot = pivot; row = scaled })
   next_row_of scaled pivot scalar number q leads room same_field number_is is_element inverse scaled_is scaled_row = record {
     next = record {
       inserted = refl;
@@ -256,7 +256,7 @@ module _ (e : EchelonValue) (h : IsEchelon e) (first row : RowValue) (represents
           (zero_at_pivots_is_zero F e.cols (length e.rows) (matrix_of K e.rows) (vector_of K scaled.entries) (rows_length K e.cols e.rows h.over) spanned scaled_at_pivots)
 
 -- one more row, and none
-next_step_of_row : (o : Order) (n : ℕ) (rows : List PivotRow) (p : PivotRow) (v : List ℕ) → IsNextRow (echelon_of o n (steps_of o n rows)) v p →
+next_step_of_row : (o : Order) (n : ℕ) (rows : List PivotRow) (p : PivotRow) (v : List ℕ) → IsNextEchelonRow (echelon_of o n (steps_of o n rows)) v p →
     IsNextStep (echelon_of o n (steps_of o n rows)) (echelon_rows (steps_of o n rows)) p.row.entries (step_of o n (length rows) p)
 next_step_of_row o n rows p v given =
     subst (λ k. IsNextStep (echelon_of o n (steps_of o n rows)) (echelon_rows (steps_of o n rows)) p.row.entries (step_of o n k p))
@@ -265,7 +265,7 @@ next_step_of_row o n rows p v given =
     (rows_from o n 0 rows) given.next)
 
 pub tabled_more : (o : Order) (n : ℕ) (rows next : List PivotRow) (p : PivotRow) (v : List ℕ) (table after : PivotTable) (index : ℕ) → next ≡ rows ++ p ∷ [] →
-    AreTabledSteps o n (steps_of o n rows) table → IsNextRow (echelon_of o n (steps_of o n rows)) v p → HasRoom n table → index ≡ length rows →
+    AreTabledSteps o n (steps_of o n rows) table → IsNextEchelonRow (echelon_of o n (steps_of o n rows)) v p → HasRoom n table → index ≡ length rows →
     marks_of after ≡ set (marks_of table) p.pivot 1 → after.rows.items ≡ set table.rows.items p.pivot index → AreTabledSteps o n (steps_of o n next) after
 tabled_more o n rows next p v table after index pushed tabled given room counted marks items =
     tabled_by_step o n (steps_of o n rows) (steps_of o n next) (step_of o n (length rows) p) p.row.entries table after p.pivot index
@@ -273,7 +273,7 @@ tabled_more o n rows next p v table after index pushed tabled given room counted
     (counted ∙ sym (length-steps_from o n 0 rows)) marks items
 
 pub spans_one_more : (o : Order) (n : ℕ) (rows next : List PivotRow) (p : PivotRow) (v : List ℕ) (e : EchelonValue) → next ≡ rows ++ p ∷ [] →
-    echelon_of o n (steps_of o n rows) ≡ e → IsNextRow e v p → SpansOneMore true e v (echelon_of o n (steps_of o n next))
+    echelon_of o n (steps_of o n rows) ≡ e → IsNextEchelonRow e v p → SpansOneMore true e v (echelon_of o n (steps_of o n next))
 spans_one_more o n rows next p v e pushed view given =
     subst (SpansOneMore true e v)
     (sym (echelon_of_more o n (steps_of o n rows) (steps_of o n next) (step_of o n (length rows) p) p.row.entries e

@@ -20,7 +20,7 @@ pub record IsLeadingRow (order : Order) (cols : ℕ) (p : PivotRow) : Type 0 whe
   pub before : (i : ℕ) → i < p.pivot → vector_of (number_field order) p.row.entries i ≡ (gf order).zero
 
 -- the row at an index has its pivot at this column
-pub record IsRowOf (rows : List PivotRow) (column index : ℕ) : Type 0 where
+pub record HasPivotAt (rows : List PivotRow) (column index : ℕ) : Type 0 where
   pub within : index < length rows
   pub pivot : (p : PivotRow) → p ≡ slice_index_or rows index p → p.pivot ≡ column
 
@@ -30,7 +30,8 @@ pub record HasRowsFrom (order : Order) (cols column : ℕ) (rows : List PivotRow
   pub each : All (IsLeadingRow order cols) rows
   pub few : length rows ≤ most_columns
   pub room : (j : ℕ) → slice_index (marks_of table) j ≢ 0 → HasRoom cols table
-  pub found : (j : ℕ) → column ≤ j → slice_index (marks_of table) j ≢ 0 → IsRowOf rows j (slice_index table.rows.items j)
+  pub found : (j : ℕ) → column ≤ j → slice_index (marks_of table) j ≢ 0 →
+      HasPivotAt rows j (slice_index table.rows.items j)
 
 -- the row at the index that the table has for a column was taken out, and the last one put into its place; the table
 -- then has that index for the pivot of the latter

@@ -38,7 +38,7 @@ abbrev pub steps_of : Order → ℕ → List PivotRow → List Step
 steps_of order cols rows = steps_from order cols 0 rows
 
 -- the row of the echelon form that one more vector gives
-pub record IsNextRow (e : EchelonValue) (v : List ℕ) (p : PivotRow) : Type 0 where
+pub record IsNextEchelonRow (e : EchelonValue) (v : List ℕ) (p : PivotRow) : Type 0 where
   pub next : IsNextStep e e.rows p.row.entries (step_of e.order e.cols (length e.rows) p)
   pub outside : ¬ (IsSpanned (number_field e.order) e.rows v)
   pub same : HaveSameSpan (number_field e.order) (e.rows ++ v ∷ []) (e.rows ++ p.row.entries ∷ [])

@@ -10,7 +10,7 @@ ghost use Rattle.axe_matrix.specs.Matrices.{IsMatrix};
 ghost use Rattle.axe_echelon.specs.Echelons.{IsEchelon, IsReducedMatrix};
 ghost use Rattle.axe_echelon.specs.Orthogonal.{IsPivotOfRow};
 ghost use Rattle.axe_echelon.specs.Steps.{IsPivotRow};
-ghost use Rattle.axe_echelon.specs.Subspaces.{IsNextRow, SpansOneMore};
+ghost use Rattle.axe_echelon.specs.Subspaces.{IsNextEchelonRow, SpansOneMore};
 
 use crate::leading_rows::{clear_after, take_row};
 use crate::pivot_table::PivotTable;
@@ -157,7 +157,7 @@ impl Subspace {
         requires room { length self.now.rows < self.now.cols }
         ensures { MatchOption result
             (IsSpanned (number_field self.now.order) self.now.rows row.entries)
-            (IsNextRow self.now row.entries) }
+            (IsNextEchelonRow self.now row.entries) }
     {
         let mut rest = row;
         self.reduce(&mut rest);

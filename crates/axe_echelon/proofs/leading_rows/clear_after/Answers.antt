@@ -1,6 +1,6 @@
 use Rattle.std.proofs.Common.{◌≡◌, ◌<◌, length, refl, sym, ◌∙◌, arith}
 use Rattle.axe_echelon.specs.Subspaces.{step_of}
-use Rattle.axe_echelon.specs.LeadingRows.{IsLeadingRow, IsRowOf}
+use Rattle.axe_echelon.specs.LeadingRows.{IsLeadingRow, HasPivotAt}
 use Rattle.axe_echelon.specs.declared.subspace.PivotRow.{PivotRow}
 use Rattle.axe_echelon.proofs.StepLaws.{over_of_row}
 use Rattle.axe_echelon.proofs.PivotTableLaws.{found_is_marked}
@@ -21,7 +21,7 @@ place c = omega (arith, place_of_found _ c.loop-pivot.row.entries _ _ c.in-Some.
 pub row_of-requires : goal.row_of-requires
 row_of-requires c = omega (arith, place (goal.at.row_of-requires c).In-Some, c.requires.room.rows)
 
-found : (c : goal.After-row_of) → IsRowOf c.args.rows.now c.in-Some.pivot c.row_of.result
+found : (c : goal.After-row_of) → HasPivotAt c.args.rows.now c.in-Some.pivot c.row_of.result
 found c = rw c.row_of.ensures (c.requires.rows.found c.in-Some.pivot (omega (arith, c.loop-pivot.invariant.so_far.later, c.in-Some.ensures.not_before))
     (found_is_marked _ c.loop-pivot.row.entries _ _ c.in-Some.ensures))
 

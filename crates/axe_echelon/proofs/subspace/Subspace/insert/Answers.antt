@@ -2,7 +2,7 @@ use Rattle.std.proofs.Common.{◌≡◌, ◌≢◌, List, length, ap, sym, ◌�
 use Rattle.std.proofs.lemmas.Result.{IfOk-from_err}
 use Rattle.axe_row.specs.declared.refusals.Refusal.TheVariants.{Memory}
 use Rattle.axe_echelon.specs.Steps.{echelon_of}
-use Rattle.axe_echelon.specs.Subspaces.{steps_of, IsNextRow}
+use Rattle.axe_echelon.specs.Subspaces.{steps_of, IsNextEchelonRow}
 use Rattle.axe_echelon.specs.declared.subspace.PivotRow.{PivotRow}
 use Rattle.axe_echelon.proofs.Exits.{no_memory, in_any_case}
 use Rattle.axe_echelon.proofs.EliminationLaws.{full_echelon_spans, room_of_echelon}
@@ -39,7 +39,7 @@ invariant_of-self-in_err-push c =
 
 pub invariant_of-self-2 : goal.invariant_of-self-2
 invariant_of-self-2 c =
-    let given : IsNextRow (echelon_of c.self.inside.field c.self.inside.cols (steps_of c.self.inside.field c.self.inside.cols c.self.inside.rows.items))
+    let given : IsNextEchelonRow (echelon_of c.self.inside.field c.self.inside.cols (steps_of c.self.inside.field c.self.inside.cols c.self.inside.rows.items))
     c.args.row.entries c.in-Some.next =
     rw c.self.view_is c.in-Some.ensures in
     tabled_more _ _ c.self.inside.rows.items c.push.new.self.items c.in-Some.next c.args.row.entries c.make_room.new.self c.mark.new.self c.len-index.result
@@ -52,7 +52,7 @@ returns-clause-well_formed c = echelon_of_steps _ _ _ (invariant_of-self-2 c).ar
 
 pub returns-clause-exactly : goal.returns-clause-exactly
 returns-clause-exactly c =
-    let given : IsNextRow c.args.self.now c.args.row.entries c.in-Some.next = c.in-Some.ensures in
+    let given : IsNextEchelonRow c.args.self.now c.args.row.entries c.in-Some.next = c.in-Some.ensures in
     (λ _. given.outside, λ _. refl)
 
 pub returns-clause-inserted : goal.returns-clause-inserted
