@@ -1,6 +1,6 @@
 -- Conjugates of generators by an invertible matrix.
-use Rattle.std.specs.Prelude.{◌≡◌, ℕ, List, [], length, get_or, ◌==◌, ◌&&◌, not, Bool, true, false, Some, None, Result, Ok, if◌then◌else◌}
-use Rattle.std.proofs.lemmas.Bool.{eq-eqb, eqb-true}
+use Rattle.std.specs.Prelude.{◌≡◌, ◌≢◌, ℕ, List, [], length, get_or, ◌==◌, ◌&&◌, not, Bool, true, false, Some, None, Result, Ok, if◌then◌else◌}
+use Rattle.std.proofs.lemmas.Bool.{eq-eqb, ne_eqb, eqb-true}
 use Rattle.std.proofs.lemmas.List.{length-map}
 use Rattle.axe_algebra.specs.NumberField.{NumberField}
 use Rattle.axe_algebra.specs.Lists.{IsSquareOver}
@@ -17,8 +17,9 @@ use Rattle.axe_reduction.specs.Solutions.{IsInverseMatrix, IsInvertibleMatrix}
 use Rattle.axe_echelon.specs.Echelons.{inverse_refusal}
 use Rattle.axe_echelon.proofs.Exits.{asked_late}
 use Rattle.axe_echelon.proofs.InverseLaws.{inverse_refusal-none}
-use Rattle.axe_spin.specs.Modules.{ModuleValue, generator_of, rows_of_each}
+use Rattle.axe_spin.specs.Modules.{ModuleValue, generator_of, rows_of_each, rows_refusal}
 use Rattle.axe_spin.specs.Generators.{IsGeneratorMatrix}
+use Rattle.axe_spin.proofs.SeedLaws.{vectors_of}
 use Rattle.axe_action.specs.Actions.{conjugate_refusal, IsConjugateModule}
 use Rattle.axe_action.proofs.GeneratorLists.{AreNewGenerators}
 use mathlib.Core.Path.{refl, sym, ◌∙◌, ap, ap₂, subst}
@@ -51,6 +52,22 @@ basis_if_accepted m p none =
     passed true true false e = cc
     passed true false c e = cc
     passed false b c e = cc
+
+-- what refuses its rows as vectors of the module refuses it
+pub refused_by_rows : (m : ModuleValue) (p : MatrixValue) (refusal : Refusal) → rows_refusal m p ≡ Some refusal → conjugate_refusal m p ≡ Some refusal
+refused_by_rows m p refusal = by_tests (order_number p.order == order_number m.order) (length p.rows == m.dim) (p.cols == m.dim)
+  where
+    by_tests : (a b c : Bool) → (if not a then Some FieldsDiffer else (if not c then Some ShapesDiffer else None)) ≡ Some refusal →
+        (if not a then Some FieldsDiffer else (if not (b && c) then Some ShapesDiffer else None)) ≡ Some refusal
+    by_tests false b c e = e
+    by_tests true true c e = e
+    by_tests true false false e = e
+    by_tests true false true e = cc
+
+-- and else another number of them than the dimension does
+pub refused_by_count : (m : ModuleValue) (p : MatrixValue) → rows_refusal m p ≡ None → length p.rows ≢ m.dim → conjugate_refusal m p ≡ Some ShapesDiffer
+refused_by_count m p vectors other =
+    rw (eq-eqb (order_number p.order) (order_number m.order) (ap order_number (vectors_of m p vectors).field), ne_eqb (length p.rows) m.dim other) refl
 
 module _ (m : ModuleValue) (p q : MatrixValue) (fits : IsBasisFor m p) (inverse : IsInverseMatrix p q) where
   K : NumberField

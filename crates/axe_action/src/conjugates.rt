@@ -80,10 +80,8 @@ fn conjugate_of(
 fn check_basis(module: &Module, basis: &Matrix) -> Result<(), Refusal>
     ensures { result ≡ unless_refused (conjugate_refusal «module».now basis.now) tt }
 {
-    if basis.field() != module.field() {
-        return Err(Refusal::FieldsDiffer);
-    }
-    if basis.rows() != module.dim() || basis.cols() != module.dim() {
+    module.check_rows(basis)?;
+    if basis.rows() != module.dim() {
         return Err(Refusal::ShapesDiffer);
     }
     Ok(())
