@@ -14,8 +14,7 @@ use Rattle.axe_field.specs.NumberFields.{number_field}
 use Rattle.axe_matrix.specs.Limits.{most_rows}
 use Rattle.axe_matrix.specs.Matrices.{MatrixValue, IsMatrix}
 use Rattle.axe_echelon.specs.Echelons.{EchelonValue}
-use Rattle.axe_echelon.specs.Inserted.{HasAllRows}
-use Rattle.axe_echelon.proofs.InverseLaws.{matrix_over}
+use Rattle.axe_echelon.proofs.InverseLaws.{matrix_over, HasAllRows}
 use Rattle.axe_echelon.specs.Echelons.{IsSpanOfRows}
 use mathlib.Core.Path.{sym, ◌∙◌, ap, ap₂, subst}
 use native.Mathlib.Omega.{arith}

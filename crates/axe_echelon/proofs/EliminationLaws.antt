@@ -26,7 +26,7 @@ use Rattle.axe_lane.specs.Entries.{IsFirstNonzero}
 use Rattle.axe_row.specs.Operations.{multiple, IsZeroVector}
 use Rattle.axe_row.proofs.OperationLaws.{get_or-multiple, length-multiple}
 use Rattle.axe_echelon.specs.Echelons.{EchelonValue, IsEchelon, AreCoordinates}
-use Rattle.axe_echelon.specs.Steps.{inserted_rows, echelon_rows, multiplier_rows, scalars, pivots, echelon_of, AreSteps, IsCleared, IsSolved, Cancels, IsScaledStep, IsNextStep}
+use Rattle.axe_echelon.specs.Steps.{inserted_rows, echelon_rows, multiplier_rows, scalars, pivots, echelon_of, AreSteps, IsCleared, IsSolved, IsScaledStep, IsNextStep}
 use Rattle.axe_echelon.specs.declared.Step.{Step}
 use Rattle.axe_echelon.proofs.FormLaws.{rows_within}
 use Rattle.axe_echelon.proofs.StepLaws.{over_of_row, below_of_element, negative_of, product_of, echelon_of_steps}
@@ -73,6 +73,15 @@ pub room_of_rank : (e : EchelonValue) → IsEchelon e → length e.rows ≤ e.co
 room_of_rank e h = independent_rows_are_few (number_field e.order) e.cols e.rows h.over h.independent
 
 module _ (e : EchelonValue) (h : IsEchelon e) (first coefficients : RowValue) (cancels : Cancels e first coefficients) where
+-- the row plus the combination of the echelon's rows with these coefficients is zero
+pub record Cancels (e : EchelonValue) (first coefficients : RowValue) : Type 0 where
+  pub over : IsVectorOver (number_field e.order) e.cols first.entries
+  pub coefficients_field : coefficients.order ≡ e.order
+  pub coefficients_over : IsVectorOver (number_field e.order) e.cols coefficients.entries
+  pub vanishes : add_vectors (gf e.order) (vector_of (number_field e.order) first.entries)
+      (times (gf e.order) (length e.rows) (vector_of (number_field e.order) coefficients.entries)
+      (matrix_of (number_field e.order) e.rows)) ≡ zero_vector (gf e.order)
+
   abbrev K : NumberField
   K = number_field e.order
 

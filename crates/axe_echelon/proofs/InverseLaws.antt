@@ -16,7 +16,6 @@ use Rattle.axe_row.specs.Rows.{RowValue}
 use Rattle.axe_row.specs.declared.refusals.Refusal.TheVariants.{NotSquare}
 use Rattle.axe_matrix.specs.Matrices.{MatrixValue, IsMatrix}
 use Rattle.axe_echelon.specs.Echelons.{EchelonValue, IsEchelon, inverse_refusal}
-use Rattle.axe_echelon.specs.Inserted.{HasAllRows}
 use Rattle.axe_echelon.proofs.FormLaws.{below_or_at}
 use mathlib.Core.Path.{refl, sym, ◌∙◌, ap, subst}
 use native.Mathlib.Omega.{arith}
@@ -87,6 +86,13 @@ first_rows_more m i e next row first below row_is is h = record {
       t (omega arith);
   well_formed = h;
 }
+
+-- the echelon form is that of all rows of the matrix
+pub record HasAllRows (m : MatrixValue) (e : EchelonValue) : Type 0 where
+  pub field : e.order ≡ m.order
+  pub columns : e.cols ≡ m.cols
+  pub rows : e.rows ≡ m.rows
+  pub well_formed : IsEchelon e
 
 pub first_rows_all : (m : MatrixValue) (i : ℕ) (e : EchelonValue) → HasFirstRows m i e → length m.rows ≤ i → HasAllRows m e
 first_rows_all m i e first whole = record {

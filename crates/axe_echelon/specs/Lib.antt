@@ -2,7 +2,6 @@ pub mod Echelons
 pub mod Forms
 pub mod PivotTables
 pub mod Steps
-pub mod Inserted
 pub mod Subspaces
 pub mod LeadingRows
 pub mod Mirrored

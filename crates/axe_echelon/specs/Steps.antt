@@ -1,6 +1,6 @@
 -- The steps of an elimination, one for each row that was new.
 use Rattle.std.specs.Prelude.{◌≡◌, ◌≢◌, ℕ, ◌<◌, ◌≤◌, List, All, map, length, get_or}
-use Rattle.axe_algebra.specs.Vectors.{HasLength, zero_vector, add_vectors, scale, times}
+use Rattle.axe_algebra.specs.Vectors.{HasLength, add_vectors, scale, times}
 use Rattle.axe_algebra.specs.Reduced.{IsZeroAtPivots}
 use Rattle.axe_algebra.specs.Bridge.{element, vector_of, matrix_of}
 use Rattle.axe_algebra.specs.Lists.{IsVectorOver}
@@ -89,15 +89,6 @@ pub record IsSolved (order : Order) (cols : ℕ) (steps : List Step) (multiplier
       (matrix_of (number_field order) (echelon_rows steps)) ≡
       times (gf order) (length (inserted_rows steps)) (vector_of (number_field order) coefficients.entries)
       (matrix_of (number_field order) (inserted_rows steps))
-
--- the row plus the combination of the echelon's rows with these coefficients is zero
-pub record Cancels (e : EchelonValue) (first coefficients : RowValue) : Type 0 where
-  pub over : IsVectorOver (number_field e.order) e.cols first.entries
-  pub coefficients_field : coefficients.order ≡ e.order
-  pub coefficients_over : IsVectorOver (number_field e.order) e.cols coefficients.entries
-  pub vanishes : add_vectors (gf e.order) (vector_of (number_field e.order) first.entries)
-      (times (gf e.order) (length e.rows) (vector_of (number_field e.order) coefficients.entries)
-      (matrix_of (number_field e.order) e.rows)) ≡ zero_vector (gf e.order)
 
 -- the step of a row with what is left of it, scaled to 1 at a column, and with what was added to it
 pub record IsScaledStep (v rest : RowValue) (column : ℕ) (added : RowValue) (step : Step) : Type 0 where

@@ -1,7 +1,7 @@
 use Rattle.std.proofs.Common.{◌≡◌, length, arith, rules, IsTrue}
 use Rattle.axe_row.specs.Operations.{IsZeroVector}
-use Rattle.axe_echelon.specs.Steps.{Cancels, IsSolved, AreSteps, echelon_of}
-use Rattle.axe_echelon.proofs.EliminationLaws.{row_cancels, row_spanned_leaves_none, coordinates_of_cancels, room_of_rank}
+use Rattle.axe_echelon.specs.Steps.{IsSolved, AreSteps, echelon_of}
+use Rattle.axe_echelon.proofs.EliminationLaws.{row_cancels, row_spanned_leaves_none, coordinates_of_cancels, room_of_rank, Cancels}
 use Rattle.axe_echelon.proofs.Echelon.coordinates.Goals.{After-solve}
 use Rattle.axe_echelon.proofs.Echelon.coordinates.Goals as goal
 

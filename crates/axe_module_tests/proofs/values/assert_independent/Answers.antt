@@ -4,8 +4,7 @@ use Rattle.axe_algebra.specs.SpansOfLists.{IsIndependent}
 use Rattle.axe_field.specs.NumberFields.{number_field}
 use Rattle.axe_row.specs.Rows.{RowValue}
 use Rattle.axe_echelon.specs.Echelons.{with_row_where}
-use Rattle.axe_echelon.specs.Inserted.{HasAllRows}
-use Rattle.axe_echelon.proofs.InverseLaws.{first_rows_more, first_rows_all}
+use Rattle.axe_echelon.proofs.InverseLaws.{first_rows_more, first_rows_all, HasAllRows}
 use Rattle.axe_module_tests.proofs.values.assert_independent.Goals as goal
 
 pub loop-index-preserved : goal.loop-index-preserved
