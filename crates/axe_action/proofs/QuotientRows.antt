@@ -29,7 +29,6 @@ use Rattle.axe_algebra.proofs.ListModules.{invariant_by_images}
 use Rattle.axe_action.specs.Actions.{action_late, IsActionModulo}
 use Rattle.axe_action.specs.Coordinates.{HasImagesIn}
 use Rattle.axe_action.specs.FreeColumns.{IsFreeColumn, AreFreeColumns, IsRowModulo, HasRowsModulo, HasUnitsModulo, rows_to_span, row_at}
-use Rattle.axe_action.proofs.ColumnLists.{AreColumnsBelow}
 use Rattle.axe_action.proofs.GeneratorLists.{AreNewGenerators, module_of_made}
 use mathlib.Core.Path.{refl, sym, ◌∙◌, ap, subst}
 use native.Mathlib.Omega.{arith}
@@ -45,13 +44,6 @@ free_exactly e j false below exactly = (λ is. record { below = below; no_pivot 
   where
     different : false ≡ true → ⊥
     different same = cc
-
-pub free_all : (e : EchelonValue) (i : ℕ) (columns : List ℕ) → AreColumnsBelow (IsFreeColumn e) i columns → e.cols ≤ i → AreFreeColumns e columns
-free_all e i columns so_far whole = record {
-  ascending = so_far.ascending;
-  each = so_far.each;
-  all = λ j free. let inside : j < e.cols = free.below in so_far.all j (omega arith) free;
-}
 
 -- there are as many free columns as rows are missing
 pub free_count : (e : EchelonValue) (columns : List ℕ) → IsEchelon e → AreFreeColumns e columns → length e.rows + length columns ≡ e.cols

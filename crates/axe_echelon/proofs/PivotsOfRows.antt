@@ -2,14 +2,13 @@
 use Rattle.std.specs.Prelude.{◌≡◌, ℕ, suc, ◌<◌, List, [], ◌∷◌, length, get_or}
 use native.Mathlib.Nat.{suc-ne-zero}
 use Rattle.axe_algebra.specs.NumberField.{NumberField}
-use Rattle.axe_algebra.specs.Field.{Field}
 use Rattle.axe_algebra.specs.Bridge.{element, matrix_of}
 use Rattle.axe_algebra.specs.Lists.{entry, IsMatrixOver}
 use Rattle.axe_algebra.specs.SpansOfLists.{IsPivot}
 use Rattle.axe_algebra.proofs.ElementNumbers.{same_number, element_one, element_zero, zero-below}
 use Rattle.axe_algebra.proofs.ListEntries.{matrix_entry-below, row_over}
 use Rattle.axe_field.specs.Order.{Order}
-use Rattle.axe_field.specs.NumberFields.{number_field, gf}
+use Rattle.axe_field.specs.NumberFields.{number_field}
 use Rattle.axe_echelon.specs.Echelons.{EchelonValue}
 use Rattle.axe_echelon.specs.Orthogonal.{IsPivotOfRow}
 use Rattle.axe_echelon.specs.Steps.{inserted_rows, echelon_rows, pivots, echelon_of, AreSteps}
@@ -30,9 +29,6 @@ module _ (o : Order) (n : ℕ) (rows : List PivotRow) (are : AreSteps o n (steps
     (is : p ≡ get_or rows i p) where
   abbrev K : NumberField
   K = number_field o
-
-  abbrev F : Field
-  F = gf o
 
   abbrev w : List (List ℕ)
   w = inserted_rows (steps_of o n rows)
