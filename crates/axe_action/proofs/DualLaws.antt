@@ -1,10 +1,9 @@
 -- The transposed module by its generators, and annihilators as spaces that are orthogonal to rows.
 use Rattle.std.specs.Prelude.{◌≡◌, ℕ, List, [], length, get_or, None, Result, Ok, Err, IfOk}
 use Rattle.std.proofs.lemmas.List.{length-map, get_or-map}
-use Rattle.axe_algebra.specs.Lists.{entry}
 use Rattle.axe_algebra.specs.ListArithmetic.{transpose, transposed_generators}
 use Rattle.axe_algebra.specs.SpansOfLists.{IsAnnihilatorBasis}
-use Rattle.axe_algebra.proofs.ListEntries.{table_length}
+use Rattle.axe_algebra.proofs.ListIrreducible.{transpose_length}
 use Rattle.axe_field.specs.NumberFields.{number_field}
 use Rattle.axe_row.specs.Refusals.{Answers}
 use Rattle.axe_row.specs.declared.refusals.Refusal.{Refusal}
@@ -18,18 +17,13 @@ use Rattle.axe_action.proofs.GeneratorLists.{AreNewGenerators, generators_are}
 use mathlib.Core.Path.{sym, ◌∙◌, ap}
 use native.Mathlib.Omega.{arith}
 
--- a transpose has a row for each column
-pub length-transpose : (n : ℕ) (rows : List (List ℕ)) → length (transpose n rows) ≡ n
-unfolding transpose
-length-transpose n rows = table_length n (length rows) (λ i j. entry rows j i)
-
 -- the transpose of a generator is a generator
 pub transposed_generator : (m : ModuleValue) (i : ℕ) (t : MatrixValue) → length (generator_of m i).rows ≡ m.dim → t ≡ transposed_matrix (generator_of m i) →
     IsMatrix t → IsGeneratorMatrix m.order m.dim t
 transposed_generator m i t square is well_formed = record {
   field = ap (λ (x : MatrixValue). x.order) is;
   columns = ap (λ (x : MatrixValue). x.cols) is ∙ square;
-  rows = ap (λ (x : MatrixValue). length x.rows) is ∙ length-transpose m.dim (get_or m.generators i []);
+  rows = ap (λ (x : MatrixValue). length x.rows) is ∙ transpose_length m.dim (get_or m.generators i []);
   well_formed = well_formed;
 }
 
@@ -57,7 +51,7 @@ pub annihilator_of_orthogonal : (rows : MatrixValue) (result : Result MatrixValu
     IfOk result (λ basis. IsAnnihilatorBasis (number_field rows.order) rows.cols rows.rows basis.rows) → Answers None (IsAnnihilatorMatrix rows) result
 annihilator_of_orthogonal rows (Ok basis) null orthogonal = record {
   field = null.field;
-  columns = null.columns ∙ length-transpose rows.cols rows.rows;
+  columns = null.columns ∙ transpose_length rows.cols rows.rows;
   basis_of_annihilator = orthogonal;
 }
 annihilator_of_orthogonal rows (Err refusal) null orthogonal = null

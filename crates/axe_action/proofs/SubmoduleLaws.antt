@@ -1,10 +1,8 @@
 -- What is known of submodules: the calls that test for them don't refuse them, and answer what is asked of them.
 use Rattle.std.specs.Prelude.{◌≡◌, ℕ, ◌<◌, List, length, None, Result, Ok, Err, All}
-use Rattle.std.proofs.lemmas.Bool.{eq-eqb}
 use Rattle.axe_algebra.specs.Bridge.{matrix_of}
 use Rattle.axe_algebra.specs.SpansOfLists.{IsIndependent, HaveSameSpan}
 use Rattle.axe_algebra.proofs.Spanning.{span_row}
-use Rattle.axe_field.specs.Order.{order_number}
 use Rattle.axe_field.specs.NumberFields.{number_field, gf}
 use Rattle.axe_row.specs.Refusals.{Answers, AnswersOr}
 use Rattle.axe_row.specs.declared.refusals.Refusal.{Refusal}
@@ -18,7 +16,7 @@ use Rattle.axe_action.proofs.EntryLaws.{product_at_columns}
 use Rattle.axe_action.proofs.SubRows.{module_rows_over}
 use Rattle.axe_action.proofs.QuotientSpans.{full_if_spans}
 use mathlib.Core.Logic.{inl, inr}
-use mathlib.Core.Path.{refl, ◌∙◌, ap, subst}
+use mathlib.Core.Path.{refl, ◌∙◌, subst}
 use native.Mathlib.Omega.{arith}
 
 -- rows whose span is invariant are not refused
@@ -27,10 +25,6 @@ pub invariant_answers : (m : ModuleValue) (rows : MatrixValue) (P : ModuleValue 
 invariant_answers m rows P (Ok action) invariant h = h.1
 invariant_answers m rows P (Err refusal) invariant (inl memory) = memory
 invariant_answers m rows P (Err refusal) invariant (inr stands) = absurd (stands.1 invariant)
-
--- rows over the field and of the dimension of a module are not refused
-pub rows_accepted : (m : ModuleValue) (rows : MatrixValue) → rows.order ≡ m.order → rows.cols ≡ m.dim → rows_refusal m rows ≡ None
-rows_accepted m rows field fits = rw (eq-eqb _ _ (ap order_number field), eq-eqb _ _ fits) refl
 
 -- rows times the entries of a generator at the columns of their coordinates are its action, where their images are in their span
 pub at_columns_act : (rows g action : MatrixValue) (columns : List ℕ) → rows.order ≡ g.order → rows.cols ≡ g.cols → IsMatrix rows → IsMatrix g →

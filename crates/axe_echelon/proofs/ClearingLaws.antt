@@ -14,10 +14,12 @@ use Rattle.axe_algebra.proofs.Spanning.{span_same}
 use Rattle.axe_algebra.proofs.ElementNumbers.{element_neg, element_zero, entry-below, same_number, zero-below}
 use Rattle.axe_algebra.proofs.ListVectors.{vector_of_added, IsInCoset, coset_of_itself, added_in_coset}
 use Rattle.axe_bits.specs.Supports.{restricted}
+use Rattle.axe_bits.proofs.SupportLaws.{length-restricted}
 use Rattle.axe_lane.specs.Entries.{AreZerosBefore, AreZerosFrom, AreZerosBetween, IsNextNonzero}
 use Rattle.axe_field.specs.Order.{Order, IsElement}
 use Rattle.axe_field.specs.Arithmetic.{field_neg}
 use Rattle.axe_field.specs.NumberFields.{number_field, gf}
+use Rattle.axe_field.proofs.NumberFields.{number_field-neg}
 use Rattle.axe_row.specs.Rows.{RowValue, IsRow}
 use Rattle.axe_row.specs.Operations.{sum_with_multiple, row_with_multiple}
 use Rattle.axe_row.proofs.OperationLaws.{get_or-sum_with_multiple}
@@ -26,8 +28,8 @@ use Rattle.axe_echelon.specs.PivotTables.{marks_of, HasRoom, IsPivotAt}
 use Rattle.axe_echelon.specs.declared.Step.{Step}
 use Rattle.axe_echelon.specs.declared.pivot_table.PivotTable.{PivotTable}
 use Rattle.axe_echelon.proofs.FormLaws.{cleared_more, cleared_all, rows_within, offset_more}
-use Rattle.axe_echelon.proofs.PivotTableLaws.{length-restricted, zero_where_marked, found_is_marked, room_if_marked}
-use Rattle.axe_echelon.proofs.StepLaws.{over_of_row, below_of_element, negative_of, steps_fit, zeros_over, vector_of_zeros, row_of_steps, pivot_of_steps, length-inserted, step_at}
+use Rattle.axe_echelon.proofs.PivotTableLaws.{zero_where_marked, found_is_marked, room_if_marked}
+use Rattle.axe_echelon.proofs.StepLaws.{over_of_row, below_of_element, steps_fit, zeros_over, vector_of_zeros, row_of_steps, pivot_of_steps, length-inserted, step_at}
 use mathlib.Core.Path.{sym, ◌∙◌, ap, ap₂, subst, fun_ext}
 use native.Mathlib.Omega.{arith}
 use native.Mathlib.Decide.{ℕ_discrete, dec_lt}
@@ -87,7 +89,7 @@ pub clearing_of : (o q : Order) (n : ℕ) (step : Step) (row next : RowValue) (s
     length next.entries ≡ length row.entries → IsRow next → IsClearing o n step row next scalar
 clearing_of o q n step row next scalar column field over pivot same element value sum long h = record {
   below = subst (λ p. scalar < (number_field p).order) same (below_of_element q scalar element);
-  is = value ∙ ap₂ field_neg same (ap (λ k. get_or row.entries k 0) (sym pivot)) ∙ sym (negative_of o (get_or row.entries step.pivot 0));
+  is = value ∙ ap₂ field_neg same (ap (λ k. get_or row.entries k 0) (sym pivot)) ∙ sym (number_field-neg o (get_or row.entries step.pivot 0));
   sum = sum;
   field = next_field;
   over = over_of_row o n next next_field h (long ∙ over.length_is);

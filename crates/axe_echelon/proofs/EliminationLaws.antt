@@ -21,6 +21,7 @@ use Rattle.axe_algebra.proofs.ListVectors.{vector_of_scaled}
 use Rattle.axe_field.specs.Order.{Order}
 use Rattle.axe_field.specs.Arithmetic.{field_neg, field_mul}
 use Rattle.axe_field.specs.NumberFields.{number_field, gf}
+use Rattle.axe_field.proofs.NumberFields.{number_field-neg, number_field-mul}
 use Rattle.axe_row.specs.Rows.{RowValue, IsRow}
 use Rattle.axe_lane.specs.Entries.{IsFirstNonzero}
 use Rattle.axe_row.specs.Operations.{multiple, IsZeroVector}
@@ -29,7 +30,7 @@ use Rattle.axe_echelon.specs.Echelons.{EchelonValue, IsEchelon, AreCoordinates}
 use Rattle.axe_echelon.specs.Steps.{inserted_rows, echelon_rows, multiplier_rows, scalars, pivots, echelon_of, AreSteps, IsCleared, IsSolved, IsScaledStep, IsNextStep}
 use Rattle.axe_echelon.specs.declared.Step.{Step}
 use Rattle.axe_echelon.proofs.FormLaws.{rows_within}
-use Rattle.axe_echelon.proofs.StepLaws.{over_of_row, below_of_element, negative_of, product_of, echelon_of_steps}
+use Rattle.axe_echelon.proofs.StepLaws.{over_of_row, below_of_element, echelon_of_steps}
 use mathlib.Core.Path.{refl, sym, ◌∙◌, ap, subst, fun_ext}
 use native.Mathlib.Omega.{arith}
 use native.Mathlib.Decide.{dec_lt}
@@ -72,7 +73,6 @@ room_of_echelon e h other = omega (arith, other, independent_rows_are_few (numbe
 pub room_of_rank : (e : EchelonValue) → IsEchelon e → length e.rows ≤ e.cols
 room_of_rank e h = independent_rows_are_few (number_field e.order) e.cols e.rows h.over h.independent
 
-module _ (e : EchelonValue) (h : IsEchelon e) (first coefficients : RowValue) (cancels : Cancels e first coefficients) where
 -- the row plus the combination of the echelon's rows with these coefficients is zero
 pub record Cancels (e : EchelonValue) (first coefficients : RowValue) : Type 0 where
   pub over : IsVectorOver (number_field e.order) e.cols first.entries
@@ -82,6 +82,7 @@ pub record Cancels (e : EchelonValue) (first coefficients : RowValue) : Type 0 w
       (times (gf e.order) (length e.rows) (vector_of (number_field e.order) coefficients.entries)
       (matrix_of (number_field e.order) e.rows)) ≡ zero_vector (gf e.order)
 
+module _ (e : EchelonValue) (h : IsEchelon e) (first coefficients : RowValue) (cancels : Cancels e first coefficients) where
   abbrev K : NumberField
   K = number_field e.order
 
@@ -109,7 +110,7 @@ pub record Cancels (e : EchelonValue) (first coefficients : RowValue) : Type 0 w
       entries_are : start.entries ≡ listed (length e.rows) (λ j. K.neg (get_or coefficients.entries j 0))
       entries_are = ap (λ (r : RowValue). r.entries) is
           ∙ ap (λ (f : ℕ → ℕ). listed (length e.rows) f) (fun_ext λ j.
-          ap (λ o. field_neg o (get_or coefficients.entries j 0)) cancels.coefficients_field ∙ sym (negative_of e.order (get_or coefficients.entries j 0)))
+          ap (λ o. field_neg o (get_or coefficients.entries j 0)) cancels.coefficients_field ∙ sym (number_field-neg e.order (get_or coefficients.entries j 0)))
 
       over_start : IsVectorOver K (length e.rows) start.entries
       over_start = subst (IsVectorOver K (length e.rows)) (sym entries_are)
@@ -217,7 +218,7 @@ module _ (o : Order) (n : ℕ) (steps : List Step) (are : AreSteps o n steps) (f
       one_number : N.mul step.scalar (get_or row.entries column 0) ≡ 1
       one_number =
           N.mul_comm step.scalar (get_or row.entries column 0) below (entry-below N row.entries column cleared.row_over.elements)
-          ∙ product_of o (get_or row.entries column 0) step.scalar
+          ∙ number_field-mul o (get_or row.entries column 0) step.scalar
           ∙ ap (λ q. field_mul q (get_or row.entries column 0) step.scalar) (sym cleared.row_field) ∙ scaled.inverse
 
 -- the same of a copy of the row, for the echelon form that has these steps

@@ -10,6 +10,7 @@ use Rattle.axe_algebra.specs.Lists.{IsVectorOver, IsMatrixOver}
 use Rattle.axe_algebra.specs.ListArithmetic.{transpose}
 use Rattle.axe_algebra.proofs.ListEntries.{vector_length, row_past}
 use Rattle.axe_algebra.proofs.ListProducts.{matrix_of_transpose}
+use Rattle.axe_algebra.proofs.ListIrreducible.{transpose_length}
 use Rattle.axe_field.specs.Order.{IsElement}
 use Rattle.axe_field.specs.NumberFields.{number_field, gf}
 use Rattle.axe_row.specs.Rows.{RowValue, IsRow}
@@ -22,7 +23,6 @@ use Rattle.axe_echelon.specs.Mirrored.{mirrored, mirrored_row, IsMirrored}
 use Rattle.axe_echelon.proofs.Exits.{answers_with}
 use Rattle.axe_echelon.proofs.InverseLaws.{matrix_over}
 use Rattle.axe_echelon.proofs.MirroredLaws.{same_as_mirrored}
-use Rattle.axe_echelon.proofs.Transposes.{length-transpose}
 use mathlib.Core.Path.{sym, ◌∙◌, ap, subst, fun_ext}
 use native.Mathlib.Omega.{arith}
 use native.Mathlib.Decide.{ℕ_discrete}
@@ -105,7 +105,7 @@ pub columns_mirrored : (m other : MatrixValue) → IsMatrix m → other ≡ tran
 columns_mirrored m other h is well_formed = record {
   field = ap (λ (x : MatrixValue). x.order) is;
   columns = ap (λ (x : MatrixValue). x.cols) is ∙ length-reverse m.rows;
-  count = ap (λ (x : MatrixValue). length x.rows) is ∙ length-transpose m.cols (reverse m.rows) ∙ sym (length-transpose m.cols m.rows);
+  count = ap (λ (x : MatrixValue). length x.rows) is ∙ transpose_length m.cols (reverse m.rows) ∙ sym (transpose_length m.cols m.rows);
   rows = ap (λ (x : MatrixValue). matrix_of K x.rows) is ∙ matrix_of_transpose K m.cols (reverse m.rows) over_reverse ∙ fun_ext λ t. column t;
   well_formed = well_formed;
 }

@@ -11,11 +11,12 @@ use Rattle.std.proofs.lemmas.List.{ext_get_or}
 use Rattle.axe_field.specs.Order.{Order, IsElement}
 use Rattle.axe_field.specs.Arithmetic.{field_neg}
 use Rattle.axe_field.specs.NumberFields.{number_field}
+use Rattle.axe_field.proofs.NumberFields.{number_field-neg}
 use Rattle.axe_row.specs.Rows.{RowValue, IsRow, part_of}
 use Rattle.axe_row.specs.Operations.{multiple, multiple_row}
 use Rattle.axe_row.proofs.OperationLaws.{get_or-multiple, length-multiple}
 use Rattle.axe_row.proofs.RowLaws.{same_row}
-use Rattle.axe_echelon.proofs.StepLaws.{below_of_element, negative_of}
+use Rattle.axe_echelon.proofs.StepLaws.{below_of_element}
 use mathlib.Core.Path.{sym, ◌∙◌, ap}
 use native.Mathlib.Omega.{arith}
 
@@ -52,9 +53,9 @@ negated_entries o entries part len part_is elements =
     at : (j : ℕ) → j < len → get_or (multiple (number_field o) (field_neg o 1) part) j 0 ≡ get_or (listed len (λ i. field_neg o (slice_index entries i))) j 0
     at j below =
         get_or-multiple (number_field o) (field_neg o 1) part j (omega (arith, below, part_long))
-        ∙ ap (λ (c : ℕ). (number_field o).mul c (get_or part j 0)) (sym (negative_of o 1))
+        ∙ ap (λ (c : ℕ). (number_field o).mul c (get_or part j 0)) (sym (number_field-neg o 1))
         ∙ negative_by_product (number_field o) (get_or part j 0) (below_of_element o (get_or part j 0) (elements j 0 (omega (arith, below, part_long))))
-        ∙ negative_of o (get_or part j 0)
+        ∙ number_field-neg o (get_or part j 0)
         ∙ ap (field_neg o) (ap (λ (p : List ℕ). get_or p j 0) part_is ∙ listed_at len (λ i. slice_index entries (0 + i)) j 0 below ∙ ap (slice_index entries) (from_start j))
         ∙ sym (listed_at len (λ i. field_neg o (slice_index entries i)) j 0 below)
 

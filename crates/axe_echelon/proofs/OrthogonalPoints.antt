@@ -13,6 +13,7 @@ use Rattle.axe_algebra.proofs.ListEntries.{rows_length, vector_length, same_vect
 use Rattle.axe_algebra.proofs.ListProducts.{transpose_over}
 use Rattle.axe_algebra.proofs.Spanning.{span_row}
 use Rattle.axe_algebra.proofs.ReducedBases.{same_at_pivots}
+use Rattle.axe_algebra.proofs.ListIrreducible.{transpose_length}
 use Rattle.axe_field.specs.NumberFields.{number_field, gf}
 use Rattle.axe_row.specs.Rows.{RowValue}
 use Rattle.axe_row.proofs.RowLaws.{same_row}
@@ -28,7 +29,7 @@ use Rattle.axe_matrix.proofs.ReversedRows.{All-reverse}
 use Rattle.axe_echelon.proofs.MirroredLists.{vector_of_reverse}
 use Rattle.axe_echelon.proofs.OneMatrix.{over_of}
 use Rattle.axe_echelon.proofs.SomeMatrix.{null_space_of_rows}
-use Rattle.axe_echelon.proofs.Transposes.{length-transpose, orthogonal_of_null_space}
+use Rattle.axe_echelon.proofs.Transposes.{orthogonal_of_null_space}
 use mathlib.Core.Path.{sym, ◌∙◌, ap, subst}
 use native.Mathlib.Omega.{arith}
 use native.Mathlib.Decide.{ℕ_discrete, dec_lt}
@@ -189,7 +190,7 @@ module _ (m turned : MatrixValue) (e : EchelonValue) (well : IsMatrix m) (mirror
 
   some_basis : (basis : MatrixValue) × (IsNullSpaceMatrix (transposed_matrix m) basis × IsMatrix basis)
   some_basis = null_space_of_rows (transposed_matrix m) (transpose_over (number_field m.order) m.cols m.rows over)
-      (omega (arith, length-transpose m.cols m.rows, well.some_column)) (omega (arith, length-transpose m.cols m.rows, well.columns_fit))
+      (omega (arith, transpose_length m.cols m.rows, well.some_column)) (omega (arith, transpose_length m.cols m.rows, well.columns_fit))
 
   pub point_is : (column : ℕ) (v : RowValue) → IsFirstFreeColumn e column → IsMirroredVector e column v → IsOrthogonalPoint m (Some v)
   point_is column v first vector = from some_basis

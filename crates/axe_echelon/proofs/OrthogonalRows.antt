@@ -17,6 +17,7 @@ use Rattle.axe_algebra.proofs.ProductLaws.{dot-at, unit_at, unit_off}
 use Rattle.axe_field.specs.Order.{Order, IsElement}
 use Rattle.axe_field.specs.Arithmetic.{field_neg}
 use Rattle.axe_field.specs.NumberFields.{number_field, gf}
+use Rattle.axe_field.proofs.NumberFields.{number_field-neg}
 use Rattle.axe_lane.specs.Entries.{IsFirstNonzero}
 use Rattle.axe_row.specs.Rows.{RowValue, IsRow}
 use Rattle.axe_row.specs.Operations.{dot_product}
@@ -29,7 +30,7 @@ use Rattle.axe_echelon.proofs.InverseLaws.{matrix_over}
 use Rattle.axe_echelon.proofs.OrthogonalLaws.{IsOrthogonalUnit, IsOrthogonalFrom, IsOrthogonalUpTo, orthogonal_start, orthogonal_more, orthogonal_all, ArePlacesBefore, basis_start, basis_more, basis_same, basis_rest, basis_all}
 use Rattle.axe_echelon.proofs.MirroredLaws.{mirrored-unit}
 use Rattle.axe_echelon.proofs.MirroredLists.{reverse-set, vector_of_reverse, is_row_mirrored}
-use Rattle.axe_echelon.proofs.StepLaws.{over_of_row, below_of_element, negative_of}
+use Rattle.axe_echelon.proofs.StepLaws.{over_of_row, below_of_element}
 use mathlib.Core.Path.{sym, ◌∙◌, ap, subst}
 use native.Mathlib.Omega.{arith}
 
@@ -97,7 +98,7 @@ module _ (e : EchelonValue) (h : IsEchelon e) (column : ℕ) (inside : column < 
     fits = fits (vector_of K next.entries)
         (ap (element K) (ap (λ (r : RowValue). get_or r.entries p 0) is
         ∙ get_or-set_same v.entries p c 0 (omega (arith, place, given.over.length_is))
-        ∙ c_is ∙ ap (λ o. field_neg o a) same_field ∙ sym (negative_of e.order a)) ∙ element_neg K a below)
+        ∙ c_is ∙ ap (λ o. field_neg o a) same_field ∙ sym (number_field-neg e.order a)) ∙ element_neg K a below)
         (λ j other. ap (element K) (ap (λ (r : RowValue). get_or r.entries j 0) is ∙ get_or-set_other v.entries p j c 0 other));
   }
     where

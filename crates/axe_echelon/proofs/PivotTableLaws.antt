@@ -2,10 +2,11 @@
 use Rattle.std.specs.Prelude.{◌≡◌, ◌≢◌, ℕ, suc, ◌+◌, ◌<◌, ◌≤◌, List, [], ◌∷◌, ◌++◌, length, get_or, set, cond, eqb, Bool, true, false}
 use Rattle.std.specs.Prelude.{Option, Some, None, MatchOption, replicate, is_some, not}
 use Rattle.std.proofs.Common.{true≢false}
-use Rattle.std.proofs.lemmas.Bool.{eq-eqb, ne_eqb}
+use Rattle.std.proofs.lemmas.Bool.{ne_eqb}
 use Rattle.std.proofs.lemmas.List.{length-append, length-replicate, length-set, get_or_past, get_or_append_left, get_or-append-add, get_or-set_same, get_or-set_other}
 use Rattle.axe_algebra.proofs.ListEntries.{listed_at, listed_length}
 use Rattle.axe_bits.specs.Supports.{restricted}
+use Rattle.axe_bits.proofs.SupportLaws.{restricted_away}
 use Rattle.axe_lane.specs.Entries.{IsNextNonzero}
 use Rattle.axe_echelon.specs.PivotTables.{marks_in, marks_of, HasRoom, IsPivotAt, HasPivots}
 use Rattle.axe_echelon.specs.declared.pivot_table.PivotTable.{PivotTable}
@@ -31,20 +32,13 @@ restricted_at marks entries j = at (dec_lt j (length entries))
         (omega (arith, past, listed_length (length entries) (λ i. cond (eqb (get_or marks i 0) 0) 0 (get_or entries i 0))))
         ∙ sym (ap (cond (eqb (get_or marks j 0) 0) 0) (get_or_past entries j 0 (omega (arith, past))) ∙ cond_same (eqb (get_or marks j 0) 0) 0)
 
-pub length-restricted : (marks entries : List ℕ) → length (restricted marks entries) ≡ length entries
-unfolding restricted
-length-restricted marks entries = listed_length (length entries) (λ i. cond (eqb (get_or marks i 0) 0) 0 (get_or entries i 0))
-
-pub unmarked_is_zero : (marks entries : List ℕ) (j : ℕ) → get_or marks j 0 ≡ 0 → get_or (restricted marks entries) j 0 ≡ 0
-unmarked_is_zero marks entries j none = restricted_at marks entries j ∙ ap (λ b. cond b 0 (get_or entries j 0)) (eq-eqb (get_or marks j 0) 0 none)
-
 pub zero_where_marked : (marks entries : List ℕ) (j : ℕ) → get_or marks j 0 ≢ 0 → get_or (restricted marks entries) j 0 ≡ 0 → get_or entries j 0 ≡ 0
 zero_where_marked marks entries j marked none =
     sym (restricted_at marks entries j ∙ ap (λ b. cond b 0 (get_or entries j 0)) (ne_eqb (get_or marks j 0) 0 marked)) ∙ none
 
 -- what a search finds is marked
 pub found_is_marked : (marks entries : List ℕ) (start column : ℕ) → IsNextNonzero (restricted marks entries) start column → get_or marks column 0 ≢ 0
-found_is_marked marks entries start column found none = found.nonzero (unmarked_is_zero marks entries column none)
+found_is_marked marks entries start column found none = found.nonzero (restricted_away marks entries column none)
 
 -- ---- tables
 

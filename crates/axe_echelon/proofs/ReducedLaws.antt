@@ -17,6 +17,7 @@ use Rattle.axe_algebra.proofs.ListVectors.{vector_of_unit_row, vector_of_scaled}
 use Rattle.axe_field.specs.Order.{Order, IsElement}
 use Rattle.axe_field.specs.Arithmetic.{field_neg}
 use Rattle.axe_field.specs.NumberFields.{number_field, gf}
+use Rattle.axe_field.proofs.NumberFields.{number_field-neg}
 use Rattle.axe_row.specs.Rows.{RowValue, IsRow}
 use Rattle.axe_row.specs.Operations.{multiple, multiple_row}
 use Rattle.axe_row.proofs.OperationLaws.{get_or-multiple, length-multiple}
@@ -24,7 +25,7 @@ use Rattle.axe_matrix.specs.Matrices.{MatrixValue}
 use Rattle.axe_echelon.specs.Echelons.{EchelonValue, IsEchelon, IsReducedMatrix}
 use Rattle.axe_echelon.specs.Steps.{IsPivotRow}
 use Rattle.axe_echelon.proofs.FormLaws.{below_or_at}
-use Rattle.axe_echelon.proofs.StepLaws.{over_of_row, below_of_element, negative_of}
+use Rattle.axe_echelon.proofs.StepLaws.{over_of_row, below_of_element}
 use mathlib.Core.Path.{refl, sym, ◌∙◌, ap, ap₂, subst, fun_ext}
 use native.Mathlib.Omega.{arith}
 use native.Mathlib.Decide.{ℕ_discrete, dec_lt}
@@ -75,7 +76,7 @@ module _ (e : EchelonValue) (h : IsEchelon e) where
           ∙ get_or-multiple K scalar left.entries j (omega (arith, within, left_long)))
 
       minus_one : element K scalar ≡ F.neg F.one
-      minus_one = ap (element K) (scalar_is ∙ ap (λ o. field_neg o 1) same_field ∙ sym (negative_of e.order 1)) ∙ element_neg K 1 K.one-below ∙ ap F.neg (element_one K)
+      minus_one = ap (element K) (scalar_is ∙ ap (λ o. field_neg o 1) same_field ∙ sym (number_field-neg e.order 1)) ∙ element_neg K 1 K.one-below ∙ ap F.neg (element_one K)
 
       at_other : (j : ℕ) → j ≢ pivot → vector_of K row.entries j ≡ F.neg (vector_of K left.entries j)
       at_other j other =

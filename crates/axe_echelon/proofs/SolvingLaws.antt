@@ -15,12 +15,13 @@ use Rattle.axe_algebra.proofs.ElementNumbers.{element_mul, element_zero, entry-b
 use Rattle.axe_field.specs.Order.{Order, IsElement}
 use Rattle.axe_field.specs.Arithmetic.{field_mul}
 use Rattle.axe_field.specs.NumberFields.{number_field, gf}
+use Rattle.axe_field.proofs.NumberFields.{number_field-mul}
 use Rattle.axe_row.specs.Rows.{RowValue, IsRow}
 use Rattle.axe_row.specs.Operations.{row_with_multiple}
 use Rattle.axe_echelon.specs.Steps.{inserted_rows, echelon_rows, multiplier_rows, scalars, IsStep, AreSteps, IsSolved}
 use Rattle.axe_echelon.specs.declared.Step.{Step}
 use Rattle.axe_echelon.proofs.ClearingLaws.{vector_of_sum}
-use Rattle.axe_echelon.proofs.StepLaws.{over_of_row, below_of_element, product_of, row_of_steps, scalar_of_steps, length-inserted, step_at, steps_fit}
+use Rattle.axe_echelon.proofs.StepLaws.{over_of_row, below_of_element, row_of_steps, scalar_of_steps, length-inserted, step_at, steps_fit}
 use mathlib.Core.Path.{refl, sym, ◌∙◌, ap, ap₂, subst, fun_ext}
 use native.Mathlib.Omega.{arith}
 use native.Mathlib.Decide.{ℕ_discrete, dec_lt}
@@ -230,7 +231,7 @@ module _ (o : Order) (n : ℕ) (steps : List Step) (i : ℕ) (step : Step) (are 
       product : element K coefficient ≡ (gf o).mul (vector_of K row.entries i) (vector_of K (scalars steps) i)
       product =
           ap (element K) (coefficient_is ∙ ap₂ (λ p a. field_mul p a step.scalar) same_field number_is
-          ∙ sym (product_of o (get_or row.entries i 0) step.scalar))
+          ∙ sym (number_field-mul o (get_or row.entries i 0) step.scalar))
           ∙ element_mul K (get_or row.entries i 0) step.scalar (entry-below K row.entries i solved.over.elements) at_i.scalar_below
           ∙ ap (λ a. (gf o).mul (vector_of K row.entries i) (element K a)) (sym (scalar_of_steps steps i step below is))
 

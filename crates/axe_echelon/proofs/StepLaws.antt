@@ -8,7 +8,6 @@ use Rattle.axe_algebra.specs.Vectors.{zero_vector}
 use Rattle.axe_algebra.proofs.ElementNumbers.{element_zero}
 use Rattle.axe_algebra.proofs.ListSpans.{independent_rows_are_few}
 use Rattle.axe_field.specs.Order.{Order, IsElement}
-use Rattle.axe_field.specs.Arithmetic.{field_neg, field_mul}
 use Rattle.axe_field.specs.NumberFields.{number_field, gf}
 use Rattle.axe_row.specs.Rows.{RowValue, IsRow}
 use Rattle.axe_row.proofs.RowLaws.{IsRow-zero}
@@ -18,7 +17,7 @@ use Rattle.axe_echelon.specs.declared.Step.{Step}
 use mathlib.Core.Path.{refl, sym, ◌∙◌, ap, subst, fun_ext}
 use native.Mathlib.Omega.{arith}
 
--- the operations of the seven fields
+-- elements and rows over the seven fields
 pub over_of_row : (o : Order) (n : ℕ) (row : RowValue) → row.order ≡ o → IsRow row → length row.entries ≡ n → IsVectorOver (number_field o) n row.entries
 unfolding number_field
 over_of_row o n row field h long = record {
@@ -37,14 +36,6 @@ below_of_element o a below = below
 pub element_of_below : (o q : Order) (a : ℕ) → q ≡ o → a < (number_field o).order → IsElement q a
 unfolding number_field
 element_of_below o q a same below = subst (λ p. IsElement p a) (sym same) below
-
-pub negative_of : (o : Order) (a : ℕ) → (number_field o).neg a ≡ field_neg o a
-unfolding number_field
-negative_of o a = refl
-
-pub product_of : (o : Order) (a b : ℕ) → (number_field o).mul a b ≡ field_mul o a b
-unfolding number_field
-product_of o a b = refl
 
 -- an entry of a list of copies
 pub get_or_copies : {A : Type 0} (a : A) (n j : ℕ) → get_or (replicate n a) j a ≡ a

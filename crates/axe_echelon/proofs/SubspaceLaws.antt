@@ -20,6 +20,7 @@ use Rattle.axe_algebra.proofs.ListVectors.{vector_of_scaled, same_span_refl}
 use Rattle.axe_field.specs.Order.{Order, IsElement}
 use Rattle.axe_field.specs.Arithmetic.{field_mul}
 use Rattle.axe_field.specs.NumberFields.{number_field, gf}
+use Rattle.axe_field.proofs.NumberFields.{number_field-mul}
 use Rattle.axe_row.specs.Rows.{RowValue, IsRow}
 use Rattle.axe_lane.specs.Entries.{IsFirstNonzero}
 use Rattle.axe_row.specs.Operations.{multiple, multiple_row, IsZeroVector}
@@ -34,7 +35,7 @@ use Rattle.axe_echelon.specs.declared.subspace.PivotRow.{PivotRow}
 use Rattle.axe_echelon.proofs.EliminationLaws.{vector_of_zero_row, zero_row_of_vector}
 use Rattle.axe_echelon.proofs.FormLaws.{below_or_at}
 use Rattle.axe_echelon.proofs.MoreStepsLaws.{tabled_by_step, echelon_of_more}
-use Rattle.axe_echelon.proofs.StepLaws.{over_of_row, below_of_element, product_of, zeros_over, vector_of_zeros, length-inserted, step_at}
+use Rattle.axe_echelon.proofs.StepLaws.{over_of_row, below_of_element, zeros_over, vector_of_zeros, length-inserted, step_at}
 use mathlib.Core.Path.{refl, sym, ◌∙◌, ap, ap₂, subst, fun_ext}
 use native.Mathlib.Omega.{arith}
 
@@ -225,7 +226,7 @@ module _ (e : EchelonValue) (h : IsEchelon e) (first row : RowValue) (represents
       below = subst (λ o. scalar < (number_field o).order) same_field (below_of_element q scalar is_element)
 
       product : K.mul number_at scalar ≡ 1
-      product = product_of e.order number_at scalar ∙ ap₂ (λ o a. field_mul o a scalar) (sym same_field) (sym number_is) ∙ inverse
+      product = number_field-mul e.order number_at scalar ∙ ap₂ (λ o a. field_mul o a scalar) (sym same_field) (sym number_is) ∙ inverse
 
       scaled_field : scaled.order ≡ e.order
       scaled_field = ap (λ (r : RowValue). r.order) scaled_is ∙ field

@@ -7,12 +7,13 @@ use Rattle.axe_algebra.specs.Spans
 use Rattle.axe_algebra.specs.Irreducible
 use Rattle.axe_algebra.specs.Reduced
 use Rattle.axe_algebra.specs.Bridge.{field_of, matrix_of}
-use Rattle.axe_algebra.specs.Lists.{entry, IsMatrixOver}
+use Rattle.axe_algebra.specs.Lists.{IsMatrixOver}
 use Rattle.axe_algebra.specs.ListArithmetic.{transpose}
 use Rattle.axe_algebra.specs.SpansOfLists.{HaveSameSpan, IsAnnihilatorBasis, IsNullSpaceBasis}
 use Rattle.axe_algebra.proofs.Annihilators.{dot-zero, annihilator_within}
 use Rattle.axe_algebra.proofs.ListEntries
-use Rattle.axe_algebra.proofs.ListEntries.{table_length, row_past}
+use Rattle.axe_algebra.proofs.ListEntries.{row_past}
+use Rattle.axe_algebra.proofs.ListIrreducible.{transpose_length}
 use Rattle.axe_algebra.proofs.ListProducts.{matrix_of_transpose, transpose_over}
 use Rattle.axe_algebra.proofs.ProductLaws.{times-at, dot-at, dot_comm}
 use Rattle.axe_field.specs.Order.{Order}
@@ -29,11 +30,6 @@ use Rattle.axe_echelon.proofs.MirroredLaws.{orthogonal_of_mirrored, mirrored_of_
 use mathlib.Core.Path.{refl, sym, ◌∙◌, ap, subst, fun_ext}
 use native.Mathlib.Omega.{arith}
 use native.Mathlib.Decide.{dec_lt}
-
--- a transpose has a row for each column
-pub length-transpose : (n : ℕ) (rows : List (List ℕ)) → length (transpose n rows) ≡ n
-unfolding transpose
-length-transpose n rows = table_length n (length rows) (λ i j. entry rows j i)
 
 module _ (K : NumberField) where
   abbrev F : Field
@@ -69,7 +65,7 @@ module _ (K : NumberField) where
   -- so their reduced basis is that of the null space of the transpose
   null_space_by_annihilator : (n : ℕ) (rows basis : List (List ℕ)) → IsMatrixOver K n rows → IsAnnihilatorBasis K n rows basis →
       IsNullSpaceBasis K (transpose n rows) basis
-  null_space_by_annihilator n rows basis over orthogonal = subst (λ k. Reduced.IsReducedBasisOf F (Spans.IsNullVector F k (matrix_of K (transpose n rows))) (length basis) (matrix_of K basis)) (sym (length-transpose n rows)) (record {
+  null_space_by_annihilator n rows basis over orthogonal = subst (λ k. Reduced.IsReducedBasisOf F (Spans.IsNullVector F k (matrix_of K (transpose n rows))) (length basis) (matrix_of K basis)) (sym (transpose_length n rows)) (record {
     forth = λ x in_span. null_of_annihilated n rows x over (orthogonal.forth x in_span);
     back = λ x null. orthogonal.back x (annihilated_of_null n rows x over null);
     reduced = orthogonal.reduced;
@@ -85,7 +81,7 @@ module _ (K : NumberField) where
     where
       by_columns : Reduced.IsReducedBasisOf F (Spans.IsNullVector F n (matrix_of K (transpose n rows))) (length basis) (matrix_of K basis)
       by_columns = subst (λ k. Reduced.IsReducedBasisOf F (Spans.IsNullVector F k (matrix_of K (transpose n rows))) (length basis) (matrix_of K basis))
-          (length-transpose n rows) null
+          (transpose_length n rows) null
 
 -- rows, and others that have the span of the rows read from the last entry to the first
 module _ (o : Order) (n : ℕ) (rows turned others : List (List ℕ))
@@ -147,7 +143,7 @@ module _ (m turned basis : MatrixValue) (e : EchelonValue) (h : IsMatrixOver (nu
   pub null_space_of_transpose : IsNullSpaceMatrix (transposed_matrix m) basis
   null_space_of_transpose = record {
     field = orthogonal.field ∙ space.field ∙ mirrored_rows.field;
-    columns = orthogonal.columns ∙ space.columns ∙ mirrored_rows.columns ∙ sym (length-transpose m.cols m.rows);
+    columns = orthogonal.columns ∙ space.columns ∙ mirrored_rows.columns ∙ sym (transpose_length m.cols m.rows);
     basis_of_null_space = null_space_by_annihilator (number_field m.order) m.cols m.rows basis.rows h orthogonal_to_rows;
   }
 
@@ -156,7 +152,7 @@ pub orthogonal_of_null_space : (m turned basis : MatrixValue) (e : EchelonValue)
     IsRowSpace turned e → IsNullSpaceMatrix (transposed_matrix m) basis → IsOrthogonalToSpace e basis
 orthogonal_of_null_space m turned basis e h mirrored_rows space null = record {
   field = null.field ∙ sym (space.field ∙ mirrored_rows.field);
-  columns = null.columns ∙ length-transpose m.cols m.rows ∙ sym (space.columns ∙ mirrored_rows.columns);
+  columns = null.columns ∙ transpose_length m.cols m.rows ∙ sym (space.columns ∙ mirrored_rows.columns);
   basis = subst (λ o. Reduced.IsReducedBasisOf (gf o) (IsOrthogonalMirrored (gf o) e.cols (length e.rows) (matrix_of (number_field o) e.rows))
       (length basis.rows) (matrix_of (number_field o) basis.rows)) (sym (space.field ∙ mirrored_rows.field))
       (subst (λ n. Reduced.IsReducedBasisOf (gf m.order) (IsOrthogonalMirrored (gf m.order) n (length e.rows) (matrix_of (number_field m.order) e.rows))
@@ -168,9 +164,9 @@ orthogonal_of_null_space m turned basis e h mirrored_rows space null = record {
 
 -- the transpose of the transpose is the matrix
 pub twice_transposed : (m : MatrixValue) → IsMatrix m → transposed_matrix (transposed_matrix m) ≡ m
-twice_transposed m h = same_matrix (transposed_matrix (transposed_matrix m)) m refl (length-transpose m.cols m.rows)
-    (ListEntries.same_matrix K m.cols (transpose (length m.rows) (transpose m.cols m.rows)) m.rows (length-transpose (length m.rows) (transpose m.cols m.rows))
-    (subst (λ n. IsMatrixOver K n (transpose (length m.rows) (transpose m.cols m.rows))) (length-transpose m.cols m.rows)
+twice_transposed m h = same_matrix (transposed_matrix (transposed_matrix m)) m refl (transpose_length m.cols m.rows)
+    (ListEntries.same_matrix K m.cols (transpose (length m.rows) (transpose m.cols m.rows)) m.rows (transpose_length (length m.rows) (transpose m.cols m.rows))
+    (subst (λ n. IsMatrixOver K n (transpose (length m.rows) (transpose m.cols m.rows))) (transpose_length m.cols m.rows)
     (transpose_over K (length m.rows) (transpose m.cols m.rows) over))
     (matrix_over m h)
     (matrix_of_transpose K (length m.rows) (transpose m.cols m.rows) over

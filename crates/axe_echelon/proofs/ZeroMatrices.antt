@@ -16,6 +16,7 @@ use Rattle.axe_algebra.proofs.Spanning.{span_length}
 use Rattle.axe_algebra.proofs.Isomorphisms.{unit_rows_independent}
 use Rattle.axe_algebra.proofs.ListEntries.{rows_length, listed_length, listed_at, table_length, table_row}
 use Rattle.axe_algebra.proofs.ListProducts.{matrix_of_identity, identity_over, identity_length}
+use Rattle.axe_algebra.proofs.ListIrreducible.{transpose_length}
 use Rattle.axe_field.specs.Order.{Order}
 use Rattle.axe_field.specs.NumberFields.{number_field}
 use Rattle.axe_row.specs.Operations.{IsZeroVector}
@@ -28,7 +29,6 @@ use Rattle.axe_echelon.specs.OrthogonalPoints.{IsOrthogonalPoint}
 use Rattle.axe_echelon.proofs.FormLaws.{below_or_at}
 use Rattle.axe_echelon.proofs.WholeSpace.{identity_is_reduced}
 use Rattle.axe_echelon.proofs.SomeMatrix.{matrix_of_rows_over}
-use Rattle.axe_echelon.proofs.Transposes.{length-transpose}
 use mathlib.Core.Path.{refl, sym, ◌∙◌, ap, ap₂, subst}
 use native.Mathlib.Omega.{arith}
 use native.Mathlib.Decide.{dec_lt}
@@ -162,7 +162,7 @@ point_of_zeros m o n last v well zeros same_field same_count is_last is = record
 }
   where
     count : length (transpose m.cols m.rows) ≡ m.cols
-    count = length-transpose m.cols m.rows
+    count = transpose_length m.cols m.rows
 
     size : length (identity m.cols) ≡ m.cols
     size = identity_length (number_field m.order) m.cols

@@ -4,11 +4,12 @@ use Rattle.axe_algebra.specs.Bridge.{matrix_of}
 use Rattle.axe_algebra.specs.ModulesOfLists.{AreIsomorphic}
 use Rattle.axe_algebra.proofs.ListStandard.{standard_basis_list_is_unique}
 use Rattle.axe_echelon.specs.Echelons.{IsNullSpaceMatrix}
-use Rattle.axe_echelon.proofs.OneMatrix.{same_value, over_of, null_space_is_one}
+use Rattle.axe_echelon.proofs.OneMatrix.{over_of, null_space_is_one}
 use Rattle.axe_field.specs.Order.{order_number}
 use Rattle.axe_field.specs.NumberFields.{number_field}
 use Rattle.axe_row.specs.Rows.{RowValue}
 use Rattle.axe_matrix.specs.Matrices.{MatrixValue, IsMatrix}
+use Rattle.axe_matrix.proofs.MatrixLaws.{same_matrix}
 use Rattle.axe_spin.specs.Modules.{ModuleValue}
 use Rattle.axe_spin.specs.Spinning.{IsStandardMatrix}
 use Rattle.axe_action.specs.Actions.{IsBasisAction}
@@ -31,7 +32,7 @@ null_space_of_word_is_one m seed number a b first second =
 
 pub standard_matrix_is_one : (m : ModuleValue) (v : RowValue) (a b : MatrixValue) → IsStandardMatrix m v a → IsMatrix a → IsStandardMatrix m v b → IsMatrix b → a ≡ b
 standard_matrix_is_one m v a b first of_a second of_b =
-    same_value a b (first.field ∙ sym second.field) (first.columns ∙ sym second.columns)
+    same_matrix a b (first.field ∙ sym second.field) (first.columns ∙ sym second.columns)
     (standard_basis_list_is_unique (number_field m.order) m.dim m.generators v.entries a.rows b.rows
     (over_of a m.order m.dim of_a first.field first.columns) (over_of b m.order m.dim of_b second.field second.columns)
     first.standard second.standard)

@@ -9,7 +9,7 @@ use Rattle.axe_algebra.specs.SpansOfLists.{IsExtendedBasis}
 use Rattle.axe_algebra.proofs.ReducedBases.{same_size, same_places}
 use Rattle.axe_field.specs.NumberFields.{number_field}
 use Rattle.axe_matrix.specs.Matrices.{MatrixValue, IsMatrix, matrix_block}
-use Rattle.axe_echelon.proofs.OneMatrix.{same_value}
+use Rattle.axe_matrix.proofs.MatrixLaws.{same_matrix}
 use Rattle.axe_spin.specs.Modules.{ModuleValue, IsModule}
 use Rattle.axe_action.specs.Actions.{IsExtendedMatrix}
 use Rattle.axe_action.proofs.OneAction.{basis_action_is_one, quotient_is_one}
@@ -41,7 +41,7 @@ extended_list_is_one K n rows a b first second =
 -- and so is a matrix
 pub extended_matrix_is_one : (rows a b : MatrixValue) → IsExtendedMatrix rows a → IsExtendedMatrix rows b → a ≡ b
 extended_matrix_is_one rows a b first second =
-    same_value a b (first.field ∙ sym second.field) (first.columns ∙ sym second.columns)
+    same_matrix a b (first.field ∙ sym second.field) (first.columns ∙ sym second.columns)
     (extended_list_is_one (number_field rows.order) rows.cols rows.rows a.rows b.rows first.extends second.extends)
 
 -- what a reducible verdict gives is a basis of a proper submodule

@@ -1,5 +1,5 @@
 -- Matrices that are the generators of a module: how they are found to be, and that they make one.
-use Rattle.std.proofs.Common.{◌≡◌, ℕ, ◌+◌, ◌<◌, ◌≤◌, List, [], ◌∷◌, ◌++◌, Option, Some, None, Ok, Err, length, take, drop, get_or, refl, sym, ap, ◌∙◌, subst, arith}
+use Rattle.std.proofs.Common.{◌≡◌, ℕ, ◌+◌, ◌<◌, ◌≤◌, List, [], ◌∷◌, ◌++◌, Option, Some, None, Err, length, take, drop, get_or, refl, sym, ap, ◌∙◌, subst, arith}
 use Rattle.std.specs.List.{All}
 use Rattle.std.proofs.lemmas.List.{take_all, take_more, length-map, at_drop_more, at_drop_all}
 use Rattle.std.proofs.lemmas.List.Elements.{All-nil, All-get_or, All-more, All-map, All-weaker}
@@ -18,11 +18,6 @@ use Rattle.axe_spin.specs.Generators.{IsGeneratorMatrix, MakeModule}
 pub refusal_of : {A : Type 0} (refusal : Option Refusal) (value : A) (why : Refusal) → Err why ≡ unless_refused refusal value → refusal ≡ Some why
 refusal_of (Some other) value why e = cc
 refusal_of None value why e = cc
-
--- nothing refuses a value that there is
-pub no_refusal : {A : Type 0} (refusal : Option Refusal) (value found : A) → Ok found ≡ unless_refused refusal value → refusal ≡ None
-no_refusal (Some other) value found e = cc
-no_refusal None value found e = refl
 
 -- the first so many matrices are generators, and what refuses one of the others refuses them all
 pub record AreGenerators (order : Order) (dim : ℕ) (matrices : List MatrixValue) (count : ℕ) : Type 0 where

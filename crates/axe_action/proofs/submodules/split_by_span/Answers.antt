@@ -1,6 +1,7 @@
 use Rattle.std.proofs.Common.{Ok, Err}
 use Rattle.axe_echelon.proofs.Exits.{no_memory}
-use Rattle.axe_action.proofs.SubmoduleLaws.{rows_accepted, not_everything, proper_answers}
+use Rattle.axe_spin.proofs.SeedLaws.{vectors_accepted}
+use Rattle.axe_action.proofs.SubmoduleLaws.{not_everything, proper_answers}
 use Rattle.axe_action.proofs.QuotientRows.{free_of_rows}
 use Rattle.axe_action.proofs.submodules.split_by_span.Goals as goal
 
@@ -8,7 +9,7 @@ pub returns-in_err-quotient-clause-sub : goal.returns-in_err-quotient-clause-sub
 returns-in_err-quotient-clause-sub c =
     no_memory _ c.from_residual-in_err-quotient.result c.in_err-quotient.field-0.0 c.from_residual-in_err-quotient.ensures.1
     (proper_answers c.args.module.now c.args.rows.now (Err c.in_err-quotient.field-0.0)
-    (rows_accepted c.args.module.now c.args.rows.now c.requires.field c.requires.fits)
+    (vectors_accepted c.args.module.now c.args.rows.now c.requires.field c.requires.fits)
     (not_everything c.args.module.now c.args.rows.now c.requires.field c.requires.fits c.in_ok-span.ensures.well_formed c.requires.independent c.requires.proper)
     c.requires.invariant c.in_err-quotient.ensures.action)
 
@@ -16,7 +17,7 @@ pub returns-in_err-quotient-clause-quotient : goal.returns-in_err-quotient-claus
 returns-in_err-quotient-clause-quotient c =
     no_memory _ c.from_residual-in_err-quotient.result c.in_err-quotient.field-0.0 c.from_residual-in_err-quotient.ensures.1
     (proper_answers c.args.module.now c.args.rows.now (Err c.in_err-quotient.field-0.0)
-    (rows_accepted c.args.module.now c.args.rows.now c.requires.field c.requires.fits)
+    (vectors_accepted c.args.module.now c.args.rows.now c.requires.field c.requires.fits)
     (not_everything c.args.module.now c.args.rows.now c.requires.field c.requires.fits c.in_ok-span.ensures.well_formed c.requires.independent c.requires.proper)
     c.requires.invariant c.in_err-quotient.ensures.action)
 
@@ -24,7 +25,7 @@ pub returns-in_err-quotient-clause-columns : goal.returns-in_err-quotient-clause
 returns-in_err-quotient-clause-columns c =
     no_memory _ c.from_residual-in_err-quotient.result c.in_err-quotient.field-0.0 c.from_residual-in_err-quotient.ensures.1
     (proper_answers c.args.module.now c.args.rows.now (Err c.in_err-quotient.field-0.0)
-    (rows_accepted c.args.module.now c.args.rows.now c.requires.field c.requires.fits)
+    (vectors_accepted c.args.module.now c.args.rows.now c.requires.field c.requires.fits)
     (not_everything c.args.module.now c.args.rows.now c.requires.field c.requires.fits c.in_ok-span.ensures.well_formed c.requires.independent c.requires.proper)
     c.requires.invariant c.in_err-quotient.ensures.action)
 
@@ -34,7 +35,7 @@ returns-clause-sub c = c.in_ok-sub.ensures.action.1
 pub returns-clause-quotient : goal.returns-clause-quotient
 returns-clause-quotient c =
     proper_answers c.args.module.now c.args.rows.now (Ok c.in_ok-quotient.quotient)
-    (rows_accepted c.args.module.now c.args.rows.now c.requires.field c.requires.fits)
+    (vectors_accepted c.args.module.now c.args.rows.now c.requires.field c.requires.fits)
     (not_everything c.args.module.now c.args.rows.now c.requires.field c.requires.fits c.in_ok-span.ensures.well_formed c.requires.independent c.requires.proper)
     c.requires.invariant c.in_ok-quotient.ensures.action
 

@@ -1,8 +1,9 @@
 use Rattle.std.proofs.Common.{◌≡◌, ◌<◌, length, sym, ◌∙◌, ap, arith}
+use Rattle.axe_algebra.proofs.ListIrreducible.{transpose_length}
 use Rattle.axe_matrix.specs.Matrices.{MatrixValue, transposed_matrix}
 use Rattle.axe_echelon.proofs.Exits.{answers_more, answers_with}
 use Rattle.axe_echelon.proofs.MirroredLists.{columns_answer, mirrored_without_rows}
-use Rattle.axe_echelon.proofs.Transposes.{length-transpose, transposed_value, mirrored_by_columns}
+use Rattle.axe_echelon.proofs.Transposes.{transposed_value, mirrored_by_columns}
 use Rattle.axe_echelon.proofs.mirrors.mirrored_matrix.Goals as goal
 
 pub returns-then-rows-eq0-clause-mirrored : goal.returns-then-rows-eq0-clause-mirrored
@@ -15,7 +16,7 @@ returns-clause-mirrored c =
     let is : c.in_ok-columns.columns ≡ transposed_matrix c.args.matrix.now =
     transposed_value c.args.matrix.now c.in_ok-columns.columns c.in_ok-columns.ensures.transpose in
     let count : length c.in_ok-columns.columns.rows ≡ c.args.matrix.now.cols =
-    ap (λ (m : MatrixValue). length m.rows) is ∙ length-transpose c.args.matrix.now.cols c.args.matrix.now.rows in
+    ap (λ (m : MatrixValue). length m.rows) is ∙ transpose_length c.args.matrix.now.cols c.args.matrix.now.rows in
     let some : 0 < length c.in_ok-columns.columns.rows = omega (arith, count, c.rows.ensures.well_formed.some_column) in
     answers_more c.transpose-2.result _ _
     (columns_answer c.in_ok-columns.columns c.reverse.new.self c.transpose-2.result c.in_ok-columns.ensures.well_formed some c.reverse.ensures.reversed

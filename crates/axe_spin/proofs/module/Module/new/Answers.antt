@@ -1,9 +1,10 @@
 use Rattle.std.proofs.Common.{◌≡◌, Some, None, sym, ap, ◌∙◌, subst}
 use Rattle.std.specs.List.{All}
 use Rattle.std.proofs.lemmas.Result.{err_from_is_err_and}
+use Rattle.axe_echelon.proofs.Exits.{not_refused}
 use Rattle.axe_spin.specs.Modules.{generators_refusal}
 use Rattle.axe_spin.specs.Generators.{IsGeneratorMatrix, MakeModule}
-use Rattle.axe_spin.proofs.ModuleLaws.{refusal_of, no_refusal, AreGenerators-none, AreGenerators-more, AreGenerators-refused, AreGenerators-all, AreGenerators-accepted, module_of_first, MakeModule-of_generators}
+use Rattle.axe_spin.proofs.ModuleLaws.{refusal_of, AreGenerators-none, AreGenerators-more, AreGenerators-refused, AreGenerators-all, AreGenerators-accepted, module_of_first, MakeModule-of_generators}
 use Rattle.axe_spin.proofs.module.Module.new.Goals as goal
 
 pub loop-matrix-init : goal.loop-matrix-init
@@ -22,7 +23,7 @@ returns-in_err-check_generator-clause-made c =
 
 pub loop-matrix-preserved : goal.loop-matrix-preserved
 loop-matrix-preserved c =
-    let accepted = no_refusal _ _ _ c.in_ok-check_generator.ensures.refusal in
+    let accepted = not_refused _ _ _ c.in_ok-check_generator.ensures.refusal in
     AreGenerators-more _ _ _ _ _ c.loop-matrix.invariant c.loop-matrix-test.true c.matrix-item.is accepted c.in_ok-check_generator.ensures.generator
 
 make_module : (c : goal.After-loop-matrix) → MakeModule c.field.result.now c.cols-dim.result c.args.matrices.items
