@@ -34,7 +34,7 @@ pub fn conjugate(alloc: Global, module: &Module, basis: &Matrix) -> Result<Modul
 }
 
 /// The module over a basis of everything, as [`basis_action`] gives it, for a module that is given away: it is taken
-/// apart, so that each generator is gone before the matrix that comes in its place is made.
+/// apart, so that each generator is gone before the matrix that comes in its place is made; no clause says so.
 ///
 /// [`basis_action`]: crate::basis_action
 pub fn change_basis(alloc: Global, module: Module, basis: &Matrix) -> Result<Module, Refusal>

@@ -36,7 +36,8 @@ pub struct Split {
 /// The two actions of a module that come of a submodule, which has independent rows as a basis and is neither zero nor
 /// everything: that of [`basis_action`] on it and that of [`quotient_action`] modulo it, for rows whose span is known
 /// to be invariant. After the rows, the unit vectors of the columns make the basis that [`extend_basis`] gives. By a
-/// reduced basis the module is taken apart, so that beside what is left of it the two actions alone take memory.
+/// reduced basis the module is taken apart, so that beside what is left of it the two actions alone take memory; no
+/// clause says so.
 ///
 /// [`basis_action`]: crate::basis_action
 /// [`quotient_action`]: crate::quotient_action

@@ -12,7 +12,7 @@ use Rattle.axe_echelon.specs.Echelons.{EchelonValue, IsReducedMatrix}
 use Rattle.axe_echelon.specs.Mirrored.{mirrored_row, IsOrthogonalMirrored}
 
 -- the row of the echelon form at an index has its pivot at this column: its first entry other than 0, which is 1; the
--- rows after it are 0 there
+-- rows after it are 0 there, and the column is a pivot of the span
 pub record IsPivotOfRow (e : EchelonValue) (index column : ℕ) : Type 0 where
   pub first : IsFirstNonzero (get_or e.rows index []) column
   pub one : entry e.rows index column ≡ 1

@@ -68,8 +68,8 @@ impl Subspace {
         }
     }
 
-    /// Makes room for so many vectors more that are new: the list of rows doesn't grow before these are inserted. The space
-    /// stays as it is.
+    /// Makes room for so many vectors more that are new: the list of rows doesn't grow before these are inserted, of
+    /// which no clause speaks. The space stays as it is.
     pub fn reserve(&mut self, rows: usize) -> Result<(), Refusal>
         ensures same { self.new ≡ self.old }
         ensures memory { Answers None (λ _. ⊤) result }

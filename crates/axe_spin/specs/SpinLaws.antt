@@ -32,9 +32,9 @@ IsomorphismCarriesStandardBasis =
     IsIsomorphismMatrix m n t → IsVectorOf m v → IsMatrix basis → IsStandardMatrix m v basis →
     IsStandardMatrix n (vector_product v t) (matrix_product basis t)
 
--- the matrices are the sub action of the module on the rows of a basis
+-- the matrices are the sub action of the module on the rows of a matrix
 abbrev pub IsActionOn : ModuleValue → MatrixValue → List (List (List ℕ)) → Type 0
-IsActionOn m basis matrices = IsSubAction (number_field m.order) m.dim m.generators basis.rows matrices
+IsActionOn m rows matrices = IsSubAction (number_field m.order) m.dim m.generators rows.rows matrices
 
 -- a nonzero multiple of v has the same standard matrices: the sub actions on the standard bases are the same
 abbrev pub MultipleHasTheSameStandardMatrices : Type 0
