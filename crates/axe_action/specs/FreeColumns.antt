@@ -57,9 +57,9 @@ pub record HasRowsAt (m : MatrixValue) (indices : List ℕ) (i : ℕ) (matrix : 
   pub well_formed : IsMatrix matrix
   pub each : (t : ℕ) → t < i → get_or matrix.rows t [] ≡ row_at m.rows indices t
 
--- the rows of g at these columns, modulo a span with these pivots and no others than them, by the entries of its reduced
--- basis at the columns: the rows' entries at the columns, minus their entries at the pivots times those (the reduced row
--- echelon form of any linear algebra text)
+-- the rows of g at these columns, modulo a span with these pivots and no others than them, by the entries of its
+-- reduced basis at the columns: the rows' entries at the columns, minus their entries at the pivots times those (the
+-- reduced row echelon form of any linear algebra text)
 abbrev pub matrix_modulo : List ℕ → List ℕ → MatrixValue → MatrixValue → MatrixValue
 matrix_modulo pivots columns entries g =
     matrix_with_product (matrix_at columns (rows_chosen columns g)) (field_neg g.order 1)
@@ -72,6 +72,10 @@ pub record AreReducedAt (rows : MatrixValue) (columns : List ℕ) : Type 0 where
   pub reduced : IsReducedMatrix (rows_to_span rows) rows
   pub coordinates : AreCoordinateColumns (number_field rows.order) rows.cols rows.rows columns
 
+-- the column is one of a list
+abbrev pub IsListedColumn : List ℕ → ℕ → Type 0
+IsListedColumn columns j = (t : ℕ) × (t < length columns) × (get_or columns t 0 ≡ j)
+
 -- the pivots and the other columns of vectors of length n, both ascending: each column is one of them
 pub record AreComplementary (n : ℕ) (pivots columns : List ℕ) : Type 0 where
   pub pivots_ascend : (s t : ℕ) → s < t → t < length pivots → get_or pivots s 0 < get_or pivots t 0
@@ -79,15 +83,14 @@ pub record AreComplementary (n : ℕ) (pivots columns : List ℕ) : Type 0 where
   pub pivots_below : (t : ℕ) → t < length pivots → get_or pivots t 0 < n
   pub columns_below : (t : ℕ) → t < length columns → get_or columns t 0 < n
   pub apart : (s t : ℕ) → s < length pivots → t < length columns → get_or pivots s 0 ≢ get_or columns t 0
-  pub every : (j : ℕ) → j < n →
-      ((t : ℕ) × (t < length pivots) × (get_or pivots t 0 ≡ j)) ⊎ ((t : ℕ) × (t < length columns) × (get_or columns t 0 ≡ j))
+  pub every : (j : ℕ) → j < n → IsListedColumn pivots j ⊎ IsListedColumn columns j
 
 -- the next pivot that was not taken, after so many that were and so many other columns, is the next column
 abbrev pub IsNextPivot : List ℕ → ℕ → ℕ → Type 0
 IsNextPivot pivots taken passed = (taken < length pivots) × (get_or pivots taken 0 ≡ taken + passed)
 
--- a reduced basis with these pivots times g, at the pivots, by the basis's entries at the other columns: the rows of g at
--- the pivots, plus the entries times the rows of g at the other columns (the reduced row echelon form of any linear
+-- a reduced basis with these pivots times g, at the pivots, by the basis's entries at the other columns: the rows of g
+-- at the pivots, plus the entries times the rows of g at the other columns (the reduced row echelon form of any linear
 -- algebra text)
 abbrev pub matrix_within : List ℕ → List ℕ → MatrixValue → MatrixValue → MatrixValue
 matrix_within pivots columns entries g =

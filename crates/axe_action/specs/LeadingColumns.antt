@@ -2,8 +2,8 @@
 use Rattle.std.specs.Prelude.{◌≡◌, ◌≢◌, ℕ, ◌<◌, List, [], length, get_or}
 use Rattle.axe_algebra.specs.Reduced.{IsAscendingListOf}
 
--- the rows are 0 before these columns, one for each row, which ascend and are below a bound (the row echelon form of any
--- linear algebra text)
+-- the rows are 0 before these columns, one for each row, which ascend and are below a bound (the row echelon form of
+-- any linear algebra text)
 pub record AreLeadingColumns (bound : ℕ) (rows : List (List ℕ)) (columns : List ℕ) : Type 0 where
   pub ascending : (s t : ℕ) → s < t → t < length columns → get_or columns s 0 < get_or columns t 0
   pub below : (t : ℕ) → t < length columns → get_or columns t 0 < bound

@@ -10,7 +10,8 @@ ghost use Rattle.axe_matrix.specs.Matrices.{IsMatrix};
 ghost use Rattle.axe_spin.specs.Modules.{IsModule, IsInvariantIn};
 ghost use Rattle.axe_action.specs.Actions.{IsBasisAction, IsActionModulo};
 ghost use Rattle.axe_action.specs.Coordinates.{matrix_at, rows_chosen};
-ghost use Rattle.axe_action.specs.FreeColumns.{AreFreeColumns, AreReducedAt, AreComplementary, IsNextPivot, rows_to_span};
+ghost use Rattle.axe_action.specs.FreeColumns.{AreFreeColumns, AreReducedAt, AreComplementary, IsNextPivot};
+ghost use Rattle.axe_action.specs.FreeColumns.{rows_to_span};
 ghost use Rattle.axe_action.specs.FreeColumns.{matrix_within, matrix_modulo};
 
 use super::columns::columns_of;
@@ -116,8 +117,8 @@ fn split_by_span(alloc: Global, module: &Module, rows: &Matrix) -> Result<Split,
 }
 
 /// The action of a module on a submodule, over its reduced basis, and that modulo it. Its pivots are given too, and the
-/// other columns. Row by row each generator becomes its parts, so that beside what is left of the module they alone take
-/// memory.
+/// other columns. Row by row each generator becomes its parts, so that beside what is left of the module they alone
+/// take memory.
 fn actions_at_pivots(
     alloc: Global,
     module: Module,
@@ -150,8 +151,8 @@ fn actions_at_pivots(
 }
 
 /// The matrices by which a generator acts on a reduced basis with these pivots, whose entries at the other columns are
-/// given, and modulo its span. A row of the basis is 1 at its pivot and 0 at the others, and modulo the span a vector is,
-/// at the other columns, itself minus the combination of the entries' rows with its entries at the pivots.
+/// given, and modulo its span. A row of the basis is 1 at its pivot and 0 at the others, and modulo the span a vector
+/// is, at the other columns, itself minus the combination of the entries' rows with its entries at the pivots.
 fn generator_parts(
     alloc: Global,
     generator: Matrix,

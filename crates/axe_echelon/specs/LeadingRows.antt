@@ -35,10 +35,12 @@ pub record HasRowsFrom (order : Order) (cols column : ℕ) (rows : List PivotRow
 
 -- the row at the index that the table has for a column was taken out, and the last one put into its place; the table
 -- then has that index for the pivot of the latter
-pub record IsTakenOut (rows : List PivotRow) (table : PivotTable) (column : ℕ) (after : List PivotRow) (told : PivotTable) (row : RowValue) : Type 0 where
+pub record IsTakenOut (rows : List PivotRow) (table : PivotTable) (column : ℕ)
+    (after : List PivotRow) (told : PivotTable) (row : RowValue) : Type 0 where
   pub taken : (p : PivotRow) → p ≡ slice_index_or rows (slice_index table.rows.items column) p → row ≡ p.row
   pub count : length after + 1 ≡ length rows
-  pub others : (k : ℕ) (p : PivotRow) → k ≢ slice_index table.rows.items column → k < length after → slice_index_or after k p ≡ slice_index_or rows k p
+  pub others : (k : ℕ) (p : PivotRow) → k ≢ slice_index table.rows.items column → k < length after →
+      slice_index_or after k p ≡ slice_index_or rows k p
   pub moved : (p : PivotRow) → slice_index table.rows.items column < length after →
       slice_index_or after (slice_index table.rows.items column) p ≡ slice_index_or rows (length after) p
   pub marks : marks_of told ≡ marks_of table
@@ -49,10 +51,14 @@ pub record IsTakenOut (rows : List PivotRow) (table : PivotTable) (column : ℕ)
 
 -- a row that is 0 at the marked columns after one, at which rows lead, and otherwise the first row plus a combination
 -- of rows that are 0 up to this column
-pub record IsClearedAfter (order : Order) (cols column : ℕ) (rows : List PivotRow) (table : PivotTable) (first row : RowValue) : Type 0 where
+pub record IsClearedAfter (order : Order) (cols column : ℕ) (rows : List PivotRow) (table : PivotTable)
+    (first row : RowValue) : Type 0 where
   pub field : row.order ≡ order
   pub over : IsVectorOver (number_field order) cols row.entries
-  pub before : (i : ℕ) → i ≤ column → vector_of (number_field order) row.entries i ≡ vector_of (number_field order) first.entries i
-  pub zeros : (j : ℕ) → column < j → slice_index (marks_of table) j ≢ 0 → vector_of (number_field order) row.entries j ≡ (gf order).zero
-  pub spanned : (vectors : List (List ℕ)) → All (λ (p : PivotRow). IsSpanned (number_field order) vectors p.row.entries) rows →
+  pub before : (i : ℕ) → i ≤ column →
+      vector_of (number_field order) row.entries i ≡ vector_of (number_field order) first.entries i
+  pub zeros : (j : ℕ) → column < j → slice_index (marks_of table) j ≢ 0 →
+      vector_of (number_field order) row.entries j ≡ (gf order).zero
+  pub spanned : (vectors : List (List ℕ)) →
+      All (λ (p : PivotRow). IsSpanned (number_field order) vectors p.row.entries) rows →
       IsSpanned (number_field order) vectors first.entries → IsSpanned (number_field order) vectors row.entries

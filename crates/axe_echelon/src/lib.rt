@@ -274,7 +274,8 @@ fn next_step(
     requires steps { AreTabledSteps row.order (length row.entries) steps.now pivots.now }
     ensures { Answers None (λ next. MatchOption next
         (IsSpanned (number_field row.order) (inserted_rows steps.now) row.entries)
-        (IsNextStep (echelon_of row.order (length row.entries) steps.now) (echelon_rows steps.now) row.entries)) result }
+        (IsNextStep (echelon_of row.order (length row.entries) steps.now) (echelon_rows steps.now) row.entries))
+        result }
 {
     let mut rest = row.copy(alloc)?;
     let mut multipliers = Row::zero(alloc, *row.field(), row.len())?;
