@@ -20,7 +20,8 @@ fused_code =
     (λ f. (f.files, (f.calls, (f.tears, f.failures))))
     (λ p. record { files = p.0; calls = p.1.0; tears = p.1.1.0; failures = p.1.1.1 }) (λ _. refl)
 
--- a call fails with Device exactly where no call is left to be passed on, and afterwards one call less is left
+-- a call fails with Device exactly where no call is left to be passed on, and afterwards one call less is left, and
+-- whether it tears stays
 abbrev pub Burns : {T : Type 0} → Result T FolderFault → Fused → Fused → Type 0
 Burns result old new = ((result ≡ Err Device) ↔ (old.calls ≡ 0)) × (new.calls ≡ old.calls - 1) × (new.tears ≡ old.tears)
 

@@ -85,7 +85,7 @@ fn fill<F: Write + OpenFile + Drop>(
         file.set_permissions(permissions)?;
     }
     file.write_all(bytes)?;
-    // a disk that is full may say so only here
+    // A disk that is full may say so only here.
     file.sync_all()
 }
 
@@ -120,7 +120,7 @@ impl<R: Files + AllocGlobal + Drop> DirFolder<R> {
     fn place_at(&self, path: &PathBuf) -> Result<Place<R::File>, FolderFault>
         ensures { IfErr result IsWriteFault }
     {
-        // opened as it stands, without being cut short
+        // Opened as it stands, without being cut short.
         let opened = OpenOptions::new()
             .write(true)
             .open(&self.runtime, path.as_path());
@@ -145,7 +145,7 @@ impl<R: Files + AllocGlobal + Drop> DirFolder<R> {
             let path = self.path_of(beside.as_str())?.ok_or(FolderFault::Device)?;
             match File::create_new(&self.runtime, path.as_path()) {
                 Ok(file) => return Ok((path, file)),
-                // of a write that was interrupted, or of another process that is writing now
+                // Of a write that was interrupted, or of another process that is writing now.
                 Err(error) if error.kind() == ErrorKind::AlreadyExists => {}
                 Err(_) => return Err(FolderFault::Device),
             }

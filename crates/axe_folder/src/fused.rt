@@ -106,7 +106,7 @@ impl Folder for FusedFolder {
             return self.inside.put(name, bytes);
         }
         if may_tear {
-            // without memory for them nothing is left of the bytes
+            // Without memory for them nothing is left of the bytes.
             let _ = self.inside.put(name, &bytes[..bytes.len() / 2]);
         }
         Err(FolderFault::Device)
