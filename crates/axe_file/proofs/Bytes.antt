@@ -8,7 +8,7 @@ use Rattle.axe_field.specs.Order.{Order, Two, Three, Four, Five, Seven, Eight, N
 use Rattle.axe_file.specs.Marks.{marks_per_byte, byte_limit, byte_with_marks, mark_of, bytes_per_row}
 use Rattle.axe_file.specs.Packed.{packed_row}
 use Rattle.axe_file.proofs.Digits.{number_is_horner, horner_below, digit_of_number, number_of_digits, number_same, digit_below}
-use Rattle.axe_file.proofs.Lists.{length-listed, get_or-listed}
+use Rattle.axe_algebra.proofs.ListEntries.{listed_length, listed_at}
 
 -- ---- how many marks fit
 
@@ -135,12 +135,12 @@ row_is_short o c =
 
 pub length-packed_row : (o : Order) (c : ℕ) (row : List ℕ) → length (packed_row o c row) ≡ bytes_per_row o c
 unfolding packed_row
-length-packed_row o c row = length-listed (bytes_per_row o c) _
+length-packed_row o c row = listed_length (bytes_per_row o c) _
 
 pub get_or-packed_row : (o : Order) (c : ℕ) (row : List ℕ) (k : ℕ) → k < bytes_per_row o c
     → get_or (packed_row o c row) k 0 ≡ byte_with_marks o (λ j. get_or row (k * marks_per_byte o + j) 0)
 unfolding packed_row
-get_or-packed_row o c row k lt = get_or-listed (bytes_per_row o c) _ k 0 lt
+get_or-packed_row o c row k lt = listed_at (bytes_per_row o c) _ k 0 lt
 
 -- an entry of a row of elements, also past its end, is an element
 pub element_at : (o : Order) (row : List ℕ) (i : ℕ) → All (λ a. a < order_number o) row → get_or row i 0 < order_number o

@@ -2,22 +2,17 @@
 use Rattle.std.proofs.Common.{◌≡◌, ℕ, zero, suc, ◌+◌, ◌-◌, ◌*◌, ◌<◌, List, [], ◌∷◌, ◌++◌, length, get_or, sym, ap, ◌∙◌, append_assoc, arith}
 use Rattle.std.specs.List.{flat_map}
 use Rattle.std.proofs.lemmas.List.{length-append, get_or_append_left, get_or-append_right, ext_get_or}
-use Rattle.std.proofs.lemmas.List.FromFn.{map-range_with_len_more, length-map-range_with_len, get_or-map-range_with_len}
+use Rattle.std.proofs.lemmas.List.FromFn.{map-range_with_len_more}
 use Rattle.axe_algebra.specs.Lists.{listed}
-
-pub length-listed : {X : Type 0} (n : ℕ) (f : ℕ → X) → length (listed n f) ≡ n
-length-listed n f = length-map-range_with_len f 0 n
-
-pub get_or-listed : {X : Type 0} (n : ℕ) (f : ℕ → X) (i : ℕ) (d : X) → i < n → get_or (listed n f) i d ≡ f i
-get_or-listed n f i d lt = get_or-map-range_with_len f 0 n i i d lt (omega arith)
+use Rattle.axe_algebra.proofs.ListEntries.{listed_length, listed_at}
 
 pub listed_is : {X : Type 0} (n : ℕ) (f : ℕ → X) (d : X) (xs : List X) → length xs ≡ n → ((i : ℕ) → i < n → get_or xs i d ≡ f i) → xs ≡ listed n f
 listed_is n f d xs len h =
-    ext_get_or d xs (listed n f) (len ∙ sym (length-listed n f)) (λ i lt. let below : i < n = omega arith in h i below ∙ sym (get_or-listed n f i d below))
+    ext_get_or d xs (listed n f) (len ∙ sym (listed_length n f)) (λ i lt. let below : i < n = omega arith in h i below ∙ sym (listed_at n f i d below))
 
 pub listed_same : {X : Type 0} (n : ℕ) (f g : ℕ → X) (d : X) → ((i : ℕ) → i < n → f i ≡ g i) → listed n f ≡ listed n g
 listed_same n f g d h =
-    listed_is n g d (listed n f) (length-listed n f) (λ i lt. get_or-listed n f i d lt ∙ h i lt)
+    listed_is n g d (listed n f) (listed_length n f) (λ i lt. listed_at n f i d lt ∙ h i lt)
 
 -- one element more, at the end of what stood there before
 pub listed_more : {X : Type 0} (before items new : List X) (f : ℕ → X) (n : ℕ) (x : X) → items ≡ before ++ listed n f → x ≡ f n → new ≡ items ++ x ∷ [] → new ≡ before ++ listed (n + 1) f

@@ -9,23 +9,24 @@ use Rattle.std.proofs.lemmas.List.{length-append, length-take, length-drop, get_
 use Rattle.axe_algebra.specs.Lists.{listed}
 use Rattle.axe_field.specs.Order.{Order, Two, Three, Four, Five, Seven, Eight, Nine, order_number}
 use Rattle.axe_file.specs.Marks.{marks_per_byte, mark_of, bytes_per_row, row_marks, marks_of_bytes}
-use Rattle.axe_file.proofs.Lists.{length-listed, get_or-listed, listed_is, listed_same}
+use Rattle.axe_algebra.proofs.ListEntries.{listed_length, listed_at}
+use Rattle.axe_file.proofs.Lists.{listed_is, listed_same}
 use Rattle.axe_file.proofs.Bytes.{two-marks}
 
 -- a list of a function in two parts
 pub listed_in_parts : (a n : ℕ) (f : ℕ → ℕ) → listed a f ++ listed n (λ i. f (a + i)) ≡ listed (a + n) f
 listed_in_parts a n f =
     let rest = λ (i : ℕ). f (a + i) in
-    let first = length-listed a f in
-    let second = length-listed n rest in
+    let first = listed_length a f in
+    let second = listed_length n rest in
     let whole = length-append (listed a f) (listed n rest) in
     listed_is (a + n) f 0 (listed a f ++ listed n rest) (omega arith) (λ i lt.
     elim (cases_lt i a) [
-      | inl below ↦ get_or_append_left (listed a f) (listed n rest) 0 i (omega arith) ∙ get_or-listed a f i 0 below
+      | inl below ↦ get_or_append_left (listed a f) (listed n rest) 0 i (omega arith) ∙ listed_at a f i 0 below
       | inr past ↦
           let place : a + (i - a) ≡ i = omega arith in
           get_or-append_right (listed a f) (listed n rest) a i 0 first (omega arith)
-          ∙ get_or-listed n rest (i - a) 0 (omega arith)
+          ∙ listed_at n rest (i - a) 0 (omega arith)
           ∙ ap f place
     ])
 
@@ -37,13 +38,6 @@ width_is_enough o c = (div_ceil_times c (marks_per_byte o) (omega (arith, two-ma
 pub width_is_least : (o : Order) (c : ℕ) → bytes_per_row o c * marks_per_byte o < c + marks_per_byte o
 unfolding bytes_per_row
 width_is_least o c = (div_ceil_times c (marks_per_byte o) (omega (arith, two-marks o))).1
-
-pub byte_begins_inside : (o : Order) (c k m : ℕ) → m ≡ marks_per_byte o → k < bytes_per_row o c → k * m ≤ c
-byte_begins_inside o c k m em lt =
-    let least : bytes_per_row o c * m < c + m = rw em (width_is_least o c) in
-    let before : (k + 1) * m ≤ bytes_per_row o c * m = mul-le (k + 1) m (bytes_per_row o c) m (omega arith) (omega arith) in
-    let spread : (k + 1) * m ≡ k * m + m = omega arith in
-    omega arith
 
 -- a byte before the last of its row has no unused mark
 pub marks_before_last : (o : Order) (c k m j : ℕ) → m ≡ marks_per_byte o → k + 1 < bytes_per_row o c → j < m → c ≤ k * m + j → ⊥
@@ -77,7 +71,7 @@ pub taken_more : (m k b n l end : ℕ) (table bytes marks piece : List ℕ) → 
 taken_more m k b n l end table bytes marks piece few so_far inside eb fits ep en =
     let f = taken m table bytes in
     let here = piece_taken m k b n table bytes piece few eb fits ep in
-    let long : length piece ≡ n = ap length here ∙ length-listed n (λ i. f (k * m + i)) in
+    let long : length piece ≡ n = ap length here ∙ listed_length n (λ i. f (k * m + i)) in
     take-put_mid (k * m) l marks piece end (omega arith) inside
     ∙ ap₂ (λ (x y : List ℕ). x ++ y) so_far here
     ∙ listed_in_parts (k * m) n f
@@ -97,7 +91,7 @@ taken_marks o m c n table bytes et em small en =
     let room : (byte + 1) * m ≤ 256 * m = mul-le (byte + 1) m 256 m (omega (arith, small (j / m))) (omega arith) in
     let spread : (byte + 1) * m ≡ byte * m + m = omega arith in
     ap (λ (xs : List ℕ). get_or xs (byte * m + j % m) 0) table_is
-    ∙ get_or-listed (256 * m) mark (byte * m + j % m) 0 (omega arith)
+    ∙ listed_at (256 * m) mark (byte * m + j % m) 0 (omega arith)
     ∙ ap (λ (q : ℕ). mark_of o q ((byte * m + j % m) % m)) (div-mul-add byte m (j % m) below)
     ∙ ap (λ (i : ℕ). mark_of o byte i) (mod-mul-add byte m (j % m) below)))
 
@@ -116,4 +110,4 @@ pub long_table : (o : Order) (m : ℕ) (table : List ℕ) → table ≡ marks_of
 unfolding marks_of_bytes
 long_table o m table et em =
     let table_is : table ≡ listed (256 * m) (λ i. mark_of o (i / m) (i % m)) = rw em et in
-    omega (arith, ap length table_is ∙ length-listed (256 * m) (λ i. mark_of o (i / m) (i % m)))
+    omega (arith, ap length table_is ∙ listed_length (256 * m) (λ i. mark_of o (i / m) (i % m)))

@@ -37,9 +37,6 @@ none_found_at test a (suc n) e j low high =
 
 -- ---- faults
 
-pub no_fault : (found : Bool) (fault : FileFault) → found ≡ false → fault_where found fault ≡ []
-no_fault found fault e = rw e refl
-
 pub not_found : (found : Bool) (fault : FileFault) → fault_where found fault ≡ [] → found ≡ false
 not_found true fault e = absurd cc
 not_found false fault e = refl

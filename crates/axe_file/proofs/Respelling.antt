@@ -1,10 +1,10 @@
 -- Bytes without fault are the spelling of the matrix that they give.
-use Rattle.std.proofs.Common.{◌≡◌, ℕ, ◌+◌, ◌*◌, ◌/◌, ◌%◌, ◌<◌, ◌≤◌, Bool, true, false, not, eqb, List, [], ◌∷◌, ◌++◌, length, get_or, take, drop, All, Option, Some, None, refl, sym, ap, ◌∙◌, inl, inr, append_assoc, arith}
+use Rattle.std.proofs.Common.{◌≡◌, ℕ, ◌+◌, ◌*◌, ◌/◌, ◌%◌, ◌<◌, ◌≤◌, false, not, eqb, List, [], ◌∷◌, ◌++◌, length, get_or, take, drop, All, Option, Some, None, refl, sym, ap, ◌∙◌, inl, inr, append_assoc, arith}
 use Rattle.std.specs.Prelude.{is_none, codes}
 use Rattle.std.specs.Option.{unwrap_or}
-use Rattle.std.specs.List.{flat_map, find}
+use Rattle.std.specs.List.{flat_map}
 use Rattle.std.specs.Int.{w32, to_le_bytes, from_le_bytes}
-use Rattle.std.proofs.lemmas.Bool.{cases_lt, eqb-true, not-false, cases_Bool}
+use Rattle.std.proofs.lemmas.Bool.{cases_lt, eqb-true, not-false}
 use Rattle.std.proofs.lemmas.List.{get_or_past, ext_get_or, take-append-drop, drop-drop, length-take, length-drop, get_or-take, get_or-drop}
 use Rattle.std.proofs.lemmas.Nat.{div-mul-add, mod-mul-add, le_bytes_4}
 use Rattle.axe_algebra.specs.Lists.{listed, table}
@@ -12,11 +12,13 @@ use Rattle.axe_field.specs.Order.{Order, Two, Three, Four, Five, Seven, Eight, N
 use Rattle.axe_matrix.specs.Matrices.{IsMatrix}
 use Rattle.axe_file.specs.Marks.{marks_per_byte, byte_with_marks, mark_of, bytes_per_row}
 use Rattle.axe_file.specs.Packed.{packed, packed_header, packed_row, unpacked, order_with_number, header_order, header_rows, header_columns, row_width, data_length, mark_at, has_other_magic, has_reserved, packed_fault}
-use Rattle.axe_file.proofs.Lists.{length-listed, get_or-listed, length-pieces, get_or-pieces}
+use Rattle.axe_algebra.proofs.ListEntries.{listed_length, listed_at}
+use Rattle.axe_file.proofs.Lists.{length-pieces, get_or-pieces}
 use Rattle.axe_file.proofs.Bytes.{byte_of_marks, byte_same, mark_below, length-packed_row, get_or-packed_row}
 use Rattle.axe_file.proofs.Ranges.{or_false}
 use Rattle.axe_file.proofs.Soundness.{IsHeader, IsSoundAt, IsSoundData, sound_bytes}
 use Rattle.axe_file.proofs.Spellings.{padding_at, place_of}
+use Rattle.axe_file.proofs.TextNumbers.{found_passes}
 
 -- ---- the header
 
@@ -28,14 +30,6 @@ bytes_fit bytes h i =
     elim (cases_lt i (length bytes)) [
       | inl lt ↦ h i 0 lt
       | inr le ↦ rw get_or_past (omega arith)
-    ]
-
-found_passes : (test : Order → Bool) (orders : List Order) (o : Order) → find test orders ≡ Some o → test o ≡ true
-found_passes test [] o e = absurd cc
-found_passes test (x ∷ orders) o e =
-    elim (cases_Bool (test x)) [
-      | inl t ↦ let here = rw t at e in let same : x ≡ o = cc in rw (← same) t
-      | inr f ↦ let rest = rw f at e in found_passes test orders o rest
     ]
 
 named : (n : ℕ) (o : Option Order) → is_none o ≡ false → order_with_number n ≡ o → order_number (unwrap_or o Two) ≡ n
@@ -126,8 +120,8 @@ mark_again bytes i k j lt p place unused =
     let row : (k * m + j) / m ≡ k = div-mul-add k m j lt in
     let column : (k * m + j) % m ≡ j = mod-mul-add k m j lt in
     elim (cases_lt (k * m + j) (header_columns bytes)) [
-      | inl inside ↦ get_or-listed (header_columns bytes) (mark_at bytes i) (k * m + j) 0 inside ∙ rw (row, column, place) refl
-      | inr past ↦ get_or_past (listed (header_columns bytes) (mark_at bytes i)) (k * m + j) 0 (omega (arith, length-listed (header_columns bytes) (mark_at bytes i))) ∙ sym (unused past)
+      | inl inside ↦ listed_at (header_columns bytes) (mark_at bytes i) (k * m + j) 0 inside ∙ rw (row, column, place) refl
+      | inr past ↦ get_or_past (listed (header_columns bytes) (mark_at bytes i)) (k * m + j) 0 (omega (arith, listed_length (header_columns bytes) (mark_at bytes i))) ∙ sym (unused past)
     ]
 
 byte_again : (bytes : List ℕ) (p : ℕ) → p < data_length bytes → IsSoundAt bytes p
@@ -140,8 +134,8 @@ byte_again bytes p lt sound =
     let w = bytes_per_row o c in
     let place = place_of p w r lt in
     let rows = table r c (mark_at bytes) in
-    let count : length rows ≡ r = length-listed r (λ i. listed c (mark_at bytes i)) in
-    let row : get_or rows (p / w) [] ≡ listed c (mark_at bytes (p / w)) = get_or-listed r (λ i. listed c (mark_at bytes i)) (p / w) [] place.row in
+    let count : length rows ≡ r = listed_length r (λ i. listed c (mark_at bytes i)) in
+    let row : get_or rows (p / w) [] ≡ listed c (mark_at bytes (p / w)) = listed_at r (λ i. listed c (mark_at bytes i)) (p / w) [] place.row in
     let in' : p / w < length rows = omega (arith, place.row) in
     let piece : get_or (flat_map (packed_row o c) rows) (p / w * w + p % w) 0 ≡ get_or (packed_row o c (get_or rows (p / w) [])) (p % w) 0 =
     get_or-pieces (packed_row o c) w (length-packed_row o c) rows (p / w) (p % w) 0 [] in' place.byte in
@@ -166,7 +160,7 @@ data_again bytes h =
     let rows = table (header_rows bytes) c (mark_at bytes) in
     let rest : length (drop 16 bytes) ≡ data_length bytes = omega (arith, length-drop 16 bytes, h.whole) in
     let width = data_is bytes in
-    let count : length rows ≡ header_rows bytes = length-listed (header_rows bytes) (λ i. listed c (mark_at bytes i)) in
+    let count : length rows ≡ header_rows bytes = listed_length (header_rows bytes) (λ i. listed c (mark_at bytes i)) in
     let pieces : length (flat_map (packed_row o c) rows) ≡ data_length bytes =
     length-pieces (packed_row o c) (bytes_per_row o c) (length-packed_row o c) rows ∙ ap (λ (n : ℕ). n * bytes_per_row o c) count ∙ sym width in
     ext_get_or 0 (drop 16 bytes) _ (rest ∙ sym pieces)
@@ -179,7 +173,7 @@ unfolding packed unpacked
 respelled bytes fits e =
     let sound = sound_bytes bytes e in
     let count : length (table (header_rows bytes) (header_columns bytes) (mark_at bytes)) ≡ header_rows bytes =
-    length-listed (header_rows bytes) (λ i. listed (header_columns bytes) (mark_at bytes i)) in
+    listed_length (header_rows bytes) (λ i. listed (header_columns bytes) (mark_at bytes i)) in
     header_again bytes (bytes_fit bytes fits) sound.0
     ∙ ap (λ (xs : List ℕ). packed_header (header_order bytes) (header_rows bytes) (header_columns bytes) ++ xs) (data_again bytes sound.1)
     ∙ ap (λ (n : ℕ). packed_header (header_order bytes) n (header_columns bytes) ++ flat_map (packed_row (header_order bytes) (header_columns bytes)) (table (header_rows bytes) (header_columns bytes) (mark_at bytes))) (sym count)
@@ -194,14 +188,14 @@ unpacked_is_matrix bytes h =
     let c = header_columns bytes in
     let r = header_rows bytes in
     let rows = table r c (mark_at bytes) in
-    let count : length rows ≡ r = length-listed r (λ i. listed c (mark_at bytes i)) in
+    let count : length rows ≡ r = listed_length r (λ i. listed c (mark_at bytes i)) in
     let row : (i : ℕ) (d : List ℕ) → i < length rows → get_or rows i d ≡ listed c (mark_at bytes i) =
-    λ i d lt. get_or-listed r (λ t. listed c (mark_at bytes t)) i d (omega arith) in
+    λ i d lt. listed_at r (λ t. listed c (mark_at bytes t)) i d (omega arith) in
     record {
       some_column = h.some_column;
       columns_fit = h.columns_fit;
       rows_fit = omega (arith, h.rows_fit);
-      row_lengths = λ i d lt. rw (row i d lt) (length-listed c (mark_at bytes i));
+      row_lengths = λ i d lt. rw (row i d lt) (listed_length c (mark_at bytes i));
       elements = λ i d lt. rw (row i d lt) (λ j e inside.
-          rw (get_or-listed c (mark_at bytes i) j e (omega (arith, length-listed c (mark_at bytes i)))) (mark_is_element bytes i j));
+          rw (listed_at c (mark_at bytes i) j e (omega (arith, listed_length c (mark_at bytes i)))) (mark_is_element bytes i j));
     }

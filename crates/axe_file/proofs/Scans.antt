@@ -11,7 +11,8 @@ use Rattle.axe_matrix.specs.Matrices.{MatrixValue}
 use Rattle.axe_file.specs.Marks.{marks_per_byte, byte_limit, mark_of, has_unused_mark, bytes_per_row, row_marks}
 use Rattle.axe_file.specs.Packed.{header_order, header_rows, header_columns, row_width, data_length, has_padding, mark_at, unpacked}
 use Rattle.axe_file.specs.Headers.{SaysShape}
-use Rattle.axe_file.proofs.Lists.{length-listed, get_or-listed, listed_same}
+use Rattle.axe_algebra.proofs.ListEntries.{listed_length, listed_at}
+use Rattle.axe_file.proofs.Lists.{listed_same}
 use Rattle.axe_file.proofs.Bytes.{mark_below, byte_of_column}
 use Rattle.axe_file.proofs.Layouts.{width_fits}
 use Rattle.axe_file.specs.declared.layout.Layout.{Layout}
@@ -60,12 +61,12 @@ rows_before i r w lt = let le = mul-le (i + 1) w r w (omega arith) (omega arith)
 pub marks_are_elements : (o : Order) (columns : ℕ) (bytes : List ℕ) → All (λ a. a < order_number o) (row_marks o columns bytes)
 unfolding row_marks
 marks_are_elements o columns bytes i d lt =
-    let inside : i < columns = omega (arith, length-listed columns (λ j. mark_of o (get_or bytes (j / marks_per_byte o) 0) (j % marks_per_byte o))) in
-    rw (get_or-listed columns (λ j. mark_of o (get_or bytes (j / marks_per_byte o) 0) (j % marks_per_byte o)) i d inside) (mark_below o _ _)
+    let inside : i < columns = omega (arith, listed_length columns (λ j. mark_of o (get_or bytes (j / marks_per_byte o) 0) (j % marks_per_byte o))) in
+    rw (listed_at columns (λ j. mark_of o (get_or bytes (j / marks_per_byte o) 0) (j % marks_per_byte o)) i d inside) (mark_below o _ _)
 
 pub length-row_marks : (o : Order) (columns : ℕ) (bytes : List ℕ) → length (row_marks o columns bytes) ≡ columns
 unfolding row_marks
-length-row_marks o columns bytes = length-listed columns _
+length-row_marks o columns bytes = listed_length columns _
 
 pub data_by_layout : (bytes : List ℕ) (layout : Layout) (r : ℕ) → SaysShape bytes layout.field r layout.columns → r * layout.width ≡ data_length bytes
 unfolding data_length row_width

@@ -1,9 +1,10 @@
 -- What is wrong with the numbers of a header.
-use Rattle.std.proofs.Common.{◌≡◌, ◌≢◌, ℕ, ◌<◌, ◌≤◌, Bool, true, false, ◌||◌, eqb, ltb, List, [], ◌∷◌, ◌⊎◌, Option, Some, None, refl, sym, ap, subst, ◌∙◌, inl, inr, eqb-true, eq-eqb, ne_eqb, ltb-true, ltb-false, lt-ltb, le-ltb, lit≤, Result, Ok, Err, IfOk, OnErr, arith}
+use Rattle.std.proofs.Common.{◌≡◌, ◌≢◌, ℕ, ◌<◌, ◌≤◌, Bool, true, false, ◌||◌, eqb, ltb, List, [], ◌∷◌, ◌⊎◌, Option, Some, None, refl, sym, ap, ◌∙◌, inl, inr, eqb-true, eq-eqb, ne_eqb, ltb-true, ltb-false, lt-ltb, le-ltb, Result, Ok, Err, IfOk, OnErr, arith}
 use Rattle.std.specs.List.{find}
 use Rattle.std.specs.Result.{result_ok}
 use Rattle.std.proofs.lemmas.Bool.{cases_Bool, eqb-false, or_cases, or_parts, or_from, or_left, or_right}
 use Rattle.axe_field.specs.Order.{Order, order_number, Two, Three, Four, Five, Seven, Eight, Nine}
+use Rattle.axe_field.proofs.Orders.{order_number-at_most}
 use Rattle.axe_matrix.specs.Limits.{most_rows, most_columns}
 use Rattle.axe_file.specs.Packed.{order_with_number}
 use Rattle.axe_file.specs.TextReading.{header_fault}
@@ -18,16 +19,7 @@ pub cases_order_of : (x : Option Order) → (x ≡ None) ⊎ ((o : Order) × (x 
 cases_order_of None = inl refl
 cases_order_of (Some o) = inr (o, refl)
 
-pub order_fits : (o : Order) → order_number o ≤ 9
-order_fits Two = lit≤ tt
-order_fits Three = lit≤ tt
-order_fits Four = lit≤ tt
-order_fits Five = lit≤ tt
-order_fits Seven = lit≤ tt
-order_fits Eight = lit≤ tt
-order_fits Nine = lit≤ tt
-
-found_passes : (test : Order → Bool) (orders : List Order) (o : Order) → find test orders ≡ Some o → test o ≡ true
+pub found_passes : (test : Order → Bool) (orders : List Order) (o : Order) → find test orders ≡ Some o → test o ≡ true
 found_passes test [] o e = absurd cc
 found_passes test (x ∷ orders) o e = elim (cases_Bool (test x)) [
   | inl t ↦
@@ -49,7 +41,7 @@ order_if_number n o e = ap order_with_number (sym e) ∙ order_of_number o
 
 -- a number above nine is no order
 pub order_too_large : (n : ℕ) → 9 < n → order_with_number n ≡ None
-order_too_large n lt = no_order n (λ o e. omega (arith, order_fits o, e, lt))
+order_too_large n lt = no_order n (λ o e. omega (arith, order_number-at_most o, e, lt))
 
 -- the field that was made, where there is one
 pub field_made : {E : Type 0} (r : Result Order E) (n : ℕ) → IfOk r (λ o. order_number o ≡ n) → OnErr r ((o : Order) → order_number o ≢ n) → result_ok r ≡ order_with_number n
@@ -104,11 +96,6 @@ columns_wrong c e = elim (or_cases (eqb c 0) (ltb most_columns c) e) [
 columns_are_wrong : (c : ℕ) → (c ≡ 0) ⊎ (most_columns < c) → (eqb c 0 || ltb most_columns c) ≡ true
 columns_are_wrong c (inl z) = or_left (eqb c 0) (ltb most_columns c) (eq-eqb c 0 z)
 columns_are_wrong c (inr l) = or_right (eqb c 0) (ltb most_columns c) (lt-ltb most_columns c l)
-
-same_fault : (m n r c : ℕ) (g f : FileFault) → header_fault (m ∷ n ∷ r ∷ c ∷ []) ≡ Some g → header_fault (m ∷ n ∷ r ∷ c ∷ []) ≡ Some f → IsHeaderFault m n r c g → IsHeaderFault m n r c f
-same_fault m n r c g f a b h =
-    let same : g ≡ f = cc in
-    subst (λ (y : FileFault). IsHeaderFault m n r c y) same h
 
 -- either a fault, or the numbers are allowed
 pub cases_header : (m n r c : ℕ) → ((f : FileFault) × (header_fault (m ∷ n ∷ r ∷ c ∷ []) ≡ Some f) × IsHeaderFault m n r c f) ⊎ ((o : Order) × (header_fault (m ∷ n ∷ r ∷ c ∷ []) ≡ None) × AreAllowed m n r c o)

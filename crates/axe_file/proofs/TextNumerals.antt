@@ -125,7 +125,7 @@ module _ (L : List ℕ → List ℕ → Type 0) (k : List ℕ → ℕ → Readin
   pub numeral_from_digits : (b : ℕ) (word values : List ℕ) → is_digit b ≡ true → Digits 8 (digit_value b) L word values → Then Numeral L (b ∷ word) values
   unfolding numeral_value
   numeral_from_digits b word values w (digits, rest, others, eb, few, all, ev, l) =
-      let numeral : IsNumeral (b ∷ digits) = record { some_digit = omega arith; at_most_nine = omega (arith, few); digits = All-cons (λ byte. IsTrue (is_digit byte)) b digits w all } in
+      let numeral : IsNumeral (b ∷ digits) = record { some_digit = omega arith; not_too_many = omega (arith, few); digits = All-cons (λ byte. IsTrue (is_digit byte)) b digits w all } in
       let value : numeral_value (b ∷ digits) ≡ number_from_digits_after 10 (digit_value b) (map digit_value digits) = ap (λ (n : ℕ). number_from_digits_after 10 n (map digit_value digits)) (zero-add (digit_value b)) in
       (b ∷ digits, rest, numeral_value (b ∷ digits) ∷ [], others, ap (λ (x : List ℕ). b ∷ x) eb, ev ∙ ap (λ (n : ℕ). n ∷ others) (sym value), (numeral, refl), l)
 
@@ -161,7 +161,7 @@ module _ (L : List ℕ → List ℕ → Type 0) (k : List ℕ → ℕ → Readin
   numeral_complete_by ends [] word rest others at n l a = absurd (omega (arith, n.some_digit))
   numeral_complete_by ends (b ∷ digits) word rest others at n l a =
       numeral_on (valued k) b ((digits ++ word) ++ rest) at (All-head (λ byte. IsTrue (is_digit byte)) b digits n.digits)
-      ∙ digits_complete ends digits word rest others 8 (digit_value b) (at + 1) (omega (arith, n.at_most_nine)) (All-tail (λ byte. IsTrue (is_digit byte)) b digits n.digits) l a
+      ∙ digits_complete ends digits word rest others 8 (digit_value b) (at + 1) (omega (arith, n.not_too_many)) (All-tail (λ byte. IsTrue (is_digit byte)) b digits n.digits) l a
       ∙ ap (λ (x : ℕ). Ok (record { values = number_from_digits_after 10 (digit_value b) (map digit_value digits) ∷ others; end = x })) (omega arith)
       ∙ ap (λ (x : ℕ). Ok (record { values = number_from_digits_after 10 x (map digit_value digits) ∷ others; end = at + length (b ∷ digits ++ word) })) (sym (zero-add (digit_value b)))
 

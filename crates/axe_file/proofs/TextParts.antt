@@ -7,10 +7,6 @@ use Rattle.axe_file.specs.TextGrammar.{is_white, is_apart, IsPart, Part, Space, 
 use Rattle.axe_file.specs.TextReading.{Found, Reading, read_space, read_gap}
 use Rattle.axe_file.proofs.TextSteps.{space_on, space_ends, space_none, gap_on, gap_fails, gap_none}
 
--- bytes, with the values of their numerals
-abbrev pub Language : Type 1
-Language = List ℕ → List ℕ → Type 0
-
 -- the bytes begin with a word of the language, which ends at the offset found, and then come white space or the end
 pub record Starts (L : List ℕ → List ℕ → Type 0) (bytes : List ℕ) (at : ℕ) (found : Found) : Type 0 where
   pub word : List ℕ

@@ -1,5 +1,5 @@
 -- Digits that stand one after another in a text, read and written at once.
-use Rattle.std.proofs.Common.{◌≡◌, ℕ, zero, suc, ◌+◌, ◌-◌, ◌%◌, ◌<◌, ◌≤◌, true, false, Bool, min, leb, ltb, List, [], ◌∷◌, ◌++◌, length, map, take, drop, get_or, refl, sym, ap, ap₂, subst, ◌∙◌, inl, inr, take-append-drop, leb-true, ltb-true, append_assoc, length-append, length-drop, get_or-drop, arith}
+use Rattle.std.proofs.Common.{◌≡◌, ℕ, zero, suc, ◌+◌, ◌-◌, ◌%◌, ◌<◌, ◌≤◌, false, Bool, min, leb, ltb, List, [], ◌∷◌, ◌++◌, length, map, take, drop, get_or, refl, sym, ap, ap₂, subst, ◌∙◌, inl, inr, take-append-drop, leb-true, ltb-true, append_assoc, length-append, length-drop, get_or-drop, arith}
 use Rattle.std.specs.Prelude.{All}
 use Rattle.std.specs.List.{filter, prefix_len}
 use Rattle.std.proofs.lemmas.Bool.{cases_Bool, and_parts}
@@ -11,7 +11,7 @@ use Rattle.axe_lane.specs.Runs.{is_within}
 use Rattle.axe_lane.proofs.RunLaws.{run_has}
 use Rattle.axe_file.specs.TextGrammar.{is_white, is_dark, is_element_digit, digit_value, digit_code, AreElementDigits}
 use Rattle.axe_file.specs.TextReading.{digits_fault}
-use Rattle.axe_file.proofs.TextDigits.{IsFit, fit_digit, dark_no_white, dark_after_dark, after_front}
+use Rattle.axe_file.proofs.TextDigits.{IsFit, fit_digit, dark_after_dark, after_front}
 use Rattle.axe_file.proofs.TextRows.{IsDigitOf, digit_no_white, values_below}
 use Rattle.axe_file.proofs.TextScans.{dark_after_front, NextDigit, next_digit}
 
@@ -64,9 +64,6 @@ unspelled q (d ∷ digits) fits all =
     ap₂ (λ (x : ℕ) (xs : List ℕ). x ∷ xs) value (unspelled q digits fits (All-tail (IsDigitOf q) d digits all))
 
 -- ---- the beginning of a run
-
-dark_digit : (q b : ℕ) → is_element_digit q b ≡ true → is_dark b ≡ true
-dark_digit q b d = dark_no_white b (digit_no_white q b d)
 
 -- the first n digits of a run are dark, and fit
 pub dark_run : (q n : ℕ) (bytes : List ℕ) → n ≤ prefix_len (is_element_digit q) bytes → filter is_dark (take n bytes) ≡ take n bytes

@@ -73,11 +73,6 @@ pub record WordRead (word bytes : List ℕ) (start index : ℕ) : Type 0 where
   pub within : start + index ≤ length bytes
   pub left : (next : List ℕ → ℕ → Reading) → read_word word next (drop start bytes) start ≡ read_word (drop index word) next (drop (start + index) bytes) (start + index)
 
-pub word_begun : (word bytes : List ℕ) (start : ℕ) → start ≤ length bytes → WordRead word bytes start 0
-word_begun word bytes start le =
-    let here : start ≡ start + 0 = omega arith in
-    record { within = omega arith; left = λ next. ap (λ (n : ℕ). read_word word next (drop n bytes) n) here }
-
 word_at : (word bytes : List ℕ) (start index : ℕ) → index < length word → start + index < length bytes → (next : List ℕ → ℕ → Reading)
     → read_word (drop index word) next (drop (start + index) bytes) (start + index)
     ≡ read_word (get_or word index 0 ∷ drop (index + 1) word) next (get_or bytes (start + index) 0 ∷ drop (start + index + 1) bytes) (start + index)

@@ -16,7 +16,7 @@ use Rattle.axe_file.specs.Limits.{most_text_bytes}
 use Rattle.axe_file.specs.TextGrammar.{is_white, is_dark, is_digit, digit_value, digit_code, is_element_digit, IsNumeral, numeral_value, IsPart, AreParts, Space, Gap, named_form, IsTextOf}
 use Rattle.axe_file.specs.TextWriting.{text_header, text_line, in_lines, text_row, text_of}
 use Rattle.axe_file.proofs.TextDigits.{dark_after_white}
-use Rattle.axe_file.proofs.TextNumbers.{order_fits}
+use Rattle.axe_field.proofs.Orders.{order_number-at_most}
 use Rattle.axe_file.proofs.TextRows.{codes_are_digits, all_digits_are_dark}
 
 -- ---- numerals
@@ -58,7 +58,7 @@ numeral n le =
     let fits : n < 2 ^ 64 = omega arith in
     record {
       some_digit = decimal_nonempty n fits;
-      at_most_nine = length-decimal-le 9 n (omega arith) (omega arith) fits;
+      not_too_many = length-decimal-le 9 n (omega arith) (omega arith) fits;
       digits = (are_digits n fits).digits;
     }
 
@@ -227,7 +227,7 @@ written_text m h = record {
     rows = length m.rows;
     columns = m.cols;
     whole = whole_text m;
-    is_header = inr (refl, is_named (order_number m.order) (length m.rows) m.cols (omega (arith, order_fits m.order)) h.rows_fit h.columns_fit);
+    is_header = inr (refl, is_named (order_number m.order) (length m.rows) m.cols (omega (arith, order_number-at_most m.order)) h.rows_fit h.columns_fit);
     apart = refl;
   };
   mode = refl;
@@ -263,7 +263,7 @@ rows_length columns (row ∷ rows) le all =
     omega (arith, row_length row (omega arith), rows_length columns rows le (All-tail (λ (r : List ℕ). length r ≡ columns) row rows all), length-append (text_row row) (flat_map text_row rows))
 
 decimal_length : (n : ℕ) → n ≤ 2048 → length (decimal n) ≤ 9
-decimal_length n le = (numeral n le).at_most_nine
+decimal_length n le = (numeral n le).not_too_many
 
 header_length : (a b c : List ℕ) → length a ≤ 9 → length b ≤ 9 → length c ≤ 9 → length (codes "matrix field=" ++ (a ++ (codes " rows=" ++ (b ++ (codes " cols=" ++ (c ++ [])))))) ≤ 100
 header_length a b c la lb lc =
@@ -273,7 +273,7 @@ pub written_text_fits : (m : MatrixValue) → IsMatrix m → length (text_of m) 
 unfolding header_of
 written_text_fits m h =
     let header : length (header_of (order_number m.order) (length m.rows) m.cols) ≤ 100 =
-    header_length (decimal (order_number m.order)) (decimal (length m.rows)) (decimal m.cols) (decimal_length (order_number m.order) (omega (arith, order_fits m.order))) (decimal_length (length m.rows) h.rows_fit)
+    header_length (decimal (order_number m.order)) (decimal (length m.rows)) (decimal m.cols) (decimal_length (order_number m.order) (omega (arith, order_number-at_most m.order))) (decimal_length (length m.rows) h.rows_fit)
     (decimal_length m.cols h.columns_fit) in
     let rows = rows_length m.cols m.rows h.columns_fit h.row_lengths in
     let whole : length (text_of m) ≡ length (header_of (order_number m.order) (length m.rows) m.cols) + length (10 ∷ flat_map text_row m.rows) =

@@ -1,4 +1,4 @@
--- How long files may be.
+-- How long files, and the lines and the numerals of texts, may be.
 use Rattle.std.specs.Prelude.{ℕ}
 
 -- the most bytes that a packed file has: 4 MiB, that is 4 times 2^20
@@ -8,3 +8,11 @@ most_packed_bytes = 4194304
 -- the most bytes that a text file has: 16 MiB, that is 16 times 2^20
 abbrev pub most_text_bytes : ℕ
 most_text_bytes = 16777216
+
+-- how many digits a line of a written text has, but for the last of a row
+abbrev pub digits_per_line : ℕ
+digits_per_line = 80
+
+-- the most digits that a numeral in the header of a text has
+abbrev pub most_numeral_digits : ℕ
+most_numeral_digits = 9

@@ -6,6 +6,7 @@ use Rattle.std.specs.Int.Digits.{number_from_digits}
 use Rattle.axe_field.specs.Order.{Order, order_number}
 use Rattle.axe_matrix.specs.Matrices.{MatrixValue, IsMatrix}
 use Rattle.axe_matrix.specs.Limits.{most_rows, most_columns}
+use Rattle.axe_file.specs.Limits.{most_numeral_digits}
 use Rattle.axe_file.specs.declared.fault.FileFault.{FileFault}
 use Rattle.axe_file.specs.declared.fault.FileFault.TheVariants.{BadField, BadRows, BadCols, BadHeader, BadMode}
 use Rattle.axe_file.specs.declared.fault.FileFault.TheVariants.{BadDigit, TooFewDigits, TrailingText}
@@ -38,10 +39,10 @@ is_element_digit order byte = nat_le 48 byte && nat_lt byte (48 + order)
 
 -- ---- headers
 
--- a numeral: 1 to 9 decimal digits, of which the first may be 0
+-- a numeral: decimal digits, at least one and at most `most_numeral_digits`, of which the first may be 0
 pub record IsNumeral (bytes : List ℕ) : Type 0 where
   pub some_digit : 1 ≤ length bytes
-  pub at_most_nine : length bytes ≤ 9
+  pub not_too_many : length bytes ≤ most_numeral_digits
   pub digits : All (λ byte. IsTrue (is_digit byte)) bytes
 
 -- the number that a numeral stands for (positional notation, base ten)
@@ -139,7 +140,8 @@ pub record HasBadHeader (bytes : List ℕ) (k : ℕ) : Type 0 where
   pub before : (j : ℕ) → j < k → IsBeginning (take (j + 1) bytes)
   pub stops : k < length bytes → IsBeginning (take (k + 1) bytes) → ⊥
 
--- a header that is allowed: of mode 1, with the order of a field, no more rows than a matrix has, and as many columns
+-- a header that is allowed: of mode 1, with the order of a field, no more rows than a matrix has, and at least one
+-- column and no more than a matrix has
 pub record IsAllowed (bytes : List ℕ) (h : Headed bytes) (o : Order) : Type 0 where
   pub mode : h.mode ≡ 1
   pub order : order_number o ≡ h.order

@@ -6,14 +6,16 @@ ghost use Rattle.axe_field.specs.Order.{Order, order_number};
 ghost use Rattle.axe_matrix.specs.Matrices.{MatrixValue, IsMatrix};
 ghost use Rattle.axe_file.specs.Marks.{marks_per_byte};
 ghost use Rattle.axe_file.specs.Packed.{packed, packed_fault, unpacked};
-ghost use Rattle.axe_file.specs.Limits.{most_packed_bytes, most_text_bytes};
+ghost use Rattle.axe_file.specs.Limits.{most_packed_bytes, most_text_bytes, digits_per_line};
 
+use crate::text_writing::DIGITS_PER_LINE;
 use crate::{PACKED_LIMIT, TEXT_LIMIT};
 
 /// The limits of the code are those of the definitions.
 pub fn limits_are_named()
     ensures packed { PACKED_LIMIT ≡ most_packed_bytes }
     ensures text { TEXT_LIMIT ≡ most_text_bytes }
+    ensures line { DIGITS_PER_LINE ≡ digits_per_line }
 {}
 
 /// A byte has room for so many marks, and for no more.

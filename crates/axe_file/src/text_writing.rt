@@ -1,6 +1,7 @@
 //! The text form, written.
 
 ghost use Rattle.std.specs.Prelude.{◌≡◌, ◌*◌, ◌<◌, ◌++◌, length, map, IfOk, IfErr, OnOk};
+ghost use Rattle.axe_file.specs.Limits.{digits_per_line};
 ghost use Rattle.axe_file.specs.TextGrammar.{digit_code};
 ghost use Rattle.axe_file.specs.TextWriting.{text_header, text_line, in_lines, text_of};
 ghost use Rattle.axe_file.specs.declared.fault.FileFault.TheVariants.{Memory};
@@ -11,7 +12,7 @@ use axe_matrix::{Matrix, Row};
 use std::alloc::{AllocError, Global};
 
 /// How many digits a line of a text has.
-const DIGITS_PER_LINE: usize = 80;
+pub(crate) const DIGITS_PER_LINE: usize = 80;
 
 /// The one text of a matrix that is written. The only fault is `Memory`.
 pub fn write_text(alloc: Global, matrix: &Matrix) -> Result<Vec<u8>, FileFault>
@@ -67,7 +68,7 @@ fn put_lines(text: &mut Vec<u8>, digits: &[u8]) -> Result<(), AllocError>
 
 /// Appends one line of digits, counted from 0.
 fn put_line(text: &mut Vec<u8>, digits: &[u8], index: usize) -> Result<(), AllocError>
-    requires { 80 * index < length digits.now }
+    requires { digits_per_line * index < length digits.now }
     ensures { OnOk result (text.new.items ≡ text.old.items ++ text_line digits.now index) }
 {
     let start = DIGITS_PER_LINE * index;

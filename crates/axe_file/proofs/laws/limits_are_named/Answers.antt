@@ -6,3 +6,6 @@ returns-clause-packed c = search rules
 
 pub returns-clause-text : goal.returns-clause-text
 returns-clause-text c = search rules
+
+pub returns-clause-line : goal.returns-clause-line
+returns-clause-line c = search rules

@@ -1,5 +1,5 @@
 use Rattle.std.proofs.Common.{◌≡◌, ◌≤◌, ◌*◌, ◌∙◌, length, ap, take_at, arith}
-use Rattle.axe_file.proofs.Lists.{length-listed}
+use Rattle.axe_algebra.proofs.ListEntries.{listed_length}
 use Rattle.axe_file.proofs.MarkTables.{few_marks, long_table, width_is_enough, taken_marks}
 use Rattle.axe_file.proofs.reading.marks_of.Goals as goal
 
@@ -23,5 +23,5 @@ returns-clause-value c =
     let columns : length c.deref_mut.result.now ≡ layout.columns = omega (arith, c.deref_mut.ensures.len, c.in_ok-marks.ensures.len) in
     let marks = taken_marks layout.field layout.marks layout.columns (length c.deref_mut.result.now) c.args.table.now c.args.bytes.now c.requires.table layout.marks_is (λ i. (c.type_inv.bytes i).fits) columns in
     let long : length c.take_marks.new.marks ≡ c.in_ok-marks.marks.len =
-    ap length c.take_marks.ensures ∙ length-listed (length c.deref_mut.result.now) _ ∙ omega (arith, c.deref_mut.ensures.len, c.in_ok-marks.marks.ok.0) in
+    ap length c.take_marks.ensures ∙ listed_length (length c.deref_mut.result.now) _ ∙ omega (arith, c.deref_mut.ensures.len, c.in_ok-marks.marks.ok.0) in
     take_at c.take_marks.new.marks _ c.in_ok-marks.marks.len long ∙ c.take_marks.ensures ∙ marks

@@ -3,7 +3,7 @@ use Rattle.axe_algebra.specs.Lists.{listed}
 use Rattle.axe_row.specs.Rows.{RowValue}
 use Rattle.axe_file.specs.Packed.{mark_at}
 use Rattle.axe_file.proofs.Scans.{data_fits, rows_before, data_by_layout, marks_at, length-row_marks, pushed, unpacked_is, when_ok}
-use Rattle.axe_file.proofs.Lists.{length-listed}
+use Rattle.axe_algebra.proofs.ListEntries.{listed_length}
 use Rattle.axe_file.proofs.reading.matrix_of.Goals as goal
 
 pub overflow_mul-start : goal.overflow_mul-start
@@ -41,7 +41,7 @@ push_row-requires-clause-fits c =
 
 pub push_row-requires-clause-room : goal.push_row-requires-clause-room
 push_row-requires-clause-room c =
-    let count = length-listed c.loop-index.index (λ i. listed c.args.header.now.layout.columns (mark_at c.args.bytes.now i)) in
+    let count = listed_length c.loop-index.index (λ i. listed c.args.header.now.layout.columns (mark_at c.args.bytes.now i)) in
     rw c.loop-index.invariant (omega (arith, count, c.loop-index-test.true, c.args.header.now.rows_fit))
 
 pub loop-index-preserved : goal.loop-index-preserved
