@@ -24,8 +24,8 @@ use Rattle.axe_plan.specs.Plans.{Plan, Problem, StaysOpen}
 use Rattle.axe_plan.specs.Meanings.{Answered, AtMostOne, Is, Has}
 use Rattle.axe_plan.specs.Inputs.{and_then, fetch_named, unless_faulty, or_refuses, bytes_in, matrix_in, matrices_in, numbered, numbered_names, checked_module, module_in}
 use Rattle.axe_execute.specs.ChopCommand.{series_plan, chop_answer, ChopPlan, FoundPlan, WritesSeries, FindsOpenSection}
-use Rattle.axe_execute.proofs.OneAnswer.{is_one, has_one, then_one}
-use Rattle.axe_execute.proofs.SomeAnswer.{then_some}
+use Rattle.axe_plan.proofs.OneAnswer.{is_one, has_one, then_one}
+use Rattle.axe_plan.proofs.SomeAnswer.{then_some}
 use Rattle.axe_plan.proofs.ReadModules.{IsReadModule, matrices_are_matrices, made_is_module}
 use Rattle.axe_execute.proofs.PlanParts.{any_value}
 

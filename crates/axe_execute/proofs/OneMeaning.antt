@@ -14,9 +14,9 @@ use Rattle.axe_execute.proofs.PlanParts.{matrix_then_one, matrix_then_some, put_
 use Rattle.axe_execute.proofs.OneModulePlan.{spin_plan_one, quotient_plan_one}
 use Rattle.axe_execute.proofs.SomeModulePlan.{spin_plan_some, quotient_plan_some}
 use Rattle.axe_execute.proofs.ChopLaws.{chop_plan_one, chop_plan_some}
-use Rattle.axe_execute.proofs.OneAnswer.{is_one, has_one, has_or_one, unless_refused_one}
+use Rattle.axe_plan.proofs.OneAnswer.{is_one, has_one, has_or_one, unless_refused_one}
 use Rattle.axe_echelon.proofs.OneMatrix.{null_space_is_one, inverse_is_one}
-use Rattle.axe_execute.proofs.SomeAnswer.{unless_refused_some}
+use Rattle.axe_plan.proofs.SomeAnswer.{unless_refused_some}
 use Rattle.axe_echelon.proofs.SomeMatrix.{some_null_space, inverse_or_none}
 use Rattle.axe_row.specs.declared.refusals.Refusal.{Refusal}
 use Rattle.axe_row.specs.Refusals.{RefusedAs}

@@ -18,7 +18,7 @@ use Rattle.axe_plan.specs.Meanings.{AtMostOne, Is, Has, HasOr, UnlessRefused}
 use Rattle.axe_spin.specs.Spinning.{HasSpunRows, IsSubmoduleBasis}
 use Rattle.axe_spin.specs.Modules.{HasSquareGenerators}
 use Rattle.axe_execute.specs.ModuleCommands.{RowsOf, ActionOn, ActionModulo, RowsPlan, SpunPlan, SpinPlan, QuotientPlan}
-use Rattle.axe_execute.proofs.OneAnswer.{is_one, has_one, has_or_one, unless_refused_one, then_one}
+use Rattle.axe_plan.proofs.OneAnswer.{is_one, has_one, has_or_one, unless_refused_one, then_one}
 use Rattle.axe_spin.proofs.OneSpun.{spun_matrix_is_one}
 use Rattle.axe_spin.proofs.SeedLaws.{vectors_of, vectors_over}
 use Rattle.axe_spin.proofs.SubmoduleLaws.{spun_is_submodule}

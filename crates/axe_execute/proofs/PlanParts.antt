@@ -8,8 +8,8 @@ use Rattle.axe_plan.specs.Inputs.{matrix_in}
 use Rattle.axe_plan.specs.Outputs.{put_packed}
 use Rattle.axe_plan.specs.Meanings.{Meaning, Answered, AtMostOne, Is, ◌>>=◌}
 use Rattle.axe_plan.proofs.Readings.{matrix_in_is_matrix}
-use Rattle.axe_execute.proofs.OneAnswer.{is_one, then_one}
-use Rattle.axe_execute.proofs.SomeAnswer.{then_some}
+use Rattle.axe_plan.proofs.OneAnswer.{is_one, then_one}
+use Rattle.axe_plan.proofs.SomeAnswer.{then_some}
 
 pub is_matrix_if_read : (files : Files) (name : List ℕ) (before : Result MatrixValue Problem) → Is (matrix_in files name) before → IfOk before IsMatrix
 is_matrix_if_read files name before e = subst (λ answer. IfOk answer IsMatrix) e (matrix_in_is_matrix files name)

@@ -11,7 +11,7 @@ use Rattle.axe_plan.specs.Inputs.{matrices_in, numbered_names, checked_module, s
 use Rattle.axe_plan.specs.Meanings.{Answered, Is, Has, HasOr}
 use Rattle.axe_spin.specs.Spinning.{HasSpunRows, IsSubmoduleBasis}
 use Rattle.axe_execute.specs.ModuleCommands.{RowsOf, ActionOn, ActionModulo, RowsPlan, SpunPlan, SpinPlan, QuotientPlan}
-use Rattle.axe_execute.proofs.SomeAnswer.{unless_refused_some, then_some}
+use Rattle.axe_plan.proofs.SomeAnswer.{unless_refused_some, then_some}
 use Rattle.axe_spin.proofs.SeedLaws.{seed_if_not_refused}
 use Rattle.axe_plan.proofs.ReadModules.{IsReadModule}
 use Rattle.axe_execute.proofs.PlanParts.{any_value, matrix_then_some}

@@ -6,3 +6,5 @@ pub mod ModulePlans
 pub mod ReadModules
 pub mod Refused
 pub mod ReadCalls
+pub mod OneAnswer
+pub mod SomeAnswer

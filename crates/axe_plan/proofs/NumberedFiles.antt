@@ -1,7 +1,7 @@
 -- Files of numbers, read one after the other.
 use Rattle.std.proofs.Common.{◌≡◌, refl, sym, ◌∙◌, ap, ℕ, zero, suc, ◌+◌, ◌-◌, ◌<◌, List, [], ◌∷◌, ◌++◌, append_assoc, subst, map, get_or, length, Result, Ok, Err, inl, inr, arith}
 use Rattle.std.specs.List.{range_with_len}
-use Rattle.std.proofs.lemmas.List.{append-nil, length-append}
+use Rattle.std.proofs.lemmas.List.{length-append}
 use Rattle.std.proofs.lemmas.List.FromFn.{get_or-map-range_with_len, length-map-range_with_len}
 use Rattle.axe_matrix.specs.Matrices.{MatrixValue}
 use Rattle.axe_folder.specs.Files.{Files}
@@ -40,18 +40,6 @@ pub read_problem : (files : Files) (before : List MatrixValue) (name : List ℕ)
     read_after files before (name ∷ names) ≡ Err problem
 read_problem files before name names problem e =
     ap (λ first. and_then (and_then first (λ a. and_then (matrices_in files names) (λ rest. Ok (a ∷ rest)))) (λ rest. Ok (before ++ rest))) e
-
-pub read_all : (files : Files) (before : List MatrixValue) (name : List ℕ) (i count : ℕ) → count ≡ i →
-    read_after files before (names_from name (i + 1) (count - i)) ≡ Ok before
-read_all files before name i count e =
-    ap (λ left. read_after files before (names_from name (i + 1) left)) (let none : count - i ≡ 0 = omega arith in none) ∙ ap Ok (append-nil before)
-
-pub read_none : (files : Files) (names : List (List ℕ)) → matrices_in files names ≡ read_after files [] names
-read_none files names = cases (matrices_in files names)
-  where
-    cases : (rest : Result (List MatrixValue) Problem) → rest ≡ and_then rest (λ rest. Ok ([] ++ rest))
-    cases (Ok rest) = refl
-    cases (Err problem) = refl
 
 -- one more matrix was read
 pub length_of_more : (before after : List MatrixValue) (m : MatrixValue) (count : ℕ) → after ≡ before ++ m ∷ [] → length before ≡ count →

@@ -46,11 +46,6 @@ counts_nothing view (Err Memory) meaning old new same answers = same
 -- ---- what is read
 
 module _ {S : Type 0} (files : S → Files) (failures : S → ℕ) where
-  -- want of memory
-  pub reads_nothing : {T V : Type 0} (old : S) (names : List (List ℕ)) (view : T → V) (meaning : Files → Meaning V) →
-      Reads files failures old old names view (Err Memory) meaning
-  reads_nothing old names view meaning = record { agrees = tt; kept = refl; counted = refl }
-
   -- a right answer of one meaning is right of another
   pub reads_as : {T V : Type 0} (old new : S) (names : List (List ℕ)) (view : T → V) (result : Result T Fault) (meaning whole : Files → Meaning V) →
       ((f : Files) (answer : Result V Problem) → meaning f answer → whole f answer) →
