@@ -108,7 +108,7 @@ fn assert_failing(rt: &impl Abort, folder: &mut FusedFolder, name: &str) {
 fn a_fuse_passes_three_calls_and_no_more(rt: HostRuntime) -> Result<(), TableFault> {
     let mut folder = FusedFolder::new(MemFolder::new(rt.alloc()), 3, true);
     each_call(&rt, rt.alloc(), &mut folder, PUT)?;
-    // the first call that fails is no put, so no file is torn
+    // The first call that fails is no put, so no file is torn.
     assert_failing(&rt, &mut folder, "A");
     assert!(rt; folder.bytes("A") == Some(b"one".as_slice()));
     Ok(())
@@ -154,7 +154,7 @@ fn a_directory_has_no_file_of_a_bad_name(rt: HostRuntime) -> Result<(), Fail> {
     assert!(rt; kept.as_slice() == b"one".as_slice());
     fs::remove_file(&rt, "axe_call_tests_names/within/A")?;
     fs::remove_dir(&rt, "axe_call_tests_names/within")?;
-    // it is refused where another file is left
+    // It is refused where another file is left.
     fs::remove_dir(&rt, place)?;
     Ok(())
 }

@@ -21,7 +21,7 @@ fn products_are_put_into_a_directory(rt: HostRuntime) -> Result<(), Fail> {
     for name in ["A", "B", "OUT"] {
         folder.remove(name)?;
     }
-    // it is refused where another file is left
+    // It is refused where another file is left.
     fs::remove_dir(&rt, place)?;
     Ok(())
 }

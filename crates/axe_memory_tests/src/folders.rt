@@ -53,7 +53,7 @@ fn a_fuse_passes_memory_on(rt: HostRuntime) {
         Ok(()) => assert!(&rt; folder.bytes("A") == Some(b"one".as_slice())),
         Err(fault) => assert!(&rt; fault == FolderFault::Memory && folder.bytes("A").is_none()),
     }
-    // the call that failed for want of memory was passed, too
+    // The call that failed for want of memory was passed, too.
     let removed = folder.remove("A");
     assert!(&rt; matches!(removed, Err(FolderFault::Device)));
 }
