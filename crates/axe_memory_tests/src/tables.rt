@@ -1,4 +1,5 @@
-//! Tables of calls, the topics that they are about, and answers that may be Memory.
+//! Tables of calls, the topics that they are about, and answers that may be Memory. A table without a call fails its
+//! test.
 
 use crate::{decisions, growing, matrices, modules, points};
 use axe_matrix::{Matrix, Refusal, Row};
@@ -30,13 +31,16 @@ fn answers(rt: &impl Abort, alloc: Global, topic: Topic, line: &str) -> Result<b
 
 /// Asserts of each call of a table that it answers what its line says, or Memory.
 pub(crate) fn each_call(rt: &impl Abort, alloc: Global, topic: Topic, table: &str) {
+    let mut is_empty = true;
     for line in table.lines() {
         match answers(rt, alloc, topic, line) {
             Ok(is_right) => assert!(rt; is_right, "{line}"),
             Err(TableFault::Refused(Refusal::Memory)) => {}
             Err(_) => panic!(rt; "not written so: {line}"),
         }
+        is_empty = false;
     }
+    assert!(rt; !is_empty, "a table without a call");
 }
 
 /// Whether a matrix is the one that is written so.
