@@ -3,7 +3,7 @@
 //! A table has lines `WORD .. -> ANSWER`. The answer is what the command does with which files, or `usage: TEXT` or
 //! `help: TEXT` where the words are no command. Words and texts are spelled as `spelling` says.
 use crate::spelling::{assert_text, parts, plain, words};
-use axe_command::{Command, Name, ParseFault, parse};
+use axe_command::{Command, GeneratorCount, Name, ParseFault, parse};
 use std::alloc::{AllocError, Global};
 use std::process::Abort;
 
@@ -274,7 +274,7 @@ fn told(alloc: Global, command: &Command) -> Result<String, AllocError> {
             seed,
             out,
         } => {
-            let spun = told_module(alloc, "spin", seed, "by", generators.get(), name, out)?;
+            let spun = told_module(alloc, "spin", seed, "by", *generators, name, out)?;
             let action = told_action(action);
             format!(in alloc; "{spun}, standard {standard}, action {action}")
         }
@@ -283,15 +283,7 @@ fn told(alloc: Global, command: &Command) -> Result<String, AllocError> {
             subspace,
             name,
             out,
-        } => told_module(
-            alloc,
-            "quotient by",
-            subspace,
-            "of",
-            generators.get(),
-            name,
-            out,
-        ),
+        } => told_module(alloc, "quotient by", subspace, "of", *generators, name, out),
         Command::Chop {
             generators,
             seed,
@@ -326,11 +318,12 @@ fn told_module(
     verb: &str,
     rows: &Name,
     preposition: &str,
-    generators: u8,
+    generators: GeneratorCount,
     name: &Name,
     out: &Name,
 ) -> Result<String, AllocError> {
     let (rows, name, out) = (rows.as_str(), name.as_str(), out.as_str());
+    let generators = generators.get();
     format!(in alloc; "{verb} {rows} {preposition} {generators} generators of {name} to {out}")
 }
 
