@@ -27,7 +27,7 @@ count_done xs i d n le inv = inv ∙ ap (λ (l : List ℕ). count_of d l) (take_
 
 -- ---- one more number at the front
 
-count_cons : (d x : ℕ) (xs : List ℕ) → count_of d (x ∷ xs) ≡ cond (eqb x d) 1 0 + count_of d xs
+pub count_cons : (d x : ℕ) (xs : List ℕ) → count_of d (x ∷ xs) ≡ cond (eqb x d) 1 0 + count_of d xs
 unfolding count_of
 count_cons d x xs = sum_by-cons (λ (y : ℕ). cond (eqb y d) 1 0) x xs
 

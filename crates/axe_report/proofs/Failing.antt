@@ -127,9 +127,6 @@ other_series dim fs text s rest small are range there wrong t x is e =
 pub no_series : (fs : List FactorValue) (text : List ℕ) → ((t x : List ℕ) → InRange (length fs) t → text ≢ series_line fs t ++ x) → (t x : List ℕ) → IsSeriesOf fs t → text ≢ series_line fs t ++ x
 no_series fs text none t x is = none t x (places_in_range t (length fs) is.order)
 
-pub wider : (dim bound : ℕ) (fs : List FactorValue) → dim ≤ bound → AreFactors dim fs → AreFactors bound fs
-wider dim bound fs le h = record { named = h.named; some_dims = h.some_dims; some_multiplicities = h.some_multiplicities; fits = omega (arith, h.fits) }
-
 -- ---- there is one such line
 
 last_of : (fs : List FactorValue) → (fs ≡ []) ⊎ ((gs : List FactorValue) × (f : FactorValue) × (fs ≡ gs ++ f ∷ []))

@@ -2,7 +2,7 @@
 use Rattle.std.proofs.Common.{◌≡◌, ◌≢◌, ℕ, ◌<◌, List, [], ◌∷◌, ◌++◌, length, get_or, take, drop, codes, ◌+◌, inl, inr, refl, sym, ap, ap₂, subst, ◌∙◌, append_assoc, append-nil, take-append-drop, arith}
 use Rattle.std.specs.List.{flat_map, prefix_len}
 use Rattle.std.proofs.lemmas.Bool.{cases_lt}
-use Rattle.axe_report.specs.Fronts.{is_name_byte, Stops}
+use Rattle.axe_report.specs.Fronts.{is_no_separator, Stops}
 use Rattle.axe_report.specs.Reports.{FactorValue, names, AreFactors}
 use Rattle.axe_report.specs.Spelling.{place_bytes, series_line}
 use Rattle.axe_report.proofs.Fronts.{front_is_prefix, prefix_stops, cancel_front}
@@ -12,18 +12,18 @@ use Rattle.axe_report.proofs.Unique.{InRange, places_open, places_stop, place_un
 
 -- ---- a name
 
-pub place_there : (fs : List FactorValue) (text word left : List ℕ) (k p : ℕ) (f : FactorValue) → k ≡ prefix_len is_name_byte text → word ≡ take k text → left ≡ drop k text → p < length fs → f ≡ get_or fs p f
-    → f.name ≡ word → (p < length fs) × Stops is_name_byte left × (text ≡ get_or (names fs) p [] ++ left)
+pub place_there : (fs : List FactorValue) (text word left : List ℕ) (k p : ℕ) (f : FactorValue) → k ≡ prefix_len is_no_separator text → word ≡ take k text → left ≡ drop k text → p < length fs → f ≡ get_or fs p f
+    → f.name ≡ word → (p < length fs) × Stops is_no_separator left × (text ≡ get_or (names fs) p [] ++ left)
 place_there fs text word left k p f count front back lt here same = (
   lt,
-  subst (λ (l : List ℕ). Stops is_name_byte l) (sym (back ∙ ap (λ (i : ℕ). drop i text) count)) (prefix_stops is_name_byte text),
+  subst (λ (l : List ℕ). Stops is_no_separator l) (sym (back ∙ ap (λ (i : ℕ). drop i text) count)) (prefix_stops is_no_separator text),
   sym (take-append-drop k text) ∙ ap₂ (λ (a : List ℕ) (b : List ℕ). a ++ b) (sym front ∙ sym same ∙ sym (name_at fs p f lt here)) (sym back),
 )
 
-pub no_place : (fs : List FactorValue) (text word : List ℕ) (k : ℕ) → AreFactors 2048 fs → k ≡ prefix_len is_name_byte text → word ≡ take k text
-    → ((q : ℕ) → q < length fs → get_or (names fs) q [] ≡ word → ⊥) → (p : ℕ) (x : List ℕ) → p < length fs → Stops is_name_byte x → text ≢ get_or (names fs) p [] ++ x
+pub no_place : (fs : List FactorValue) (text word : List ℕ) (k : ℕ) → AreFactors 2048 fs → k ≡ prefix_len is_no_separator text → word ≡ take k text
+    → ((q : ℕ) → q < length fs → get_or (names fs) q [] ≡ word → ⊥) → (p : ℕ) (x : List ℕ) → p < length fs → Stops is_no_separator x → text ≢ get_or (names fs) p [] ++ x
 no_place fs text word k h count front none p x lt stops e =
-    let parts = front_is_prefix is_name_byte text (get_or (names fs) p []) x (name_of_plain fs p (all_plain 2048 fs (omega arith) h) lt) stops e in
+    let parts = front_is_prefix is_no_separator text (get_or (names fs) p []) x (name_of_plain fs p (all_plain 2048 fs (omega arith) h) lt) stops e in
     none p lt (sym (front ∙ ap (λ (i : ℕ). take i text) count ∙ parts.0))
 
 pub none_more : (fs : List FactorValue) (word : List ℕ) (i : ℕ) (f : FactorValue) → i < length fs → f ≡ get_or fs i f → (f.name ≡ word → ⊥) → ((q : ℕ) → q < i → get_or (names fs) q [] ≡ word → ⊥)
@@ -72,7 +72,7 @@ next_place fs [] name x e r =
     absurd (omega (arith, differ))
 next_place fs (q ∷ v) name x e r = (q, v, r.0, r.1, cancel_front (32 ∷ []) name _ (e ∙ places_open fs q v (10 ∷ x)))
 
-pub series_more : (text : List ℕ) (fs : List FactorValue) (s t left name next : List ℕ) (p : ℕ) → AreFactors 2048 fs → SeriesRead text fs s left → left ≡ 32 ∷ name → p < length fs → Stops is_name_byte next
+pub series_more : (text : List ℕ) (fs : List FactorValue) (s t left name next : List ℕ) (p : ℕ) → AreFactors 2048 fs → SeriesRead text fs s left → left ≡ 32 ∷ name → p < length fs → Stops is_no_separator next
     → name ≡ get_or (names fs) p [] ++ next → t ≡ s ++ p ∷ [] → SeriesRead text fs t next
 series_more text fs s t left name next p h inv space lt stops here new = rw new (record {
   range = range_push (length fs) s p inv.range lt;
@@ -88,7 +88,7 @@ series_more text fs s t left name next p h inv space lt stops here new = rw new 
 })
 
 pub no_series_name : (text : List ℕ) (fs : List FactorValue) (s left name : List ℕ) → SeriesRead text fs s left → left ≡ 32 ∷ name
-    → ((p : ℕ) (x : List ℕ) → p < length fs → Stops is_name_byte x → name ≢ get_or (names fs) p [] ++ x) → (t x : List ℕ) → InRange (length fs) t → text ≢ series_line fs t ++ x
+    → ((p : ℕ) (x : List ℕ) → p < length fs → Stops is_no_separator x → name ≢ get_or (names fs) p [] ++ x) → (t x : List ℕ) → InRange (length fs) t → text ≢ series_line fs t ++ x
 no_series_name text fs s left name inv space none t x r same =
     let goes = inv.only t x r same in
     let found = next_place fs goes.0 name x (sym space ∙ goes.2) goes.1 in

@@ -53,16 +53,6 @@ series_ended factors series i old begun items next le e inv new =
     ∙ ap (λ (x : List ℕ). x ++ 10 ∷ []) (inv ∙ ap₂ (λ (x : List ℕ) (s : List ℕ). x ++ flat_map (place_bytes factors) s) e (take_all i series le))
     ∙ simp append_assoc
 
--- one more line of a constituent
-pub line_more : (factors : List FactorValue) (i : ℕ) (f : FactorValue) (first items next line : List ℕ) → i < length factors → f ≡ get_or factors i f
-    → items ≡ first ++ flat_map factor_line (take i factors) → line ≡ factor_line f → next ≡ items ++ line → next ≡ first ++ flat_map factor_line (take (i + 1) factors)
-line_more factors i f first items next line lt here inv l new =
-    new
-    ∙ ap₂ (λ (x : List ℕ) (y : List ℕ). x ++ y) inv l
-    ∙ flat_map_more factor_line first (take i factors) f
-    ∙ ap (λ (g : FactorValue). first ++ flat_map factor_line (take i factors ++ g ∷ [])) here
-    ∙ ap (λ (x : List FactorValue). first ++ flat_map factor_line x) (sym (take_more factors i f lt))
-
 pub report_ended : (r : ReportValue) (i : ℕ) (items next : List ℕ) → length r.factors ≤ i → items ≡ header_line r.header ++ flat_map factor_line (take i r.factors)
     → next ≡ items ++ series_line r.factors r.series → next ≡ report_bytes r
 unfolding report_bytes opening_bytes

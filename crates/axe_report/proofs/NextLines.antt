@@ -119,18 +119,6 @@ lines_read_more text dim fs gs f rest next room left h a b g l =
     let total : total_dim (fs ++ f ∷ []) ≡ total_dim fs + f.dim * f.multiplicity = total_append fs (f ∷ []) ∙ ap (λ (n : ℕ). total_dim fs + n) (total_one f) in
     rw g (record { factors = factors_push dim fs f h.factors after; sum = omega (arith, h.sum, a.fits, total, l); read = lines_more fs f text rest next h.read b })
 
-pub nothing_next : (dim : ℕ) (fs : List FactorValue) (room : ℕ) (f : FactorValue) (x rest : List ℕ) → room + total_dim fs ≡ dim
-    → ((g : FactorValue) (y : List ℕ) → IsFactorAfter (total_dim fs + room) fs g → rest ≢ factor_line g ++ y) → IsFactorAfter dim fs f → rest ≢ factor_line f ++ x
-nothing_next dim fs room f x rest e none h =
-    let whole : dim ≡ total_dim fs + room = omega (arith, e) in
-    none f x (rw whole at h)
-
--- each constituent takes some of the dimension
-pub room_shrinks : (earlier : List FactorValue) (room : ℕ) (f : FactorValue) → IsFactorAfter (total_dim earlier + room) earlier f → (1 ≤ f.dim * f.multiplicity) × (f.dim * f.multiplicity ≤ room)
-room_shrinks earlier room f h =
-    let some = product_most f.dim f.multiplicity h.some_dim in
-    (omega (arith, some, h.some_multiplicity), omega (arith, h.fits))
-
 pub lines_begun : (text : List ℕ) (dim : ℕ) (fs : List FactorValue) → fs ≡ [] → LinesRead text dim fs text dim
 lines_begun text dim fs e =
     let none = total_none in

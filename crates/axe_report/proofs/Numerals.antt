@@ -2,7 +2,7 @@
 use Rattle.std.proofs.Common.{◌≡◌, ℕ, ◌+◌, ◌%◌, ◌^◌, ◌<◌, ◌≤◌, Bool, true, false, not, eqb, leb, ltb, List, [], ◌∷◌, ◌++◌, length, decimal, refl, sym, ◌∙◌, append-nil, arith}
 use Rattle.std.proofs.lemmas.Bool.{and_parts, and_from, ne_eqb, leb-true, le-leb, lt-ltb, le-ltb}
 use Rattle.std.proofs.lemmas.Fmt.{decimal_by_steps, decimal_injective}
-use Rattle.axe_report.specs.Fronts.{is_digit, is_name_byte, Stops}
+use Rattle.axe_report.specs.Fronts.{is_digit, is_no_separator, Stops}
 use Rattle.axe_report.specs.Names.{letters, constituent_name}
 use Rattle.axe_report.proofs.Fronts.{Passes, passes_append, front_unique, cancel_front}
 use Rattle.axe_report.proofs.Letters.{AreLetters, are_letters, some_letter, letters_injective}
@@ -18,16 +18,16 @@ decimal_digits =
 not_false : (b : Bool) → b ≡ false → not b ≡ true
 not_false b e = rw e refl
 
-dark_from : (c : ℕ) → (c ≡ 32 → ⊥) → (c ≡ 10 → ⊥) → is_name_byte c ≡ true
+dark_from : (c : ℕ) → (c ≡ 32 → ⊥) → (c ≡ 10 → ⊥) → is_no_separator c ≡ true
 dark_from c a b = and_from (not (eqb c 32)) (not (eqb c 10)) (not_false (eqb c 32) (ne_eqb c 32 a)) (not_false (eqb c 10) (ne_eqb c 10 b))
 
-dark_digits : (ds : List ℕ) → Passes is_digit ds → Passes is_name_byte ds
+dark_digits : (ds : List ℕ) → Passes is_digit ds → Passes is_no_separator ds
 dark_digits [] h = tt
 dark_digits (c ∷ ds) h =
     let low = leb-true 48 c (and_parts (leb 48 c) (ltb c 58) h.0).0 in
     (dark_from c (λ e. omega arith) (λ e. omega arith), dark_digits ds h.1)
 
-dark_letters : (w : List ℕ) → AreLetters w → Passes is_name_byte w
+dark_letters : (w : List ℕ) → AreLetters w → Passes is_no_separator w
 dark_letters [] h = tt
 dark_letters (c ∷ w) h = (dark_from c (λ e. omega (arith, h.0)) (λ e. omega (arith, h.0)), dark_letters w h.2)
 
@@ -45,9 +45,9 @@ letters_stop k rest = stops_letters (letters k) rest (are_letters k) (some_lette
 letters_alone_stop : (k : ℕ) → Stops is_digit (letters k)
 letters_alone_stop k = rw (← append-nil (letters k)) (letters_stop k [])
 
-pub name_dark : (d k : ℕ) → d < 2 ^ 64 → Passes is_name_byte (constituent_name d k)
+pub name_dark : (d k : ℕ) → d < 2 ^ 64 → Passes is_no_separator (constituent_name d k)
 unfolding constituent_name
-name_dark d k small = passes_append is_name_byte (decimal d) (letters k) (dark_digits (decimal d) (decimal_digits d small)) (dark_letters (letters k) (are_letters k))
+name_dark d k small = passes_append is_no_separator (decimal d) (letters k) (dark_digits (decimal d) (decimal_digits d small)) (dark_letters (letters k) (are_letters k))
 
 pub numeral_unique : (m n : ℕ) (x y : List ℕ) → m < 2 ^ 64 → n < 2 ^ 64 → Stops is_digit x → Stops is_digit y → decimal m ++ x ≡ decimal n ++ y → (m ≡ n) × (x ≡ y)
 numeral_unique m n x y fm fn sx sy e =

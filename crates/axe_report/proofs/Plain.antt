@@ -5,7 +5,7 @@ use Rattle.std.proofs.lemmas.Bool.{cases_lt, eq-eqb}
 use Rattle.std.proofs.lemmas.List.Sums.{sum_by-cons, sum_by-append, sum_by-take-le, count_by_more_yes}
 use Rattle.std.proofs.lemmas.List.Elements.{All-head, All-tail, All-nil, All-cons, All-push, All-take, All-get_or}
 use Rattle.std.proofs.lemmas.List.{map-append, length-map}
-use Rattle.axe_report.specs.Fronts.{is_name_byte}
+use Rattle.axe_report.specs.Fronts.{is_no_separator}
 use Rattle.axe_report.specs.Names.{constituent_name, count_of, names_after, names_of}
 use Rattle.axe_report.specs.Reports.{FactorValue, names, dims, multiplicities, total_dim, AreFactors, IsFactorAfter}
 use Rattle.axe_report.proofs.Counts.{count_split}
@@ -14,7 +14,7 @@ use Rattle.axe_report.proofs.Numerals.{name_dark, name_unique}
 
 -- a constituent as it may stand in a line
 pub record IsPlain (f : FactorValue) : Type 0 where
-  pub name : Passes is_name_byte f.name
+  pub name : Passes is_no_separator f.name
   pub dim : f.dim ≤ 2048
   pub multiplicity : f.multiplicity ≤ 2048
   pub some_dim : 1 ≤ f.dim

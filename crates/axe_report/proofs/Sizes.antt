@@ -10,6 +10,7 @@ use Rattle.axe_report.specs.Names.{letters, constituent_name, count_of, names_af
 use Rattle.axe_report.specs.Reports.{FactorValue, ReportValue, names, dims, multiplicities, total_dim, counts_in, IsReportHeader, AreFactors, IsReport}
 use Rattle.axe_report.specs.Spelling.{header_line, factor_line, place_bytes, series_line, opening_bytes, report_bytes}
 use Rattle.axe_report.specs.declared.report.ReportHeader.{ReportHeader}
+use Rattle.axe_report.proofs.Counts.{count_cons}
 use Rattle.axe_report.proofs.Letters.{three_letters}
 use Rattle.axe_report.proofs.Plain.{IsPlain, product_some, product_most, all_plain, total_cons, total_none, names_more}
 use Rattle.axe_report.proofs.Members.{places_in_range}
@@ -53,10 +54,6 @@ below_none [] = refl
 below_none (x ∷ s) =
     let rest = below_none s in
     rw (le-ltb x 0 (omega arith)) (omega (arith, rest))
-
-count_cons : (n x : ℕ) (s : List ℕ) → count_of n (x ∷ s) ≡ cond (eqb x n) 1 0 + count_of n s
-unfolding count_of
-count_cons n x s = sum_by-cons (λ (y : ℕ). cond (eqb y n) 1 0) x s
 
 count_none : (n : ℕ) → count_of n [] ≡ 0
 unfolding count_of

@@ -3,9 +3,9 @@ use Rattle.std.proofs.Common.{◌≡◌, ℕ, zero, suc, ◌^◌, ◌<◌, ◌�
 use Rattle.std.specs.List.{AllByRecursion, flat_map}
 use Rattle.std.proofs.lemmas.Bool.{cases_lt}
 use Rattle.std.proofs.lemmas.List.{length-map}
-use Rattle.axe_field.specs.Order.{Order, order_number, Two, Three, Four, Five, Seven, Eight, Nine}
-use Rattle.axe_field.specs.Tables.{order_with}
-use Rattle.axe_report.specs.Fronts.{is_name_byte, Stops}
+use Rattle.axe_field.specs.Order.{Order, order_number}
+use Rattle.axe_field.proofs.Orders.{order_number-at_most, order_number-injective}
+use Rattle.axe_report.specs.Fronts.{is_no_separator, Stops}
 use Rattle.axe_report.specs.Reports.{FactorValue, ReportValue, names, IsReportHeader, IsReport}
 use Rattle.axe_report.specs.Spelling.{header_line, factor_line, place_bytes, series_line, opening_bytes, report_bytes}
 use Rattle.axe_report.specs.declared.report.ReportHeader.{ReportHeader}
@@ -22,25 +22,7 @@ unfolding header_line
 header_open h x = simp append_assoc
 
 pub order_small : (o : Order) → order_number o < 2 ^ 64
-order_small Two = omega arith
-order_small Three = omega arith
-order_small Four = omega arith
-order_small Five = omega arith
-order_small Seven = omega arith
-order_small Eight = omega arith
-order_small Nine = omega arith
-
-order_back : (o : Order) → order_with (order_number o) ≡ o
-order_back Two = refl
-order_back Three = refl
-order_back Four = refl
-order_back Five = refl
-order_back Seven = refl
-order_back Eight = refl
-order_back Nine = refl
-
-pub orders_apart : (o p : Order) → order_number o ≡ order_number p → o ≡ p
-orders_apart o p e = sym (order_back o) ∙ ap order_with e ∙ order_back p
+order_small o = let most = order_number-at_most o in omega (arith, most)
 
 pub header_unique : (h g : ReportHeader) (x y : List ℕ) → IsReportHeader h → IsReportHeader g → header_line h ++ x ≡ header_line g ++ y → (h ≡ g) × (x ≡ y)
 header_unique h g x y ih ig e =
@@ -50,7 +32,7 @@ header_unique h g x y ih ig e =
     let e3 = numeral_unique h.gens g.gens _ _ (omega (arith, ih.gens)) (omega (arith, ig.gens)) refl refl (cancel_front (codes " gens=") _ _ e2.1) in
     let e4 = numeral_unique h.seed g.seed _ _ ih.seed ig.seed refl refl (cancel_front (codes " seed=") _ _ e3.1) in
     let e5 = numeral_unique h.words g.words _ _ (omega (arith, ih.words)) (omega (arith, ig.words)) refl refl (cancel_front (codes " words=") _ _ e4.1) in
-    let field = orders_apart h.field g.field e1.0 in
+    let field = order_number-injective h.field g.field e1.0 in
     (λ i. record { field = field i; dim = e2.0 i; gens = e3.0 i; seed = e4.0 i; words = e5.0 i }, cancel_front (10 ∷ []) x y e5.1)
 
 -- ---- constituents
@@ -62,7 +44,7 @@ factor_open f x = simp append_assoc
 pub factor_unique : (f g : FactorValue) (x y : List ℕ) → IsPlain f → IsPlain g → factor_line f ++ x ≡ factor_line g ++ y → (f ≡ g) × (x ≡ y)
 factor_unique f g x y pf pg e =
     let e0 = cancel_front (codes "factor ") _ _ (sym (factor_open f x) ∙ e ∙ factor_open g y) in
-    let e1 = front_unique is_name_byte f.name g.name _ _ pf.name pg.name refl refl e0 in
+    let e1 = front_unique is_no_separator f.name g.name _ _ pf.name pg.name refl refl e0 in
     let e2 = numeral_unique f.dim g.dim _ _ (omega (arith, pf.dim)) (omega (arith, pg.dim)) refl refl (cancel_front (codes " dim=") _ _ e1.1) in
     let e3 = numeral_unique f.multiplicity g.multiplicity _ _ (omega (arith, pf.multiplicity)) (omega (arith, pg.multiplicity)) refl refl (cancel_front (codes " mult=") _ _ e2.1) in
     (λ i. record { name = e1.0 i; dim = e2.0 i; multiplicity = e3.0 i }, cancel_front (10 ∷ []) x y e3.1)
@@ -95,20 +77,20 @@ unfolding series_line
 series_open fs s x = simp append_assoc
 
 -- what follows a place is a space or a line feed
-pub places_stop : (fs : List FactorValue) (s x : List ℕ) → Stops is_name_byte (flat_map (place_bytes fs) s ++ (10 ∷ x))
+pub places_stop : (fs : List FactorValue) (s x : List ℕ) → Stops is_no_separator (flat_map (place_bytes fs) s ++ (10 ∷ x))
 places_stop fs [] x = refl
-places_stop fs (p ∷ s) x = subst (λ (l : List ℕ). Stops is_name_byte l) (sym (places_open fs p s (10 ∷ x))) refl
+places_stop fs (p ∷ s) x = subst (λ (l : List ℕ). Stops is_no_separator l) (sym (places_open fs p s (10 ∷ x))) refl
 
-pub name_of_plain : (fs : List FactorValue) (p : ℕ) → AllByRecursion IsPlain fs → p < length fs → Passes is_name_byte (get_or (names fs) p [])
+pub name_of_plain : (fs : List FactorValue) (p : ℕ) → AllByRecursion IsPlain fs → p < length fs → Passes is_no_separator (get_or (names fs) p [])
 name_of_plain [] p h lt = absurd (omega (arith, lt))
 name_of_plain (f ∷ fs) zero h lt = h.0.name
 name_of_plain (f ∷ fs) (suc p) h lt = name_of_plain fs p h.1 (omega (arith, lt))
 
 -- a name before a space or a line feed tells the place
-pub place_unique : (fs : List FactorValue) (p q : ℕ) (x y : List ℕ) → AllByRecursion IsPlain fs → AreDistinct (names fs) → p < length fs → q < length fs → Stops is_name_byte x → Stops is_name_byte y
+pub place_unique : (fs : List FactorValue) (p q : ℕ) (x y : List ℕ) → AllByRecursion IsPlain fs → AreDistinct (names fs) → p < length fs → q < length fs → Stops is_no_separator x → Stops is_no_separator y
     → get_or (names fs) p [] ++ x ≡ get_or (names fs) q [] ++ y → (p ≡ q) × (x ≡ y)
 place_unique fs p q x y plain distinct lp lq sx sy e =
-    let parts = front_unique is_name_byte (get_or (names fs) p []) (get_or (names fs) q []) x y (name_of_plain fs p plain lp) (name_of_plain fs q plain lq) sx sy e in
+    let parts = front_unique is_no_separator (get_or (names fs) p []) (get_or (names fs) q []) x y (name_of_plain fs p plain lp) (name_of_plain fs q plain lq) sx sy e in
     let count : length (names fs) ≡ length fs = length-map fs (λ (g : FactorValue). g.name) in
     (distinct p q (omega arith) (omega arith) parts.0, parts.1)
 

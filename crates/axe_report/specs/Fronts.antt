@@ -5,9 +5,9 @@ use Rattle.std.specs.Prelude.{◌≡◌, ℕ, Bool, false, not, ◌&&◌, ◌==�
 abbrev pub is_digit : ℕ → Bool
 is_digit byte = nat_le 48 byte && nat_lt byte 58
 
--- a byte that may stand in a name: no space and no line feed
-abbrev pub is_name_byte : ℕ → Bool
-is_name_byte byte = not (byte == 32) && not (byte == 10)
+-- a byte that separates nothing: no space and no line feed
+abbrev pub is_no_separator : ℕ → Bool
+is_no_separator byte = not (byte == 32) && not (byte == 10)
 
 -- there are no bytes, or the first one does not pass the test
 abbrev pub Stops : (ℕ → Bool) → List ℕ → Type 0

@@ -82,7 +82,8 @@ pub record IsSeriesOf (factors : List FactorValue) (series : List ℕ) : Type 0 
   pub order : first_appearances series ≡ range_with_len 0 (length factors)
   pub counted : multiplicities factors ≡ counts_in series (length factors)
 
--- a report: the dimensions of the constituents, so often as they stand in the series, make up that of the module
+-- a report: a header with numbers in range, constituents by the rule, whose dimensions, so often as they stand in the
+-- series, make up the module's, and a series that belongs to them
 pub record IsReport (report : ReportValue) : Type 0 where
   pub header : IsReportHeader report.header
   pub factors : AreFactors report.header.dim report.factors

@@ -2,7 +2,7 @@
 
 ghost use Rattle.std.specs.Prelude.{◌≡◌, ◌≢◌, ℕ, ◌++◌, ◌<◌, List, [], length, slice_index_or, IfOk, IfErr, MatchOption};
 ghost use Rattle.std.specs.List.{AllByRecursion};
-ghost use Rattle.axe_report.specs.Fronts.{is_name_byte, Stops};
+ghost use Rattle.axe_report.specs.Fronts.{is_no_separator, Stops};
 ghost use Rattle.axe_report.specs.Limits.{most_dimension};
 ghost use Rattle.axe_report.specs.Reports.{names, AreFactors};
 ghost use Rattle.axe_report.specs.Spelling.{series_line};
@@ -49,9 +49,9 @@ pub(crate) fn series<'a>(
 fn place<'a>(text: &'a [u8], factors: &[ReportFactor]) -> Option<(usize, &'a [u8])>
     requires { AreFactors most_dimension factors.now }
     ensures { MatchOption result
-        ((place : ℕ) (rest : List ℕ) → place < length factors.now → Stops is_name_byte rest →
+        ((place : ℕ) (rest : List ℕ) → place < length factors.now → Stops is_no_separator rest →
         text.now ≢ slice_index_or (names factors.now) place [] ++ rest)
-        (λ found. (found.0 < length factors.now) × Stops is_name_byte found.1.now
+        (λ found. (found.0 < length factors.now) × Stops is_no_separator found.1.now
         × (text.now ≡ slice_index_or (names factors.now) found.0 [] ++ found.1.now)) }
 {
     let (name, rest) = text.split_at(word_len(text));

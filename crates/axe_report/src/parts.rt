@@ -2,7 +2,7 @@
 
 ghost use Rattle.std.specs.Prelude.{◌≡◌, ◌≢◌, ℕ, ◌++◌, ◌^◌, ◌<◌, List, MatchOption, decimal};
 ghost use Rattle.std.specs.List.{prefix_len};
-ghost use Rattle.axe_report.specs.Fronts.{is_digit, is_name_byte, Stops};
+ghost use Rattle.axe_report.specs.Fronts.{is_digit, is_no_separator, Stops};
 
 use itoa::Buffer;
 use std::str;
@@ -26,19 +26,19 @@ fn digits_len(text: &[u8]) -> usize
     text.len()
 }
 
-/// Whether a byte may stand in a name.
-fn is_name_byte(byte: u8) -> bool
-    ensures { result ≡ is_name_byte byte }
+/// Whether a byte is neither a space nor a line feed.
+fn is_no_separator(byte: u8) -> bool
+    ensures { result ≡ is_no_separator byte }
 {
     byte != b' ' && byte != b'\n'
 }
 
 /// How many bytes stand at the front before a space or a line feed.
 pub(crate) fn word_len(text: &[u8]) -> usize
-    ensures { result ≡ prefix_len is_name_byte text.now }
+    ensures { result ≡ prefix_len is_no_separator text.now }
 {
     for (index, byte) in text.iter().enumerate() {
-        if !is_name_byte(*byte) {
+        if !is_no_separator(*byte) {
             return index;
         }
     }

@@ -2,12 +2,12 @@ use Rattle.std.proofs.Common.{sym, ◌∙◌, arith}
 use Rattle.std.proofs.lemmas.List.Sums.{prefix_len-le-length}
 use Rattle.std.proofs.lemmas.Slice.Eq.{slice_eq-Decides}
 use Rattle.std.proofs.lemmas.Bool.Decides.{Decides-eqb}
-use Rattle.axe_report.specs.Fronts.{is_name_byte}
+use Rattle.axe_report.specs.Fronts.{is_no_separator}
 use Rattle.axe_report.proofs.LastLines.{place_there, no_place, none_more}
 use Rattle.axe_report.proofs.last_line.place.Goals as goal
 
 pub split_at-requires : goal.split_at-requires
-split_at-requires c = omega (arith, c.word_len.ensures, prefix_len-le-length is_name_byte c.args.text.now)
+split_at-requires c = omega (arith, c.word_len.ensures, prefix_len-le-length is_no_separator c.args.text.now)
 
 pub returns-then-eq : goal.returns-then-eq
 returns-then-eq c =
