@@ -76,9 +76,6 @@ module _ (b : MatrixValue) (number leading end : ℕ) (place : IsPlaceOfPoint b 
       ap (λ k. map (point_with_number b) (numbers_from (order_number b.order) (length b.rows) k)) place.end_is
       ∙ ap (map (point_with_number b)) (numbers_none (order_number b.order) (length b.rows))
 
-  pub place_at_end : IsPlaceOfPoint b end leading end
-  place_at_end = record { end_is = place.end_is; small = place.small; number_within = omega arith; leads = λ below. absurd (omega arith) }
-
   module _ (below : number < end) where
     -- the next point, and what is left after it
     pub left_more : points_from b number ≡ point_with_number b number ∷ points_from b (number + 1)
@@ -206,15 +203,6 @@ place_at_start b end few end_is = record {
     some_row : 1 < end → Dec (length b.rows ≡ 0) → 0 < length b.rows
     some_row below (no other) = omega arith
     some_row below (yes e) = absurd (omega (arith, end_is, ap (λ k. order_number b.order ^ k) e, pow-zero (order_number b.order)))
-
--- a list with an entry is its first entry and the rest
-pub first_and_rest : (xs : List (List ℕ)) → 0 < length xs → xs ≡ get_or xs 0 [] ∷ drop 1 xs
-first_and_rest [] some = absurd (omega arith)
-first_and_rest (x ∷ xs) some = refl
-
-pub none_from_length : (xs : List (List ℕ)) → length xs ≡ 0 → xs ≡ []
-none_from_length [] none = refl
-none_from_length (x ∷ xs) none = absurd (omega arith)
 
 pub same_left : (s t : PointsLeft) → s.order ≡ t.order → s.left ≡ t.left → s ≡ t
 same_left s t e f = λ i. record { order = e i; left = f i }

@@ -1,6 +1,5 @@
 -- Lists in arrays, the places after the last entry filled up: one more entry.
 use Rattle.std.proofs.Common.{◌≡◌, ℕ, suc, ◌+◌, ◌-◌, ◌<◌, ◌≤◌, ◌≢◌, List, [], ◌∷◌, ◌++◌, length, take, set, replicate, sym, ap, ◌∙◌, subst, arith, append_assoc, length-append}
-use Rattle.std.proofs.lemmas.List.{length-replicate}
 use Rattle.std.proofs.Math.Seq.{set-append_seam, take-append_seam}
 use Rattle.std.specs.List.{All}
 use Rattle.std.proofs.lemmas.List.Elements.{All-push}
@@ -10,10 +9,6 @@ use Rattle.axe_word.specs.declared.word.Word.TheInside.{Inside as WordInside}
 use Rattle.axe_word.specs.Words.{WordValue, IsWord}
 use Rattle.axe_word.specs.Stored.{filled_up, IsStoredTerm}
 use Rattle.axe_word.specs.StoredWords.{IsStoredWord}
-
-pub length-filled_up : {A : Type 0} (places : ℕ) (filler : A) (entries : List A) → length entries ≤ places → length (filled_up places filler entries) ≡ places
-length-filled_up places filler entries fits =
-    omega (arith, length-append entries (replicate (places - length entries) filler), length-replicate (places - length entries) filler)
 
 -- the entries stand first
 pub take-filled_up : {A : Type 0} (places : ℕ) (filler : A) (entries : List A) → take (length entries) (filled_up places filler entries) ≡ entries

@@ -17,7 +17,7 @@ use Rattle.axe_matrix.specs.Matrices.{MatrixValue}
 abbrev pub point_count : ℕ → ℕ → ℕ
 point_count q m = length (point_coordinates q m)
 
--- the most points of a null space that are gone over: "few" points are no more
+-- the most points of a null space that are all tried: "few" points are no more
 abbrev pub most_points : ℕ
 most_points = 1000
 

@@ -53,11 +53,11 @@ pub fn first_point(alloc: Global, basis: &Matrix) -> Result<Row, Refusal>
 pub struct Points<'a> {
     alloc: Global,
     basis: &'a Matrix,
-    // the coordinates of the next point as a number
+    /// The coordinates of the next point as a number.
     number: usize,
-    // the place value of the number's first digit, which is 1
+    /// The place value of the number's first digit, which is 1.
     leading: usize,
-    // the numbers of all coordinates are below this
+    /// The numbers of all coordinates are below this.
     end: usize,
 }
 
