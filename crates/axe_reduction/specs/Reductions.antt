@@ -10,7 +10,7 @@ use Rattle.axe_reduction.specs.Forms.{AreReducedRows}
 use Rattle.axe_reduction.specs.declared.reduction.Reduction.{Reduction}
 
 -- these are the pivots of the rows, all left of the bar, and the rows are reduced at them
-pub record AreReducedAt (pivots : List ℕ) (a : AugmentedValue) : Type 0 where
+pub record IsReducedAtPivots (pivots : List ℕ) (a : AugmentedValue) : Type 0 where
   pub count : length pivots ≡ length a.rows
   pub left : All (λ pivot. pivot < a.left) pivots
   pub reduced : AreReducedRows (gf a.order) (length pivots) (matrix_of (number_field a.order) a.rows)
@@ -42,6 +42,6 @@ pub record IsReductionOf (a : AugmentedValue) (r : Reduction) : Type 0 where
   pub reduced_well_formed : IsAugmented r.reduced
   pub rest_well_formed : IsAugmented r.rest
   pub count : length r.reduced.rows + length r.rest.rows ≡ length a.rows
-  pub are_reduced : AreReducedAt r.pivots.items r.reduced
+  pub are_reduced : IsReducedAtPivots r.pivots.items r.reduced
   pub rest_zero : AreZeroLeft r.rest
   pub same : HaveSameSpan (number_field a.order) a.rows (r.reduced.rows ++ r.rest.rows)

@@ -4,7 +4,7 @@ ghost use Rattle.std.specs.Prelude.{◌≡◌, ◌+◌, ◌≤◌, ◌++◌, Non
 ghost use Rattle.axe_row.specs.Refusals.{Answers};
 ghost use Rattle.axe_matrix.specs.Limits.{most_rows};
 ghost use Rattle.axe_reduction.specs.Augmented.{AreAlike, IsAugmented};
-ghost use Rattle.axe_reduction.specs.Reductions.{cleared, AreReducedAt, IsJoinOf, IsReductionOf};
+ghost use Rattle.axe_reduction.specs.Reductions.{cleared, IsReducedAtPivots, IsJoinOf, IsReductionOf};
 
 use crate::augmented::Augmented;
 use crate::few::reduction_of_few;
@@ -29,7 +29,7 @@ impl Reduction {
     /// The rows less their combinations of the reduced rows that make them 0 at the pivots.
     pub(crate) fn clear(&self, alloc: Global, rows: Augmented) -> Result<Augmented, Refusal>
         requires alike { AreAlike self.now.reduced rows }
-        requires reduced { AreReducedAt self.now.pivots.items self.now.reduced }
+        requires reduced { IsReducedAtPivots self.now.pivots.items self.now.reduced }
         ensures cleared { Answers None (λ rest. rest ≡ cleared self.now.pivots.items self.now.reduced rows) result }
         ensures well_formed { IfOk result IsAugmented }
     {
@@ -49,7 +49,7 @@ impl Reduction {
     fn join(self, alloc: Global, further: Reduction) -> Result<Reduction, Refusal>
         requires reduced_alike { AreAlike self.reduced further.reduced }
         requires rest_alike { AreAlike self.rest further.rest }
-        requires reduced { AreReducedAt further.pivots.items further.reduced }
+        requires reduced { IsReducedAtPivots further.pivots.items further.reduced }
         requires room { length self.reduced.rows + length further.reduced.rows ≤ most_rows }
         requires rest_room { length self.rest.rows + length further.rest.rows ≤ most_rows }
         ensures { Answers None (IsJoinOf self further) result }

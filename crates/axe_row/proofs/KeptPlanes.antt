@@ -12,7 +12,7 @@ use Rattle.axe_bits.proofs.DigitLaws.{length-digits_with_multiple}
 use Rattle.axe_plane.specs.Planes.{prime_of_plane, digits_of, IsPlane, IsPlaneOf}
 use Rattle.axe_plane.specs.declared.Plane.{Plane}
 use Rattle.axe_row.specs.Combinations.{CombosValue}
-use Rattle.axe_row.specs.HigherPlanes.{HigherPlanes, empty_plane, linear_of, quadratic_of, AreKept}
+use Rattle.axe_row.specs.HigherPlanes.{HigherPlanes, empty_plane, linear_of, quadratic_of, AreKeptPlanes}
 use Rattle.axe_row.specs.Planes.{ArePlanes, digits_with_multiples}
 use Rattle.axe_row.specs.Refusals.{Answers}
 use Rattle.axe_row.specs.Rows.{RowValue}
@@ -72,7 +72,7 @@ no_quadratic Eight n prime = absurd (omega arith)
 no_quadratic Nine n prime = absurd (omega arith)
 
 -- one plane is enough there
-pub kept_alone : (o : Order) (n : ℕ) (c : Plane) → degree_of o ≡ 1 → IsPlaneOf (prime_of o) n c → AreKept o n c None
+pub kept_alone : (o : Order) (n : ℕ) (c : Plane) → degree_of o ≡ 1 → IsPlaneOf (prime_of o) n c → AreKeptPlanes o n c None
 kept_alone o n c prime h = record {
   planes = record {
     constant = h;
@@ -94,13 +94,9 @@ linear_is_there Seven n degree = absurd (degree refl)
 linear_is_there Eight n degree = refl
 linear_is_there Nine n degree = refl
 
--- the length that the planes speak of is that of the plane of constants
-pub kept_length : (o : Order) (n : ℕ) (c : Plane) (higher : HigherPlanes) → AreKept o n c higher → AreKept o (length (digits_of c)) c higher
-kept_length o n c higher h = subst (λ m. AreKept o m c higher) (sym h.planes.constant.long) h
-
 -- ---- which planes are kept
 
-module _ (o : Order) (n : ℕ) (c : Plane) (higher : HigherPlanes) (h : AreKept o n c higher) where
+module _ (o : Order) (n : ℕ) (c : Plane) (higher : HigherPlanes) (h : AreKeptPlanes o n c higher) where
   -- where there is one plane alone
   pub alone_is_prime : higher ≡ None → degree_of o ≡ 1
   alone_is_prime is = subst (λ (x : HigherPlanes). MatchOption x (degree_of o ≡ 1) (λ planes. degree_of o ≢ 1)) is h.needed
@@ -117,7 +113,7 @@ module _ (o : Order) (n : ℕ) (c : Plane) (higher : HigherPlanes) (h : AreKept 
       (subst (λ (z : HigherPlanes). ArePlanes o n c (linear_of o z) (quadratic_of o z)) is h.planes))
 
 -- a plane that is not kept has no digits
-module _ (o : Order) (n : ℕ) (c : Plane) (higher : HigherPlanes) (h : AreKept o n c higher) (is : higher ≡ None) where
+module _ (o : Order) (n : ℕ) (c : Plane) (higher : HigherPlanes) (h : AreKeptPlanes o n c higher) (is : higher ≡ None) where
   pub linear_is_empty : length (digits_of (linear_of o higher)) ≡ 0
   linear_is_empty = h.planes.linear.long ∙ no_linear o n (alone_is_prime o n c higher h is)
 
@@ -154,25 +150,25 @@ kept_view o c higher kept x y self self_is is ex ey =
     (subst (λ (z : HigherPlanes). record { order = o; entries = entries_of o c (linear_of o z) (quadratic_of o z) } ≡ self) is self_is))
 
 -- one plane alone has the entries as its digits
-pub alone_entries : (o : Order) (c : Plane) (higher : HigherPlanes) (self : RowValue) → AreKept o (length (digits_of c)) c higher →
+pub alone_entries : (o : Order) (c : Plane) (higher : HigherPlanes) (self : RowValue) → AreKeptPlanes o (length (digits_of c)) c higher →
     record { order = o; entries = entries_of o c (linear_of o higher) (quadratic_of o higher) } ≡ self → higher ≡ None →
     digits_of c ≡ self.entries
 alone_entries o c higher self h self_is is =
     one_plane_entries o (degree_of o) c (linear_of o higher) (quadratic_of o higher) self refl (alone_is_prime o _ c higher h is) h.planes self_is
 
-pub alone_row : (o : Order) (c : Plane) (higher : HigherPlanes) (self : RowValue) → AreKept o (length (digits_of c)) c higher →
+pub alone_row : (o : Order) (c : Plane) (higher : HigherPlanes) (self : RowValue) → AreKeptPlanes o (length (digits_of c)) c higher →
     record { order = o; entries = entries_of o c (linear_of o higher) (quadratic_of o higher) } ≡ self → higher ≡ None →
     record { order = o; entries = digits_of c } ≡ self
 alone_row o c higher self h self_is is =
     same_row (record { order = o; entries = digits_of c }) self (ap (λ (r : RowValue). r.order) self_is) (alone_entries o c higher self h self_is is)
 
 -- two rows of one plane alone are equal where their planes are
-others_alone : (o r : Order) (n : ℕ) (c : Plane) (others : HigherPlanes) → AreKept r n c others → degree_of o ≡ 1 → o ≡ r → others ≡ None
+others_alone : (o r : Order) (n : ℕ) (c : Plane) (others : HigherPlanes) → AreKeptPlanes r n c others → degree_of o ≡ 1 → o ≡ r → others ≡ None
 others_alone o r n c None h prime orders = refl
 others_alone o r n c (Some kept) h prime orders = absurd (h.needed (sym (ap degree_of orders) ∙ prime))
 
 pub alone_same : (o r : Order) (c c' : Plane) (higher others : HigherPlanes) (self other : RowValue) →
-    AreKept o (length (digits_of c)) c higher → AreKept r (length (digits_of c')) c' others →
+    AreKeptPlanes o (length (digits_of c)) c higher → AreKeptPlanes r (length (digits_of c')) c' others →
     record { order = o; entries = entries_of o c (linear_of o higher) (quadratic_of o higher) } ≡ self →
     record { order = r; entries = entries_of r c' (linear_of r others) (quadratic_of r others) } ≡ other →
     higher ≡ None → o ≡ r → c ≡ c' → self ≡ other
@@ -182,7 +178,7 @@ alone_same o r c c' higher others self other h h' self_is other_is is orders sam
     ∙ alone_row r c' others other h' other_is (others_alone o r _ c' others h' (alone_is_prime o _ c higher h is) orders)
 
 -- where another row of the field keeps one plane alone
-pub other_alone : (o r : Order) (n : ℕ) (c c' : Plane) (higher others : HigherPlanes) (self other : RowValue) → AreKept r n c' others →
+pub other_alone : (o r : Order) (n : ℕ) (c c' : Plane) (higher others : HigherPlanes) (self other : RowValue) → AreKeptPlanes r n c' others →
     record { order = o; entries = entries_of o c (linear_of o higher) (quadratic_of o higher) } ≡ self →
     record { order = r; entries = entries_of r c' (linear_of r others) (quadratic_of r others) } ≡ other →
     other.order ≡ self.order → others ≡ None → degree_of o ≡ 1
@@ -191,7 +187,7 @@ other_alone o r n c c' higher others self other h self_is other_is orders is =
 
 -- a table's row keeps one plane alone where a row of its field does
 pub row_alone : (o r : Order) (n size len : ℕ) (rows : List (List ℕ)) (c' : Plane) (others : HigherPlanes) (self : CombosValue) {other : RowValue} →
-    AreKept r n c' others → record { order = o; size = size; len = len; rows = rows } ≡ self →
+    AreKeptPlanes r n c' others → record { order = o; size = size; len = len; rows = rows } ≡ self →
     record { order = r; entries = entries_of r c' (linear_of r others) (quadratic_of r others) } ≡ other →
     other.order ≡ self.order → others ≡ None → degree_of o ≡ 1
 row_alone o r n size len rows c' others self {other} h self_is other_is orders is =

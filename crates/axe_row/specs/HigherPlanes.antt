@@ -34,6 +34,6 @@ quadratic_of o None = empty_plane o
 quadratic_of o (Some higher) = higher.value.quadratic
 
 -- what a row of n entries keeps: its planes, and those of x and x^2 exactly where the field is not prime
-pub record AreKept (o : Order) (n : ℕ) (c : Plane) (higher : HigherPlanes) : Type 0 where
+pub record AreKeptPlanes (o : Order) (n : ℕ) (c : Plane) (higher : HigherPlanes) : Type 0 where
   pub planes : ArePlanes o n c (linear_of o higher) (quadratic_of o higher)
   pub needed : MatchOption higher (degree_of o ≡ 1) (λ planes. degree_of o ≢ 1)

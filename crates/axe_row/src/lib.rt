@@ -52,7 +52,7 @@ pub struct Row {
 impl Model for Row {
     ghost use Rattle.std.specs.Prelude.{length};
     ghost use Rattle.axe_plane.specs.Planes.{digits_of};
-    ghost use Rattle.axe_row.specs.HigherPlanes.{linear_of, quadratic_of, AreKept};
+    ghost use Rattle.axe_row.specs.HigherPlanes.{linear_of, quadratic_of, AreKeptPlanes};
     ghost use Rattle.axe_row.specs.Planes.{entries_of_digits};
     ghost use Rattle.axe_row.specs.Rows.{RowValue};
 
@@ -64,7 +64,7 @@ impl Model for Row {
           (digits_of (quadratic_of a.field a.higher));
     } };
 
-    ghost invariant = { λ a. AreKept a.field (length (digits_of a.constant)) a.constant a.higher };
+    ghost invariant = { λ a. AreKeptPlanes a.field (length (digits_of a.constant)) a.constant a.higher };
 }
 
 impl Row {
