@@ -70,7 +70,7 @@ impl Matrix {
     }
 
     /// The matrix without rows, whose list of rows has memory for so many: it does not grow before there are more of
-    /// them.
+    /// them. No clause says so: a list's value is its items alone.
     pub fn with_capacity(
         alloc: Global,
         field: Field,

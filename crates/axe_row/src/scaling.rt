@@ -20,6 +20,9 @@ pub(crate) fn exponent(field: &Field, element: u8) -> u8
     requires nonzero { element ≢ 0 }
     ensures { power_of_x field.now result ≡ element }
 {
+    // Entry a is the exponent of the element of number a. The digits of that number to the base of the prime are the
+    // element's coefficients, so x is number 2 over 4 and 8 elements and number 3 over 9, and x^2 = x + 1 over 4 and 9,
+    // x^3 = x + 1 over 8 give the rest. 0 is no power of x: entry 0 and those past the field's elements are not read.
     let exponents = match field.order() {
         4 => [0, 0, 1, 2, 0, 0, 0, 0, 0],
         8 => [0, 0, 1, 3, 2, 6, 4, 5, 0],
