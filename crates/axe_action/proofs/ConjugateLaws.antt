@@ -11,7 +11,7 @@ use Rattle.axe_row.specs.Refusals.{Answers, AnswersOr, RefusedAs}
 use Rattle.axe_row.specs.declared.refusals.Refusal.{Refusal}
 use Rattle.axe_row.specs.declared.refusals.Refusal.TheVariants.{FieldsDiffer, ShapesDiffer, Singular}
 use Rattle.axe_matrix.specs.Matrices.{MatrixValue, IsMatrix, product_refusal, matrix_product}
-use Rattle.axe_matrix.proofs.MatrixLaws.{same_order}
+use Rattle.axe_field.proofs.Orders.{order_number-injective}
 use Rattle.axe_matrix.proofs.ProductLaws.{length-product, product_refusal-none}
 use Rattle.axe_reduction.specs.Solutions.{IsInverseMatrix, IsInvertibleMatrix}
 use Rattle.axe_echelon.specs.Echelons.{inverse_refusal}
@@ -41,7 +41,7 @@ pub basis_if_accepted : (m : ModuleValue) (p : MatrixValue) → conjugate_refusa
 basis_if_accepted m p none =
     let tests = passed (order_number p.order == order_number m.order) (length p.rows == m.dim) (p.cols == m.dim) none in
     record {
-      field = same_order p.order m.order (eqb-true (order_number p.order) (order_number m.order) tests.0);
+      field = order_number-injective p.order m.order (eqb-true (order_number p.order) (order_number m.order) tests.0);
       rows = eqb-true (length p.rows) m.dim tests.1;
       columns = eqb-true p.cols m.dim tests.2;
     }

@@ -9,7 +9,8 @@ use Rattle.axe_algebra.proofs.ListEntries.{listed_length, listed_at, row_over}
 use Rattle.axe_field.specs.NumberFields.{number_field}
 use Rattle.axe_matrix.specs.Matrices.{MatrixValue, matrix_product}
 use Rattle.axe_matrix.proofs.MatrixLaws.{same_matrix}
-use Rattle.axe_matrix.proofs.ProductLaws.{length-product, get_or-product, length-combination, get_or-combination}
+use Rattle.axe_row.proofs.CombinationLaws.{length-combination}
+use Rattle.axe_matrix.proofs.ProductLaws.{length-product, get_or-product, get_or-combination}
 use Rattle.axe_action.specs.Coordinates.{entries_at, matrix_at}
 use Rattle.axe_action.proofs.ColumnLaws.{entries_over}
 use mathlib.Core.Path.{refl, sym, ◌∙◌, ap, subst}

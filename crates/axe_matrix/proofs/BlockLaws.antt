@@ -10,7 +10,8 @@ use Rattle.axe_algebra.proofs.ListEntries.{listed_length, listed_at}
 use Rattle.axe_row.specs.Operations.{sum_with_multiple, multiple}
 use Rattle.axe_row.proofs.OperationLaws.{length-sum_with_multiple, get_or-sum_with_multiple, get_or-multiple}
 use Rattle.axe_matrix.specs.Products.{row_with_terms}
-use Rattle.axe_matrix.proofs.ProductLaws.{get_or-combination, length-combination}
+use Rattle.axe_row.proofs.CombinationLaws.{length-combination}
+use Rattle.axe_matrix.proofs.ProductLaws.{get_or-combination}
 use Rattle.axe_matrix.proofs.TermSums.{mul-zero, zero-mul, zero-add, one-mul, sum-below, mul-number_sum, number_sum_longer, add_terms}
 
 -- a piece of a list has as many items as that of a list as long

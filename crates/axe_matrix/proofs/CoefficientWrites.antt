@@ -4,7 +4,7 @@ use Rattle.std.proofs.lemmas.Bool.{cases_lt, lt-ltb, le-ltb}
 use Rattle.std.proofs.lemmas.List.{get_or_past, get_or-map, length-map, map-set}
 use Rattle.std.proofs.Math.Seq.{map-set_same}
 use Rattle.axe_algebra.specs.Lists.{entry}
-use Rattle.axe_field.specs.Order.{Order, Two, Three, Four, Five, Seven, Eight, Nine, prime_of, degree_of, IsElement}
+use Rattle.axe_field.specs.Order.{Order, prime_of, degree_of, IsElement}
 use Rattle.axe_field.specs.Planes.{coefficient, element_of}
 use Rattle.axe_field.proofs.CoefficientLaws.{coefficient-below, coefficients_are, element_of-coefficients}
 use Rattle.axe_bits.specs.Words.{digit_of_words, digits_with_word}
@@ -13,6 +13,7 @@ use Rattle.axe_row.specs.Rows.{RowValue}
 use Rattle.axe_row.specs.Words.{HasWords}
 use Rattle.axe_row.proofs.RowLaws.{same_row}
 use Rattle.axe_row.proofs.RowPlanes.{element_of-zeros, prime-positive}
+use Rattle.axe_row.proofs.RowWords.{degree_small}
 use Rattle.axe_matrix.specs.Matrices.{MatrixValue, IsMatrix, row_of}
 use Rattle.axe_matrix.specs.Transposes.{coefficients_of, HasEntries, HasCoefficients, HasRowWords}
 use Rattle.axe_matrix.proofs.EntryWrites.{HasEntries-no_row, HasEntries-no_column, HasEntries-same, HasEntries-as, HasEntries-columns, HasEntries-rows, HasEntries-bottom, HasEntries-right, HasEntries-all_rows}
@@ -40,15 +41,6 @@ coefficients-at k i j m h power row column =
     let inside : j < length (row_of m i).entries = omega (arith, column, length-row_of m i h row) in
     ap (λ (r : List ℕ). get_or r j 0) (coefficients-row k i m row ∙ coefficients_all m.order k (row_of m i).entries power)
     ∙ get_or-map (λ a. coefficient m.order a k) (row_of m i).entries j 0 0 inside
-
-pub degree_small : (o : Order) → degree_of o ≤ 3
-degree_small Two = omega arith
-degree_small Three = omega arith
-degree_small Four = omega arith
-degree_small Five = omega arith
-degree_small Seven = omega arith
-degree_small Eight = omega arith
-degree_small Nine = omega arith
 
 -- a coefficient is a digit
 digit_below : (o : Order) (a k : ℕ) → IsElement o a → k < degree_of o → coefficient o a k < prime_of o

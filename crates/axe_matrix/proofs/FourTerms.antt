@@ -11,7 +11,7 @@ use Rattle.axe_row.specs.Combinations.{row_with_four}
 use Rattle.axe_lane.specs.Entries.{IsNextNonzero}
 use Rattle.axe_row.specs.Operations.{row_with_multiple}
 use Rattle.axe_row.specs.Rows.{RowValue}
-use Rattle.axe_row.proofs.RowLaws.{one-IsElement}
+use Rattle.axe_field.proofs.Orders.{one_is_element}
 use Rattle.axe_matrix.specs.Matrices.{MatrixValue, IsMatrix, row_of}
 use Rattle.axe_matrix.proofs.BlockLaws.{length-row_with_terms}
 use Rattle.axe_matrix.proofs.DirectRows.{so_many_terms, one_more_term, zero_terms}
@@ -39,9 +39,9 @@ next_row b r v at i before row h so_far next row_is = record {
   field = so_far.field;
   entries =
       let one : get_or v i 0 ≡ 1 = one_of_two (get_or v i 0) (order_number b.order) (h.vector i 0 next.within) h.two next.nonzero in
-      one_more_term b r 1 v i 1 before row h.matrix (one-IsElement b.order) h.row h.vector so_far.field
+      one_more_term b r 1 v i 1 before row h.matrix (one_is_element b.order) h.row h.vector so_far.field
       (so_far.entries ∙ zero_terms b r 1 v at i h.matrix h.vector next.not_before next.zeros_between)
-      (sym (ap (field_mul b.order 1) one ∙ field_mul-one b.order 1 (one-IsElement b.order))) row_is;
+      (sym (ap (field_mul b.order 1) one ∙ field_mul-one b.order 1 (one_is_element b.order))) row_is;
 }
 
 -- the next four rows were added

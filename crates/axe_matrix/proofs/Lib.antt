@@ -4,7 +4,7 @@ pub mod VectorLaws
 pub mod SumLaws
 pub mod TransposeLaws
 mod RowListLaws
-mod PartialMatrices
+pub mod PartialMatrices
 mod RowWrites
 pub mod MultipleLaws
 mod DiagonalLaws
@@ -12,7 +12,7 @@ mod TermSums
 mod BlockLaws
 mod TableLaws
 mod RewrittenRows
-mod BlockRows
+pub mod BlockRows
 mod DirectRows
 mod FourTerms
 pub mod ProductRows

@@ -1,53 +1,23 @@
 -- What holds of matrices as values: when they are equal, what their rows and entries are, and which are well formed.
-use Rattle.std.proofs.Common.{◌≡◌, ℕ, ◌<◌, ◌≤◌, List, [], ◌∷◌, ◌++◌, length, get_or, false, not, cond, eqb, inl, inr, refl, sym, ap, ◌∙◌, arith, length-append}
+use Rattle.std.proofs.Common.{◌≡◌, ℕ, ◌<◌, List, [], ◌∷◌, ◌++◌, length, get_or, false, not, eqb, inl, inr, sym, ◌∙◌, arith, length-append}
 use Rattle.std.specs.List.{All}
 use Rattle.std.proofs.lemmas.Bool.{cases_lt, eqb-true, not-false}
 use Rattle.std.proofs.lemmas.List.{ext_get_or, get_or_past}
-use Rattle.std.proofs.lemmas.List.Elements.{All-nil, All-push, All-get_or}
+use Rattle.std.proofs.lemmas.List.Elements.{All-push, All-get_or}
 use Rattle.axe_algebra.specs.Lists.{entry}
-use Rattle.axe_field.specs.Order.{Order, Two, Three, Four, Five, Seven, Eight, Nine, order_number, IsElement}
-use Rattle.axe_row.proofs.RowLaws.{zero-IsElement}
+use Rattle.axe_field.specs.Order.{Order, order_number, IsElement}
+use Rattle.axe_field.proofs.Orders.{zero_is_element, order_number-injective}
 use Rattle.axe_row.specs.Rows.{IsRow}
-use Rattle.axe_matrix.specs.Limits.{most_rows, most_columns}
+use Rattle.axe_matrix.specs.Limits.{most_rows}
 use Rattle.axe_matrix.specs.Matrices.{MatrixValue, IsMatrix, row_of}
-
--- orders with one number are equal
-pub same_order : (a b : Order) → order_number a ≡ order_number b → a ≡ b
-same_order a b e = sym (order_with-order_number a) ∙ ap order_with e ∙ order_with-order_number b
-  where
-    order_with : ℕ → Order
-    order_with q = cond (eqb q 2) Two (cond (eqb q 3) Three (cond (eqb q 4) Four (cond (eqb q 5) Five (cond (eqb q 7) Seven (cond (eqb q 8) Eight Nine)))))
-
-    order_with-order_number : (o : Order) → order_with (order_number o) ≡ o
-    order_with-order_number Two = refl
-    order_with-order_number Three = refl
-    order_with-order_number Four = refl
-    order_with-order_number Five = refl
-    order_with-order_number Seven = refl
-    order_with-order_number Eight = refl
-    order_with-order_number Nine = refl
-
--- fields whose orders were found to be one number are the same
-pub same_fields : (o p f g : Order) (m n : ℕ) → f ≡ o → m ≡ order_number f → m ≡ n → n ≡ order_number g → g ≡ p → o ≡ p
-same_fields o p f g m n fo mf mn ng gp = sym fo ∙ same_order f g (sym mf ∙ mn ∙ ng) ∙ gp
 
 -- fields that were compared, and not found to differ, are the same
 pub one_field : (o p f g : Order) → f ≡ o → false ≡ not (eqb (order_number f) (order_number g)) → g ≡ p → o ≡ p
-one_field o p f g fo tested gp = sym fo ∙ same_order f g (eqb-true _ _ (not-false _ (sym tested))) ∙ gp
+one_field o p f g fo tested gp = sym fo ∙ order_number-injective f g (eqb-true _ _ (not-false _ (sym tested))) ∙ gp
 
 -- matrices with equal parts are equal
 pub same_matrix : (a b : MatrixValue) → a.order ≡ b.order → a.cols ≡ b.cols → a.rows ≡ b.rows → a ≡ b
 same_matrix a b e f g = λ i. record { order = e i; cols = f i; rows = g i }
-
--- a matrix without rows
-pub IsMatrix-empty : (o : Order) (n : ℕ) → 1 ≤ n → n ≤ most_columns → IsMatrix (record { order = o; cols = n; rows = [] })
-IsMatrix-empty o n low high = record {
-  some_column = low;
-  columns_fit = high;
-  rows_fit = omega arith;
-  row_lengths = All-nil (λ row. length row ≡ n);
-  elements = All-nil (All (IsElement o));
-}
 
 -- a matrix with one more row
 pub IsMatrix-push : (m : MatrixValue) (row : List ℕ) → IsMatrix m → length row ≡ m.cols → length m.rows < most_rows → All (IsElement m.order) row → IsMatrix (record m { rows = m.rows ++ row ∷ [] })
@@ -73,9 +43,9 @@ entry-IsElement m i j h =
     elim (cases_lt i (length m.rows)) [
       | inl row ↦ elim (cases_lt j (length (get_or m.rows i []))) [
         | inl column ↦ All-get_or (IsElement m.order) (get_or m.rows i []) j 0 column (IsRow-row_of m i h row).elements
-        | inr past ↦ rw (get_or_past (get_or m.rows i []) j 0 past) (zero-IsElement m.order)
+        | inr past ↦ rw (get_or_past (get_or m.rows i []) j 0 past) (zero_is_element m.order)
       ]
-      | inr past ↦ rw (get_or_past m.rows i [] past) (zero-IsElement m.order)
+      | inr past ↦ rw (get_or_past m.rows i [] past) (zero_is_element m.order)
     ]
 
 -- lists of rows of one length with the same entries are equal
@@ -85,8 +55,3 @@ same_rows n a b long-a long-b rows entries =
     let la : length (get_or a i []) ≡ n = All-get_or (λ row. length row ≡ n) a i [] below long-a in
     let lb : length (get_or b i []) ≡ n = All-get_or (λ row. length row ≡ n) b i [] (omega arith) long-b in
     ext_get_or 0 (get_or a i []) (get_or b i []) (la ∙ sym lb) (λ j within. entries i j below (omega arith)))
-
--- matrices of one field and shape with the same entries are equal
-pub same_matrix_by_entries : (a b : MatrixValue) → IsMatrix a → IsMatrix b → a.order ≡ b.order → a.cols ≡ b.cols → length a.rows ≡ length b.rows → ((i j : ℕ) → i < length a.rows → j < a.cols → entry a.rows i j ≡ entry b.rows i j) → a ≡ b
-same_matrix_by_entries a b ha hb order cols rows entries =
-    same_matrix a b order cols (same_rows a.cols a.rows b.rows ha.row_lengths (rw cols hb.row_lengths) rows entries)

@@ -1,7 +1,7 @@
 -- Products of matrices over the seven fields.
-use Rattle.std.proofs.Common.{◌≡◌, ◌≢◌, ℕ, ◌<◌, ◌≤◌, List, [], length, get_or, Some, None, zero, suc, refl, ap, ◌∙◌, arith}
+use Rattle.std.proofs.Common.{◌≡◌, ℕ, ◌<◌, ◌≤◌, List, [], length, get_or, None, zero, suc, refl, ap, ◌∙◌, arith}
 use Rattle.std.specs.List.{All}
-use Rattle.std.proofs.lemmas.Bool.{eq-eqb, ne_eqb}
+use Rattle.std.proofs.lemmas.Bool.{eq-eqb}
 use Rattle.std.proofs.lemmas.List.Elements.{All-from_get_or}
 use Rattle.std.proofs.lemmas.List.FromFn.{length-map-range_with_len, get_or-map-range_with_len}
 use Rattle.axe_algebra.specs.Lists.{entry}
@@ -10,7 +10,7 @@ use Rattle.axe_algebra.specs.NumberField.{NumberField}
 use Rattle.axe_field.specs.Order.{order_number, IsElement}
 use Rattle.axe_field.specs.Arithmetic.{field_mul}
 use Rattle.axe_field.specs.NumberFields.{number_field}
-use Rattle.axe_row.specs.declared.refusals.Refusal.TheVariants.{FieldsDiffer, ShapesDiffer}
+use Rattle.axe_row.proofs.CombinationLaws.{length-combination}
 use Rattle.axe_matrix.specs.Limits.{most_rows}
 use Rattle.axe_matrix.proofs.MatrixLaws.{entry-IsElement}
 use Rattle.axe_matrix.specs.Matrices.{MatrixValue, IsMatrix, product_refusal, matrix_product}
@@ -18,19 +18,6 @@ use Rattle.axe_matrix.specs.Matrices.{MatrixValue, IsMatrix, product_refusal, ma
 -- matrices over one field whose shapes fit have a product
 pub product_refusal-none : (a b : MatrixValue) → order_number a.order ≡ order_number b.order → a.cols ≡ length b.rows → product_refusal a b ≡ None
 product_refusal-none a b fields shapes = rw (eq-eqb _ _ fields, eq-eqb _ _ shapes) refl
-
--- matrices over different fields have none
-pub product_refusal-fields : (a b : MatrixValue) → order_number a.order ≢ order_number b.order → product_refusal a b ≡ Some FieldsDiffer
-product_refusal-fields a b fields = rw (ne_eqb _ _ fields) refl
-
--- matrices over one field whose shapes don't fit have none
-pub product_refusal-shapes : (a b : MatrixValue) → order_number a.order ≡ order_number b.order → a.cols ≢ length b.rows → product_refusal a b ≡ Some ShapesDiffer
-product_refusal-shapes a b fields shapes = rw (eq-eqb _ _ fields, ne_eqb _ _ shapes) refl
-
--- a row vector times a matrix has an entry for each column
-pub length-combination : (K : NumberField) (n : ℕ) (v : List ℕ) (b : List (List ℕ)) → length (combination K n v b) ≡ n
-unfolding combination
-length-combination K n v b = length-map-range_with_len _ 0 n
 
 -- entry j of a row vector times a matrix
 pub get_or-combination : (K : NumberField) (n : ℕ) (v : List ℕ) (b : List (List ℕ)) (j : ℕ) → j < n → get_or (combination K n v b) j 0 ≡ combination_entry K v b (length b) j

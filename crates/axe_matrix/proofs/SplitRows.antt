@@ -10,22 +10,15 @@ use Rattle.axe_matrix.specs.RowLists.{matrix_from_rows, MakeMatrix}
 
 -- ---- matrices of some of the rows, and of more
 
-IsMatrix-take : (m : MatrixValue) (count : ℕ) → IsMatrix m → IsMatrix (record m { rows = take count m.rows })
-IsMatrix-take m count h = record {
+-- some of the rows of a matrix: no more of them, and what holds of all rows holds of these
+IsMatrix-some : (m : MatrixValue) (rows : List (List ℕ)) → IsMatrix m → length rows ≤ length m.rows →
+    ((P : List ℕ → Type 0) → All P m.rows → All P rows) → IsMatrix (record m { rows = rows })
+IsMatrix-some m rows h fewer among = record {
   some_column = h.some_column;
   columns_fit = h.columns_fit;
-  rows_fit = omega (arith, length-take count m.rows, h.rows_fit);
-  row_lengths = All-take (λ row. length row ≡ m.cols) count m.rows h.row_lengths;
-  elements = All-take (All (IsElement m.order)) count m.rows h.elements;
-}
-
-IsMatrix-drop : (m : MatrixValue) (count : ℕ) → IsMatrix m → IsMatrix (record m { rows = drop count m.rows })
-IsMatrix-drop m count h = record {
-  some_column = h.some_column;
-  columns_fit = h.columns_fit;
-  rows_fit = omega (arith, length-drop count m.rows, h.rows_fit);
-  row_lengths = All-drop (λ row. length row ≡ m.cols) count m.rows h.row_lengths;
-  elements = All-drop (All (IsElement m.order)) count m.rows h.elements;
+  rows_fit = omega (arith, fewer, h.rows_fit);
+  row_lengths = among (λ row. length row ≡ m.cols) h.row_lengths;
+  elements = among (All (IsElement m.order)) h.elements;
 }
 
 IsMatrix-append : (m : MatrixValue) (rows : List (List ℕ)) → IsMatrix m → IsMatrix (record m { rows = rows }) →
@@ -39,17 +32,17 @@ IsMatrix-append m rows h more room = record {
 }
 
 pub MakeMatrix-take : (o : Order) (n : ℕ) (rows : List RowValue) (count : ℕ) → MakeMatrix o n rows → MakeMatrix o n (take count rows)
-MakeMatrix-take o n rows count h = record {
+MakeMatrix-take o n rows count h = let all = (matrix_from_rows o n rows).rows in record {
   one_field = All-take (λ row. row.order ≡ o) count rows h.one_field;
   matrix = subst (λ l. IsMatrix (record { order = o; cols = n; rows = l })) (take-map (λ row. row.entries) count rows)
-      (IsMatrix-take (matrix_from_rows o n rows) count h.matrix);
+      (IsMatrix-some (matrix_from_rows o n rows) (take count all) h.matrix (omega (arith, length-take count all)) (λ P. All-take P count all));
 }
 
 pub MakeMatrix-drop : (o : Order) (n : ℕ) (rows : List RowValue) (count : ℕ) → MakeMatrix o n rows → MakeMatrix o n (drop count rows)
-MakeMatrix-drop o n rows count h = record {
+MakeMatrix-drop o n rows count h = let all = (matrix_from_rows o n rows).rows in record {
   one_field = All-drop (λ row. row.order ≡ o) count rows h.one_field;
   matrix = subst (λ l. IsMatrix (record { order = o; cols = n; rows = l })) (drop-map (λ row. row.entries) count rows)
-      (IsMatrix-drop (matrix_from_rows o n rows) count h.matrix);
+      (IsMatrix-some (matrix_from_rows o n rows) (drop count all) h.matrix (omega (arith, length-drop count all)) (λ P. All-drop P count all));
 }
 
 pub MakeMatrix-append : (o : Order) (n : ℕ) (rows more : List RowValue) → MakeMatrix o n rows → MakeMatrix o n more →

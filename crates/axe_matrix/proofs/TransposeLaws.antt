@@ -13,7 +13,7 @@ use Rattle.axe_matrix.specs.Columns.{rows_with_column, matrix_with_column}
 use Rattle.axe_matrix.specs.Matrices.{MatrixValue, IsMatrix, row_of, column_of, zero_matrix, transpose_refusal, transposed_matrix, identity_matrix}
 use Rattle.axe_matrix.proofs.MatrixLaws.{same_matrix, length-row_of}
 use Rattle.axe_matrix.proofs.RewrittenRows.{IsRewrittenBelow}
-use Rattle.axe_matrix.proofs.VectorLaws.{get_or-listed, length-listed, is_listed}
+use Rattle.axe_matrix.proofs.VectorLaws.{is_listed}
 
 -- a matrix with a row has a transpose
 pub transpose_refusal-none : (m : MatrixValue) → length m.rows ≢ 0 → transpose_refusal m ≡ None
@@ -38,8 +38,8 @@ matrix_with_column-rows m j v = refl
 entry-zero : (m : MatrixValue) (j i : ℕ) → IsZeroVector (column_of m j).entries → i < length m.rows → entry m.rows i j ≡ 0
 entry-zero m j i zeros below =
     let column : ℕ → ℕ = λ k. entry m.rows k j in
-    let inside : i < length (listed (length m.rows) column) = omega (arith, length-listed (length m.rows) column) in
-    sym (get_or-listed (length m.rows) column i below) ∙ zeros i 0 inside
+    let inside : i < length (listed (length m.rows) column) = omega (arith, listed_length (length m.rows) column) in
+    sym (listed_at (length m.rows) column i 0 below) ∙ zeros i 0 inside
 
 -- rows from n to k into which a 0 is to be written over a 0
 pub IsRewrittenBelow-zeros : (n k : ℕ) (a : MatrixValue) (j : ℕ) (v : List ℕ) (m : MatrixValue) → IsRewrittenBelow n a (row_with_entry a j v) m →
@@ -87,8 +87,8 @@ pub IsTransposeBelow-zeros : (n : ℕ) (a m : MatrixValue) → IsTransposeBelow 
 IsTransposeBelow-zeros n a m h below =
     let column : ℕ → ℕ = λ i. entry m.rows i n in
     All-from_get_or (λ number. number ≡ 0) (listed (length m.rows) column) 0 (λ i inside.
-    let row : i < length m.rows = omega (arith, inside, length-listed (length m.rows) column) in
-    get_or-listed (length m.rows) column i row ∙ h.zeros i n (omega (arith, row, h.count)) (omega arith) below)
+    let row : i < length m.rows = omega (arith, inside, listed_length (length m.rows) column) in
+    listed_at (length m.rows) column i 0 row ∙ h.zeros i n (omega (arith, row, h.count)) (omega arith) below)
 
 -- a row of the matrix with another column
 row_at : (m next : MatrixValue) (j : ℕ) (v : List ℕ) (i : ℕ) → next ≡ matrix_with_column m j v → i < length m.rows → get_or next.rows i [] ≡ row_with_entry m j v i

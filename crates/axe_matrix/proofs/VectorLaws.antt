@@ -1,25 +1,19 @@
 -- Row vectors that the calls of matrices make: unit vectors, sums of rows, and the first terms of a vector times a matrix.
 use Rattle.std.proofs.Common.{◌≡◌, ℕ, ◌+◌, ◌<◌, List, [], length, get_or, replicate, refl, sym, ap, ◌∙◌, arith, add-one}
 use Rattle.std.proofs.lemmas.List.{ext_get_or, get_or-replicate, length-replicate}
-use Rattle.std.proofs.lemmas.List.FromFn.{length-map-range_with_len, get_or-map-range_with_len}
+use Rattle.std.proofs.lemmas.List.FromFn.{length-map-range_with_len}
 use Rattle.axe_algebra.specs.Lists.{entry, listed}
 use Rattle.axe_algebra.specs.ListArithmetic.{number_sum, combination_entry, combination}
 use Rattle.axe_algebra.specs.NumberField.{NumberField}
+use Rattle.axe_algebra.proofs.ListEntries.{listed_length, listed_at}
 use Rattle.axe_row.specs.Operations.{sum_with_multiple}
 use Rattle.axe_row.proofs.OperationLaws.{length-sum_with_multiple, get_or-sum_with_multiple}
-
--- entry j of the list of f 0 to f (n - 1)
-pub get_or-listed : (n : ℕ) (f : ℕ → ℕ) (j : ℕ) → j < n → get_or (listed n f) j 0 ≡ f j
-get_or-listed n f j below = get_or-map-range_with_len f 0 n j j 0 below (omega arith)
-
-pub length-listed : (n : ℕ) (f : ℕ → ℕ) → length (listed n f) ≡ n
-length-listed n f = length-map-range_with_len f 0 n
 
 -- a list with the entries of f is the list of them
 pub is_listed : (n : ℕ) (f : ℕ → ℕ) (xs : List ℕ) → length xs ≡ n → ((j : ℕ) → j < n → get_or xs j 0 ≡ f j) → xs ≡ listed n f
 is_listed n f xs long same =
-    ext_get_or 0 xs (listed n f) (long ∙ sym (length-listed n f)) (λ j below.
-    let inside : j < n = omega arith in same j inside ∙ sym (get_or-listed n f j inside))
+    ext_get_or 0 xs (listed n f) (long ∙ sym (listed_length n f)) (λ j below.
+    let inside : j < n = omega arith in same j inside ∙ sym (listed_at n f j 0 inside))
 
 -- a list of one number n times
 pub replicate-listed : (n a : ℕ) → replicate n a ≡ listed n (λ j. a)
@@ -47,10 +41,10 @@ combination_entry-next K v rows n j = rw (add-one n) refl
 pub partial_combination-more : (K : NumberField) (columns : ℕ) (v : List ℕ) (rows : List (List ℕ)) (n : ℕ) → sum_with_multiple K (partial_combination K columns v rows n) (get_or v n 0) (get_or rows n []) ≡ partial_combination K columns v rows (n + 1)
 unfolding partial_combination
 partial_combination-more K columns v rows n =
-    is_listed columns (combination_entry K v rows (n + 1)) _ (length-sum_with_multiple K _ _ _ ∙ length-listed columns _) (λ j below.
-    let inside : j < length (listed columns (combination_entry K v rows n)) = omega (arith, length-listed columns (combination_entry K v rows n)) in
+    is_listed columns (combination_entry K v rows (n + 1)) _ (length-sum_with_multiple K _ _ _ ∙ listed_length columns _) (λ j below.
+    let inside : j < length (listed columns (combination_entry K v rows n)) = omega (arith, listed_length columns (combination_entry K v rows n)) in
     get_or-sum_with_multiple K _ _ _ j inside
-    ∙ ap (λ (e : ℕ). K.add e (K.mul (get_or v n 0) (entry rows n j))) (get_or-listed columns (combination_entry K v rows n) j below)
+    ∙ ap (λ (e : ℕ). K.add e (K.mul (get_or v n 0) (entry rows n j))) (listed_at columns (combination_entry K v rows n) j 0 below)
     ∙ sym (combination_entry-next K v rows n j))
 
 -- of all rows

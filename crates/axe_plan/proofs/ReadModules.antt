@@ -11,7 +11,7 @@ use Rattle.axe_row.specs.declared.refusals.Refusal.{Refusal}
 use Rattle.axe_row.specs.declared.refusals.Refusal.TheVariants.{FieldsDiffer, ShapesDiffer, NotSquare, NoRows}
 use Rattle.axe_matrix.specs.Limits.{most_columns}
 use Rattle.axe_matrix.specs.Matrices.{MatrixValue, IsMatrix}
-use Rattle.axe_matrix.proofs.MatrixLaws.{same_order}
+use Rattle.axe_field.proofs.Orders.{order_number-injective}
 use Rattle.axe_row.specs.Refusals.{unless_refused}
 use Rattle.axe_spin.specs.Modules.{ModuleValue, generator_refusal, generators_refusal, rows_of_each}
 use Rattle.axe_folder.specs.Files.{Files}
@@ -36,7 +36,7 @@ square_of_tests : (o : Order) (n : ℕ) (m : MatrixValue) (empty square field co
     ≡ None → IsMatrix m → IsSquareOver (number_field o) n m.rows
 square_of_tests o n m false true true true square field columns e well = record {
   length_is = eqb-true _ _ square ∙ eqb-true _ _ columns;
-  matrix = over_of m o n well (same_order m.order o (eqb-true _ _ field)) (eqb-true _ _ columns);
+  matrix = over_of m o n well (order_number-injective m.order o (eqb-true _ _ field)) (eqb-true _ _ columns);
 }
 square_of_tests o n m true s f c square field columns e well = absurd (none-some NoRows (sym e))
 square_of_tests o n m false false f c square field columns e well = absurd (none-some NotSquare (sym e))

@@ -1,9 +1,9 @@
 -- Rows of augmented matrices: their fields and lengths, a multiple of another row added, and multiples.
-use Rattle.std.proofs.Common.{◌≡◌, ◌≢◌, ℕ, zero, suc, ◌+◌, ◌-◌, ◌<◌, ◌≤◌, List, [], ◌∷◌, ◌++◌, length, get_or, map, set, get_or-set_other, get_or-set_same, inl, inr, refl, sym, ap, ap₂, subst, ◌∙◌, arith, length-append}
+use Rattle.std.proofs.Common.{◌≡◌, ℕ, zero, suc, ◌+◌, ◌-◌, ◌<◌, ◌≤◌, List, [], ◌∷◌, ◌++◌, length, get_or, map, inl, inr, refl, sym, ap, ap₂, subst, ◌∙◌, arith, length-append}
 use Rattle.std.specs.Prelude.{slice_index}
 use Rattle.std.specs.List.{All}
 use Rattle.std.proofs.lemmas.Bool.{cases_lt}
-use Rattle.std.proofs.lemmas.List.{ext_get_or, get_or_append_left, get_or-append-add, get_or-map, length-map, length-set}
+use Rattle.std.proofs.lemmas.List.{ext_get_or, get_or_append_left, get_or-append-add, get_or-map, length-map}
 use Rattle.std.proofs.lemmas.List.Elements.{All-append}
 use Rattle.axe_algebra.specs.NumberField.{NumberField}
 use Rattle.axe_algebra.specs.Bridge.{element, vector_of}
@@ -233,35 +233,6 @@ pub record IsMappedBelow {A : Type 0} (n : ℕ) (f : A → A) (before now : List
   pub count : length now ≡ length before
   pub done : (i : ℕ) (d : A) → i < n → i < length before → get_or now i d ≡ f (get_or before i d)
   pub kept : (i : ℕ) (d : A) → n ≤ i → get_or now i d ≡ get_or before i d
-
-pub mapped_none : {A : Type 0} (f : A → A) (before : List A) → IsMappedBelow 0 f before before
-mapped_none f before = record {
-  count = refl;
-  done = λ i d below inside. absurd (let wrong : ⊥ = omega (arith, below) in wrong);
-  kept = λ i d above. refl;
-}
-
-pub mapped_more : {A : Type 0} (n : ℕ) (f : A → A) (before now : List A) (item next : A) → IsMappedBelow n f before now →
-    n < length before → item ≡ get_or now n item → next ≡ f item → IsMappedBelow (n + 1) f before (set now n next)
-mapped_more n f before now item next h below is next_is = record {
-  count = length-set now n next ∙ h.count;
-  done = λ i d lower inside. elim (cases_lt i n) [
-    | inl earlier ↦
-        let other : i ≢ n = omega arith in
-        get_or-set_other now n i next d other ∙ h.done i d earlier inside
-    | inr late ↦
-        let here : n ≡ i = omega arith in
-        subst (λ k. get_or (set now n next) k d ≡ f (get_or before k d)) here
-        (get_or-set_same now n next d (omega (arith, h.count)) ∙ next_is
-        ∙ ap f (is ∙ get_or-default now n item d (omega (arith, h.count)) ∙ h.kept n d (omega arith)))
-  ];
-  kept = λ i d above. let other : i ≢ n = omega arith in get_or-set_other now n i next d other ∙ h.kept i d (omega arith);
-}
-  where
-    get_or-default : {A : Type 0} (l : List A) (i : ℕ) (d e : A) → i < length l → get_or l i d ≡ get_or l i e
-    get_or-default (x ∷ l) zero d e below = refl
-    get_or-default (x ∷ l) (suc i) d e below = get_or-default l i d e (omega (arith, below))
-    get_or-default [] i d e below = absurd (let wrong : ⊥ = omega (arith, below) in wrong)
 
 pub mapped_all : {A : Type 0} (n : ℕ) (f : A → A) (before now : List A) → IsMappedBelow n f before now → length before ≤ n → now ≡ map f before
 mapped_all n f before now h all = same now (map f before) (h.count ∙ sym (length-map before f)) (λ i d below.

@@ -4,11 +4,12 @@ use Rattle.std.specs.List.{All}
 use Rattle.std.proofs.lemmas.Bool.{cases_lt}
 use Rattle.std.proofs.lemmas.List.{ext_get_or, get_or_append_left, get_or-append-add}
 use Rattle.std.proofs.lemmas.List.Elements.{All-get_or, All-from_get_or, All-append}
-use Rattle.axe_algebra.specs.Lists.{entry, table, AreElements, IsVectorOver, IsMatrixOver}
+use Rattle.axe_algebra.specs.Lists.{entry, table, IsVectorOver, IsMatrixOver}
 use Rattle.axe_algebra.proofs.ListEntries.{listed_length, listed_at, table_length, table_row, table_entry}
 use Rattle.axe_field.specs.Order.{Order, IsElement}
 use Rattle.axe_field.specs.NumberFields.{number_field}
 use Rattle.axe_matrix.specs.Matrices.{MatrixValue, IsMatrix}
+use Rattle.axe_matrix.proofs.BlockRows.{elements-below}
 use Rattle.axe_matrix.proofs.MatrixLaws.{same_matrix, same_rows, length-row_of, IsRow-row_of}
 use Rattle.axe_reduction.specs.Augmented.{AugmentedValue, IsAugmented, AreBeside, rows_beside, augmented, right_part}
 
@@ -108,15 +109,6 @@ append_beside a b c d same_ab same_cd =
           ∙ sym (ap (λ k. get_or (rows_beside a b ++ rows_beside c d) k []) (sym in_all) ∙ get_or-append-add (rows_beside a b) (rows_beside c d) t []
           ∙ row-rows_beside c d t (omega arith))
     ])
-
--- what is an element of a field is one of its numbers
-pub element-below : (o : Order) (c : ℕ) → IsElement o c → c < (number_field o).order
-unfolding number_field
-element-below o c small = small
-
-elements-below : (o : Order) (v : List ℕ) → All (IsElement o) v → AreElements (number_field o) v
-unfolding number_field
-elements-below o v over = over
 
 -- ---- augmented matrices
 

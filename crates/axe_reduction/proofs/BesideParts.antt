@@ -3,13 +3,13 @@ use Rattle.std.proofs.Common.{◌≡◌, ℕ, ◌+◌, ◌-◌, ◌<◌, ◌≤�
 use Rattle.std.specs.Prelude.{slice_index}
 use Rattle.std.specs.List.{All}
 use Rattle.std.proofs.lemmas.List.{ext_get_or, get_or-drop, get_or-map, get_or-take, length-drop, length-take, length-take-le, length-map, append_assoc, append-nil}
-use Rattle.std.proofs.lemmas.List.FromFn.{map-range_with_len_more}
 use Rattle.axe_algebra.specs.Lists.{entry, listed, table}
 use Rattle.axe_algebra.proofs.ListEntries.{listed_length, listed_at, table_length, table_row}
 use Rattle.axe_field.specs.Order.{Order}
 use Rattle.axe_row.specs.Rows.{RowValue}
 use Rattle.axe_matrix.specs.Matrices.{MatrixValue, IsMatrix, AreSplit, row_of}
 use Rattle.axe_matrix.proofs.MatrixLaws.{same_matrix}
+use Rattle.axe_matrix.proofs.PartialMatrices.{first_rows, first_rows-more, length-first_rows}
 use Rattle.axe_reduction.specs.Augmented.{AugmentedValue, AreBeside, rows_beside, augmented, some_rows, with_rows, entries_at_columns}
 use Rattle.axe_reduction.proofs.BesideLaws.{length-rows_beside, row-rows_beside, append_beside, same_augmented, view-count, view-entry}
 
@@ -86,18 +86,6 @@ split_rows_after a b left right left_after right_after v count view_is h within 
     ∙ ap₂ (λ (x : AugmentedValue) k. some_rows x count (k - count)) view_is (sym (view-count a b v view_is))
 
 -- ---- matrices that get one row after another
-
--- the rows f 0 to f (n - 1)
-unfoldable pub first_rows : (ℕ → List ℕ) → ℕ → List (List ℕ)
-first_rows f n = listed n f
-
-first_rows-more : (f : ℕ → List ℕ) (n : ℕ) → first_rows f (n + 1) ≡ first_rows f n ++ f n ∷ []
-unfolding first_rows
-first_rows-more f n = map-range_with_len_more f 0 n n (omega arith)
-
-length-first_rows : (f : ℕ → List ℕ) (n : ℕ) → length (first_rows f n) ≡ n
-unfolding first_rows
-length-first_rows f n = listed_length n f
 
 no_first_rows : (f : ℕ → List ℕ) (rows : List (List ℕ)) → rows ≡ rows ++ first_rows f 0
 unfolding first_rows

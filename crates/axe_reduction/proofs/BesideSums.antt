@@ -1,21 +1,17 @@
 -- Products added to matrices beside one another.
-use Rattle.std.proofs.Common.{◌≡◌, ℕ, ◌+◌, ◌<◌, List, length, refl, sym, ap, ap₂, ◌∙◌, subst, arith}
+use Rattle.std.proofs.Common.{◌≡◌, ℕ, ◌+◌, ◌<◌, List, length, sym, ap, ap₂, ◌∙◌, subst, arith}
 use Rattle.axe_algebra.specs.ListArithmetic.{number_sum, product_entry}
 use Rattle.axe_algebra.specs.Lists.{entry}
 use Rattle.axe_algebra.specs.NumberField.{NumberField}
 use Rattle.axe_algebra.proofs.ElementNumbers.{number_sum_same}
-use Rattle.axe_algebra.proofs.ListEntries.{table_length, table_entry, matrix_entry-below}
-use Rattle.axe_field.specs.Order.{Order}
+use Rattle.axe_algebra.proofs.ListEntries.{table_length, table_entry}
 use Rattle.axe_field.specs.NumberFields.{number_field}
 use Rattle.axe_matrix.specs.Matrices.{MatrixValue, IsMatrix}
 use Rattle.axe_matrix.specs.Products.{rows_with_product, matrix_with_product}
 use Rattle.axe_reduction.specs.Augmented.{AugmentedValue, AreBeside, AreAlike, rows_beside, augmented, with_product}
-use Rattle.axe_reduction.proofs.BesideLaws.{HaveLength, length-rows_beside, left-entry, right-entry, long-table, is_beside, matrix_over}
+use Rattle.axe_reduction.proofs.BesideLaws.{HaveLength, length-rows_beside, left-entry, right-entry, long-table, is_beside}
 
 -- ---- products
-
-entry_below : (o : Order) (m : MatrixValue) (i j : ℕ) → IsMatrix m → m.order ≡ o → entry m.rows i j < (number_field o).order
-entry_below o m i j h field = matrix_entry-below (number_field o) m.cols m.rows i j (matrix_over o m.cols m h field refl)
 
 product_length : (K : NumberField) (n : ℕ) (d : List (List ℕ)) (c : ℕ) (f b : List (List ℕ)) → length (rows_with_product K n d c f b) ≡ length d
 unfolding rows_with_product

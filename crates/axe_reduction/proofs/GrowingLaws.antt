@@ -66,10 +66,6 @@ cleared_more o left all pivots reduced t column other first row next h below is 
     inside : column < left
     inside = subst (λ k. k < left) (sym at) (h.pivots_left t 0 (omega (arith, h.count)))
 
-pub pivot_inside : (o : Order) (left all : ℕ) (pivots : List ℕ) (reduced : List AugmentedRow) (t column : ℕ) →
-    AreReducedOver o left all pivots reduced → t < length reduced → column ≡ get_or pivots t 0 → column < left
-pivot_inside o left all pivots reduced t column h below at = subst (λ k. k < left) (sym at) (h.pivots_left t 0 (omega (arith, h.count)))
-
 -- the first row cleared at the first t of the pivots
 pub record IsClearedBelow (t : ℕ) (pivots : List ℕ) (reduced : List AugmentedRow) (first row : AugmentedRow) : Type 0 where
   pub cleared : vector_of (number_field first.left.order) (whole row)

@@ -1,10 +1,11 @@
 -- The rows of a matrix beside the unit vectors, and reduced rows of one span with them.
-use Rattle.std.specs.Prelude.{◌≡◌, ◌≢◌, ℕ, zero, suc, ◌+◌, ◌<◌, ◌≤◌, ◌⊎◌}
+use Rattle.std.specs.Prelude.{◌≡◌, ◌≢◌, ℕ, ◌+◌, ◌<◌, ◌≤◌, ◌⊎◌}
 use Rattle.axe_algebra.specs.Field.{Field}
 use Rattle.axe_algebra.specs.Vectors.{Vector, Matrix, HasRowsOfLength, unit_vector, times}
 use Rattle.axe_algebra.specs.Spans.{InSpan, IsIndependent, SpanWithin, IsInvertible}
 use Rattle.axe_algebra.proofs.FieldLaws.{zero-mul, mul-zero}
 use Rattle.axe_algebra.proofs.Sums.{sum_same, sum_zeros, sum_one, sum_split}
+use Rattle.axe_algebra.proofs.ReducedBases.{place_or_none}
 use Rattle.axe_algebra.proofs.ProductLaws.{times-at, times_same, times_length, unit_at, unit_off, unit_length}
 use Rattle.axe_algebra.proofs.Exchange.{cut, cut_below, cut_length, exchange, square_rows_span}
 use Rattle.axe_algebra.proofs.SquareMatrices.{rows_of_invertible}
@@ -12,21 +13,6 @@ use mathlib.Core.Logic.{inl, inr}
 use mathlib.Core.Path.{refl, sym, ◌∙◌, ap, ap₂, fun_ext}
 use native.Mathlib.Decide.{dec_lt, ℕ_discrete}
 use native.Mathlib.Omega.{arith}
-
--- a number is among the first n, or is not
-pub among_or_not : (n : ℕ) (p : ℕ → ℕ) (j : ℕ) → ((t : ℕ) × (t < n) × (p t ≡ j)) ⊎ ((t : ℕ) → t < n → p t ≢ j)
-among_or_not zero p j = inr (λ t below. absurd (omega arith))
-among_or_not (suc n) p j = last (among_or_not n p j) (ℕ_discrete (p n) j)
-  where
-    last : ((t : ℕ) × (t < n) × (p t ≡ j)) ⊎ ((t : ℕ) → t < n → p t ≢ j) → Dec (p n ≡ j) →
-        ((t : ℕ) × (t < suc n) × (p t ≡ j)) ⊎ ((t : ℕ) → t < suc n → p t ≢ j)
-    last found (yes e) = inl (n, omega arith, e)
-    last (inl (t, below, e)) (no other) = inl (t, omega arith, e)
-    last (inr none) (no other) = inr (λ t below. here t below (ℕ_discrete t n))
-      where
-        here : (t : ℕ) → t < suc n → Dec (t ≡ n) → p t ≢ j
-        here t below (yes is) e = other (ap p (sym is) ∙ e)
-        here t below (no before) e = none t (omega arith) e
 
 module _ (F : Field) where
   open F use {Element, zero as 𝟘, one as 𝟙, add as ◌⊕◌, mul as ◌⊗◌}
@@ -138,7 +124,7 @@ module _ (F : Field) where
 
   -- n pivots before column n are all of these columns
   pub every_pivot : (n l : ℕ) (s : Matrix F) (p : ℕ → ℕ) (j : ℕ) → AreReducedBefore n n l s p → j < n → (t : ℕ) × (t < n) × (p t ≡ j)
-  every_pivot n l s p j reduced below = cases (among_or_not n p j)
+  every_pivot n l s p j reduced below = cases (place_or_none n p j)
     where
       at_pivot : (d : Vector F) (t : ℕ) → t < n → times F n d (left_parts n s) (p t) ≡ d t
       at_pivot d t inside = times_left_parts n n d s (p t) (reduced.pivots t inside) ∙ times_at_pivot n n l d s p reduced t inside

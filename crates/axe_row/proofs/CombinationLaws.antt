@@ -57,18 +57,19 @@ combination_at : (K : NumberField) (n : ℕ) (v : List ℕ) (b : List (List ℕ)
 unfolding combination combination_entry
 combination_at K n v b j below = listed_at n _ j 0 below
 
-combination_length : (K : NumberField) (n : ℕ) (v : List ℕ) (b : List (List ℕ)) → length (combination K n v b) ≡ n
+-- a combination has an entry for each column
+pub length-combination : (K : NumberField) (n : ℕ) (v : List ℕ) (b : List (List ℕ)) → length (combination K n v b) ≡ n
 unfolding combination
-combination_length K n v b = listed_length n _
+length-combination K n v b = listed_length n _
 
 -- the combination with one row more in front
 pub combination-cons : (K : NumberField) (n d : ℕ) (v r : List ℕ) (b : List (List ℕ)) → d < K.order → AreElements K v →
     IsMatrixOver K n (r ∷ b) → combination K n (d ∷ v) (r ∷ b) ≡ sum_with_multiple K (combination K n v b) d r
 combination-cons K n d v r b d_below v_below over =
     ext_get_or 0 (combination K n (d ∷ v) (r ∷ b)) (sum_with_multiple K (combination K n v b) d r)
-    (combination_length K n (d ∷ v) (r ∷ b) ∙ sym (length-sum_with_multiple K (combination K n v b) d r ∙ combination_length K n v b)) (λ j below.
-    let inside : j < n = omega (arith, combination_length K n (d ∷ v) (r ∷ b)) in
-    let within : j < length (combination K n v b) = omega (arith, combination_length K n v b) in
+    (length-combination K n (d ∷ v) (r ∷ b) ∙ sym (length-sum_with_multiple K (combination K n v b) d r ∙ length-combination K n v b)) (λ j below.
+    let inside : j < n = omega (arith, length-combination K n (d ∷ v) (r ∷ b)) in
+    let within : j < length (combination K n v b) = omega (arith, length-combination K n v b) in
     combination_at K n (d ∷ v) (r ∷ b) j inside
     ∙ number_sum_front K (length b) (λ t. K.mul (get_or (d ∷ v) t 0) (entry (r ∷ b) t j)) (λ t _.
     K.mul-below (get_or (d ∷ v) t 0) (entry (r ∷ b) t j) (entry-below K (d ∷ v) t (All-cons (λ (e : ℕ). e < K.order) d v d_below v_below))
@@ -94,14 +95,6 @@ pub record AreSumsBelow (n filled c : ℕ) (b : List ℕ) (before table : Combos
   pub kept : (x : ℕ) → x < c * filled → get_or table.rows x [] ≡ get_or before.rows x []
   pub summed : (i : ℕ) → i < n → get_or table.rows (c * filled + i) [] ≡ sum_with_multiple (number_field before.order) (get_or before.rows i []) c b
   pub well_formed : IsTableOfRows table
-
-pub AreSumsBelow-none : (filled c : ℕ) (b : List ℕ) (before : CombosValue) → IsTableOfRows before → AreSumsBelow 0 filled c b before before
-AreSumsBelow-none filled c b before h = record {
-  kind = record { order = refl; size = refl; len = refl };
-  kept = λ x _. refl;
-  summed = λ i below. absurd (omega arith);
-  well_formed = h;
-}
 
 -- tables of one kind have as many rows
 pub as_many : (a b : CombosValue) → AreOfOneKind a b → IsTableOfRows a → IsTableOfRows b → length a.rows ≡ length b.rows

@@ -1,5 +1,5 @@
 -- The numbers of the entries of a row, as sums of multiples of the digits of its planes.
-use Rattle.std.proofs.Common.{◌≡◌, ℕ, ◌+◌, ◌*◌, ◌<◌, ◌≤◌, Bool, true, false, List, length, get_or, cond, ltb, sym, ap, subst, ◌∙◌, arith}
+use Rattle.std.proofs.Common.{◌≡◌, ℕ, ◌+◌, ◌*◌, ◌<◌, ◌≤◌, List, length, get_or, ltb, sym, ap, subst, ◌∙◌, arith}
 use Rattle.std.proofs.lemmas.List.{ext_get_or}
 use Rattle.axe_field.specs.Order.{Order, Two, Three, Four, Five, Seven, Eight, Nine, prime_of, degree_of, IsElement}
 use Rattle.axe_field.specs.Planes.{element_of}
@@ -8,7 +8,7 @@ use Rattle.axe_plane.specs.Planes.{digits_of}
 use Rattle.axe_plane.specs.declared.Plane.{Plane}
 use Rattle.axe_bits.proofs.NumberSums.{length-numbers_with_multiple, get_or-numbers_with_multiple}
 use Rattle.axe_row.specs.Planes.{ArePlanes}
-use Rattle.axe_row.proofs.RowPlanes.{entries_of, length-entries, entries-at, element_at, element_value}
+use Rattle.axe_row.proofs.RowPlanes.{entries_of, length-entries, entries-at, element_at, element_value, no_longer}
 
 few_elements : (o : Order) (a : ℕ) → IsElement o a → a < 10
 few_elements Two a h = omega arith
@@ -38,17 +38,13 @@ sum_small o n c l q e h =
     subst (λ x. x < 10) (sum_is o (get_or (digits_of c) e 0) (get_or (digits_of l) e 0) (get_or (digits_of q) e 0))
     (few_elements o _ (element_at o n c l q e h).element)
 
-optional_fits : (b : Bool) (n : ℕ) → cond b n 0 ≤ n
-optional_fits true n = omega arith
-optional_fits false n = omega arith
-
 -- the numbers that the digits of the planes are added to one after another
 module _ (o : Order) (n p : ℕ) (c l q : Plane) (h : ArePlanes o n c l q) (is : p ≡ prime_of o) where
   abbrev pub with_linear : List ℕ
   with_linear = numbers_with_multiple (digits_of c) p (digits_of l)
 
   pub linear_fits : length (digits_of l) ≤ length (digits_of c)
-  linear_fits = omega (arith, h.constant.long, h.linear.long, optional_fits (ltb 1 (degree_of o)) n)
+  linear_fits = omega (arith, h.constant.long, h.linear.long, no_longer (ltb 1 (degree_of o)) n)
 
   small : (e : ℕ) → get_or (digits_of c) e 0 + p * get_or (digits_of l) e 0 + p * p * get_or (digits_of q) e 0 < 10
   small e =
@@ -60,7 +56,7 @@ module _ (o : Order) (n p : ℕ) (c l q : Plane) (h : ArePlanes o n c l q) (is :
 
   pub quadratic_fits : length (digits_of q) ≤ length with_linear
   quadratic_fits =
-      omega (arith, h.constant.long, h.quadratic.long, optional_fits (ltb 2 (degree_of o)) n, length-numbers_with_multiple (digits_of c) p (digits_of l))
+      omega (arith, h.constant.long, h.quadratic.long, no_longer (ltb 2 (degree_of o)) n, length-numbers_with_multiple (digits_of c) p (digits_of l))
 
   pub quadratic_small : AreSmallSums with_linear (p * p) (digits_of q)
   quadratic_small e inside =

@@ -1,5 +1,5 @@
 -- The first entry of a row that is not zero, by its planes.
-use Rattle.std.proofs.Common.{◌≡◌, ◌≢◌, ℕ, ◌+◌, ◌<◌, ◌≤◌, Bool, true, false, cond, ltb, Option, Some, None, List, length, get_or, min, refl, sym, ap, ap₂, subst, ◌∙◌, arith, inl, inr, MatchOption}
+use Rattle.std.proofs.Common.{◌≡◌, ◌≢◌, ℕ, ◌+◌, ◌<◌, ◌≤◌, ltb, Option, Some, None, List, length, get_or, min, refl, sym, ap, ap₂, subst, ◌∙◌, arith, inl, inr, MatchOption}
 use Rattle.std.specs.List.{All}
 use Rattle.std.proofs.lemmas.Bool.{cases_lt}
 use Rattle.std.proofs.lemmas.List.{get_or_past}
@@ -16,7 +16,7 @@ use Rattle.axe_row.specs.Operations.{IsZeroVector}
 use Rattle.axe_bits.specs.Earlier.{earlier_of}
 use Rattle.axe_row.specs.Planes.{ArePlanes, HaveZerosBefore}
 use Rattle.axe_row.specs.Rows.{RowValue}
-use Rattle.axe_row.proofs.RowPlanes.{entries_of, length-entries, entries-at, element_at, element_of-zeros}
+use Rattle.axe_row.proofs.RowPlanes.{entries_of, length-entries, entries-at, element_at, element_of-zeros, no_longer}
 
 -- the values of a function of indices, of which the first other than 0 stands at this index
 record IsFirst (f : ℕ → ℕ) (i : ℕ) : Type 0 where
@@ -97,10 +97,6 @@ digits_zero o n c l q j h inside none =
       sym e.second ∙ ap (λ x. coefficient o x 1) is ∙ z.1.0,
       sym e.third ∙ ap (λ x. coefficient o x 2) is ∙ z.1.1,
     )
-
-no_longer : (b : Bool) (n : ℕ) → cond b n 0 ≤ n
-no_longer true n = omega arith
-no_longer false n = omega arith
 
 pub digits_past : (o : Order) (n : ℕ) (c l q : Plane) (j : ℕ) → ArePlanes o n c l q → length (digits_of c) ≤ j → digit_sum c l q j ≡ 0
 digits_past o n c l q j h past =

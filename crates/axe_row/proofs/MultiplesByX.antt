@@ -11,6 +11,7 @@ use Rattle.axe_field.specs.Order.{Order, Two, Three, Four, Five, Seven, Eight, N
 use Rattle.axe_field.specs.Planes.{monomial, coefficients_of_multiple, matrix_of_multiplication, coefficient, element_of}
 use Rattle.axe_field.proofs.CoefficientLaws.{coefficient-below, element_of-coefficients, matrix_of_multiplication-below}
 use Rattle.axe_field.proofs.Laws.{field_zero-mul}
+use Rattle.axe_field.proofs.Orders.{one_is_element}
 use Rattle.axe_lane.specs.Bytes as lane
 use Rattle.axe_bits.specs.Digits.{AreDigits, digits_with_multiple}
 use Rattle.axe_plane.specs.Planes.{prime_of_plane, digits_of, IsPlane, IsPlaneOf}
@@ -19,11 +20,11 @@ use Rattle.axe_bits.proofs.DigitLaws.{AreDigits-sum, length-digits_with_multiple
 use Rattle.axe_row.specs.Operations.{multiple, multiple_row, power_of_x}
 use Rattle.axe_row.specs.Planes.{ArePlanes, IsAddable, AreRotated}
 use Rattle.axe_row.specs.Rows.{RowValue, IsRow}
-use Rattle.axe_row.proofs.RowLaws.{one-IsElement}
 use Rattle.axe_row.proofs.OperationLaws.{length-multiple, get_or-multiple_row}
 use Rattle.axe_row.proofs.RowPlanes.{entries_of, length-entries, entries-at, element_at, prime-positive, element_of-zeros}
 use Rattle.axe_row.proofs.PlaneSums.{present, addable_one}
 use Rattle.axe_row.proofs.PrimeRows.{multiple_is_below, row_by_one}
+use Rattle.axe_row.proofs.RowWords.{degree_small}
 
 -- ---- degrees
 
@@ -35,15 +36,6 @@ degree-positive Five = lit< tt
 degree-positive Seven = lit< tt
 degree-positive Eight = lit< tt
 degree-positive Nine = lit< tt
-
-pub degree-small : (o : Order) → degree_of o < 4
-degree-small Two = lit< tt
-degree-small Three = lit< tt
-degree-small Four = lit< tt
-degree-small Five = lit< tt
-degree-small Seven = lit< tt
-degree-small Eight = lit< tt
-degree-small Nine = lit< tt
 
 -- x is an element where the degree is above 1
 pub x_is_element : (o : Order) → 1 < degree_of o → IsElement o (prime_of o)
@@ -181,7 +173,7 @@ factor_is o d x j m ed ex em =
     ∙ ap (λ k. entry (matrix_of_multiplication o (prime_of o)) (k - 1) j) ed
 
 row_within : (o : Order) → degree_of o - 1 < 3
-row_within o = omega (arith, degree-small o)
+row_within o = omega (arith, degree_small o)
 
 pub middle_addable : (o : Order) (n f : ℕ) (c l q c' l' q' : Plane) → HasTurned o n c l q c' l' q' → f ≡ top_factor o 1 → IsAddable l' f c'
 middle_addable o n f c l q c' l' q' h ef =
@@ -190,9 +182,6 @@ middle_addable o n f c l q c' l' q' h ef =
 pub last_addable : (o : Order) (n f : ℕ) (c l q c' l' q' : Plane) → HasTurned o n c l q c' l' q' → f ≡ top_factor o 2 → IsAddable q' f c'
 last_addable o n f c l q c' l' q' h ef =
     addable_one o n (prime_of o) (degree_of o - 1) 2 f q' c' (row_within o) (lit< tt) (x_is_element o h.some) h.last h.top ef
-
-pub digits_of_its_prime : (p n : ℕ) (plane : Plane) → IsPlaneOf p n plane → AreDigits (prime_of_plane plane) (digits_of plane)
-digits_of_its_prime p n plane h = subst (λ r. AreDigits r (digits_of plane)) (sym h.prime) h.digits
 
 pub top_factor_is_digit : (o : Order) (n f : ℕ) (c l q c' l' q' : Plane) → HasTurned o n c l q c' l' q' → f ≡ top_factor o 0 →
     f < prime_of_plane c'
@@ -283,7 +272,7 @@ times_x_entries o n f0 f1 f2 c l q c' l' q' c2 l2 q2 h t =
     middle = subst (λ m. IsPlaneOf (prime_of o) m l') (present 1 (degree_of o) n h.some) h.middle
 
     is_three : ltb 2 (degree_of o) ≡ true → degree_of o ≡ 3
-    is_three b = let above : 2 < degree_of o = ltb-true 2 (degree_of o) b in omega (arith, above, degree-small o)
+    is_three b = let above : 2 < degree_of o = ltb-true 2 (degree_of o) b in omega (arith, above, degree_small o)
 
     at : (e : ℕ) → e < n → get_or (entries_of o c2 l2 q2) e 0 ≡ get_or (multiple (number_field o) p (entries_of o c l q)) e 0
     at e small =
@@ -390,7 +379,7 @@ zero_below o n plane h = subst (λ p. 0 < p) (sym h.prime) (prime-positive o)
 
 pub power_of_x-element : (o : Order) (k : ℕ) → 1 < degree_of o → IsElement o (power_of_x o k)
 unfolding power_of_x
-power_of_x-element o zero some = one-IsElement o
+power_of_x-element o zero some = one_is_element o
 power_of_x-element o (suc k) some = field_mul-below o (prime_of o) (power_of_x o k) (x_is_element o some) (power_of_x-element o k some)
 
 -- a multiple of a multiple

@@ -7,7 +7,7 @@ use Rattle.axe_field.proofs.Orders.{order_number-injective}
 use Rattle.axe_bits.specs.Digits.{AreDigits}
 use Rattle.axe_bits.specs.Packed.{packed_bit}
 use Rattle.axe_bits.proofs.PackedWords.{packed_bit_below}
-use Rattle.axe_plane.specs.Planes.{prime_of_plane, digits_of, IsPlane, IsPlaneOf}
+use Rattle.axe_plane.specs.Planes.{digits_of, IsPlane, IsPlaneOf}
 use Rattle.axe_plane.specs.declared.Plane.{Plane}
 use Rattle.axe_row.specs.Planes.{ArePlanes}
 use Rattle.axe_row.specs.Rows.{RowValue}
@@ -41,10 +41,6 @@ one_degree o two = ap degree_of (order_is_two o o refl two)
 pub order_of_row : (o : Order) (c l q : Plane) (self : RowValue) → record { order = o; entries = entries_of o c l q } ≡ self →
     order_number self.order ≡ 2 → o ≡ Two
 order_of_row o c l q self view_is two = order_is_two o self.order (ap (λ (r : RowValue). r.order) view_is) two
-
-pub even_plane : (o : Order) (c l q : Plane) (self : RowValue) → ArePlanes o (length (digits_of c)) c l q →
-    record { order = o; entries = entries_of o c l q } ≡ self → order_number self.order ≡ 2 → prime_of_plane c ≡ 2
-even_plane o c l q self h view_is two = h.constant.prime ∙ ap prime_of (order_of_row o c l q self view_is two)
 
 pub bit_is_entry : (o : Order) (c l q : Plane) (self : RowValue) (e : ℕ) → ArePlanes o (length (digits_of c)) c l q →
     record { order = o; entries = entries_of o c l q } ≡ self → order_number self.order ≡ 2 →

@@ -11,6 +11,7 @@ use Rattle.axe_field.specs.Order.{Order, Two, Three, Four, Five, Seven, Eight, N
 use Rattle.axe_field.specs.Planes.{coefficient, IsCoefficient, element_of}
 use Rattle.axe_field.proofs.CoefficientLaws.{coefficient-add, element_of-coefficients, coefficients_are, IsElementOf}
 use Rattle.axe_field.proofs.Laws.{field_zero-mul}
+use Rattle.axe_field.proofs.Orders.{zero_is_element}
 use Rattle.axe_lane.specs.Bytes as lane
 use Rattle.axe_bits.specs.Digits.{AreDigits}
 use Rattle.axe_plane.specs.Planes.{prime_of_plane, digits_of, IsPlaneOf}
@@ -21,7 +22,6 @@ use Rattle.axe_plane.proofs.PlaneLaws.{prime_of_plane-positive}
 use Rattle.axe_row.specs.Operations.{dot_product}
 use Rattle.axe_row.specs.Planes.{ArePlanes}
 use Rattle.axe_row.specs.Rows.{RowValue, IsRow}
-use Rattle.axe_row.proofs.RowLaws.{zero-IsElement}
 use Rattle.axe_row.proofs.OperationLaws.{sum_of_products, sum_of_products-none, sum_of_products-more, sum_of_products-all}
 use Rattle.axe_row.proofs.PrimeRows.{constant_alone}
 use Rattle.axe_row.proofs.RowPlanes.{entries_of, length-entries, entries-at, linear_within, quadratic_within, prime-positive, element_of-zeros, length_of_row, IsRow-of_planes}
@@ -158,14 +158,14 @@ horner_mul o x c l q b hx h hb =
 horner_zero : (o : Order) (x : ℕ) → IsElement o x → 0 ≡ horner o x 0 0 0
 horner_zero o x hx =
     let none : field_add o 0 (field_mul o x 0) ≡ 0 =
-    ap (field_add o 0) (field_mul_comm o x 0 hx (zero-IsElement o) ∙ field_zero-mul o x hx) ∙ field_add-zero o 0 (zero-IsElement o) in
+    ap (field_add o 0) (field_mul_comm o x 0 hx (zero_is_element o) ∙ field_zero-mul o x hx) ∙ field_add-zero o 0 (zero_is_element o) in
     sym (ap (λ s. field_add o 0 (field_mul o x s)) none ∙ none)
 
 -- ---- the sums of the first products
 
 sum-element : (o : Order) (u b : List ℕ) (n : ℕ) → ((e : ℕ) → IsElement o (get_or u e 0)) → ((e : ℕ) → IsElement o (get_or b e 0)) →
     IsElement o (sum_of_products (number_field o) u b n)
-sum-element o u b zero hu hb = subst (IsElement o) (sym (sum_of_products-none (number_field o) u b)) (zero-IsElement o)
+sum-element o u b zero hu hb = subst (IsElement o) (sym (sum_of_products-none (number_field o) u b)) (zero_is_element o)
 sum-element o u b (suc n) hu hb =
     subst (IsElement o) (sym (ap (sum_of_products (number_field o) u b) (sym (add-one n)) ∙ sum_of_products-more o u b n))
     (field_add-below o _ _ (sum-element o u b n hu hb) (field_mul-below o _ _ (hu n) (hb n)))
@@ -178,7 +178,7 @@ sum-nothing o u b (suc n) none hb =
     ap (sum_of_products (number_field o) u b) (sym (add-one n)) ∙ sum_of_products-more o u b n
     ∙ ap₂ (field_add o) (sum-nothing o u b n none hb)
     (ap (λ d. field_mul o d (get_or b n 0)) (get_or_past u n 0 (omega (arith, none))) ∙ field_zero-mul o (get_or b n 0) (hb n))
-    ∙ field_add-zero o 0 (zero-IsElement o)
+    ∙ field_add-zero o 0 (zero_is_element o)
 
 dot_up_to : (o : Order) (u b : List ℕ) (n : ℕ) → (length u ≢ 0 → length u ≡ n) → ((e : ℕ) → IsElement o (get_or b e 0)) →
     dot_product (number_field o) u b ≡ sum_of_products (number_field o) u b n
@@ -363,7 +363,7 @@ plane_dot o u n c l q hu fits h =
 
 -- an entry of a row, also past the end
 entry_element : (o : Order) (b : List ℕ) (e : ℕ) → All (IsElement o) b → IsElement o (get_or b e 0)
-entry_element o b e all = digit-below (order_number o) b e (zero-IsElement o) all
+entry_element o b e all = digit-below (order_number o) b e (zero_is_element o) all
 
 row_parts : (o : Order) (n : ℕ) (c l q : Plane) → degree_of o ≢ 1 → ArePlanes o n c l q →
     AreParts o (prime_of o) (entries_of o c l q) (digits_of c) (digits_of l) (digits_of q) (length (digits_of c))

@@ -13,6 +13,7 @@ use Rattle.axe_field.specs.NumberFields.{number_field}
 use Rattle.axe_field.specs.Order.{Order, Two, Three, Four, Five, Seven, Eight, Nine, order_number, prime_of, degree_of, IsElement}
 use Rattle.axe_field.specs.Planes.{coefficient, element_of, matrix_of_multiplication}
 use Rattle.axe_field.proofs.CoefficientLaws.{coefficient-add, coefficient-mul, coefficient-below, element_of-coefficients, matrix_of_multiplication-first}
+use Rattle.axe_field.proofs.Orders.{one_is_element}
 use Rattle.axe_lane.specs.Bytes as lane
 use Rattle.axe_lane.specs.Entries as entries
 use Rattle.axe_bits.specs.Digits.{AreDigits, digits_with_multiple}
@@ -24,7 +25,7 @@ use Rattle.axe_lane.specs.Entries.{IsFirstNonzero, AreZerosFrom, IsNextNonzero}
 use Rattle.axe_row.specs.Operations.{sum_with_multiple, multiple, dot_product, row_with_multiple, multiple_row, IsZeroVector}
 use Rattle.axe_row.specs.Planes.{ArePlanes}
 use Rattle.axe_row.specs.Rows.{RowValue, IsRow}
-use Rattle.axe_row.proofs.RowLaws.{same_row, one-IsElement}
+use Rattle.axe_row.proofs.RowLaws.{same_row}
 use Rattle.axe_row.proofs.OperationLaws.{length-sum_with_multiple, get_or-row_with_multiple, length-multiple, get_or-multiple_row, sum_of_products, sum_of_products-none, sum_of_products-more, sum_of_products-all}
 use Rattle.axe_row.proofs.RowPlanes.{entries_of, length-entries, entries-at, prime-positive, element_value, along_order, element_along, length_of_row}
 use Rattle.axe_row.proofs.PlaneSums.{row_after}
@@ -191,7 +192,7 @@ with_constant o n c l q after digits h e long all = record {
 multiple_by_one : (o : Order) (a : List ℕ) → All (IsElement o) a → a ≡ multiple (number_field o) 1 a
 multiple_by_one o a ha =
     ext_get_or 0 a (multiple (number_field o) 1 a) (sym (length-multiple (number_field o) 1 a)) (λ j inside.
-    sym (get_or-multiple_row o 1 a j inside ∙ field_mul_comm o 1 (get_or a j 0) (one-IsElement o) (ha j 0 inside)
+    sym (get_or-multiple_row o 1 a j inside ∙ field_mul_comm o 1 (get_or a j 0) (one_is_element o) (ha j 0 inside)
     ∙ field_mul-one o (get_or a j 0) (ha j 0 inside)))
 
 pub row_by_one : (self : RowValue) (k : ℕ) → IsRow self → k ≡ 1 → self ≡ multiple_row k self

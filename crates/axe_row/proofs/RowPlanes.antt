@@ -1,5 +1,5 @@
 -- Rows as planes of coefficients.
-use Rattle.std.proofs.Common.{◌≡◌, ◌≢◌, ℕ, ◌+◌, ◌*◌, ◌<◌, Bool, true, false, List, length, get_or, set, replicate, cond, ltb, refl, sym, ap, subst, ◌∙◌, arith, inl, inr, lit<, get_or-set_other, get_or-set_same}
+use Rattle.std.proofs.Common.{◌≡◌, ◌≢◌, ℕ, ◌+◌, ◌*◌, ◌<◌, ◌≤◌, Bool, true, false, List, length, get_or, set, replicate, cond, ltb, refl, sym, ap, subst, ◌∙◌, arith, inl, inr, lit<, get_or-set_other, get_or-set_same}
 use Rattle.std.proofs.lemmas.Bool.{cases_eq}
 use Rattle.std.proofs.lemmas.List.{ext_get_or, get_or_past, get_or-replicate, length-replicate, length-set}
 use Rattle.axe_algebra.specs.Lists.{entry}
@@ -248,13 +248,6 @@ pub length_of_row : (o : Order) (c l q : Plane) (self : RowValue) → record { o
 length_of_row o c l q self self_is =
     sym (ap (λ (r : RowValue). length r.entries) self_is) ∙ length-entries o (digits_of c) (digits_of l) (digits_of q)
 
--- copies
-pub copied_planes : (o : Order) (c l q c' l' q' : Plane) → c' ≡ c → l' ≡ l → q' ≡ q → ArePlanes o (length (digits_of c)) c l q →
-    ArePlanes o (length (digits_of c')) c' l' q'
-copied_planes o c l q c' l' q' ec el eq h =
-    subst (λ x. ArePlanes o (length (digits_of x)) x l' q') (sym ec)
-    (subst (λ x. ArePlanes o (length (digits_of c)) c x q') (sym el) (subst (ArePlanes o (length (digits_of c)) c l) (sym eq) h))
-
 pub zero_plane_along : (p r n m : ℕ) (plane : Plane) → r ≡ p → m ≡ n → IsPlane r (replicate m 0) plane → IsPlane p (replicate n 0) plane
 zero_plane_along p r n m plane er em h =
     subst (λ s. IsPlane s (replicate n 0) plane) er (subst (λ k. IsPlane r (replicate k 0) plane) em h)
@@ -275,7 +268,13 @@ element_value Nine c l q = omega arith
 pub along_order : (o r : Order) (n m : ℕ) (c l q : Plane) → r ≡ o → m ≡ n → ArePlanes r m c l q → ArePlanes o n c l q
 along_order o r n m c l q er em h = subst (λ s. ArePlanes s n c l q) er (subst (λ k. ArePlanes r k c l q) em h)
 
-within_all : (b : Bool) (n e : ℕ) → e < cond b n 0 → e < n
+-- a plane that may be without digits has at most as many as the row has entries
+pub no_longer : (b : Bool) (n : ℕ) → cond b n 0 ≤ n
+no_longer true n = omega arith
+no_longer false n = omega arith
+
+-- an index of a digit of such a plane is one of an entry
+pub within_all : (b : Bool) (n e : ℕ) → e < cond b n 0 → e < n
 within_all true n e h = h
 within_all false n e h = absurd (omega arith)
 

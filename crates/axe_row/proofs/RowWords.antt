@@ -32,7 +32,8 @@ these_digits o j n true entries digits long as_long at =
 these_digits o j n false entries digits long as_long at =
     ext_get_or 0 [] digits (sym as_long) (λ e inside. absurd (omega arith))
 
-degree_small : (o : Order) → degree_of o ≤ 3
+-- no field has a greater degree
+pub degree_small : (o : Order) → degree_of o ≤ 3
 degree_small Two = omega arith
 degree_small Three = omega arith
 degree_small Four = omega arith

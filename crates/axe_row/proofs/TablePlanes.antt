@@ -59,10 +59,6 @@ sum_with_entry to from f b before after h = record {
 pub entry_within : (p count n x : ℕ) (table : PlaneTable) → IsPlaneTable p count n table → x < count → x < length (entries_of_table table)
 entry_within p count n x table h within = subst (λ m. x < m) (sym h.counted) within
 
-pub earlier_within : (p count n x to : ℕ) (table : PlaneTable) → IsPlaneTable p count n table → x < to → to < count →
-    x < length (entries_of_table table)
-earlier_within p count n x to table h earlier within = entry_within p count n x table h (omega arith)
-
 -- an entry of it is such a plane
 pub plane_of_entry : (p count n x : ℕ) (table : PlaneTable) → IsPlaneTable p count n table → x < count → IsPlaneOf p n (plane_at table x)
 plane_of_entry p count n x table h within =

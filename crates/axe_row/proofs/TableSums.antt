@@ -6,11 +6,12 @@ use Rattle.std.proofs.lemmas.List.{ext_get_or, get_or_past}
 use native.Mathlib.Decide.{dec_lt}
 use Rattle.axe_algebra.specs.Lists.{entry}
 use Rattle.axe_field.specs.Arithmetic.{field_add, field_mul}
-use Rattle.axe_field.specs.CheckedLaws.{field_add-below, field_mul_comm, field_mul-one}
+use Rattle.axe_field.specs.CheckedLaws.{field_add-below}
 use Rattle.axe_field.specs.NumberFields.{number_field}
 use Rattle.axe_field.specs.Order.{Order, order_number, prime_of, degree_of, IsElement}
 use Rattle.axe_field.specs.Planes.{coefficient, element_of, matrix_of_multiplication}
 use Rattle.axe_field.proofs.CoefficientLaws.{coefficient-add, element_of-coefficients}
+use Rattle.axe_field.proofs.Laws.{field_one-mul}
 use Rattle.axe_bits.specs.Digits.{AreDigits, digits_with_multiple, digits_with_four}
 use Rattle.axe_plane.specs.Planes.{prime_of_plane, digits_of, IsPlane, IsPlaneOf}
 use Rattle.axe_plane.specs.Primes.{byte_prime}
@@ -25,7 +26,6 @@ use Rattle.axe_row.specs.Operations.{sum_with_multiple, row_with_multiple}
 use Rattle.axe_row.specs.Planes.{entries_of_digits, ArePlanes}
 use Rattle.axe_row.specs.PlaneTables.{rows_of_tables, ArePlaneTables}
 use Rattle.axe_row.specs.Rows.{RowValue}
-use Rattle.axe_row.proofs.RowLaws.{one-IsElement}
 use Rattle.axe_row.proofs.OperationLaws.{length-sum_with_multiple, get_or-row_with_multiple}
 use Rattle.axe_row.proofs.RowPlanes.{entries_of, length-entries, entries-at, element_at, prime-positive, along_order, length_of_row, with_length}
 use Rattle.axe_row.proofs.PlaneSums.{AreSummands, summands, row_after}
@@ -192,9 +192,6 @@ plus_at p n a b e positive ha hb = elim (dec_lt e (length (digits_of a))) [
       (get_or_past (digits_of b) e 0 (omega (arith, outside, ha.long, hb.long))) ∙ mod-eq_of_lt positive)
 ]
 
-one_times : (o : Order) (a : ℕ) → IsElement o a → field_mul o 1 a ≡ a
-one_times o a ha = field_mul_comm o 1 a (one-IsElement o) ha ∙ field_mul-one o a ha
-
 plus_entries : (o : Order) (n : ℕ) (c l q c' l' q' : Plane) → ArePlanes o n c l q → ArePlanes o n c' l' q' →
     entries_of o (plane_plus c c') (plane_plus l l') (plane_plus q q')
     ≡ sum_with_multiple (number_field o) (entries_of o c l q) 1 (entries_of o c' l' q')
@@ -235,7 +232,7 @@ plus_entries o n c l q c' l' q' h h' =
         ∙ sym (get_or-row_with_multiple o (entries_of o c l q) 1 (entries_of o c' l' q') e within
         ∙ ap₂ (λ x y. field_add o x (field_mul o 1 y)) (entries-at o (digits_of c) (digits_of l) (digits_of q) e 0 here)
         (entries-at o (digits_of c') (digits_of l') (digits_of q') e 0 there)
-        ∙ ap (field_add o a) (one_times o s hs.element))
+        ∙ ap (field_add o a) (field_one-mul o s hs.element))
 
 pub plus_row : {o : Order} {n : ℕ} {c l q c' l' q' : Plane} {row other : RowValue} → IsRowOf o n c l q row → IsRowOf o n c' l' q' other →
     IsRowOf o n (plane_plus c c') (plane_plus l l') (plane_plus q q') (row_with_multiple row 1 other)

@@ -14,17 +14,13 @@ use Rattle.axe_bits.proofs.DigitLaws.{digit-below}
 use Rattle.axe_row.specs.Planes.{ArePlanes}
 use Rattle.axe_row.specs.Rows.{RowValue, part_of}
 use Rattle.axe_row.proofs.KeptPlanes.{linear_is_there}
-use Rattle.axe_row.proofs.RowPlanes.{entries_of, length-entries, entries-at, prime-positive, length_of_row}
+use Rattle.axe_row.proofs.RowPlanes.{entries_of, length-entries, entries-at, prime-positive, length_of_row, within_all}
 
 -- a plane of m digits, or of none where it is not there: digit e is digit `at e` of another plane
 pub record IsTaken (b : Bool) (m : ℕ) (at : ℕ → ℕ) (plane after : Plane) : Type 0 where
   pub prime : prime_of_plane after ≡ prime_of_plane plane
   pub long : length (digits_of after) ≡ cond b m 0
   pub digits : (e : ℕ) → e < m → get_or (digits_of after) e 0 ≡ get_or (digits_of plane) (at e) 0
-
-within_all : (b : Bool) (n e : ℕ) → e < cond b n 0 → e < n
-within_all true n e h = h
-within_all false n e h = absurd (omega arith)
 
 taken_plane : (b : Bool) (p n m : ℕ) (at : ℕ → ℕ) (plane after : Plane) → 0 < p → IsPlaneOf p (cond b n 0) plane → IsTaken b m at plane after →
     IsPlaneOf p (cond b m 0) after

@@ -9,7 +9,7 @@ use Rattle.axe_row.specs.declared.refusals.Refusal.{Refusal}
 use Rattle.axe_row.specs.declared.refusals.Refusal.TheVariants.{FieldsDiffer, ShapesDiffer, ZeroSeed}
 use Rattle.axe_row.specs.Refusals.{Answers, first_of, unless_refused}
 use Rattle.axe_matrix.specs.Matrices.{MatrixValue, IsMatrix}
-use Rattle.axe_matrix.proofs.MatrixLaws.{same_order}
+use Rattle.axe_field.proofs.Orders.{order_number-injective}
 use Rattle.axe_echelon.proofs.Exits.{handed_on, no_memory, no_value, same_refusal}
 use Rattle.axe_echelon.proofs.InverseLaws.{matrix_over}
 use Rattle.axe_spin.specs.Modules.{ModuleValue, rows_refusal}
@@ -70,7 +70,7 @@ pub vectors_of : (m : ModuleValue) (rows : MatrixValue) → rows_refusal m rows 
 vectors_of m rows none =
     let tests = passed (order_number rows.order == order_number m.order) (rows.cols == m.dim) none in
     record {
-      field = same_order rows.order m.order (eqb-true (order_number rows.order) (order_number m.order) tests.0);
+      field = order_number-injective rows.order m.order (eqb-true (order_number rows.order) (order_number m.order) tests.0);
       columns = eqb-true rows.cols m.dim tests.1;
     }
   where

@@ -4,7 +4,8 @@ use Rattle.axe_algebra.specs.ListArithmetic.{combination}
 use Rattle.axe_field.specs.NumberFields.{number_field}
 use Rattle.axe_row.specs.Rows.{RowValue}
 use Rattle.axe_matrix.specs.Matrices.{MatrixValue, matrix_product}
-use Rattle.axe_matrix.proofs.ProductLaws.{length-product, length-combination, get_or-product}
+use Rattle.axe_row.proofs.CombinationLaws.{length-combination}
+use Rattle.axe_matrix.proofs.ProductLaws.{length-product, get_or-product}
 use Rattle.axe_chop.specs.Vectors.{unit_vectors}
 use Rattle.axe_chop.proofs.Choosing.{first_rows_more, first_rows_all}
 use Rattle.axe_chop.proofs.lifted.rows_with_entries_at.Goals as goal

@@ -1,7 +1,7 @@
 use Rattle.std.proofs.Common.{◌≡◌, false, [], length, get_or, ap, sym, ◌∙◌, arith, rules}
 use Rattle.axe_row.specs.Rows.{RowValue}
 use Rattle.axe_matrix.specs.Matrices.{MatrixValue}
-use Rattle.axe_matrix.proofs.ProductLaws.{length-combination}
+use Rattle.axe_row.proofs.CombinationLaws.{length-combination}
 use Rattle.axe_iso.proofs.FollowLaws.{row_is_followed, image_followed, image_not_followed}
 use Rattle.axe_iso.proofs.matching.follow_row.Goals as goal
 

@@ -1,5 +1,5 @@
 use Rattle.std.proofs.Common.{◌≡◌, ◌*◌, ◌<◌, ◌≤◌, ℕ, length, get_or, ap, ◌∙◌, arith}
-use Rattle.axe_row.proofs.RowLaws.{one-IsElement}
+use Rattle.axe_field.proofs.Orders.{one_is_element}
 use Rattle.axe_row.specs.Combinations.{CombosValue, IsRowFor, piece_number}
 use Rattle.axe_matrix.specs.Matrices.{row_of}
 use Rattle.axe_matrix.specs.PieceTables.{IsTableFor}
@@ -24,7 +24,7 @@ may_be_added : (c : goal.After-add_combinations-arg-1) (table : CombosValue) (fr
 may_be_added c table from k is_table number =
     let invariant = c.loop-index.invariant in
     row_may_be_added c.args.self.now c.args.a.now c.loop-index.index 1 c.args.tables.now.size from c.row.result.now
-    (row_of c.loop-index.self c.loop-index.index) table _ c.row.ensures.well_formed c.requires.a_field (let inside = below c in omega (arith, inside, c.requires.rows_fit)) (one-IsElement c.args.self.now.order)
+    (row_of c.loop-index.self c.loop-index.index) table _ c.row.ensures.well_formed c.requires.a_field (let inside = below c in omega (arith, inside, c.requires.rows_fit)) (one_is_element c.args.self.now.order)
     c.row.ensures.value is_table invariant.field
     (length-row_of c.loop-index.self c.loop-index.index invariant.well_formed (add_combinations-requires-clause-index c) ∙ invariant.columns) number
 
@@ -50,7 +50,7 @@ loop-index-preserved c =
     let inside : c.loop-index.index < length c.args.self.now.rows = omega (arith, c.loop-index-test.true, c.rows-index-end.ensures.count) in
     let row = row_of_block c.args.self.now c.args.a.now c.args.b.now c.loop-index.self c.loop-index.index 1 c.args.at c.args.tables.now
     c.piece_numbers-numbers.result c.row.result.now c.rows-index-end.ensures.well_formed c.row.ensures.well_formed c.rows.ensures.well_formed c.requires.a_field c.requires.b_field
-    inside (omega (arith, inside, c.requires.rows_fit)) c.requires.inner_fit (one-IsElement c.args.self.now.order) c.requires.tables c.requires.combine c.row.ensures.value c.piece_numbers-numbers.ensures
+    inside (omega (arith, inside, c.requires.rows_fit)) c.requires.inner_fit (one_is_element c.args.self.now.order) c.requires.tables c.requires.combine c.row.ensures.value c.piece_numbers-numbers.ensures
     invariant.field (invariant.kept c.loop-index.index (omega arith)) in
     IsRewrittenBelow-more _ _ _ _ _ _ invariant inside row c.add_combinations.ensures.sum c.add_combinations.ensures.well_formed
 

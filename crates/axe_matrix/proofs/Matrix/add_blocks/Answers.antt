@@ -1,12 +1,12 @@
 use Rattle.std.proofs.Common.{◌*◌, ◌≤◌, length, refl, sym, ap, ◌∙◌, arith}
-use Rattle.axe_row.proofs.RowLaws.{one-IsElement}
+use Rattle.axe_field.proofs.Orders.{one_is_element}
 use Rattle.axe_matrix.specs.Matrices.{MatrixValue}
 use Rattle.axe_matrix.proofs.ProductRows.{matrix_with_no_terms, matrix_with_more_terms, matrix_with_all_terms, tables_for, length-matrix_with_terms}
 use Rattle.axe_matrix.proofs.Matrix.add_blocks.Goals as goal
 
 pub loop-at-init : goal.loop-at-init
 loop-at-init c = record {
-  so_far = matrix_with_no_terms c.args.self.now 1 c.args.a.now c.args.b.now 0 c.rows-2.ensures.well_formed (one-IsElement c.args.self.now.order);
+  so_far = matrix_with_no_terms c.args.self.now 1 c.args.a.now c.args.b.now 0 c.rows-2.ensures.well_formed (one_is_element c.args.self.now.order);
   count = refl;
   size = refl;
   tables = c.requires.tables;
@@ -42,7 +42,7 @@ loop-at-preserved c =
     record {
       so_far =
           matrix_with_more_terms c.args.self.now 1 c.args.a.now c.args.b.now c.loop-at.at (4 * c.args.tables.now.size) c.loop-at.self c.add_block.new.self
-          c.rows-2.ensures.well_formed c.rows.ensures.well_formed c.rows-in-loop-at.ensures.well_formed c.requires.a_field c.requires.b_field c.requires.rows_fit (one-IsElement c.args.self.now.order)
+          c.rows-2.ensures.well_formed c.rows.ensures.well_formed c.rows-in-loop-at.ensures.well_formed c.requires.a_field c.requires.b_field c.requires.rows_fit (one_is_element c.args.self.now.order)
           invariant.so_far (rw (← size) c.add_block.ensures.sum);
       count = ap (λ (m : MatrixValue). length m.rows) c.add_block.ensures.sum ∙ length-matrix_with_terms c.loop-at.self 1 c.args.a.now c.args.b.now c.loop-at.at (4 * c.fill.new.self.size) ∙ invariant.count;
       size = size;

@@ -1,7 +1,7 @@
 use Rattle.std.proofs.Common.{length, refl, sym, ap, ◌∙◌, arith}
 use Rattle.axe_row.specs.Rows.{RowValue}
 use Rattle.axe_matrix.proofs.TransposeLaws.{identity_matrix-rows}
-use Rattle.axe_matrix.proofs.VectorLaws.{length-listed}
+use Rattle.axe_algebra.proofs.ListEntries.{listed_length}
 use Rattle.axe_matrix.proofs.PartialMatrices.{IsPartialMatrix-none, IsPartialMatrix-more, IsPartialMatrix-all}
 use Rattle.axe_matrix.proofs.Matrix.identity.Goals as goal
 
@@ -10,7 +10,7 @@ loop-index-init c = IsPartialMatrix-none _ _ _ _ _ _ c.in_ok-matrix.ensures.no_r
 
 pub append-requires-clause-fits : goal.append-requires-clause-fits
 append-requires-clause-fits c =
-    ap (λ (row : RowValue). length row.entries) c.in_ok-row.ensures.unit ∙ length-listed _ _ ∙ sym c.loop-index.invariant.columns
+    ap (λ (row : RowValue). length row.entries) c.in_ok-row.ensures.unit ∙ listed_length _ _ ∙ sym c.loop-index.invariant.columns
 
 pub loop-index-preserved : goal.loop-index-preserved
 loop-index-preserved c =

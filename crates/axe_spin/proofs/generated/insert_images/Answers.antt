@@ -3,7 +3,7 @@ use Rattle.axe_algebra.specs.ListArithmetic.{combination}
 use Rattle.axe_field.specs.NumberFields.{number_field}
 use Rattle.axe_row.specs.Rows.{RowValue}
 use Rattle.axe_matrix.specs.Matrices.{MatrixValue}
-use Rattle.axe_matrix.proofs.ProductLaws.{length-combination}
+use Rattle.axe_row.proofs.CombinationLaws.{length-combination}
 use Rattle.axe_echelon.proofs.Exits.{no_memory}
 use Rattle.axe_spin.specs.Spun.{image_of_row}
 use Rattle.axe_spin.proofs.SpaceLaws.{enlarged_by_nothing, enlarged_by_image, enlarged_on, images_more, images_of_whole}

@@ -3,7 +3,7 @@ use Rattle.axe_algebra.specs.ListArithmetic.{combination}
 use Rattle.axe_field.specs.NumberFields.{number_field}
 use Rattle.axe_row.specs.Rows.{RowValue}
 use Rattle.axe_matrix.specs.Matrices.{MatrixValue}
-use Rattle.axe_matrix.proofs.ProductLaws.{length-combination}
+use Rattle.axe_row.proofs.CombinationLaws.{length-combination}
 use Rattle.axe_spin.specs.Spun.{image_of_row}
 use Rattle.axe_spin.proofs.SpunLaws.{spins_nowhere, spins_on, spins_to_next, spins_to_row, spins_to_row_of_full}
 use Rattle.axe_spin.proofs.spinning.take_images.Goals as goal
