@@ -25,3 +25,4 @@ pub mod WholeActions
 pub mod ChangedBases
 pub mod OneAction
 pub mod SomeAction
+pub mod SubmoduleActions

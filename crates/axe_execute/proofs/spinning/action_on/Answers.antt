@@ -1,6 +1,6 @@
 use Rattle.std.proofs.lemmas.Result.{err_from_is_err_and}
 use Rattle.axe_execute.specs.ModuleCommands.{ActionOn}
-use Rattle.axe_execute.proofs.SubmoduleActions.{only_memory, action_on_basis}
+use Rattle.axe_action.proofs.SubmoduleActions.{only_memory, action_on_basis}
 use Rattle.axe_execute.proofs.spinning.action_on.Goals as goal
 
 pub returns-in_err-basis_action : goal.returns-in_err-basis_action
