@@ -32,7 +32,7 @@ struct Ending {
     status: u8,
 }
 
-// Does what the words of the command line say, and gives the bytes for standard output.
+/// Does what the words of the command line say, and gives the bytes for standard output.
 fn output(rt: &HostRuntime) -> Result<Vec<u8>, Ending> {
     match words(rt) {
         Ok(words) => answer(rt, words.as_slice()),
@@ -40,7 +40,7 @@ fn output(rt: &HostRuntime) -> Result<Vec<u8>, Ending> {
     }
 }
 
-// Does what the words say.
+/// Does what the words say.
 fn answer(rt: &HostRuntime, words: &[String]) -> Result<Vec<u8>, Ending> {
     match parse(rt.alloc(), words) {
         Ok(command) => carry_out(rt, &command),
@@ -50,7 +50,7 @@ fn answer(rt: &HostRuntime, words: &[String]) -> Result<Vec<u8>, Ending> {
     }
 }
 
-// Carries a command out on the files of the working directory.
+/// Carries a command out on the files of the working directory.
 fn carry_out(rt: &HostRuntime, command: &Command) -> Result<Vec<u8>, Ending> {
     let Ok(runtime) = rt.clone() else {
         return Err(ending_of(rt, &Fault::Memory));
@@ -64,7 +64,7 @@ fn carry_out(rt: &HostRuntime, command: &Command) -> Result<Vec<u8>, Ending> {
     }
 }
 
-// The words after the program's name.
+/// The words after the program's name.
 fn words(rt: &HostRuntime) -> Result<Vec<String>, Fault> {
     match env::args(rt) {
         Ok(words) => Ok(words.skip(1).collect::<Vec<String>>(rt.alloc())?),
@@ -76,7 +76,7 @@ fn words(rt: &HostRuntime) -> Result<Vec<String>, Fault> {
     }
 }
 
-// How the program ends with a fault.
+/// How the program ends with a fault.
 fn ending_of(rt: &HostRuntime, fault: &Fault) -> Ending {
     Ending {
         line: line(rt.alloc(), fault).ok(),
@@ -84,7 +84,7 @@ fn ending_of(rt: &HostRuntime, fault: &Fault) -> Ending {
     }
 }
 
-// Prints the line of an ending to standard error. Where there is no memory for it, that is what is printed.
+/// Prints the line of an ending to standard error. Where there is no memory for it, that is what is printed.
 fn print_line(rt: &HostRuntime, ending: &Ending) {
     let _ = match &ending.line {
         Some(line) => rt.stderr().write_all(line.as_slice()),

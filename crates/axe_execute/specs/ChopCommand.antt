@@ -26,8 +26,8 @@ put_factors name (constituent ∷ constituents) (factor ∷ factors) =
 abbrev pub series_report_bytes : ReportHeader → List ModuleValue → List ℕ → List ℕ
 series_report_bytes header factors places = report_bytes (series_report header factors places)
 
--- the plan that a composition series gives: an earlier report is taken away, the basis is put, then each factor under its
--- name, and last the report with its header, which is shown, too
+-- the plan that a composition series gives: an earlier report is taken away, the basis is put, then each factor under
+-- its name, and last the report with its header, which is shown, too
 unfoldable pub series_plan : List ℕ → ReportHeader → MatrixValue → List ModuleValue → List ℕ → Plan
 series_plan name header basis factors places = record {
   steps = Remove (name ++ codes ".rep") ∷ Put (name ++ codes ".bas") (packed basis)

@@ -16,7 +16,8 @@ unfoldable pub RowsOf : Bool → ModuleValue → MatrixValue → Meaning MatrixV
 RowsOf standard m seed =
     UnlessRefused (seed_refusal m seed) (Has (λ rows. HasSpunRows standard m seed rows × IsMatrix rows))
 
--- the sub action on rows as they stand, which are to be independent and to span an invariant space other than zero
+-- a sub action on rows as they stand; where they are independent there is at most one, and that they are is not said
+-- here
 unfoldable pub ActionOn : ModuleValue → MatrixValue → Meaning ModuleValue
 ActionOn m rows = Has (λ action. IsBasisAction m rows action × HasSquareGenerators action)
 
