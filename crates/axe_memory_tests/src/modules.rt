@@ -57,8 +57,8 @@ fn standard(
 ) -> Result<Matrix, Refusal> {
     assert!(rt; 0 < rows.rows());
     let vector = rows.row(0);
-    assert!(rt; vector.field().order() == module.field().order() && vector.len() == module.dim());
-    assert!(rt; vector.field() == module.field() && !vector.is_zero());
+    assert!(rt; vector.field() == module.field() && vector.len() == module.dim());
+    assert!(rt; !vector.is_zero());
     standard_basis(alloc, module, vector)
 }
 
