@@ -135,12 +135,7 @@ fn acts(
 }
 
 /// A copy of the module, split by independent rows that span a submodule.
-fn split(
-    rt: &impl Abort,
-    alloc: Global,
-    module: &Module,
-    rows: &Matrix,
-) -> Result<Split, Refusal> {
+fn split(rt: &impl Abort, alloc: Global, module: &Module, rows: &Matrix) -> Result<Split, Refusal> {
     assert_independent(rt, alloc, rows)?;
     assert!(rt; rows.field().order() == module.field().order() && rows.cols() == module.dim());
     assert!(rt; rows.rows() >= 1 && rows.rows() < module.dim());
@@ -161,18 +156,15 @@ fn are_numbers(numbers: &[usize], text: &str) -> Result<bool, TableFault> {
     Ok(count == numbers.len())
 }
 
-fn splits(
-    rt: &impl Abort,
-    alloc: Global,
-    module: &Module,
-    line: &str,
-) -> Result<bool, TableFault> {
+fn splits(rt: &impl Abort, alloc: Global, module: &Module, line: &str) -> Result<bool, TableFault> {
     let (rows, sub, quotient, columns) = four_fields(line)?;
     let rows = matrix_of(alloc, rows)?;
     let split = split(rt, alloc, module, &rows)?;
-    Ok(are_numbers(&split.columns, columns)?
-        && is_module(alloc, Ok(split.sub), sub)?
-        && is_module(alloc, Ok(split.quotient), quotient)?)
+    Ok(
+        are_numbers(&split.columns, columns)?
+            && is_module(alloc, Ok(split.sub), sub)?
+            && is_module(alloc, Ok(split.quotient), quotient)?,
+    )
 }
 
 /// The calls that are given a module first.

@@ -167,9 +167,11 @@ fn stays_open(alloc: Global, line: &str) -> Result<bool, TableFault> {
     let module = module_of(alloc, module)?;
     match chop(alloc, &module, SEED, 0) {
         Ok(_) => Ok(false),
-        Err(ChopFault::Undecided { basis, offset, dim }) => Ok(offset == number_of(before)?
-            && dim == number_of(size)?
-            && is_same_matrix(alloc, &basis, rows)?),
+        Err(ChopFault::Undecided { basis, offset, dim }) => Ok(
+            offset == number_of(before)?
+                && dim == number_of(size)?
+                && is_same_matrix(alloc, &basis, rows)?,
+        ),
         Err(ChopFault::Memory) => Err(TableFault::Refused(Refusal::Memory)),
     }
 }
