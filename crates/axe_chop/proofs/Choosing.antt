@@ -17,7 +17,8 @@ use Rattle.axe_matrix.specs.Matrices.{MatrixValue, IsMatrix, identity_matrix, ma
 use Rattle.axe_matrix.proofs.ProductLaws.{length-product, get_or-product}
 use Rattle.axe_echelon.proofs.InverseLaws.{matrix_over}
 use Rattle.axe_echelon.proofs.SomeMatrix.{matrix_of_rows_over}
-use Rattle.axe_chop.specs.Vectors.{unit_vectors, chosen_rows}
+use Rattle.axe_action.specs.Coordinates.{rows_chosen}
+use Rattle.axe_chop.specs.Vectors.{matrix_of_unit_vectors}
 
 -- ---- one after the other
 
@@ -69,7 +70,7 @@ unit_row_over K n i = listed_over K n (λ j. cond (eqb i j) 1 0) (λ j below. bi
 
 -- those of some columns are the rows of a matrix
 pub units_are_matrix : (o : Order) (n : ℕ) (columns : List ℕ) → 1 ≤ n → n ≤ most_columns → length columns ≤ most_rows →
-    IsMatrix (unit_vectors o n columns)
+    IsMatrix (matrix_of_unit_vectors o n columns)
 units_are_matrix o n columns some fits few =
     matrix_of_rows_over o n (map (unit_row n) columns) some fits (omega (arith, count, few))
     (λ i d below.
@@ -98,7 +99,7 @@ same_rows f g numbers same =
 
 -- among all unit vectors
 pub chosen_of_identity : (o : Order) (n : ℕ) (places : List ℕ) → All (λ place. place < n) places →
-    unit_vectors o n places ≡ chosen_rows (identity_matrix o n) places
+    matrix_of_unit_vectors o n places ≡ rows_chosen places (identity_matrix o n)
 unfolding identity
 chosen_of_identity o n places within = λ k. record { order = o; cols = n; rows = same k }
   where
@@ -113,14 +114,14 @@ within_identity o n m places is within =
     subst (λ k. All (λ place. place < k) places) (ap (λ (x : MatrixValue). length x.rows) is ∙ identity_length (number_field o) n) within
 
 -- among the unit vectors of some columns
-pub within_units : (o : Order) (n : ℕ) (columns : List ℕ) (m : MatrixValue) (places : List ℕ) → m ≡ unit_vectors o n columns →
+pub within_units : (o : Order) (n : ℕ) (columns : List ℕ) (m : MatrixValue) (places : List ℕ) → m ≡ matrix_of_unit_vectors o n columns →
     All (λ place. place < length m.rows) places → All (λ place. place < length columns) places
 within_units o n columns m places is within =
     subst (λ k. All (λ place. place < k) places) (ap (λ (x : MatrixValue). length x.rows) is ∙ length-map columns (unit_row n)) within
 
 pub chosen_of_units : (o : Order) (n : ℕ) (columns places chosen : List ℕ) → All (λ place. place < length columns) places →
     chosen ≡ map (λ place. get_or columns place 0) places →
-    unit_vectors o n chosen ≡ chosen_rows (unit_vectors o n columns) places
+    matrix_of_unit_vectors o n chosen ≡ rows_chosen places (matrix_of_unit_vectors o n columns)
 chosen_of_units o n columns places chosen within is = λ k. record { order = o; cols = n; rows = same k }
   where
     same : map (unit_row n) chosen ≡ map (λ place. get_or (map (unit_row n) columns) place []) places
@@ -158,7 +159,7 @@ chosen_count columns places chosen is = ap length is ∙ length-map places (λ p
 -- the rows at some places are what the unit vectors of these lift to
 pub chosen_by_units : (o : Order) (m : MatrixValue) (columns : List ℕ) → m.order ≡ o → IsMatrix m →
     All (λ column. column < length m.rows) columns →
-    chosen_rows m columns ≡ matrix_product (unit_vectors o (length m.rows) columns) m
+    rows_chosen columns m ≡ matrix_product (matrix_of_unit_vectors o (length m.rows) columns) m
 chosen_by_units o m columns field formed within = λ k. record { order = field k; cols = m.cols; rows = same k }
   where
     K : NumberField

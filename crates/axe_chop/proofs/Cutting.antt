@@ -24,7 +24,8 @@ use Rattle.axe_series.specs.Sections.{SectionValue, IsCut, whole_section, lifted
 use Rattle.axe_series.proofs.LiftedRows.{AreBlocks, split_in_blocks, parts_are_lifted}
 use Rattle.axe_series.proofs.SomeCut.{dimensions_add_up}
 use Rattle.axe_chop.specs.Stages.{IsSection}
-use Rattle.axe_chop.specs.Vectors.{unit_vectors, chosen_rows}
+use Rattle.axe_action.specs.Coordinates.{rows_chosen}
+use Rattle.axe_chop.specs.Vectors.{matrix_of_unit_vectors}
 use Rattle.axe_chop.proofs.Choosing.{identity_is_matrix, units_are_matrix, chosen_by_units}
 use Rattle.axe_chop.proofs.Lifting.{lifted_rows_count}
 
@@ -188,7 +189,7 @@ pub record IsCutAt (section : SectionValue) (space : MatrixValue) (columns : Lis
 
 module _ (section : SectionValue) (space : MatrixValue) (columns : List ℕ) (at : IsCutAt section space columns) where
   abbrev units : MatrixValue
-  units = unit_vectors space.order space.cols columns
+  units = matrix_of_unit_vectors space.order space.cols columns
 
   extends : IsExtendedMatrix space (extended_by space units)
   extends = extended_by_units space units columns at.free refl
@@ -215,14 +216,14 @@ module _ (section : SectionValue) (space : MatrixValue) (columns : List ℕ) (at
 
   -- and these rows are the unit vectors, lifted
   module _ (first after : MatrixValue) (first_is : first ≡ lifted_rows section space)
-      (after_is : after ≡ chosen_rows section.rows columns) (first_formed : IsMatrix first) where
+      (after_is : after ≡ rows_chosen columns section.rows) (first_formed : IsMatrix first) where
     field : section.rows.order ≡ space.order
     field = at.is_section.field ∙ sym at.proper.field
 
     after_lifted : after ≡ lifted_rows section units
     after_lifted =
         after_is ∙ chosen_by_units space.order section.rows columns field at.is_section.rows_formed columns_within
-        ∙ ap (λ n. matrix_product (unit_vectors space.order n columns) section.rows) (sym dimension)
+        ∙ ap (λ n. matrix_product (matrix_of_unit_vectors space.order n columns) section.rows) (sym dimension)
 
     pub are_lifted : AreLifted section space units first after
     are_lifted = record {
@@ -273,8 +274,8 @@ module _ (section self : SectionValue) (space : MatrixValue) (action : ModuleVal
 
   module _ (sub quotient : ModuleValue) (columns : List ℕ) (split_in : IsSplit action space sub quotient columns)
       (first after : MatrixValue) (first_is : first ≡ lifted_rows section space)
-      (after_is : after ≡ chosen_rows section.rows columns) (first_formed : IsMatrix first) where
-    lifted_parts : AreLifted section space (unit_vectors space.order space.cols columns) first after
+      (after_is : after ≡ rows_chosen columns section.rows) (first_formed : IsMatrix first) where
+    lifted_parts : AreLifted section space (matrix_of_unit_vectors space.order space.cols columns) first after
     lifted_parts = are_lifted section space columns (cut_at columns split_in.free) first after first_is after_is first_formed
 
     acts_here : IsBasisAction section.action space sub
@@ -285,17 +286,17 @@ module _ (section self : SectionValue) (space : MatrixValue) (action : ModuleVal
 
     pub sub_kept : IsSection (record { action = sub; rows = first })
     sub_kept =
-        sub_section section space (unit_vectors space.order space.cols columns) first after lifted_parts sub acts_here
+        sub_section section space (matrix_of_unit_vectors space.order space.cols columns) first after lifted_parts sub acts_here
         split_in.sub_module
 
     pub quotient_kept : IsSection (record { action = quotient; rows = after })
     quotient_kept =
-        quotient_section section space (unit_vectors space.order space.cols columns) first after lifted_parts quotient
+        quotient_section section space (matrix_of_unit_vectors space.order space.cols columns) first after lifted_parts quotient
         modulo_here split_in.quotient_module
 
     pub parts_kept : IsCut self space (record { action = sub; rows = first }) (record { action = quotient; rows = after })
     parts_kept =
         subst (λ (s : SectionValue). IsCut s space (record { action = sub; rows = first }) (record { action = quotient; rows = after }))
         opened.same
-        (is_cut section space (unit_vectors space.order space.cols columns) first after lifted_parts quotient modulo_here sub
+        (is_cut section space (matrix_of_unit_vectors space.order space.cols columns) first after lifted_parts quotient modulo_here sub
         acts_here split_in.sub_module split_in.quotient_module)

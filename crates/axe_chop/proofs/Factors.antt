@@ -12,8 +12,9 @@ use Rattle.std.proofs.lemmas.Slice.Eq.{bytes_eq-Decides}
 use Rattle.indexmap.specs.IndexMap.{insert_entry}
 use Rattle.axe_iso.specs.Forms.{FormValue}
 use Rattle.axe_report.specs.Names.{constituent_name, count_of, names_of}
+use Rattle.axe_report.specs.Reports.{counts_in}
 use Rattle.axe_report.proofs.Plain.{no_names, names_of_push, name_is_new}
-use Rattle.axe_chop.specs.Chopped.{dims_of, multiplicities_in, AreFactorsOf}
+use Rattle.axe_chop.specs.Chopped.{dims_of, AreFactorsOf}
 use Rattle.axe_chop.specs.declared.chopped.Factor.{Factor}
 
 -- a key that is new goes last
@@ -29,12 +30,12 @@ new_key_last X key value (e ∷ es) new =
     ∙ ap (λ (l : List (String Global × X)). e ∷ l) (new_key_last X key value es new.1)
 
 multiplicities_push : (places : List ℕ) (n : ℕ)
-    → multiplicities_in places (n + 1) ≡ multiplicities_in places n ++ count_of n places ∷ []
-unfolding multiplicities_in
+    → counts_in places (n + 1) ≡ counts_in places n ++ count_of n places ∷ []
+unfolding counts_in
 multiplicities_push places n = map-range_with_len_more (λ (number : ℕ). count_of number places) 0 n n (omega arith)
 
-no_multiplicities : (places : List ℕ) → multiplicities_in places 0 ≡ []
-unfolding multiplicities_in
+no_multiplicities : (places : List ℕ) → counts_in places 0 ≡ []
+unfolding counts_in
 no_multiplicities places = refl
 
 -- entries are the first factors, of which the dimensions are known
@@ -88,7 +89,7 @@ first_push forms places dims entries form name factor h fits named is counted =
             ∙ ap₂ (λ (l : List ℕ) (n : ℕ). l ++ n ∷ []) h.factors.multiplicities_are
             (counted ∙ ap (λ (n : ℕ). count_of n places) count)
             ∙ sym (multiplicities_push places (length forms))
-            ∙ ap (λ (n : ℕ). multiplicities_in places n) (sym more);
+            ∙ ap (λ (n : ℕ). counts_in places n) (sym more);
       };
       dims_are = ap (λ (l : List ℕ). l ++ form.matrices.dim ∷ []) h.dims_are ∙ sym more_dims;
       small = All-push (λ d. d ≤ 2048) dims form.matrices.dim h.small fits;

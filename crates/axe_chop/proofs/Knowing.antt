@@ -1,16 +1,12 @@
 -- The first of some forms that is one of a module.
-use Rattle.std.proofs.Common.{◌≡◌, ℕ, ◌+◌, ◌<◌, ◌≤◌, List, ◌∷◌, ◌++◌, length, get_or, take, drop, sym, ap, subst, ◌∙◌, arith, length-append, Some, None}
+use Rattle.std.proofs.Common.{◌≡◌, ℕ, ◌+◌, ◌<◌, ◌≤◌, List, ◌∷◌, ◌++◌, length, get_or, take, drop, sym, ap, subst, ◌∙◌, arith, Some, None}
 use Rattle.std.proofs.lemmas.List.{take_all, take-append-drop, drop_more, length-take-le}
-use Rattle.std.proofs.lemmas.List.Elements.{All-nil, All-more}
+use Rattle.std.proofs.lemmas.List.Elements.{All-more}
 use Rattle.axe_matrix.specs.Matrices.{MatrixValue}
 use Rattle.axe_spin.specs.Modules.{ModuleValue}
 use Rattle.axe_iso.specs.Forms.{FormValue}
 use Rattle.axe_iso.specs.Matches.{IsMatch}
 use Rattle.axe_series.specs.Runs.{AreOfOthers, IsKnownAs}
-
--- none of no forms
-pub others_none : (forms : List FormValue) (m : ModuleValue) → AreOfOthers (take 0 forms) m
-others_none forms m = All-nil (λ form. IsMatch form m None)
 
 -- the form of a number
 module _ (forms : List FormValue) (m : ModuleValue) (number : ℕ) (form : FormValue) (below : number < length forms)
@@ -37,8 +33,3 @@ module _ (forms : List FormValue) (m : ModuleValue) (number : ℕ) (form : FormV
 pub others_all : (forms : List FormValue) (m : ModuleValue) (number : ℕ) → AreOfOthers (take number forms) m → length forms ≤ number →
     AreOfOthers forms m
 others_all forms m number others all = subst (λ (fs : List FormValue). AreOfOthers fs m) (take_all number forms all) others
-
--- a known number is that of a form
-pub known_below : (forms : List FormValue) (m : ModuleValue) (number : ℕ) (t : MatrixValue) → IsKnownAs forms m number t → number < length forms
-known_below forms m number t known =
-    omega (arith, known.number_is, ap length known.among, length-append known.earlier (known.form ∷ known.later))

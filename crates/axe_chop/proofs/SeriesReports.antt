@@ -18,7 +18,7 @@ use Rattle.axe_report.specs.Names.{names_of}
 use Rattle.axe_report.specs.Reports.{FactorValue, ReportValue, names, dims, multiplicities, counts_in, IsReportHeader, IsReport}
 use Rattle.axe_report.specs.declared.report.ReportHeader.{ReportHeader}
 use Rattle.axe_report.proofs.NumberedFactors.{AreNumbered, numbered_report, numbered_by_parts}
-use Rattle.axe_chop.specs.Chopped.{dims_of, multiplicities_in, IsNamed}
+use Rattle.axe_chop.specs.Chopped.{dims_of, IsNamed}
 use Rattle.axe_chop.specs.Answers.{factor_modules}
 use Rattle.axe_chop.specs.Reported.{dims_of_factors, reported_factor, entry_factor, module_header, series_report, IsFoundUnder}
 use Rattle.axe_chop.specs.declared.chopped.Factor.{Factor}
@@ -122,12 +122,12 @@ module _ (found : FoundValue) (chopped : Chopped) (named : IsNamed found chopped
       ∙ sym (map-map (λ (m : ModuleValue). m.dim) (λ (factor : Factor). factor.form.matrices) (values chopped.factors))
 
   counts_of_entries : multiplicities (map entry_factor entries) ≡ counts_in chopped.series.items (length ds_of_named)
-  unfolding multiplicities_in counts_in
+  unfolding counts_in
   counts_of_entries =
       map-map (λ (f : FactorValue). f.multiplicity) entry_factor entries
       ∙ sym (map-map (λ (factor : Factor). factor.multiplicity) (λ (e : String Global × Factor). e.1) entries)
       ∙ named.factors.multiplicities_are
-      ∙ ap₂ multiplicities_in (sym named.series) count_of_forms
+      ∙ ap₂ counts_in (sym named.series) count_of_forms
     where
       count_of_forms : length found.forms ≡ length ds_of_named
       count_of_forms =

@@ -1,11 +1,10 @@
 -- A module is chopped step by step: what is kept from one section to the next.
 use Rattle.std.specs.Prelude.{◌≡◌, ℕ, ◌+◌, ◌-◌, ◌<◌, ◌≤◌, List, [], ◌∷◌, ◌++◌, length, drop, Option, Some, None, option_to_list, Result, Ok, Err, IfOk}
 use Rattle.std.specs.List.{All}
-use Rattle.std.proofs.lemmas.List.{append_assoc, append-nil}
+use Rattle.std.proofs.lemmas.List.{append-nil}
 use Rattle.std.proofs.lemmas.List.Elements.{All-nil, All-cons, All-head, All-tail, All-append, All-weaker}
 use Rattle.std.proofs.Common.{length-append}
 use Rattle.axe_algebra.proofs.ListEntries.{table_length}
-use Rattle.axe_field.specs.Order.{IsElement}
 use Rattle.axe_row.specs.declared.refusals.Refusal.{Refusal}
 use Rattle.axe_row.specs.Refusals.{Answers}
 use Rattle.axe_row.specs.Rows.{RowValue}
@@ -110,22 +109,6 @@ module _ (found : FoundValue) (section : SectionValue) (seed word : ℕ) (v : Ro
       known word v number t decides is_known run
   placed_run words rest next outcome (as_new form others is_new) decides run =
       new word v form decides others is_new run
-
--- ---- matrices
-
--- the rows of a matrix after those of another
-pub appended_is_matrix : (basis rows : MatrixValue) → IsMatrix basis → IsMatrix rows → rows.order ≡ basis.order →
-    rows.cols ≡ basis.cols → length basis.rows + length rows.rows ≤ most_rows →
-    IsMatrix (record basis { rows = basis.rows ++ rows.rows })
-appended_is_matrix basis rows is is_rows field columns room = record {
-  some_column = is.some_column;
-  columns_fit = is.columns_fit;
-  rows_fit = omega (arith, length-append basis.rows rows.rows, room);
-  row_lengths = All-append (λ row. length row ≡ basis.cols) basis.rows rows.rows is.row_lengths
-      (subst (λ n. All (λ row. length row ≡ n) rows.rows) columns is_rows.row_lengths);
-  elements = All-append (All (IsElement basis.order)) basis.rows rows.rows is.elements
-      (subst (λ o. All (All (IsElement o)) rows.rows) field is_rows.elements);
-}
 
 -- ---- the stages
 
@@ -389,33 +372,3 @@ module _ (whole basis : MatrixValue) (left : List SectionValue) (opening : IsOpe
   opening_end none =
       (λ i. record { order = basis.order; cols = basis.cols; rows = sym (append-nil basis.rows) i })
       ∙ ap (with_sections basis) (sym none) ∙ opening.is
-
-  module _ (section : SectionValue) (rest : List SectionValue) (left_is : left ≡ section ∷ rest) where
-    all_like : All (IsRowsLike basis) (section ∷ rest)
-    all_like = subst (All (IsRowsLike basis)) left_is opening.like
-
-    pub like_next : IsRowsLike basis section
-    like_next = All-head (IsRowsLike basis) section rest all_like
-
-    room_then : length basis.rows + (section.action.dim + sections_dim rest) ≤ most_rows
-    room_then = subst (λ these. length basis.rows + sections_dim these ≤ most_rows) left_is opening.room
-
-    pub room_next : length basis.rows + length section.rows.rows ≤ most_rows
-    room_next = omega (arith, room_then, like_next.count)
-
-    -- the first of them is appended
-    pub opening_next : (next : MatrixValue) → IsSection section →
-        next ≡ record basis { rows = basis.rows ++ section.rows.rows } → IsOpening whole next rest
-    opening_next next is_section next_is = subst (λ m. IsOpening whole m rest) (sym next_is) (record {
-      is = (λ i. record {
-        order = basis.order;
-        cols = basis.cols;
-        rows = append_assoc basis.rows section.rows.rows (rows_of_sections rest) i;
-      }) ∙ ap (with_sections basis) (sym left_is) ∙ opening.is;
-      like = All-weaker (IsRowsLike basis) (IsRowsLike (record basis { rows = basis.rows ++ section.rows.rows }))
-          (λ other like. record { field = like.field; columns = like.columns; count = like.count }) rest
-          (All-tail (IsRowsLike basis) section rest all_like);
-      room = omega (arith, room_then, like_next.count, length-append basis.rows section.rows.rows);
-      formed = appended_is_matrix basis section.rows opening.formed is_section.rows_formed like_next.field
-          like_next.columns room_next;
-    })

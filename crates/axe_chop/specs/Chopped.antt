@@ -1,21 +1,17 @@
 -- The answer: the factors of a composition series under their names.
 use Rattle.std.specs.Prelude.{◌≡◌, ℕ, List, map, length, string_bytes, String}
-use Rattle.std.specs.List.{range_with_len}
 use Rattle.std.specs.declared.alloc.Global.{Global}
 use Rattle.indexmap.specs.IndexMap.{keys, values}
 use Rattle.axe_iso.specs.Forms.{FormValue}
 use Rattle.axe_series.specs.Runs.{FoundValue}
-use Rattle.axe_report.specs.Names.{count_of, names_of}
+use Rattle.axe_report.specs.Names.{names_of}
+use Rattle.axe_report.specs.Reports.{counts_in}
 use Rattle.axe_chop.specs.declared.chopped.Factor.{Factor}
 use Rattle.axe_chop.specs.declared.chopped.Chopped.{Chopped}
 
 -- the dimensions of factors with these forms
 abbrev pub dims_of : List FormValue → List ℕ
 dims_of forms = map (λ (form : FormValue). form.matrices.dim) forms
-
--- for each of so many factors how often it stands in the series: its number among the places (Parker 1984)
-unfoldable pub multiplicities_in : List ℕ → ℕ → List ℕ
-multiplicities_in places count = map (λ number. count_of number places) (range_with_len 0 count)
 
 -- factors in order, with their keys: they have these forms, the names of these dimensions, and their multiplicities in
 -- a series with these places
@@ -25,7 +21,7 @@ pub record AreFactorsOf (forms : List FormValue) (places : List ℕ) (names : Li
   pub forms_are : map (λ (factor : Factor). factor.form) factors ≡ forms
   pub names_are : map string_bytes names ≡ names_of (dims_of forms)
   pub multiplicities_are :
-      map (λ (factor : Factor). factor.multiplicity) factors ≡ multiplicities_in places (length forms)
+      map (λ (factor : Factor). factor.multiplicity) factors ≡ counts_in places (length forms)
 
 -- the answer is what was found: its rows and places, and its factors in their order, under their names
 pub record IsNamed (found : FoundValue) (chopped : Chopped) : Type 0 where

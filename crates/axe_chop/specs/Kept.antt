@@ -4,7 +4,7 @@ use Rattle.std.specs.List.{All}
 use Rattle.axe_matrix.specs.Matrices.{MatrixValue, IsMatrix, identity_matrix}
 use Rattle.axe_spin.specs.Modules.{ModuleValue}
 use Rattle.axe_series.specs.Sections.{SectionValue}
-use Rattle.axe_chop.specs.Vectors.{unit_vectors}
+use Rattle.axe_chop.specs.Vectors.{matrix_of_unit_vectors}
 use Rattle.axe_chop.specs.declared.lifted.KeptRows.{KeptRows}
 use Rattle.axe_chop.specs.declared.lifted.KeptRows.TheVariants.{Identity, Units, Rows}
 use Rattle.axe_chop.specs.declared.section.Action.{Action}
@@ -13,7 +13,7 @@ use Rattle.axe_chop.specs.declared.section.Action.TheVariants.{Lent, Owned}
 -- the lifted rows that are kept: all unit vectors, those of some columns, or rows of any kind
 abbrev pub kept_rows : KeptRows → MatrixValue
 kept_rows (Identity order dim) = identity_matrix order dim
-kept_rows (Units order dim columns) = unit_vectors order dim columns.items
+kept_rows (Units order dim columns) = matrix_of_unit_vectors order dim columns.items
 kept_rows (Rows m) = m
 
 -- the columns whose unit vectors are kept are columns of the dimension

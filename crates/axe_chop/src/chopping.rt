@@ -17,8 +17,8 @@ use std::alloc::Global;
 /// A composition series of a module, found by the words 0 to `words` of a seed (Parker 1984; Holt and Rees 1994): a
 /// basis, by which each generator becomes block lower triangular with irreducible diagonal blocks, and the factors,
 /// which have one name exactly where they are isomorphic. There are at most [`axe_norton::MAX_WORDS`] words beside
-/// word 0. Where each of the words leaves a section of the module open, the fault has a basis that shows that section; a
-/// module with at most [`axe_norton::MOST_POINTS`] points has none.
+/// word 0. Where each of the words leaves a section of the module open, the fault has a basis that shows that section;
+/// a module with at most [`axe_norton::MOST_POINTS`] points has none.
 pub fn chop(alloc: Global, module: &Module, seed: u64, words: u32) -> Result<Chopped, ChopFault>
     requires words { words ≤ last_word }
     ensures run { AnswersChop «module».now seed words result }
@@ -30,7 +30,7 @@ pub fn chop(alloc: Global, module: &Module, seed: u64, words: u32) -> Result<Cho
 }
 
 /// What [`chop`] gives, for a module that is given away: the first cut takes it apart, so that its matrices take no
-/// memory beside those of its sections.
+/// memory beside those of its sections. No clause says when their memory is gone.
 pub fn chop_owned(
     alloc: Global,
     module: Module,
@@ -55,8 +55,8 @@ fn chop_action(
     requires words { words ≤ last_word }
     ensures run { AnswersChop (acting_module action.entry) seed words result }
     ensures holds { IsTrueAnswer (acting_module action.entry) seed words result }
-    ensures small { point_count (order_number (acting_module action.entry).order) (acting_module action.entry).dim ≤ most_points →
-        IsNotUndecided result }
+    ensures small { point_count (order_number (acting_module action.entry).order) (acting_module action.entry).dim
+        ≤ most_points → IsNotUndecided result }
 {
     prove!(action.module().dim() >= 1);
     match search(alloc, action, seed, words)? {

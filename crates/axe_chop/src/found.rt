@@ -70,8 +70,8 @@ impl Found {
         self.place_new(alloc, section, seed, word, vector)
     }
 
-    /// One more place as [`Found::place`] tells it, for a section whose action is isomorphic to no known factor: that of
-    /// a new factor.
+    /// One more place as [`Found::place`] tells it, for a section whose action is isomorphic to no known factor: that
+    /// of a new factor.
     fn place_new(
         &mut self,
         alloc: Global,

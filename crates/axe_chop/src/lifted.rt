@@ -7,7 +7,8 @@ ghost use Rattle.axe_field.specs.NumberFields.{number_field};
 ghost use Rattle.axe_row.specs.Refusals.{Answers};
 ghost use Rattle.axe_matrix.specs.Limits.{most_rows, most_columns};
 ghost use Rattle.axe_matrix.specs.Matrices.{IsMatrix, identity_matrix, matrix_product};
-ghost use Rattle.axe_chop.specs.Vectors.{unit_vectors, chosen_rows};
+ghost use Rattle.axe_action.specs.Coordinates.{rows_chosen};
+ghost use Rattle.axe_chop.specs.Vectors.{matrix_of_unit_vectors};
 
 use axe_field::Field;
 use axe_matrix::{Matrix, Refusal, Row};
@@ -121,7 +122,7 @@ impl LiftedRows {
     pub(crate) fn select(self, alloc: Global, places: Vec<usize>) -> Result<LiftedRows, Refusal>
         requires within { All (λ place. place < length self.rows) places.items }
         requires places_fit { length places.items ≤ most_rows }
-        ensures { Answers None (λ chosen. chosen ≡ chosen_rows self places.items) result }
+        ensures { Answers None (λ chosen. chosen ≡ rows_chosen places.items self) result }
     {
         let LiftedRows { kept } = self;
         match kept {
@@ -163,7 +164,7 @@ fn units_at(alloc: Global, field: Field, dim: usize, columns: &[usize]) -> Resul
     requires columns_fit { dim ≤ most_columns }
     requires within { All (λ column. column < dim) columns.now }
     requires rows_fit { length columns.now ≤ most_rows }
-    ensures units { Answers None (λ units. units ≡ unit_vectors field dim columns.now) result }
+    ensures units { Answers None (λ units. units ≡ matrix_of_unit_vectors field dim columns.now) result }
     ensures well_formed { IfOk result IsMatrix }
 {
     let mut units = Matrix::with_capacity(alloc, field, dim, columns.len())?;
@@ -187,7 +188,7 @@ fn rows_with_entries_at(
     requires within { All (λ column. column < dim) columns.now }
     requires fits { coordinates.now.cols ≡ length columns.now }
     ensures product { Answers None (λ product. product
-        ≡ matrix_product coordinates.now (unit_vectors coordinates.now.order dim columns.now)) result }
+        ≡ matrix_product coordinates.now (matrix_of_unit_vectors coordinates.now.order dim columns.now)) result }
     ensures well_formed { IfOk result IsMatrix }
 {
     let count = coordinates.rows();
@@ -228,7 +229,7 @@ fn row_with_entries_at(
 fn rows_at(alloc: Global, rows: &Matrix, places: &[usize]) -> Result<Matrix, Refusal>
     requires within { All (λ place. place < length rows.now.rows) places.now }
     requires places_fit { length places.now ≤ most_rows }
-    ensures chosen { Answers None (λ chosen. chosen ≡ chosen_rows rows.now places.now) result }
+    ensures chosen { Answers None (λ chosen. chosen ≡ rows_chosen places.now rows.now) result }
     ensures well_formed { IfOk result IsMatrix }
 {
     let mut chosen = Matrix::with_capacity(alloc, *rows.field(), rows.cols(), places.len())?;

@@ -31,8 +31,8 @@ pub(crate) enum Searched {
     },
 }
 
-/// What the words 0 to `words` of a seed find of a module, lent or not: sections are decided in turn, from the bottom; a
-/// reducible one is cut in two, and an irreducible one has the next place.
+/// What the words 0 to `words` of a seed find of a module, lent or not: sections are decided in turn, from the bottom;
+/// a reducible one is cut in two, and an irreducible one has the next place.
 pub(crate) fn search(
     alloc: Global,
     action: Action<'_>,

@@ -93,8 +93,8 @@ impl<'a> Section<'a> {
         rows.lift(alloc, coordinates)
     }
 
-    /// The standard form of the action on an irreducible section, by the vector that a word of a seed decided it by, and
-    /// the vectors of the module that have the rows of its basis as coordinates. The action is taken apart.
+    /// The standard form of the action on an irreducible section, by the vector that a word of a seed decided it by,
+    /// and the vectors of the module that have the rows of its basis as coordinates. The action is taken apart.
     pub(crate) fn into_form(
         self,
         alloc: Global,
@@ -132,8 +132,8 @@ impl<'a> Section<'a> {
             quotient,
             columns,
         } = split_by_submodule(alloc, module, &space)?;
-        // The rows of the submodule are lifted, and the unit vectors that extend them to a basis: these lift to the rows
-        // at their columns.
+        // The rows of the submodule are lifted, and the unit vectors that extend them to a basis: these lift to the
+        // rows at their columns.
         let sub_rows = rows.lift(alloc, space)?;
         let quotient_rows = rows.select(alloc, columns)?;
         Ok((

@@ -31,7 +31,7 @@ use Rattle.axe_spin.specs.Spun.{image_of_row}
 use Rattle.axe_iso.specs.Matches.{HasStandardMatrices}
 use Rattle.axe_lane.specs.Entries.{AreZerosFrom}
 use Rattle.axe_iso.specs.Following.{IsNextRow, IsKnownImage, IsOtherImage, FollowsImage, AreOfUnitVector, AreFollowedUpTo, AreFormMatrices, IsFollowedBasis, IsBasisWithMatrices}
-use Rattle.axe_iso.proofs.Followed.{followed_first, followed_next, followed_known, followed_no_more, followed_row, followed_row_is_there, no_standard_matrices, followed_all, followed_independent, followed_matrices, followed_basis}
+use Rattle.axe_iso.proofs.Followed.{followed_first, followed_next, followed_known, followed_no_more, followed_row_is_there, no_standard_matrices, followed_all, followed_independent, followed_matrices, followed_basis}
 use mathlib.Core.Path.{ap₂, fun_ext}
 
 -- ---- the combination of rows with the first of some coefficients
@@ -242,18 +242,6 @@ module _ (m matrices : ModuleValue) (is_module : IsModule m) (form : AreFormMatr
 
       pub image_not_followed : follows ≡ false → ¬ (HasStandardMatrices m v matrices)
       image_not_followed false_so = not_followed (as_told false false_so)
-
-  -- ---- the next row
-
-  pub row_followed : (v : List ℕ) (basis : MatrixValue) (r n : ℕ) → length m.generators ≤ n → IsFollowedBasis m matrices v basis r n →
-      IsFollowedBasis m matrices v basis (r + 1) 0
-  row_followed v basis r n all is = record {
-    field = is.field;
-    columns = is.columns;
-    well_formed = is.well_formed;
-    first = is.first;
-    followed = followed_row F M A (length basis.rows) (matrix_of K basis.rows) r n form.count all is.followed;
-  }
 
   -- ---- the end
 

@@ -11,7 +11,7 @@ use Rattle.axe_algebra.proofs.ProductLaws.{unit_length, times_unit, times_same, 
 use Rattle.axe_algebra.proofs.SquareMatrices.{invertible_of_rows}
 use Rattle.axe_algebra.proofs.StandardImages.{isomorphism_keeps_standard_matrices}
 use Rattle.axe_iso.specs.Following.{BeginsWith, IsAsTold, AreOfUnitVector, AreFollowedUpTo}
-use Rattle.axe_iso.proofs.StillToCome.{nothing_before_start, before_or_same, all_to_come, next_within, next_unit, to_come_past_next, to_come_past_known, to_come_in_next_row, row_is_there, none_to_come}
+use Rattle.axe_iso.proofs.StillToCome.{nothing_before_start, before_or_same, all_to_come, next_within, next_unit, to_come_past_next, to_come_past_known, row_is_there, none_to_come}
 use mathlib.Core.Path.{fun_ext}
 use native.Mathlib.Decide.{dec_lt, ℕ_discrete}
 
@@ -140,20 +140,6 @@ module _ (F : Field) (M A : Module F) where
           differs (sym (image_in c old) ∙ acts.acts i r below inside ∙ short c old)
 
   -- ---- the next row
-
-  pub followed_row : (k : ℕ) (b : Matrix F) (r n : ℕ) → A.count ≡ M.count → M.count ≤ n → AreFollowedUpTo F M A k b r n → AreFollowedUpTo F M A k b (r + 1) 0
-  followed_row k b r n count all followed = record {
-    some = followed.some;
-    no_more = followed.no_more;
-    to_come = λ own. to_come_in_next_row F A own k r n followed.some (omega (arith, all, count)) (followed.to_come own);
-    told = λ s j before within. followed.told s j (cases s j before within (ℕ_discrete s r)) within;
-    only = followed.only;
-  }
-    where
-      cases : (s j : ℕ) → Precedes s j (r + 1) 0 → j < M.count → Dec (s ≡ r) → Precedes s j r n
-      cases s j (inr e) within _ = absurd (omega (arith, e.1))
-      cases s j (inl e) within (yes same) = inr (same, omega (arith, within, all))
-      cases s j (inl e) within (no other) = inl (omega (arith, e, other))
 
   pub followed_row_is_there : (own : AreOfUnitVector F A) (k : ℕ) (b : Matrix F) (r i : ℕ) → AreFollowedUpTo F M A k b r i → r < A.dimension → r < k
   followed_row_is_there own k b r i followed = row_is_there F A own k r i followed.some (followed.to_come own)

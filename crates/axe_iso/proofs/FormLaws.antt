@@ -137,14 +137,6 @@ pub record AreTriedOfWord (form : FormValue) (m : ModuleValue) (left : PointsLef
   pub tried : AreTried form m space left
 
 module _ (form : FormValue) (m : ModuleValue) (space : MatrixValue) where
-  pub tried_none : (s : PointsLeft) → s ≡ record { order = space.order; left = points_of space } → AreTried form m space s
-  tried_none s is = record {
-    field = ap (λ (v : PointsLeft). v.order) is;
-    place = 0;
-    rest = ap (λ (v : PointsLeft). v.left) (sym is);
-    tried = λ j below. absurd (omega arith);
-  }
-
   module _ (s t : PointsLeft) (point : RowValue) (before : AreTried form m space s) (gives : GivesNext s (Some (Ok point)) t) where
     pub tried_inside : before.place < length (points_of space)
     tried_inside = omega (arith, length-drop before.place (points_of space), ap length before.rest, ap length gives.0)

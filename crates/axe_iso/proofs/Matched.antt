@@ -37,9 +37,6 @@ module _ (form : FormValue) (m : ModuleValue) (space : MatrixValue) (is_module :
       (point_in_module m (drawn_word form.seed form.word (order_number m.order) (length m.generators)) space facts before.place
       (tried_inside form m space s t point before gives))
 
-  pub point_field : point.order ≡ m.order
-  point_field = gives.1 ∙ before.field ∙ facts.field
-
   pub point_fits : length point.entries ≡ m.dim
   point_fits = nonzero_spanned.over.length_is
 
@@ -88,9 +85,6 @@ module _ (form : FormValue) (m : ModuleValue) (is_module : IsModule m) (field : 
     (gives : GivesNext s (Some item) t) where
   given : GivesNext s (Some (Ok point)) t
   given = subst (λ r. GivesNext s (Some r) t) was gives
-
-  pub item_field : point.order ≡ m.order
-  item_field = point_field form m before.space is_module before.is_space field dimension s t point before.tried given
 
   pub item_fits : length point.entries ≡ m.dim
   item_fits = point_fits form m before.space is_module before.is_space field dimension s t point before.tried given

@@ -135,15 +135,6 @@ module _ (F : Field) (A : Module F) (own : AreOfUnitVector F A) where
         cases (inl earlier) = to_come t from within earlier
         cases (inr same) = F.one-not-zero (sym (unit_at F t) ∙ ap (λ (x : Vector F). x t) (sym (unit same)) ∙ zeros t from)
 
-  -- from the last generator of a row to the next row
-  pub to_come_in_next_row : (k r n : ℕ) → 0 < k → A.count ≤ n → ToCome k r n → ToCome k (r + 1) 0
-  to_come_in_next_row k r n some all to_come t from within (inr e) = absurd (omega (arith, e.1))
-  to_come_in_next_row k r n some all to_come t from within (inl e) = to_come t from within (cases (ℕ_discrete (pairs_row t) r))
-    where
-      cases : Dec (pairs_row t ≡ r) → Precedes (pairs_row t) (pairs_generator t) r n
-      cases (yes same) = inr (same, omega (arith, all, own.standard.generator-below t (omega (arith, some, from)) (inside_basis t within)))
-      cases (no other) = inl (omega (arith, e, other))
-
   -- a row whose images are to be taken is there
   pub row_is_there : (k r i : ℕ) → 0 < k → ToCome k r i → r < A.dimension → r < k
   row_is_there k r i some to_come inside = cases (dec_lt r k)

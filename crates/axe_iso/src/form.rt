@@ -131,7 +131,8 @@ pub(crate) fn form_by_basis(
 }
 
 /// The standard form of a module as [`form_of`] gives it, for a module that is given away: it is taken apart, so that
-/// each of its generators is gone before the standard matrix that comes in its place is made.
+/// each of its generators is gone before the standard matrix that comes in its place is made. No clause says when they
+/// are gone.
 pub fn form_of_owned(
     alloc: Global,
     module: Module,

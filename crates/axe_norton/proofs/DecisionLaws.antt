@@ -7,6 +7,7 @@ use Rattle.axe_row.specs.declared.refusals.Refusal.{Refusal}
 use Rattle.axe_matrix.specs.Matrices.{MatrixValue, IsMatrix}
 use Rattle.axe_reduction.specs.Solutions.{IsInvertibleMatrix}
 use Rattle.axe_echelon.specs.Echelons.{IsNullSpaceMatrix, null_space_refusal}
+use Rattle.axe_echelon.proofs.Exits.{answers_more}
 use Rattle.axe_spin.specs.Modules.{ModuleValue, IsModule}
 use Rattle.axe_word.specs.Words.{WordValue, IsWordIn, IsValueOf}
 use Rattle.axe_word.specs.Drawing.{drawn_word}
@@ -17,7 +18,7 @@ use Rattle.axe_norton.specs.Spaces.{HasFewPoints, TriedGenerate, TransposeGenera
 use Rattle.axe_norton.specs.Searches.{IsReducedIn, IsSquareIn}
 use Rattle.axe_norton.specs.Verdicts.{Tells, Says, LeavesOpen, LeaveOpenBefore, word_of_seed, IsTrueOf}
 use Rattle.axe_norton.proofs.OpenLaws.{own_square, invertible_without_rows, no_rows_of_invertible}
-use Rattle.axe_norton.proofs.SearchLaws.{answered_more, null_accepted, null_is_reduced, some_point_in}
+use Rattle.axe_norton.proofs.SearchLaws.{null_accepted, null_is_reduced, some_point_in}
 use Rattle.axe_norton.proofs.TruthLaws.{said_is_true}
 use mathlib.Core.Logic.{inl, inr}
 use mathlib.Core.Path.{refl, sym, ◌∙◌, ap, subst}
@@ -76,7 +77,7 @@ value_null m word matrix result formed is_value answer =
 
 pub said_by : (m : ModuleValue) (word : WordValue) (matrix null : MatrixValue) (result : Result At Refusal) → IsValueOf m word matrix →
     IsNullSpaceMatrix matrix null → IsMatrix null → Answers None (Tells m matrix null) result → Answers None (Says m word) result
-said_by m word matrix null result is_value is well_formed told = answered_more result (Tells m matrix null) (Says m word) told
+said_by m word matrix null result is_value is well_formed told = answers_more result (Tells m matrix null) (Says m word) told
     (λ answer tells. record {
       tested = record { matrix = matrix; is_value = is_value; null_space = null; is_null_space = is; well_formed = well_formed };
       tells = tells;
@@ -84,7 +85,7 @@ said_by m word matrix null result is_value is well_formed told = answered_more r
 
 pub truth_told : (m : ModuleValue) (word : WordValue) (result : Result At Refusal) → IsModule m → IsWordIn m word → Answers None (Says m word) result →
     Answers None (IsTrueOf m) result
-truth_told m word result is is_word said = answered_more result (Says m word) (IsTrueOf m) said
+truth_told m word result is is_word said = answers_more result (Says m word) (IsTrueOf m) said
     (λ answer says. said_is_true m is word answer is_word says)
 
 -- few points are counted by the order of the field and the number of rows

@@ -1,5 +1,5 @@
 -- The steps of the test: seeds of one row, first points, and what points generate.
-use Rattle.std.specs.Prelude.{◌≡◌, ◌≢◌, ℕ, ◌-◌, ◌<◌, ◌⊎◌, List, [], ◌∷◌, ◌++◌, length, Option, Some, None, Result, Ok, Err, Bool, false, IsTrue}
+use Rattle.std.specs.Prelude.{◌≡◌, ◌≢◌, ℕ, ◌-◌, ◌<◌, ◌⊎◌, List, [], ◌∷◌, ◌++◌, length, Option, Some, None, Result, Bool, false, IsTrue}
 use Rattle.std.proofs.lemmas.Bool.{ne_eqb, eq-eqb}
 use Rattle.axe_algebra.specs.Vectors.{Matrix, zero_vector}
 use Rattle.axe_algebra.specs.Spans
@@ -45,11 +45,6 @@ use mathlib.Core.Logic.{inl, inr}
 use mathlib.Core.Path.{refl, sym, ◌∙◌, ap, subst}
 use native.Mathlib.Omega.{arith}
 use native.Mathlib.Decide.{dec_lt}
-
--- what an answer says, in other words
-pub answered_more : {T : Type 0} (result : Result T Refusal) (P Q : T → Type 0) → Answers None P result → ((value : T) → P value → Q value) → Answers None Q result
-answered_more (Ok value) P Q h f = f value h
-answered_more (Err refusal) P Q h f = h
 
 -- ---- one row as a seed
 

@@ -45,7 +45,7 @@ pub record IsLeftWithMany (m : ModuleValue) (matrix null_space : MatrixValue) : 
   pub transpose : TransposeGenerates m matrix
 
 -- what the tested matrix, with its null space, tells of the module; it leaves the module open where it is invertible,
--- or has many null points
+-- or where its null space has many points, the first of which and that of the transpose generate everything
 abbrev pub Tells : ModuleValue → MatrixValue → MatrixValue → At → Type 0
 Tells m matrix null_space (Irreducible v) = ShowsIrreducible m matrix null_space v
 Tells m matrix null_space (Reducible space) = ShowsReducible m matrix null_space space

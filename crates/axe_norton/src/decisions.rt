@@ -10,10 +10,10 @@ ghost use Rattle.axe_norton.specs.Searches.{IsSquareIn};
 ghost use Rattle.axe_norton.specs.Spaces.{IsIrreducibleModule};
 ghost use Rattle.axe_norton.specs.Verdicts.{last_word, Tells, Says, IsTrueOf, Decides, IsTrueVerdict};
 
+use crate::MOST_POINTS;
 use crate::others::is_known_irreducible;
 use crate::spaces::{transposed_space, tried_space};
 use crate::verdicts::{At, Verdict};
-use crate::MOST_POINTS;
 use axe_echelon::null_space;
 use axe_matrix::{Matrix, Refusal};
 use axe_spin::Module;

@@ -7,10 +7,10 @@ ghost use Rattle.axe_norton.specs.Searches.{IsReducedIn};
 ghost use Rattle.axe_norton.specs.Spaces.{IsIrreducibleModule};
 ghost use Rattle.axe_norton.specs.Verdicts.{last_word, IsTrueOf};
 
+use crate::MOST_POINTS;
 use crate::decisions::test_matrix;
 use crate::spaces::proper_space;
 use crate::verdicts::At;
-use crate::MOST_POINTS;
 use axe_echelon::null_space;
 use axe_matrix::{Matrix, Refusal};
 use axe_spin::Module;

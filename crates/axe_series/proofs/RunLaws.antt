@@ -1,5 +1,5 @@
 -- What a run finds is true; and no section of a module with few points stays undecided.
-use Rattle.std.specs.Prelude.{◌≡◌, ℕ, ◌⊎◌, List, [], ◌∷◌, ◌++◌, length, slice_get, Some, suc}
+use Rattle.std.specs.Prelude.{◌≡◌, ℕ, List, [], ◌∷◌, ◌++◌, length, slice_get, Some, suc}
 use Rattle.std.proofs.lemmas.List.{length-append, append-nil, map-append, length-map}
 use Rattle.axe_algebra.specs.SpansOfLists.{IsIndependent, SpansEverything}
 use Rattle.axe_algebra.specs.ModulesOfLists.{IsInvariant}
@@ -7,13 +7,13 @@ use Rattle.axe_algebra.specs.Lists.{IsMatrixOver}
 use Rattle.axe_field.specs.Order.{order_number}
 use Rattle.axe_field.specs.NumberFields.{number_field}
 use Rattle.axe_row.specs.Rows.{RowValue}
-use Rattle.axe_matrix.specs.Matrices.{MatrixValue, IsMatrix}
+use Rattle.axe_matrix.specs.Matrices.{MatrixValue}
 use Rattle.axe_spin.specs.Modules.{ModuleValue, IsModule}
 use Rattle.axe_word.specs.Words.{IsWordIn}
 use Rattle.axe_word.proofs.DrawingLaws.{drawn_word-over}
 use Rattle.axe_norton.specs.declared.verdicts.At.TheVariants
 use Rattle.axe_norton.specs.declared.verdicts.Verdict.TheVariants.{Irreducible, Reducible, Undecided}
-use Rattle.axe_norton.specs.Spaces.{IsProperSubmodule, IsIrreducibleModule, TriedGenerate, IsFirstProperSpace, IsTransposedSpace}
+use Rattle.axe_norton.specs.Spaces.{IsProperSubmodule, IsIrreducibleModule}
 use Rattle.axe_norton.specs.Verdicts.{Decides, word_of_seed}
 use Rattle.axe_norton.proofs.TruthLaws.{said_is_true, rows_over_field}
 use Rattle.axe_iso.specs.Forms.{FormValue}
@@ -27,9 +27,9 @@ use Rattle.axe_series.proofs.Places.{known_appears, new_appears, last_there}
 use Rattle.axe_series.proofs.Factors.{AreFactors, ArePlaced, one_more_placed, placed_by_more}
 use Rattle.axe_series.proofs.LiftedSections.{lifted_section}
 use Rattle.axe_series.proofs.CutSections.{cut_takes_place}
+use Rattle.axe_series.proofs.OneCut.{reducible_is_submodule, reducible_is_matrix}
 use Rattle.axe_series.proofs.RunState.{IsState, first_state, state_after_cut, state_after_place}
 use Rattle.axe_series.proofs.FactorSteps.{known_factor, known_takes_place, known_below, new_takes_place, new_factors}
-use mathlib.Core.Logic.{inl, inr}
 use mathlib.Core.Path.{refl, sym, ◌∙◌, ap, subst}
 use native.Mathlib.Omega.{arith}
 
@@ -42,18 +42,6 @@ decided_irreducible : (m : ModuleValue) (seed words word : ℕ) (v : RowValue) �
 decided_irreducible m seed words word v is decides =
     said_is_true m is (word_of_seed m seed word) (TheVariants.Irreducible v) (drawn_is_word m seed word is) decides.says
 
-decided_proper : (m : ModuleValue) (seed words : ℕ) (space : MatrixValue) → IsModule m → Decides m seed words (Reducible space) → IsProperSubmodule m space
-decided_proper m seed words space is (j, decides) =
-    said_is_true m is (word_of_seed m seed j) (TheVariants.Reducible space) (drawn_is_word m seed j is) decides.says
-
-decided_matrix : (m : ModuleValue) (seed words : ℕ) (space : MatrixValue) → Decides m seed words (Reducible space) → IsMatrix space
-decided_matrix m seed words space (j, decides) = cases decides.says.tells
-  where
-    cases : IsFirstProperSpace m decides.says.tested.null_space space ⊎
-        (TriedGenerate m decides.says.tested.null_space × IsTransposedSpace m decides.says.tested.matrix space) → IsMatrix space
-    cases (inl found) = found.proper.well_formed
-    cases (inr (generate, found)) = found.well_formed
-
 -- ---- the steps
 
 module _ (m : ModuleValue) (is : IsModule m) (seed words : ℕ) (s : SectionValue) (rest : List SectionValue) (found : FoundValue) (state : IsState m (s ∷ rest) found) where
@@ -65,11 +53,11 @@ module _ (m : ModuleValue) (is : IsModule m) (seed words : ℕ) (s : SectionValu
   state_after_reducible space sub quotient decides cut =
       state_after_cut m s rest found state sub quotient
       (cut_takes_place m found.rows s of_module state.chain.1 space sub quotient cut (proper.field ∙ of_module.field) proper.columns
-      (rows_over_field m.order s.action.dim space (proper.field ∙ of_module.field) proper.columns (decided_matrix s.action seed words space decides))
+      (rows_over_field m.order s.action.dim space (proper.field ∙ of_module.field) proper.columns (reducible_is_matrix s.action seed words space decides))
       (subst (λ o. IsIndependent (number_field o) space.rows) of_module.field proper.independent))
     where
       proper : IsProperSubmodule s.action space
-      proper = decided_proper s.action seed words space of_module.is_module decides
+      proper = reducible_is_submodule s.action seed words space of_module.is_module decides
 
   pub state_after_known : (number : ℕ) (t : MatrixValue) → IsKnownAs found.forms s.action number t →
       IsState m rest (with_place found (lifted_rows s t).rows number)

@@ -64,7 +64,8 @@ pub record AreInOrderOfAppearance (count : ℕ) (places : List ℕ) : Type 0 whe
 
 -- a composition series, by a basis, the factors and for each place from the bottom the number of its factor: conjugated
 -- by the basis the generators are block lower triangular with the factors, by their places, on the diagonal; every
--- factor is irreducible; and two places have one number exactly when their diagonal blocks are isomorphic
+-- factor is irreducible; two places have one number exactly when their diagonal blocks are isomorphic; and the factors
+-- are numbered in order of first appearance
 pub record IsSeries (m : ModuleValue) (basis : MatrixValue) (factors : List ModuleValue)
     (places : List ℕ) : Type 0 where
   pub conjugates : ModuleValue

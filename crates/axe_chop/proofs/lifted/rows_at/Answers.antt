@@ -1,7 +1,7 @@
 use Rattle.std.proofs.Common.{◌≡◌, [], length, get_or, ap, ◌∙◌, sym, arith}
 use Rattle.axe_row.specs.Rows.{RowValue}
 use Rattle.axe_matrix.specs.Matrices.{MatrixValue}
-use Rattle.axe_chop.specs.Vectors.{chosen_rows}
+use Rattle.axe_action.specs.Coordinates.{rows_chosen}
 use Rattle.axe_chop.proofs.Choosing.{first_rows_count, first_rows_more, first_rows_all, made_of_number, made_count}
 use Rattle.axe_chop.proofs.lifted.rows_at.Goals as goal
 
@@ -18,11 +18,11 @@ append-requires-clause-field c =
 
 pub append-requires-clause-room : goal.append-requires-clause-room
 append-requires-clause-room c =
-    let count : length (chosen_rows c.args.rows.now c.args.places.now).rows ≡ length c.args.places.now =
+    let count : length (rows_chosen c.args.places.now c.args.rows.now).rows ≡ length c.args.places.now =
     made_count (λ place. get_or c.args.rows.now.rows place []) c.args.places.now in
     omega (
       arith,
-      first_rows_count (chosen_rows c.args.rows.now c.args.places.now) c.loop-place.place-index c.loop-place.chosen
+      first_rows_count (rows_chosen c.args.places.now c.args.rows.now) c.loop-place.place-index c.loop-place.chosen
           c.loop-place.invariant (omega (arith, c.loop-place.auto.place-index-end, count)),
       c.loop-place-test.true,
       c.requires.places_fit,
@@ -30,9 +30,9 @@ append-requires-clause-room c =
 
 pub loop-place-preserved : goal.loop-place-preserved
 loop-place-preserved c =
-    let count : length (chosen_rows c.args.rows.now c.args.places.now).rows ≡ length c.args.places.now =
+    let count : length (rows_chosen c.args.places.now c.args.rows.now).rows ≡ length c.args.places.now =
     made_count (λ place. get_or c.args.rows.now.rows place []) c.args.places.now in
-    first_rows_more (chosen_rows c.args.rows.now c.args.places.now) c.loop-place.place-index c.loop-place.chosen
+    first_rows_more (rows_chosen c.args.places.now c.args.rows.now) c.loop-place.place-index c.loop-place.chosen
     c.loop-place.invariant c.append.new.self c.in_ok-row.row (omega (arith, c.loop-place-test.true, count))
     (ap (λ (r : RowValue). r.entries) (c.in_ok-row.ensures.copied ∙ c.row.ensures.value)
     ∙ made_of_number (λ place. get_or c.args.rows.now.rows place []) c.args.places.now c.loop-place.place-index c.loop-place-test.true)
@@ -40,9 +40,9 @@ loop-place-preserved c =
 
 pub returns-clause-chosen : goal.returns-clause-chosen
 returns-clause-chosen c =
-    let count : length (chosen_rows c.args.rows.now c.args.places.now).rows ≡ length c.args.places.now =
+    let count : length (rows_chosen c.args.places.now c.args.rows.now).rows ≡ length c.args.places.now =
     made_count (λ place. get_or c.args.rows.now.rows place []) c.args.places.now in
-    first_rows_all (chosen_rows c.args.rows.now c.args.places.now) c.loop-place.place-index c.loop-place.chosen
+    first_rows_all (rows_chosen c.args.places.now c.args.rows.now) c.loop-place.place-index c.loop-place.chosen
     c.loop-place.invariant (omega (arith, c.loop-place-test.false, count))
 
 pub returns-clause-well_formed : goal.returns-clause-well_formed

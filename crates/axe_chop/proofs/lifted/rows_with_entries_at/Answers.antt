@@ -6,7 +6,7 @@ use Rattle.axe_row.specs.Rows.{RowValue}
 use Rattle.axe_matrix.specs.Matrices.{MatrixValue, matrix_product}
 use Rattle.axe_row.proofs.CombinationLaws.{length-combination}
 use Rattle.axe_matrix.proofs.ProductLaws.{length-product, get_or-product}
-use Rattle.axe_chop.specs.Vectors.{unit_vectors}
+use Rattle.axe_chop.specs.Vectors.{matrix_of_unit_vectors}
 use Rattle.axe_chop.proofs.Choosing.{first_rows_more, first_rows_all}
 use Rattle.axe_chop.proofs.lifted.rows_with_entries_at.Goals as goal
 
@@ -19,11 +19,11 @@ append-requires-clause-fits c =
 
 pub loop-index-preserved : goal.loop-index-preserved
 loop-index-preserved c =
-    let count : length (matrix_product c.args.coordinates.now (unit_vectors c.args.coordinates.now.order c.args.dim c.args.columns.now)).rows
+    let count : length (matrix_product c.args.coordinates.now (matrix_of_unit_vectors c.args.coordinates.now.order c.args.dim c.args.columns.now)).rows
     ≡ length c.args.coordinates.now.rows =
     length-product (number_field c.args.coordinates.now.order) c.args.dim c.args.coordinates.now.rows
     (map (unit_row c.args.dim) c.args.columns.now) in
-    first_rows_more (matrix_product c.args.coordinates.now (unit_vectors c.args.coordinates.now.order c.args.dim c.args.columns.now))
+    first_rows_more (matrix_product c.args.coordinates.now (matrix_of_unit_vectors c.args.coordinates.now.order c.args.dim c.args.columns.now))
     c.loop-index.index c.loop-index.product c.loop-index.invariant c.append.new.self c.in_ok-row.row
     (omega (arith, c.loop-index-test.true, c.rows-count.ensures.count, count))
     (ap (λ (r : RowValue). r.entries) c.in_ok-row.ensures.combination
@@ -36,10 +36,10 @@ loop-index-preserved c =
 
 pub returns-clause-product : goal.returns-clause-product
 returns-clause-product c =
-    let count : length (matrix_product c.args.coordinates.now (unit_vectors c.args.coordinates.now.order c.args.dim c.args.columns.now)).rows
+    let count : length (matrix_product c.args.coordinates.now (matrix_of_unit_vectors c.args.coordinates.now.order c.args.dim c.args.columns.now)).rows
     ≡ length c.args.coordinates.now.rows =
     length-product (number_field c.args.coordinates.now.order) c.args.dim c.args.coordinates.now.rows
     (map (unit_row c.args.dim) c.args.columns.now) in
-    first_rows_all (matrix_product c.args.coordinates.now (unit_vectors c.args.coordinates.now.order c.args.dim c.args.columns.now))
+    first_rows_all (matrix_product c.args.coordinates.now (matrix_of_unit_vectors c.args.coordinates.now.order c.args.dim c.args.columns.now))
     c.loop-index.index c.loop-index.product c.loop-index.invariant
     (omega (arith, c.loop-index-test.false, c.rows-count.ensures.count, count))
