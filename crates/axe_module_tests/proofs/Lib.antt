@@ -1,1 +1,2 @@
 pub mod NullSpaceAnswers
+pub mod ActedSpans

@@ -157,13 +157,17 @@ fn are_numbers(numbers: &[usize], text: &str) -> Result<bool, TableFault> {
 }
 
 fn splits(rt: &impl Abort, alloc: Global, module: &Module, line: &str) -> Result<bool, TableFault> {
-    let (rows, sub, quotient, columns) = four_fields(line)?;
+    let (rows, wanted_sub, wanted_quotient, wanted_columns) = four_fields(line)?;
     let rows = matrix_of(alloc, rows)?;
-    let split = split(rt, alloc, module, &rows)?;
+    let Split {
+        sub,
+        quotient,
+        columns,
+    } = split(rt, alloc, module, &rows)?;
     Ok(
-        are_numbers(&split.columns, columns)?
-            && is_module(alloc, Ok(split.sub), sub)?
-            && is_module(alloc, Ok(split.quotient), quotient)?,
+        are_numbers(&columns, wanted_columns)?
+            && is_module(alloc, Ok(sub), wanted_sub)?
+            && is_module(alloc, Ok(quotient), wanted_quotient)?,
     )
 }
 
