@@ -38,9 +38,6 @@ module _ (F : Field) (n : ℕ) where
   unfolding dot
   dot-zero v = sum_zeros F n _ (λ t below. mul-zero F (v t))
 
-  pub zero-dot : (w : Vector F) → dot F n (zero_vector F) w ≡ F.zero
-  zero-dot w = dot_comm F n (zero_vector F) w ∙ dot-zero w
-
   -- v times the unit vector of j, transposed, is entry j of v
   pub dot-unit : (v : Vector F) (j : ℕ) → j < n → dot F n v (unit_vector F j) ≡ v j
   unfolding dot

@@ -52,10 +52,6 @@ module _ (K : NumberField) where
   element_neg a a-below = same_element K _ _
       (number_of_element (K.neg a) (K.neg-below a a-below) ∙ ap K.neg (sym (number_of_element a a-below)))
 
-  pub element_inv : (a : ℕ) → a < K.order → element K (K.inv a) ≡ F.inv (element K a)
-  element_inv a a-below = same_element K _ _
-      (number_of_element (K.inv a) (K.inv-below a a-below) ∙ ap K.inv (sym (number_of_element a a-below)))
-
   -- sums of numbers are sums of elements
   pub number_sum-below : (n : ℕ) (f : ℕ → ℕ) → ((t : ℕ) → t < n → f t < K.order) → number_sum K f n < K.order
   unfolding number_sum
@@ -75,10 +71,6 @@ module _ (K : NumberField) where
   unfolding number_sum
   number_sum_same zero f g same = refl
   number_sum_same (suc n) f g same = ap₂ K.add (number_sum_same n f g (λ t inside. same t (omega arith))) (same n (omega arith))
-
-  pub number_sum_more : (n : ℕ) (f : ℕ → ℕ) → number_sum K f (suc n) ≡ K.add (number_sum K f n) (f n)
-  unfolding number_sum
-  number_sum_more n f = refl
 
   -- an entry of a list of elements is one, also past the end
   pub entry-below : (entries : List ℕ) (j : ℕ) → AreElements K entries → get_or entries j 0 < K.order

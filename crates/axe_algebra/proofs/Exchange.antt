@@ -262,14 +262,6 @@ module _ (F : Field) where
           cases (inl in_span) = yes (span_within F r w k v x same.back in_span)
           cases (inr more) = no λ in_span. independent_not_spanned r w x more (span_within F k v r w x same.forth in_span)
 
-  -- rows are independent, or dependent
-  pub independent_or_dependent : (n k : ℕ) (v : Matrix F) → HasRowsOfLength F n v → IsDependent F k v ⊎ IsIndependent F k v
-  independent_or_dependent n k v rows = cases (eliminate F n k v rows)
-    where
-      cases : IsDependent F k v ⊎ (IsIndependent F k v × (k ≤ n)) → IsDependent F k v ⊎ IsIndependent F k v
-      cases (inl d) = inl d
-      cases (inr (independent, bound)) = inr independent
-
   pub basis_exists : BasisExists F
   basis_exists n k v rows = from (basis_of n k v rows)
     where

@@ -24,6 +24,7 @@ pub mod Annihilators
 pub mod NortonCriterion
 pub mod NullSpaces
 pub mod SubActions
+pub mod PairOrder
 pub mod StandardBases
 pub mod StandardImages
 pub mod Isomorphisms
@@ -32,7 +33,6 @@ pub mod StandardExistence
 pub mod Quotients
 pub mod Duality
 pub mod IsomorphismLaws
-pub mod NullSpaceRows
 pub mod ListGenerated
 pub mod ListWords
 pub mod ListStandard

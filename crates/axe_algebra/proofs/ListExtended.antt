@@ -2,20 +2,18 @@
 use Rattle.std.specs.Prelude.{◌≡◌, ℕ, ◌<◌, ◌+◌, ◌-◌, List, [], ◌++◌, map, length, get_or}
 use Rattle.axe_algebra.specs.NumberField.{NumberField}
 use Rattle.axe_algebra.specs.Field.{Field}
-use Rattle.axe_algebra.specs.Vectors.{Matrix, times}
 use Rattle.axe_algebra.specs.Spans
 use Rattle.axe_algebra.specs.Actions.{unit_vectors}
 use Rattle.axe_algebra.specs.Bridge.{field_of, vector_of, matrix_of}
 use Rattle.axe_algebra.specs.Lists.{unit_row, IsMatrixOver}
 use Rattle.axe_algebra.specs.SpansOfLists.{IsIndependent, SpansEverything, IsExtendedBasis}
-use Rattle.axe_algebra.proofs.ProductLaws.{times_same}
 use Rattle.axe_algebra.proofs.Spaces.{stacked, stacked_first, stacked_second}
 use Rattle.axe_algebra.proofs.Exchange.{span_of_same_rows}
-use Rattle.axe_algebra.proofs.FreeColumns.{extended_spans_all, extended_independent, free_columns_count}
+use Rattle.axe_algebra.proofs.FreeColumns.{extended_spans_all, free_columns_count}
 use Rattle.axe_algebra.proofs.ListEntries.{rows_length}
 use Rattle.axe_algebra.proofs.ListVectors.{vector_of_unit_row}
 use Rattle.std.proofs.lemmas.List.{length-append, length-map, get_or_append_left, get_or-append-add, get_or-map}
-use mathlib.Core.Path.{refl, sym, ◌∙◌, ap, subst}
+use mathlib.Core.Path.{sym, ◌∙◌, ap, subst}
 use native.Mathlib.Omega.{arith}
 use native.Mathlib.Decide.{dec_lt}
 
@@ -60,23 +58,6 @@ module _ (K : NumberField) where
         (span_of_same_rows F (length rows + length is.columns) (stacked F (length rows) (matrix_of K rows) (unit_vectors F columns)) (matrix_of K extended) x
         (λ t below. sym (extended_rows t below))
         (extended_spans_all F n (length rows) (matrix_of K rows) (rows_length K n rows over) (length is.columns) columns is.free x long))
-
-    -- and where the rows are independent they are so too, and n
-    pub extended_rows_independent : IsIndependent K rows → IsIndependent K extended
-    unfolding columns
-    extended_rows_independent independent = record {
-      only_zero = λ c vanishes t below.
-          all.only_zero c
-          (times_same F (length rows + length is.columns) c c stack (matrix_of K extended) (λ s inside. refl) (λ s inside. sym (extended_rows s inside))
-          ∙ ap (λ k. times F k c (matrix_of K extended)) (sym extended_length) ∙ vanishes)
-          t (omega (arith, extended_length));
-    }
-      where
-        stack : Matrix F
-        stack = stacked F (length rows) (matrix_of K rows) (unit_vectors F columns)
-
-        all : Spans.IsIndependent F (length rows + length is.columns) stack
-        all = extended_independent F n (length rows) (matrix_of K rows) (rows_length K n rows over) (length is.columns) columns is.free independent
 
     pub extended_is_square : IsIndependent K rows → length extended ≡ n
     unfolding columns

@@ -1,30 +1,25 @@
 -- Irreducible modules of lists: the criterion of Norton, and the spans that show a module to be reducible.
-use Rattle.std.specs.Prelude.{◌≡◌, ◌≢◌, ℕ, ◌<◌, ◌≤◌, ◌⊎◌, List, length}
+use Rattle.std.specs.Prelude.{◌≡◌, ◌≢◌, ℕ, List, length}
 use Rattle.std.specs.List.{All}
 use Rattle.axe_algebra.specs.NumberField.{NumberField}
 use Rattle.axe_algebra.specs.Field.{Field}
-use Rattle.axe_algebra.specs.Vectors.{Vector, Matrix, HasLength, zero_vector, unit_vector, unit_matrix, transposed, times}
+use Rattle.axe_algebra.specs.Vectors.{Vector, Matrix, HasLength, zero_vector, transposed, times}
 use Rattle.axe_algebra.specs.Spans
 use Rattle.axe_algebra.specs.Modules.{Module, VectorGeneratesAll}
 use Rattle.axe_algebra.specs.Words.{Word, word_value}
 use Rattle.axe_algebra.specs.Bridge.{field_of, vector_of, matrix_of, module_of, word_of}
-use Rattle.axe_algebra.specs.Lists.{entry, listed, entries_of, IsVectorOver, IsMatrixOver, IsSquareOver}
+use Rattle.axe_algebra.specs.Lists.{entry, listed, entries_of, IsVectorOver, IsSquareOver}
 use Rattle.axe_algebra.specs.ListArithmetic.{transpose, transposed_generators}
-use Rattle.axe_algebra.specs.SpansOfLists.{IsIndependent, IsNullVector}
-use Rattle.axe_algebra.specs.ModulesOfLists.{IsInvariant, GeneratesEverything, IsIrreducible}
+use Rattle.axe_algebra.specs.SpansOfLists.{IsNullVector}
+use Rattle.axe_algebra.specs.ModulesOfLists.{GeneratesEverything, IsIrreducible}
 use Rattle.axe_algebra.specs.WordsOfLists.{IsWordOver, IsWordValue}
-use Rattle.axe_algebra.proofs.ProductLaws.{unit_is_matrix, unit_at, times_unit}
-use Rattle.axe_algebra.proofs.Exchange.{exchange}
 use Rattle.axe_algebra.proofs.NortonCriterion.{norton}
-use Rattle.axe_algebra.proofs.Isomorphisms.{unit_rows_independent}
-use Rattle.axe_algebra.proofs.ListEntries.{table_length, rows_length, vector_of_entries, entries_over}
+use Rattle.axe_algebra.proofs.ListEntries.{table_length, vector_of_entries, entries_over}
 use Rattle.axe_algebra.proofs.ListProducts.{matrix_of_transpose}
 use Rattle.axe_algebra.proofs.ListVectors.{vector_of_zeros}
 use Rattle.axe_algebra.proofs.ListModules.{module_shape, module_of_transposes}
 use Rattle.axe_algebra.proofs.ListWords.{is_word}
-use mathlib.Core.Logic.{inl, inr}
 use mathlib.Core.Path.{sym, ◌∙◌, ap, subst}
-use native.Mathlib.Omega.{arith}
 
 pub transpose_length : (n : ℕ) (a : List (List ℕ)) → length (transpose n a) ≡ n
 unfolding transpose
@@ -77,17 +72,3 @@ module _ (K : NumberField) where
               ∙ ap (times F n (vector_of K w)) (sym (matrix_of_transpose K n value is_value.square.matrix))
               ∙ ap (λ m. times F m (vector_of K w) (matrix_of K (transpose n value))) (sym columns) ∙ null.vanishes;
         }
-
-    -- independent rows, at least one and fewer than n, with an invariant span show that it is not
-    pub reducible_by_rows : (rows : List (List ℕ)) → IsMatrixOver K n rows → IsInvariant K n generators rows → IsIndependent K rows →
-        0 < length rows → length rows < n → ¬ (IsIrreducible K n generators)
-    reducible_by_rows rows over invariant independent some proper irreducible =
-        contradict (irreducible.spans (length rows) (matrix_of K rows) (rows_length K n rows over) invariant)
-      where
-        contradict : Spans.SpansZero F (length rows) (matrix_of K rows) ⊎ Spans.SpansAll F n (length rows) (matrix_of K rows) → ⊥
-        contradict (inl zeros) = F.one-not-zero (sym (unit_at F 0)
-            ∙ independent.only_zero (unit_vector F 0) (times_unit F (length rows) 0 (matrix_of K rows) some ∙ zeros 0 some) 0 some)
-        contradict (inr all) =
-            let bound : n ≤ length rows = exchange F n (unit_matrix F n) (length rows) (matrix_of K rows) (unit_rows_independent F n)
-            (λ t below. all (unit_matrix F n t) ((unit_is_matrix F n).columns t)) in
-            omega arith

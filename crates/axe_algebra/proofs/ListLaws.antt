@@ -8,8 +8,7 @@ use Rattle.axe_algebra.specs.Bridge.{field_of, matrix_of}
 use Rattle.axe_algebra.specs.Lists.{rows_of, IsMatrixOver, IsSquareOver}
 use Rattle.axe_algebra.specs.ListArithmetic.{product, identity, IsInverse}
 use Rattle.axe_algebra.specs.ListTheorems.{InverseOfListsIsInverse}
-use Rattle.axe_algebra.proofs.ProductLaws.{multiply_assoc, multiply_identity, identity_multiply}
-use Rattle.axe_algebra.proofs.SquareMatrices.{two_sided, left_two_sided}
+use Rattle.axe_algebra.proofs.ProductLaws.{multiply_assoc, multiply_identity}
 use Rattle.axe_algebra.proofs.ListEntries.{table_length, matrix_shape, square_shape, matrix_of_rows, rows_over, same_matrix}
 use Rattle.axe_algebra.proofs.ListProducts.{matrix_of_product, product_over, product_length, matrix_of_identity, identity_over, identity_length}
 use mathlib.Core.Path.{sym, ◌∙◌, ap, subst}
@@ -57,15 +56,6 @@ module _ (K : NumberField) where
       ∙ ap (multiply F n (matrix_of K a)) (matrix_of_identity K n)
       ∙ multiply_identity F (length a) n (matrix_of K a) (matrix_shape K n a over))
 
-  pub identity_product : (n : ℕ) (a : List (List ℕ)) → IsMatrixOver K n a → product K n (identity (length a)) a ≡ a
-  identity_product n a over =
-      same_matrix K n (product K n (identity (length a)) a) a
-      (product_length K n (identity (length a)) a ∙ identity_length K (length a))
-      (product_over K n (identity (length a)) a (identity_over K (length a)) over) over
-      (matrix_of_product K n (identity (length a)) a (identity_over K (length a)) over
-      ∙ ap (λ (x : Matrix F). multiply F (length a) x (matrix_of K a)) (matrix_of_identity K (length a))
-      ∙ identity_multiply F (length a) n (matrix_of K a) (matrix_shape K n a over))
-
   -- the inverse of a list is the inverse of its matrix
   pub inverse_of_lists : (n : ℕ) (a b : List (List ℕ)) → IsSquareOver K n a → IsSquareOver K n b → IsInverse K n a b →
       Spans.IsInverse F n (matrix_of K a) (matrix_of K b)
@@ -88,17 +78,6 @@ module _ (K : NumberField) where
     right = same_as_identity n a b square_a square_b inverts.right;
     left = same_as_identity n b a square_b square_a inverts.left;
   }
-
-  -- a one-sided inverse of a square list is its inverse
-  pub right_inverse_of_lists : (n : ℕ) (a b : List (List ℕ)) → IsSquareOver K n a → IsSquareOver K n b → product K n a b ≡ identity n → IsInverse K n a b
-  right_inverse_of_lists n a b square_a square_b one =
-      lists_of_inverse n a b square_a square_b (two_sided F n (matrix_of K a) (matrix_of K b) (square_shape K n a square_a) (square_shape K n b square_b)
-      (sym (matrix_of_product_of n n a b square_b.length_is square_a.matrix square_b.matrix) ∙ ap (matrix_of K) one ∙ matrix_of_identity K n))
-
-  pub left_inverse_of_lists : (n : ℕ) (a b : List (List ℕ)) → IsSquareOver K n a → IsSquareOver K n b → product K n b a ≡ identity n → IsInverse K n a b
-  left_inverse_of_lists n a b square_a square_b one =
-      lists_of_inverse n a b square_a square_b (left_two_sided F n (matrix_of K a) (matrix_of K b) (square_shape K n a square_a) (square_shape K n b square_b)
-      (sym (matrix_of_product_of n n b a square_a.length_is square_b.matrix square_a.matrix) ∙ ap (matrix_of K) one ∙ matrix_of_identity K n))
 
   -- where the matrix of a list is invertible, a list is the inverse
   pub inverse_list : (n : ℕ) (a : List (List ℕ)) → IsSquareOver K n a → Spans.IsInvertible F n (matrix_of K a) →

@@ -8,12 +8,11 @@ use Rattle.axe_algebra.specs.Spans
 use Rattle.axe_algebra.specs.Modules.{IsModule, image, transposed_module}
 use Rattle.axe_algebra.specs.Bridge.{field_of, vector_of, matrix_of, module_of}
 use Rattle.axe_algebra.specs.Lists.{IsVectorOver, IsMatrixOver, IsSquareOver}
-use Rattle.axe_algebra.specs.ListArithmetic.{product, combination, transpose, IsInverse, transposed_generators}
+use Rattle.axe_algebra.specs.ListArithmetic.{combination, transpose, transposed_generators}
 use Rattle.axe_algebra.specs.SpansOfLists.{IsSpanned}
-use Rattle.axe_algebra.specs.ModulesOfLists.{IsInvariant, IsSubAction, IsIsomorphism}
-use Rattle.axe_algebra.proofs.ListEntries.{square_shape, row_over, row_past, same_vector}
+use Rattle.axe_algebra.specs.ModulesOfLists.{IsInvariant, IsSubAction}
+use Rattle.axe_algebra.proofs.ListEntries.{square_shape, row_over, row_past}
 use Rattle.axe_algebra.proofs.ListProducts.{vector_of_combination, combination_over, matrix_of_transpose}
-use Rattle.axe_algebra.proofs.ListLaws.{matrix_of_product_of, inverse_of_lists}
 use Rattle.std.proofs.lemmas.List.{length-map, get_or-map, get_or_past}
 use mathlib.Core.Path.{refl, sym, ◌∙◌, ap, subst, fun_ext}
 use native.Mathlib.Omega.{arith}
@@ -86,22 +85,6 @@ module _ (K : NumberField) where
           let a : IsSquareOver K (length rows) (get_or matrices i []) = generator_over (length rows) matrices i squares (omega arith) in
           row_over K (length rows) (get_or matrices i []) t a.matrix (omega (arith, a.length_is))
 
-  pub rows_of_sub_action : (n : ℕ) (generators : List (List (List ℕ))) (rows : List (List ℕ)) (matrices : List (List (List ℕ))) →
-      All (IsSquareOver K n) generators → IsMatrixOver K n rows → All (IsSquareOver K (length rows)) matrices →
-      IsSubAction K n generators rows matrices → (i t : ℕ) → i < length generators → t < length rows →
-      combination K n (get_or rows t []) (get_or generators i []) ≡ combination K n (get_or (get_or matrices i []) t []) rows
-  rows_of_sub_action n generators rows matrices square over squares action i t below inside =
-      same_vector K n _ _ (image_over n generators (get_or rows t []) i square below (row_over K n rows t over inside))
-      (combination_over K n (get_or (get_or matrices i []) t []) rows coefficients over)
-      (vector_of_image n generators (get_or rows t []) i square below (row_over K n rows t over inside) ∙ action.acts i t below inside
-      ∙ sym (vector_of_combination K n (get_or (get_or matrices i []) t []) rows coefficients over))
-    where
-      a : IsSquareOver K (length rows) (get_or matrices i [])
-      a = generator_over (length rows) matrices i squares (omega (arith, action.count))
-
-      coefficients : IsVectorOver K (length rows) (get_or (get_or matrices i []) t [])
-      coefficients = row_over K (length rows) (get_or matrices i []) t a.matrix (omega (arith, a.length_is))
-
   -- the list of the transposes is the transposed module
   pub module_of_transposes : (n : ℕ) (generators : List (List (List ℕ))) → All (IsSquareOver K n) generators →
       module_of K n (transposed_generators n generators) ≡ transposed_module F (module_of K n generators)
@@ -120,25 +103,3 @@ module _ (K : NumberField) where
           ap (matrix_of K) (get_or_past (transposed_generators n generators) l [] (omega (arith, length-map generators (transpose n))))
           ∙ (fun_ext λ i. fun_ext λ j. row_past K [] i (omega arith) j ∙ sym (row_past K [] j (omega arith) i))
           ∙ ap (λ (rows : List (List ℕ)). transposed F (matrix_of K rows)) (sym (get_or_past generators l [] (omega arith)))
-
-  -- an invertible list that intertwines the generators is an isomorphism
-  pub isomorphism_by_products : (n : ℕ) (generators others : List (List (List ℕ))) (matrix inverse : List (List ℕ)) →
-      All (IsSquareOver K n) generators → All (IsSquareOver K n) others → IsSquareOver K n matrix → IsSquareOver K n inverse →
-      IsInverse K n matrix inverse → length generators ≡ length others →
-      ((i : ℕ) → i < length generators → product K n matrix (get_or others i []) ≡ product K n (get_or generators i []) matrix) →
-      IsIsomorphism K n generators others matrix
-  isomorphism_by_products n generators others matrix inverse square square_others square_matrix square_inverse inverts count same = record {
-    square = square_matrix;
-    isomorphism = record {
-      dimension = refl;
-      count = count;
-      shape = square_shape K n matrix square_matrix;
-      invertible = record { inverse = matrix_of K inverse; inverts = inverse_of_lists K n matrix inverse square_matrix square_inverse inverts };
-      intertwines = λ i below.
-          let other : IsSquareOver K n (get_or others i []) = generator_over n others i square_others (omega arith) in
-          let own : IsSquareOver K n (get_or generators i []) = generator_over n generators i square below in
-          sym (matrix_of_product_of K n n matrix (get_or others i []) other.length_is square_matrix.matrix other.matrix)
-          ∙ ap (matrix_of K) (same i below)
-          ∙ matrix_of_product_of K n n (get_or generators i []) matrix square_matrix.length_is own.matrix square_matrix.matrix;
-    };
-  }

@@ -98,12 +98,6 @@ module _ (K : NumberField) where
         columns = λ i j past. ap₂ F.add (sa.columns i j past) (sb.columns i j past) ∙ zero-add F F.zero;
       }
 
-  pub sum_over : (n : ℕ) (a b : List (List ℕ)) → IsMatrixOver K n a → IsMatrixOver K n b → IsMatrixOver K n (matrix_sum K n a b)
-  unfolding matrix_sum
-  sum_over n a b over_a over_b =
-      table_over K (length a) n (λ i j. K.add (entry a i j) (entry b i j)) (λ i j below inside.
-      K.add-below (entry a i j) (entry b i j) (matrix_entry-below K n a i j over_a) (matrix_entry-below K n b i j over_b))
-
   -- transposes
   pub matrix_of_transpose : (n : ℕ) (a : List (List ℕ)) → IsMatrixOver K n a → matrix_of K (transpose n a) ≡ transposed F (matrix_of K a)
   unfolding transpose

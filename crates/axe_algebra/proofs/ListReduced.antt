@@ -5,11 +5,10 @@ use Rattle.axe_algebra.specs.Field.{Field}
 use Rattle.axe_algebra.specs.Vectors.{Vector, Matrix, HasRowsOfLength}
 use Rattle.axe_algebra.specs.Spans
 use Rattle.axe_algebra.specs.Reduced
-use Rattle.axe_algebra.specs.Bridge.{field_of, element, vector_of, matrix_of}
-use Rattle.axe_algebra.specs.Lists.{entry, rows_of, IsVectorOver, IsMatrixOver}
-use Rattle.axe_algebra.specs.SpansOfLists.{HaveSameSpan, IsReducedBasis, IsRepresentative}
-use Rattle.axe_algebra.proofs.ReducedBases.{basis_of_list, reduced_basis, reduced_size_is_unique, reduced_is_unique, space_size_is_unique, space_rows_are_unique, representative_is_unique}
-use Rattle.axe_algebra.proofs.ElementNumbers.{element_zero, element_one}
+use Rattle.axe_algebra.specs.Bridge.{field_of, vector_of, matrix_of}
+use Rattle.axe_algebra.specs.Lists.{entry, rows_of, IsMatrixOver}
+use Rattle.axe_algebra.specs.SpansOfLists.{IsReducedBasis}
+use Rattle.axe_algebra.proofs.ReducedBases.{reduced_basis, reduced_size_is_unique, reduced_is_unique, space_size_is_unique, space_rows_are_unique}
 use Rattle.axe_algebra.proofs.ListEntries.{table_length, row_over, rows_length, same_vector, rows_over, vector_of_entries, table_row}
 use Rattle.std.proofs.lemmas.List.{ext_get_or}
 use mathlib.Core.Path.{sym, ◌∙◌, ap, subst}
@@ -25,19 +24,6 @@ pub record IsReducedRows (rows : List (List ℕ)) (pivots : ℕ → ℕ) : Type 
 module _ (K : NumberField) where
   abbrev F : Field
   F = field_of K
-
-  -- rows in reduced row echelon form with the same span are the reduced basis
-  pub reduced_basis_of_rows : (rows basis : List (List ℕ)) (pivots : ℕ → ℕ) → IsReducedRows basis pivots → HaveSameSpan K rows basis →
-      IsReducedBasis K rows basis
-  reduced_basis_of_rows rows basis pivots reduced same =
-      basis_of_list F (length rows) (matrix_of K rows) (length basis) (matrix_of K basis) pivots
-      (record {
-        ascending = reduced.ascending;
-        one = λ t below. ap (element K) (reduced.one t below) ∙ element_one K;
-        zero = λ s t inside below other. ap (element K) (reduced.zero s t inside below other) ∙ element_zero K;
-        before = λ t i below ahead. ap (element K) (reduced.before t i below ahead) ∙ element_zero K;
-      })
-      same
 
   -- the rows below the size of a reduced basis alone count
   reduced_of_same_rows : (k : ℕ) (v : Matrix F) (r : ℕ) (w u : Matrix F) → ((t : ℕ) → t < r → w t ≡ u t) →
@@ -91,10 +77,3 @@ module _ (K : NumberField) where
       same_rows n a b over_a over_b
       (space_size_is_unique F P (length a) (matrix_of K a) (length b) (matrix_of K b) first second)
       (space_rows_are_unique F P n (length a) (matrix_of K a) (length b) (matrix_of K b) (rows_length K n a over_a) first second)
-
-  -- the representative of a vector is unique
-  pub representative_list_is_unique : (n : ℕ) (rows : List (List ℕ)) (v x y : List ℕ) → IsMatrixOver K n rows → IsVectorOver K n x → IsVectorOver K n y →
-      IsRepresentative K rows v x → IsRepresentative K rows v y → x ≡ y
-  representative_list_is_unique n rows v x y over over_x over_y first second =
-      same_vector K n x y over_x over_y
-      (representative_is_unique F n (length rows) (matrix_of K rows) (vector_of K v) (vector_of K x) (vector_of K y) (rows_length K n rows over) first second)

@@ -10,13 +10,12 @@ use Rattle.axe_algebra.specs.ListArithmetic.{combination}
 use Rattle.axe_algebra.specs.SpansOfLists.{IsSpanned, IsIndependent, HaveSameSpan, SpansEverything}
 use Rattle.axe_algebra.specs.ListTheorems.{IsCombination, SpannedIsCombination}
 use Rattle.axe_algebra.proofs.ProductLaws.{times_same}
-use Rattle.axe_algebra.proofs.Spanning.{span_row, span_same, unique_coefficients}
+use Rattle.axe_algebra.proofs.Spanning.{span_row, span_same}
 use Rattle.axe_algebra.proofs.Elimination.{eliminate}
 use Rattle.axe_algebra.proofs.Exchange.{cut, cut_length, times_cut, with_row, with_row_at, with_row_before, spanned_or_independent, in_span_or_not, span_longer, span_of_same_rows, square_rows_span}
-use Rattle.axe_algebra.proofs.ElementNumbers.{entry-below, same_number}
 use Rattle.axe_algebra.proofs.ListEntries.{vector_length, rows_length, vector_of_entries, entries_over, same_vector}
 use Rattle.axe_algebra.proofs.ListProducts.{vector_of_combination, combination_over}
-use Rattle.std.proofs.lemmas.List.{length-append, get_or_append_left, get_or-append-add, ext_get_or}
+use Rattle.std.proofs.lemmas.List.{length-append, get_or_append_left, get_or-append-add}
 use mathlib.Core.Logic.{inl, inr}
 use mathlib.Core.Path.{refl, sym, ◌∙◌, ap, subst}
 use native.Mathlib.Omega.{arith}
@@ -52,16 +51,6 @@ module _ (K : NumberField) where
     coefficients = vector_of K c;
     combines = ap (vector_of K) same ∙ vector_of_combination K n c rows over_c over;
   }
-
-  -- the coefficients over independent rows are unique
-  pub coefficients_are_unique : (n : ℕ) (rows : List (List ℕ)) (c d : List ℕ) → IsMatrixOver K n rows → IsVectorOver K (length rows) c →
-      IsVectorOver K (length rows) d → IsIndependent K rows → combination K n c rows ≡ combination K n d rows → c ≡ d
-  coefficients_are_unique n rows c d over over_c over_d independent same =
-      ext_get_or 0 c d (over_c.length_is ∙ sym over_d.length_is) (λ j below.
-      same_number K (get_or c j 0) (get_or d j 0) (entry-below K c j over_c.elements) (entry-below K d j over_d.elements)
-      (unique_coefficients F (length rows) (matrix_of K rows) (vector_of K c) (vector_of K d) independent
-      (sym (vector_of_combination K n c rows over_c over) ∙ ap (vector_of K) same ∙ vector_of_combination K n d rows over_d over)
-      j (omega (arith, over_c.length_is))))
 
   -- whether a vector is spanned is decidable
   pub spanned_or_not : (n : ℕ) (rows : List (List ℕ)) (v : List ℕ) → IsMatrixOver K n rows → length v ≡ n → Dec (IsSpanned K rows v)

@@ -66,12 +66,6 @@ module _ (K : NumberField) where
       span_of_same_rows F l (matrix_of K (take l rows)) (matrix_of K rows) x (λ t below. ap (vector_of K) (get_or-take l rows t [] below))
       (subst (λ k. Spans.InSpan F k (matrix_of K (take l rows)) x) (length-take-le l rows within) in_span)
 
-  pub taken_of_span : (rows : List (List ℕ)) (l : ℕ) (x : Vector F) → l ≤ length rows →
-      Spans.InSpan F l (matrix_of K rows) x → Spans.InSpan F (length (take l rows)) (matrix_of K (take l rows)) x
-  taken_of_span rows l x within in_span =
-      subst (λ k. Spans.InSpan F k (matrix_of K (take l rows)) x) (sym (length-take-le l rows within))
-      (span_of_same_rows F l (matrix_of K rows) (matrix_of K (take l rows)) x (λ t below. ap (vector_of K) (sym (get_or-take l rows t [] below))) in_span)
-
   module _ (n : ℕ) (generators : List (List (List ℕ))) (v : List ℕ) where
     -- a search that has covered every image has found the standard basis
     pub standard_basis_by_search : (rows : List (List ℕ)) (sources numbers : ℕ → ℕ) → All (IsSquareOver K n) generators → IsMatrixOver K n rows →

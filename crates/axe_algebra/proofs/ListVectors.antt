@@ -5,15 +5,14 @@ use Rattle.axe_algebra.specs.Field.{Field}
 use Rattle.axe_algebra.specs.Vectors.{Vector, zero_vector, unit_vector, add_vectors, subtract, scale}
 use Rattle.axe_algebra.specs.Spans
 use Rattle.axe_algebra.specs.Bridge.{field_of, element, vector_of, matrix_of}
-use Rattle.axe_algebra.specs.Lists.{listed, unit_row, IsVectorOver, IsMatrixOver}
-use Rattle.axe_algebra.specs.ListArithmetic.{combination}
-use Rattle.axe_algebra.specs.SpansOfLists.{IsSpanned, HaveSameSpan, IsNullVector, IsReducedBasis, IsRepresentative}
+use Rattle.axe_algebra.specs.Lists.{listed, unit_row, IsVectorOver}
+use Rattle.axe_algebra.specs.SpansOfLists.{IsSpanned, HaveSameSpan}
 use Rattle.axe_algebra.proofs.FieldLaws.{mul-zero, neg-sum_of_two}
 use Rattle.axe_algebra.proofs.ProductLaws.{unit_length}
-use Rattle.axe_algebra.proofs.Spanning.{span_zero, span_same, span_add, span_subtract, span_scale, span_within, same_refl, same_sym, same_trans}
+use Rattle.axe_algebra.proofs.Spanning.{span_zero, span_same, span_subtract, span_scale, span_within, same_refl, same_sym, same_trans}
 use Rattle.axe_algebra.proofs.ElementNumbers.{element_zero, element_add, element_mul, entry-below, zero-below}
-use Rattle.axe_algebra.proofs.ListEntries.{listed_over, vector_length, vector_of_listed, same_vector}
-use Rattle.axe_algebra.proofs.ListProducts.{vector_of_combination, combination_over, element_of_delta}
+use Rattle.axe_algebra.proofs.ListEntries.{listed_over, vector_length, vector_of_listed}
+use Rattle.axe_algebra.proofs.ListProducts.{element_of_delta}
 use mathlib.Core.Path.{refl, sym, ◌∙◌, ap, ap₂, fun_ext}
 use native.Mathlib.Omega.{arith}
 use native.Mathlib.Decide.{dec_lt}
@@ -63,28 +62,6 @@ module _ (K : NumberField) where
           vector_length K n multiple over_multiple.length_is j (omega arith)
           ∙ sym (ap (F.mul (element K c)) (vector_length K n row over_row.length_is j (omega arith)) ∙ mul-zero F (element K c))
 
-  -- with a multiple of a spanned row added a vector is spanned where it was
-  pub added_spanned : (n c : ℕ) (rows : List (List ℕ)) (row other sum : List ℕ) → IsVectorOver K n row → IsVectorOver K n other →
-      IsVectorOver K n sum → c < K.order → ((j : ℕ) → j < n → get_or sum j 0 ≡ K.add (get_or row j 0) (K.mul c (get_or other j 0))) →
-      IsSpanned K rows row → IsSpanned K rows other → IsSpanned K rows sum
-  added_spanned n c rows row other sum over_row over_other over_sum below same row_in other_in =
-      span_same F (length rows) (matrix_of K rows) _ _ (vector_of_added n c row other sum over_row over_other over_sum below same)
-      (span_add F (length rows) (matrix_of K rows) (vector_of K row) (scale F (element K c) (vector_of K other)) row_in
-      (span_scale F (length rows) (matrix_of K rows) (element K c) (vector_of K other) other_in))
-
-  pub added_only_if_spanned : (n c : ℕ) (rows : List (List ℕ)) (row other sum : List ℕ) → IsVectorOver K n row → IsVectorOver K n other →
-      IsVectorOver K n sum → c < K.order → ((j : ℕ) → j < n → get_or sum j 0 ≡ K.add (get_or row j 0) (K.mul c (get_or other j 0))) →
-      IsSpanned K rows sum → IsSpanned K rows other → IsSpanned K rows row
-  added_only_if_spanned n c rows row other sum over_row over_other over_sum below same sum_in other_in =
-      span_same F (length rows) (matrix_of K rows) (vector_of K row) (subtract F (vector_of K sum) multiple)
-      (fun_ext λ j. sym (ap (λ (x : Vector F). F.add (x j) (F.neg (multiple j))) (vector_of_added n c row other sum over_row over_other over_sum below same)
-      ∙ F.add_assoc (vector_of K row j) (multiple j) (F.neg (multiple j)) ∙ ap (F.add (vector_of K row j)) (F.add-neg (multiple j)) ∙ F.add-zero (vector_of K row j)))
-      (span_subtract F (length rows) (matrix_of K rows) (vector_of K sum) multiple sum_in
-      (span_scale F (length rows) (matrix_of K rows) (element K c) (vector_of K other) other_in))
-    where
-      multiple : Vector F
-      multiple = scale F (element K c) (vector_of K other)
-
   -- the coset of a vector modulo the rows' span: it holds the vector, and a multiple of a spanned row keeps within it
   abbrev pub IsInCoset : List (List ℕ) → List ℕ → List ℕ → Type 0
   IsInCoset rows v x = Spans.InSpan F (length rows) (matrix_of K rows) (subtract F (vector_of K v) (vector_of K x))
@@ -107,31 +84,6 @@ module _ (K : NumberField) where
     where
       multiple : Vector F
       multiple = scale F (element K c) (vector_of K other)
-
-  -- a vector of the coset that is 0 at the pivots of a reduced basis is the representative
-  pub representative_by_pivots : (n : ℕ) (rows basis : List (List ℕ)) (v x : List ℕ) → (reduced : IsReducedBasis K rows basis) → IsInCoset rows v x →
-      ((t : ℕ) → t < length basis → get_or x (reduced.pivots t) 0 ≡ 0) → IsRepresentative K rows v x
-  representative_by_pivots n rows basis v x reduced in_coset zeros = record {
-    in_coset = in_coset;
-    at_pivots = λ j pivot. at j (reduced.are_pivots.all j pivot);
-  }
-    where
-      at : (j : ℕ) → (t : ℕ) × (t < length basis) × (reduced.pivots t ≡ j) → vector_of K x j ≡ F.zero
-      at j (t, below, e) = ap (vector_of K x) (sym e) ∙ ap (element K) (zeros t below) ∙ element_zero K
-
-  -- the null vectors of a matrix are those whose combination of its rows is the zero row
-  pub null_vector_by_combination : (n : ℕ) (rows : List (List ℕ)) (v : List ℕ) → IsMatrixOver K n rows → IsVectorOver K (length rows) v →
-      combination K n v rows ≡ listed n (λ j. 0) → IsNullVector K rows v
-  null_vector_by_combination n rows v over over_v same = record {
-    length = vector_length K (length rows) v over_v.length_is;
-    vanishes = sym (vector_of_combination K n v rows over_v over) ∙ ap (vector_of K) same ∙ vector_of_zeros n;
-  }
-
-  pub combination_of_null_vector : (n : ℕ) (rows : List (List ℕ)) (v : List ℕ) → IsMatrixOver K n rows → IsVectorOver K (length rows) v →
-      IsNullVector K rows v → combination K n v rows ≡ listed n (λ j. 0)
-  combination_of_null_vector n rows v over over_v null =
-      same_vector K n (combination K n v rows) (listed n (λ j. 0)) (combination_over K n v rows over_v over) (zeros_over n)
-      (vector_of_combination K n v rows over_v over ∙ null.vanishes ∙ sym (vector_of_zeros n))
 
   -- lists with one span
   pub spanned_within : (a b : List (List ℕ)) (v : List ℕ) → HaveSameSpan K a b → IsSpanned K a v → IsSpanned K b v

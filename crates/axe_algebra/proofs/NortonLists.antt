@@ -17,13 +17,13 @@ use Rattle.axe_algebra.specs.NortonTheorems.{SpansAnnihilator}
 use Rattle.axe_algebra.proofs.ProductLaws.{unit_is_matrix, unit_at, times_unit, times_none, times_zero_rows}
 use Rattle.axe_algebra.proofs.Spanning.{span_row}
 use Rattle.axe_algebra.proofs.Exchange.{exchange}
-use Rattle.axe_algebra.proofs.SquareMatrices.{null_space_criterion, transpose_criterion}
+use Rattle.axe_algebra.proofs.SquareMatrices.{null_space_criterion}
 use Rattle.axe_algebra.proofs.ReducedBases.{reduced_independent}
 use Rattle.axe_algebra.proofs.Annihilators.{annihilator_rows_are_proper, annihilator_rows_are_nonzero}
 use Rattle.axe_algebra.proofs.Duality.{annihilator_of_transposed_span}
 use Rattle.axe_algebra.proofs.Isomorphisms.{unit_rows_independent}
 use Rattle.axe_algebra.proofs.ListEntries.{rows_length, square_shape}
-use Rattle.axe_algebra.proofs.ListProducts.{matrix_of_transpose, transpose_over}
+use Rattle.axe_algebra.proofs.ListProducts.{transpose_over}
 use Rattle.axe_algebra.proofs.ListSpans.{independent_rows_are_few, enough_rows_span}
 use Rattle.axe_algebra.proofs.ListModules.{module_shape, module_of_transposes}
 use Rattle.axe_algebra.proofs.ListGenerated.{seed_row_generated, generated_is_invariant_span, generates_everything, everything_is_full}
@@ -84,24 +84,6 @@ module _ (K : NumberField) where
     length_is = transpose_length n x;
     matrix = subst (λ k. IsMatrixOver K k (transpose n x)) square.length_is (transpose_over K n x square.matrix);
   }
-
-  -- where the null space of a square matrix is not zero, that of its transpose isn't
-  pub transposed_null_has_rows : (n : ℕ) (x null transposed_null : List (List ℕ)) → IsSquareOver K n x → IsNullSpaceBasis K x null →
-      IsNullSpaceBasis K (transpose n x) transposed_null → 0 < length null → 0 < length transposed_null
-  transposed_null_has_rows n x null transposed_null square basis transposed_basis some = by_size (dec_lt 0 (length transposed_null))
-    where
-      invertible : length transposed_null ≡ 0 → Spans.IsInvertible F n (matrix_of K x)
-      invertible none =
-          (transpose_criterion F n (matrix_of K x)).1
-          (subst (λ (a : Matrix F). Spans.IsInvertible F n a) (matrix_of_transpose K n x square.matrix)
-          (invertible_without_null_rows n (transpose n x) transposed_null (transpose_square n x square) transposed_basis none))
-
-      by_size : Dec (0 < length transposed_null) → 0 < length transposed_null
-      by_size (yes has) = has
-      by_size (no has_none) =
-          let none : length transposed_null ≡ 0 = omega arith in
-          let no_rows : length null ≡ 0 = no_null_rows_of_invertible n x null square basis (invertible none) in
-          absurd (omega arith)
 
   -- the null space of the zero matrix is everything
   pub null_space_of_zero : (n : ℕ) (x null : List (List ℕ)) → IsSquareOver K n x → matrix_of K x ≡ (λ i j. F.zero) → IsMatrixOver K n null →

@@ -168,6 +168,3 @@ module _ (F : Field) where
         combines =
             sym (times_unit F d t r below) ∙ ap (λ (x : Vector F). times F d x r) e.combines ∙ times_times F d s e.coefficients u r;
       }
-
-  pub lifted_within : (d s : ℕ) (u r : Matrix F) → SpanWithin F s (multiply F d u r) d r
-  lifted_within d s u r t below = record { coefficients = u t; combines = refl }

@@ -5,6 +5,7 @@ use Rattle.axe_algebra.specs.Vectors.{Vector, Matrix}
 use Rattle.axe_algebra.specs.Modules.{Module, image, IsInvariant}
 use Rattle.axe_algebra.specs.Actions.{IsSubAction}
 use Rattle.axe_algebra.specs.Standard.{Precedes, InSpanUpTo, IsStandardBasis, AreStandardMatrices}
+use Rattle.axe_algebra.proofs.PairOrder.{precedes_trans, precedes_or_same}
 use Rattle.axe_algebra.proofs.ProductLaws.{times_same, times_longer}
 use Rattle.axe_algebra.proofs.SubActions.{sub_action_is_unique, sub_action_of_same_rows}
 use Rattle.axe_algebra.proofs.NullSpaces.{row_not_in_earlier_span}
@@ -12,24 +13,6 @@ use mathlib.Core.Logic.{inl, inr}
 use mathlib.Core.Path.{refl, sym, ◌∙◌, ap, ap₂, subst}
 use native.Mathlib.Omega.{arith}
 use native.Mathlib.Decide.{dec_lt, ℕ_discrete}
-
--- the lexicographic order of pairs is transitive
-pub precedes_trans : (a b c d e f : ℕ) → Precedes a b c d → Precedes c d e f → Precedes a b e f
-precedes_trans a b c d e f (inl p) (inl q) = inl (omega arith)
-precedes_trans a b c d e f (inl p) (inr q) = inl (omega arith)
-precedes_trans a b c d e f (inr p) (inl q) = inl (omega arith)
-precedes_trans a b c d e f (inr p) (inr q) = inr (omega arith, omega arith)
-
--- of two pairs one comes before the other, or they are the same
-pub precedes_or_same : (a b c d : ℕ) → Precedes a b c d ⊎ (Precedes c d a b ⊎ ((a ≡ c) × (b ≡ d)))
-precedes_or_same a b c d = by_first (dec_lt a c) (dec_lt c a) (dec_lt b d) (dec_lt d b)
-  where
-    by_first : Dec (a < c) → Dec (c < a) → Dec (b < d) → Dec (d < b) → Precedes a b c d ⊎ (Precedes c d a b ⊎ ((a ≡ c) × (b ≡ d)))
-    by_first (yes p) _ _ _ = inl (inl p)
-    by_first (no p) (yes q) _ _ = inr (inl (inl q))
-    by_first (no p) (no q) (yes r) _ = inl (inr (omega arith, r))
-    by_first (no p) (no q) (no r) (yes s) = inr (inl (inr (omega arith, s)))
-    by_first (no p) (no q) (no r) (no s) = inr (inr (omega arith, omega arith))
 
 -- two lists of rows, and the pairs that made them, agree below t
 record Agree (F : Field) (b b' : Matrix F) (rows rows' generators generators' : ℕ → ℕ) (t : ℕ) : Type 0 where

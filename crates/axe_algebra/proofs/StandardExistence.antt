@@ -9,7 +9,7 @@ use Rattle.axe_algebra.proofs.ProductLaws.{times_none, times_unit, times_length,
 use Rattle.axe_algebra.proofs.Skipping.{skip_before, put_in, put_in_at, put_in_skip}
 use Rattle.axe_algebra.proofs.Spaces.{independent_at_most}
 use Rattle.axe_algebra.proofs.Exchange.{cut, cut_below, cut_length, times_cut, with_row, with_row_at, with_row_before, with_row_length, spanned_or_independent}
-use Rattle.axe_algebra.proofs.StandardBases.{precedes_trans}
+use Rattle.axe_algebra.proofs.PairOrder.{precedes_trans, never_precedes_itself, precedes_or_is, precedes_later}
 use mathlib.Core.Logic.{inl, inr}
 use mathlib.Core.Path.{refl, sym, ◌∙◌, ap, ap₂, subst, subst₂}
 use native.Mathlib.Omega.{arith}
@@ -25,24 +25,6 @@ up_to_last P m last before t below = by_place (ℕ_discrete t m)
 
 put_in_before : (k x : ℕ) (f : ℕ → ℕ) (t : ℕ) → t < k → put_in k x f t ≡ f t
 put_in_before k x f t below = ap (put_in k x f) (sym (skip_before k t below)) ∙ put_in_skip k x f t
-
--- no pair comes before itself
-not_before_itself : (a b : ℕ) → ¬ (Precedes a b a b)
-not_before_itself a b (inl p) = omega arith
-not_before_itself a b (inr (e, p)) = omega arith
-
--- a pair before (r, i + 1) is before (r, i) or is (r, i)
-before_next : (a b r i : ℕ) → Precedes a b r (suc i) → Precedes a b r i ⊎ ((a ≡ r) × (b ≡ i))
-before_next a b r i (inl p) = inl (inl p)
-before_next a b r i (inr (e, p)) = by_place (ℕ_discrete b i)
-  where
-    by_place : Dec (b ≡ i) → Precedes a b r i ⊎ ((a ≡ r) × (b ≡ i))
-    by_place (yes same) = inr (e, same)
-    by_place (no other) = inl (inr (e, omega arith))
-
-next_after : (a b r i : ℕ) → Precedes a b r i → Precedes a b r (suc i)
-next_after a b r i (inl p) = inl p
-next_after a b r i (inr (e, p)) = inr (e, omega arith)
 
 -- the rows found when the images up to the pair (r, i) were looked at
 record Found (F : Field) (M : Module F) (v : Vector F) (r i : ℕ) : Type 0 where
@@ -78,15 +60,15 @@ module _ (F : Field) (M : Module F) (v : Vector F) where
     generator-below = found.generator-below;
     ascending = found.ascending;
     equals = found.equals;
-    before = λ t positive below. next_after (found.rows t) (found.generators t) r i (found.before t positive below);
-    images = λ s j below inside precedes. by_place s j below inside (before_next s j r i precedes);
+    before = λ t positive below. precedes_later (found.rows t) (found.generators t) r i (found.before t positive below);
+    images = λ s j below inside precedes. by_place s j below inside (precedes_or_is s j r i precedes);
   }
     where
       here : InSpanUpTo F found.size found.basis found.rows found.generators r i (image F M (found.basis r) i)
       here = record {
         coefficients = within.coefficients;
         combines = within.combines;
-        later = λ t positive below precedes. absurd (not_before_itself r i
+        later = λ t positive below precedes. absurd (never_precedes_itself r i
             (precedes_trans r i (found.rows t) (found.generators t) r i precedes (found.before t positive below)));
       }
 
@@ -186,14 +168,14 @@ module _ (F : Field) (M : Module F) (v : Vector F) where
           ∙ sym (times_unit F (suc found.size) found.size new_basis (omega arith));
       later = λ t positive under.
           up_to_last (λ t. 0 < t → Precedes r i (new_rows t) (new_generators t) → unit_vector F found.size t ≡ F.zero) found.size
-          (λ positive precedes. absurd (not_before_itself r i (subst₂ (Precedes r i) rows_last generators_last precedes)))
+          (λ positive precedes. absurd (never_precedes_itself r i (subst₂ (Precedes r i) rows_last generators_last precedes)))
           (λ t inside positive precedes. unit_off F found.size t (omega arith))
           t under positive;
     }
 
     new_images : (s j : ℕ) → s < suc found.size → j < M.count → Precedes s j r (suc i) →
         InSpanUpTo F (suc found.size) new_basis new_rows new_generators s j (image F M (new_basis s) j)
-    new_images s j below inside precedes = by_place (before_next s j r i precedes)
+    new_images s j below inside precedes = by_place (precedes_or_is s j r i precedes)
       where
         by_place : Precedes s j r i ⊎ ((s ≡ r) × (j ≡ i)) →
             InSpanUpTo F (suc found.size) new_basis new_rows new_generators s j (image F M (new_basis s) j)
@@ -225,7 +207,7 @@ module _ (F : Field) (M : Module F) (v : Vector F) where
       before = λ t positive below. up_to_last (λ t. 0 < t → Precedes (new_rows t) (new_generators t) r (suc i)) found.size
           (λ positive. pair_last (λ a b. Precedes a b r (suc i)) (inr (refl, omega arith)))
           (λ t under positive. pair_before (λ a b. Precedes a b r (suc i)) t under
-          (next_after (found.rows t) (found.generators t) r i (found.before t positive under))) t below positive;
+          (precedes_later (found.rows t) (found.generators t) r i (found.before t positive under))) t below positive;
       images = new_images;
     }
 

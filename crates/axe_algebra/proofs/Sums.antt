@@ -88,8 +88,3 @@ module _ (F : Field) where
       last before_it (no other) =
           ap₂ ◌⊕◌ (before_it (omega arith) (λ t from below. zeros t from (omega arith))) (zeros m (omega arith) (omega arith))
           ∙ F.add-zero (sum F n f)
-
-  -- the sum of two terms
-  pub sum_of_two : (f : ℕ → Element) → sum F 2 f ≡ f 0 ⊕ f 1
-  unfolding sum
-  sum_of_two f = ap (λ x. x ⊕ f 1) (zero-add F (f 0))

@@ -6,34 +6,10 @@ use Rattle.axe_algebra.specs.Modules.{Module}
 use Rattle.axe_algebra.specs.Standard.{Precedes}
 use Rattle.axe_algebra.proofs.ProductLaws.{unit_at, unit_length, times_unit}
 use Rattle.axe_algebra.proofs.Spanning.{unique_coefficients}
-use Rattle.axe_algebra.proofs.StandardBases.{precedes_or_same}
+use Rattle.axe_algebra.proofs.PairOrder.{nothing_precedes_start}
 use Rattle.axe_iso.specs.Following.{AreOfUnitVector}
 use mathlib.Core.Path.{fun_ext}
 use native.Mathlib.Decide.{dec_lt, ℕ_discrete}
-
--- ---- the order of pairs
-
-pub nothing_before_start : (a b : ℕ) → ¬ (Precedes a b 0 0)
-nothing_before_start a b (inl e) = omega arith
-nothing_before_start a b (inr e) = omega (arith, e.1)
-
--- what comes before the next pair comes before this one, or is it
-pub before_or_same : (a b r i : ℕ) → Precedes a b r (i + 1) → Precedes a b r i ⊎ ((a ≡ r) × (b ≡ i))
-before_or_same a b r i (inl e) = inl (inl e)
-before_or_same a b r i (inr e) = elim (ℕ_discrete b i) [ yes same ↦ inr (e.0, same) | no other ↦ inl (inr (e.0, omega (arith, other, e.1))) ]
-
--- nothing is between a pair and the next
-nothing_between : (r i a b : ℕ) → Precedes r i a b → ¬ (Precedes a b r (i + 1))
-nothing_between r i a b (inl e) (inl f) = omega arith
-nothing_between r i a b (inl e) (inr f) = omega (arith, f.0)
-nothing_between r i a b (inr e) (inl f) = omega (arith, e.0)
-nothing_between r i a b (inr e) (inr f) = omega (arith, e.1, f.1)
-
-precedes_pair : (a b r i c d : ℕ) → (r ≡ c) × (i ≡ d) → Precedes a b r i → Precedes a b c d
-precedes_pair a b r i c d same e = subst (λ x. Precedes a b x d) same.0 (subst (λ x. Precedes a b r x) same.1 e)
-
-pair_precedes : (r i a b c d : ℕ) → (r ≡ c) × (i ≡ d) → Precedes r i a b → Precedes c d a b
-pair_precedes r i a b c d same e = subst (λ x. Precedes x d a b) same.0 (subst (λ x. Precedes r x a b) same.1 e)
 
 module _ (F : Field) (A : Module F) (own : AreOfUnitVector F A) where
   abbrev pairs_row : ℕ → ℕ
@@ -81,7 +57,7 @@ module _ (F : Field) (A : Module F) (own : AreOfUnitVector F A) where
   ToCome k r i = (t : ℕ) → k ≤ t → t < A.dimension → ¬ (Precedes (pairs_row t) (pairs_generator t) r i)
 
   pub all_to_come : (k : ℕ) → ToCome k 0 0
-  all_to_come k t from within = nothing_before_start (pairs_row t) (pairs_generator t)
+  all_to_come k t from within = nothing_precedes_start (pairs_row t) (pairs_generator t)
 
   module _ (k r i : ℕ) (some : 0 < k) (to_come : ToCome k r i) (inside : r < A.dimension) (below : i < A.count) where
     module _ (t : ℕ) (from : k ≤ t) (within : t < A.dimension) (nonzero : A.generator i r t ≢ F.zero) where
@@ -124,7 +100,7 @@ module _ (F : Field) (A : Module F) (own : AreOfUnitVector F A) where
 
     -- where no coefficient past the rows is other than 0, this is the pair of no row
     pub to_come_past_known : ((t : ℕ) → k ≤ t → A.generator i r t ≡ F.zero) → ToCome k r (i + 1)
-    to_come_past_known zeros t from within before = cases (before_or_same (pairs_row t) (pairs_generator t) r i before)
+    to_come_past_known zeros t from within before = cases (precedes_or_is (pairs_row t) (pairs_generator t) r i before)
       where
         unit : (pairs_row t ≡ r) × (pairs_generator t ≡ i) → A.generator i r ≡ unit_vector F t
         unit same =

@@ -15,6 +15,7 @@ use Rattle.axe_algebra.proofs.ListProducts.{combination_over}
 use Rattle.axe_algebra.proofs.ListSpans.{appended_spans, appended_row_spanned, appended_independent, independent_rows_are_few, no_rows_independent}
 use Rattle.axe_algebra.proofs.ListVectors.{spanned_within, same_span_refl, same_span_sym, same_span_trans, same_span_by_rows}
 use Rattle.axe_algebra.proofs.Exchange.{exchange}
+use Rattle.axe_algebra.proofs.PairOrder.{not_both_precede, never_precedes_itself, nothing_precedes_start, precedes_next, precedes_later, precedes_or_is, precedes_in_row, precedes_before_row, preceding_or_past, row_of_preceding, precedes_at, not_preceding_at}
 use Rattle.axe_field.specs.Order.{Order}
 use Rattle.axe_field.specs.NumberFields.{number_field}
 use Rattle.axe_matrix.specs.Matrices.{MatrixValue, IsMatrix}
@@ -42,74 +43,6 @@ with_value_at f n x t same = ap (λ b. cond b x (f t)) (eq-eqb t n same)
 with_value_before : (f : ℕ → ℕ) (n x t : ℕ) → t < n → with_value f n x t ≡ f t
 unfolding with_value
 with_value_before f n x t below = ap (λ b. cond b x (f t)) (ne_eqb t n (λ e. omega arith))
-
--- the order of pairs
-not_both_precede : (a b c d : ℕ) → Precedes a b c d → ¬ (Precedes c d a b)
-not_both_precede a b c d (inl e) (inl f) = omega arith
-not_both_precede a b c d (inl e) (inr f) = omega (arith, f.0)
-not_both_precede a b c d (inr e) (inl f) = omega (arith, e.0)
-not_both_precede a b c d (inr e) (inr f) = omega (arith, e.1, f.1)
-
-never_precedes_itself : (a b : ℕ) → ¬ (Precedes a b a b)
-never_precedes_itself a b (inl e) = omega arith
-never_precedes_itself a b (inr e) = omega (arith, e.1)
-
-nothing_precedes_start : (a b : ℕ) → ¬ (Precedes a b 0 0)
-nothing_precedes_start a b (inl e) = omega arith
-nothing_precedes_start a b (inr e) = omega (arith, e.1)
-
-precedes_next : (c d : ℕ) → Precedes c d c (suc d)
-precedes_next c d = inr (refl, omega arith)
-
-precedes_later : (a b c d : ℕ) → Precedes a b c d → Precedes a b c (suc d)
-precedes_later a b c d (inl e) = inl e
-precedes_later a b c d (inr e) = inr (e.0, omega (arith, e.1))
-
--- what precedes the next pair precedes this one, or is it
-precedes_or_is : (a b c d : ℕ) → Precedes a b c (suc d) → Precedes a b c d ⊎ ((a ≡ c) × (b ≡ d))
-precedes_or_is a b c d (inl e) = inl (inl e)
-precedes_or_is a b c d (inr e) = elim (ℕ_discrete b d) [ yes same ↦ inr (e.0, same) | no other ↦ inl (inr (e.0, omega (arith, other, e.1))) ]
-
-precedes_in_row : (a b c d : ℕ) → Precedes a b c d → Precedes a b (c + 1) 0
-precedes_in_row a b c d (inl e) = inl (omega arith)
-precedes_in_row a b c d (inr e) = inl (omega (arith, e.0))
-
--- what precedes the first pair of the next row precedes each pair that is not of this row
-precedes_before_row : (a b c count : ℕ) → Precedes a b (c + 1) 0 → b < count → Precedes a b c count
-precedes_before_row a b c count (inl e) below =
-    elim (ℕ_discrete a c) [ yes same ↦ inr (same, below) | no other ↦ inl (omega (arith, other)) ]
-precedes_before_row a b c count (inr e) below = absurd (omega (arith, e.1))
-
--- a pair precedes another, or what precedes the other precedes it
-preceding_or_past : (r i c d : ℕ) → Precedes r i c d ⊎ ((a b : ℕ) → Precedes a b c d → Precedes a b r i)
-preceding_or_past r i c d = at (dec_lt r c) (ℕ_discrete r c) (dec_lt i d)
-  where
-    same : (a b : ℕ) → r ≡ c → d ≤ i → Precedes a b c d → Precedes a b r i
-    same a b e more (inl x) = inl (omega arith)
-    same a b e more (inr x) = inr (x.0 ∙ sym e, omega (arith, x.1))
-
-    later : (a b : ℕ) → c < r → Precedes a b c d → Precedes a b r i
-    later a b more (inl x) = inl (omega arith)
-    later a b more (inr x) = inl (omega (arith, x.0))
-
-    at : Dec (r < c) → Dec (r ≡ c) → Dec (i < d) → Precedes r i c d ⊎ ((a b : ℕ) → Precedes a b c d → Precedes a b r i)
-    at (yes less) _ _ = inl (inl less)
-    at (no no_less) (yes e) (yes below) = inl (inr (e, below))
-    at (no no_less) (yes e) (no past) = inr (λ a b. same a b e (omega (arith, past)))
-    at (no no_less) (no other) _ = inr (λ a b. later a b (omega (arith, no_less, other)))
-
--- the row of a pair that precedes another
-row_of_preceding : (a b c d n : ℕ) → Precedes a b c d → c < n → a < n
-row_of_preceding a b c d n (inl e) below = omega arith
-row_of_preceding a b c d n (inr e) below = omega (arith, e.0)
-
-precedes_at : (a b c d e f g h : ℕ) → a ≡ e → b ≡ f → c ≡ g → d ≡ h → Precedes e f g h → Precedes a b c d
-precedes_at a b c d e f g h p q r s (inl x) = inl (omega arith)
-precedes_at a b c d e f g h p q r s (inr x) = inr (p ∙ x.0 ∙ sym r, omega (arith, x.1))
-
--- pairs that are equal to others
-not_preceding_at : (r i c d g h : ℕ) → c ≡ g → d ≡ h → ¬ (Precedes r i g h) → ¬ (Precedes r i c d)
-not_preceding_at r i c d g h p q never e = never (precedes_at r i g h r i c d refl refl (sym p) (sym q) e)
 
 module _ (m : ModuleValue) where
   -- the rows are as many more, and the images of the old ones stay
