@@ -9,7 +9,7 @@ use Rattle.std.proofs.lemmas.Nat.{mul-le}
 use Rattle.std.proofs.lemmas.Simd.{length-chunk, length-put_chunk, put_chunk_is, get_or-chunk, get_or-put_chunk_below, get_or-put_chunk_at, get_or-put_chunk_above}
 use Rattle.axe_algebra.specs.Lists.{listed}
 use Rattle.axe_algebra.proofs.ListEntries.{listed_length, listed_at}
-use Rattle.axe_bits.proofs.BitLaws.{written}
+use Rattle.axe_layer.proofs.BitLaws.{written}
 use lib.Seq.{drop-drop}
 use mathlib.Core.List.{append_assoc}
 

@@ -5,9 +5,9 @@ use Rattle.std.proofs.lemmas.Bool.{cases_eq}
 use Rattle.std.proofs.lemmas.List.{length-replicate}
 use Rattle.std.proofs.lemmas.Simd.{length-put_chunk}
 use Rattle.axe_algebra.proofs.ListEntries.{listed_length, listed_at}
-use Rattle.axe_bits.specs.Bits.{bits, HoldsBits}
+use Rattle.axe_layer.specs.Bits.{bits, HoldsBits}
 use Rattle.axe_bits.specs.FlatTables.{bit_entries, HoldsEntries}
-use Rattle.axe_bits.proofs.BitLaws.{length-bits, bits-zeros, HoldsBits-zeros}
+use Rattle.axe_layer.proofs.BitLaws.{length-bits, bits-zeros, HoldsBits-zeros}
 use Rattle.axe_bits.proofs.PieceLaws.{piece_within, same_piece, other_piece, pieces_after, zero_piece, zero_pieces}
 
 pub length-bit_entries : (n w count : ℕ) (words : List ℕ) → length (bit_entries n w count words) ≡ count

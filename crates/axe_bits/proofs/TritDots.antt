@@ -5,10 +5,10 @@ use native.Mathlib.Nat.{mul-add, mul_assoc, mul_comm}
 use Rattle.axe_lane.specs.Bytes.{sum_of_products}
 use Rattle.axe_lane.specs.Words.{common_bits}
 use Rattle.axe_lane.specs.Trits.{common_trits}
-use Rattle.axe_bits.specs.Bits.{bit_of, bits, HoldsBits}
+use Rattle.axe_layer.specs.Bits.{bit_of, bits, HoldsBits}
 use Rattle.axe_bits.specs.Trits.{trits, HoldLayers}
-use Rattle.axe_bits.proofs.BitLaws.{length-bits, get_or-bits}
-use Rattle.axe_bits.proofs.DotLaws.{common_bits-dot, dot_by_entries, sum_below, sum_below-same}
+use Rattle.axe_layer.proofs.BitLaws.{length-bits, get_or-bits}
+use Rattle.axe_layer.proofs.DotLaws.{common_bits-dot, dot_by_entries, sum_below, sum_below-same}
 use Rattle.axe_bits.proofs.TritWords.{length-layers, get_or-layers}
 
 -- a product of digits, by the products of their layers

@@ -7,9 +7,9 @@ use Rattle.std.proofs.lemmas.Nat.Bits.{bit_at-zero}
 use Rattle.axe_lane.specs.Entries.{AreZerosBefore}
 use Rattle.axe_lane.specs.Trits.{AreTrits, FitAt, IsTritSum}
 use Rattle.axe_lane.specs.Words.{bit_of_words}
-use Rattle.axe_bits.specs.Bits.{bits}
+use Rattle.axe_layer.specs.Bits.{bits}
 use Rattle.axe_bits.specs.Trits.{trits, HoldLayers}
-use Rattle.axe_bits.proofs.EndLaws.{end-before, end-after, end_is, end_written, length-end, zero_words_before}
+use Rattle.axe_layer.proofs.EndLaws.{end-before, end-after, end_is, end_written, length-end, zero_words_before}
 use Rattle.axe_bits.proofs.TritLaws.{get_or-trits}
 
 -- ---- the words from one on

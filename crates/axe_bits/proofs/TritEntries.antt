@@ -3,11 +3,11 @@ use Rattle.std.proofs.Common.{◌≡◌, ℕ, ◌+◌, ◌-◌, ◌*◌, ◌<◌
 use Rattle.std.proofs.lemmas.List.{set-get_or}
 use Rattle.std.specs.Simd.Lanes.{put_chunk}
 use Rattle.axe_lane.specs.Trits.{IsTritSum}
-use Rattle.axe_bits.specs.Bits.{bits, HoldsBits}
-use Rattle.axe_bits.specs.Digits.{digits_with_multiple, AreDigits}
+use Rattle.axe_layer.specs.Bits.{bits, HoldsBits}
+use Rattle.axe_layer.specs.Digits.{digits_with_multiple, AreDigits}
 use Rattle.axe_bits.specs.FlatTables.{bit_entries, HoldsEntries}
 use Rattle.axe_bits.specs.Trits.{trits, trit_entries, HoldLayers, HoldTrits, HoldTritEntries}
-use Rattle.axe_bits.proofs.DigitLaws.{digits_with_multiple-none}
+use Rattle.axe_layer.proofs.DigitLaws.{digits_with_multiple-none}
 use Rattle.axe_bits.proofs.PieceLaws.{written_piece}
 use Rattle.axe_bits.proofs.TableLaws.{bit_index, bit_entry-long, bit_entries-after, entries_held, entry_words, AreWordsOf}
 use Rattle.axe_bits.proofs.TritLaws.{length-trits}

@@ -6,13 +6,13 @@ use Rattle.std.proofs.Math.Seq.{drop-append_seam, take-append_seam}
 use native.Mathlib.Decide.{dec_lt}
 use Rattle.axe_lane.specs.Entries.{HasNonzero}
 use Rattle.axe_lane.specs.Trits.{IsTritSum}
-use Rattle.axe_bits.specs.Bits.{bits, HoldsBits}
-use Rattle.axe_bits.specs.Digits.{digits_with_multiple}
+use Rattle.axe_layer.specs.Bits.{bits, HoldsBits}
+use Rattle.axe_layer.specs.Digits.{digits_with_multiple}
 use Rattle.axe_bits.specs.Trits.{trits, first_half, second_half, HoldLayers, HoldTrits}
-use Rattle.axe_bits.proofs.BitLaws.{bit_of-zeros, bits-zeros, bits-injective, HoldsBits-zeros, written, zeros}
+use Rattle.axe_layer.proofs.BitLaws.{bit_of-zeros, bits-zeros, bits-injective, HoldsBits-zeros, written, zeros}
 use Rattle.axe_bits.proofs.TritWords.{digits_of_sum, layers, layers_of_planes, layers_of_sum, length-layers}
 use Rattle.axe_bits.proofs.TritZeros.{same_ones, same_twos, trits-zeros, zero_ones, zero_trits, zero_twos}
-use Rattle.axe_bits.proofs.ZeroDigits.{no_bit, zero_word, zero_words}
+use Rattle.axe_layer.proofs.ZeroDigits.{no_bit, zero_word, zero_words}
 
 -- the halves of a list of words are two layers of n bits
 abbrev pub HalvesHold : ℕ → List ℕ → Type 0

@@ -1,8 +1,8 @@
 -- The numbers that have digits modulo 3 of a list, from those of its two layers.
 use Rattle.std.proofs.Common.{◌≡◌, ℕ, ◌+◌, ◌*◌, ◌<◌, ◌≤◌, List, [], ◌∷◌, length, get_or, sym, ap, ap₂, subst, ◌∙◌, arith}
-use Rattle.axe_bits.specs.Digits.{number_bound, number_from, numbers_from}
+use Rattle.axe_layer.specs.Digits.{number_bound, number_from, numbers_from}
 use Rattle.axe_bits.specs.Trits.{trits, HoldTrits}
-use Rattle.axe_bits.proofs.PieceDigits.{with_values, with_values-same, with_values-small, with_values-sum, count_from, number_from-values, same_four, four_small}
+use Rattle.axe_layer.proofs.PieceDigits.{with_values, with_values-same, with_values-small, with_values-sum, count_from, number_from-values, same_four, four_small}
 use Rattle.axe_bits.proofs.TritPlaneLaws.{trits_long, trits_at}
 
 -- the number of up to eight digits modulo 3

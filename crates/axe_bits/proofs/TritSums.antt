@@ -2,9 +2,9 @@
 use Rattle.std.proofs.Common.{◌≡◌, ℕ, ◌+◌, ◌*◌, ◌<◌, ◌≤◌, List, length, get_or, sym, ap, ◌∙◌, arith}
 use Rattle.std.proofs.lemmas.List.{ext_get_or}
 use native.Mathlib.Nat.{mul_assoc, mul_comm, mul-add}
-use Rattle.axe_bits.specs.Digits.{AreSmallSums, numbers_with_multiple}
+use Rattle.axe_layer.specs.Digits.{AreSmallSums, numbers_with_multiple}
 use Rattle.axe_bits.specs.Trits.{trits, HoldTrits}
-use Rattle.axe_bits.proofs.NumberSums.{length-numbers_with_multiple, get_or-numbers_with_multiple}
+use Rattle.axe_layer.proofs.NumberSums.{length-numbers_with_multiple, get_or-numbers_with_multiple}
 use Rattle.axe_bits.proofs.TritPlaneLaws.{trits_long, trits_at}
 
 -- the first layer, and the second with factor 2, are the digits

@@ -4,7 +4,7 @@ use Rattle.std.proofs.lemmas.Bool.{cases_eq}
 use Rattle.std.proofs.lemmas.List.{ext_get_or, get_or-replicate, length-replicate, length-set}
 use Rattle.axe_algebra.proofs.ListEntries.{listed_length, listed_at}
 use Rattle.axe_bits.specs.Trits.{trits, HoldTrits, trit_entries, HoldTritEntries}
-use Rattle.axe_bits.proofs.BitLaws.{zeros}
+use Rattle.axe_layer.proofs.BitLaws.{zeros}
 use Rattle.axe_bits.proofs.TritZeros.{trits-zeros}
 
 pub length-trit_entries : (a b : List (List ℕ)) → length (trit_entries a b) ≡ length a

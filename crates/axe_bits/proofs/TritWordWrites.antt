@@ -3,11 +3,11 @@ use Rattle.std.proofs.Common.{◌≡◌, ℕ, ◌+◌, ◌*◌, ◌/◌, ◌%◌
 use Rattle.std.specs.Int.{bit_at}
 use Rattle.std.proofs.lemmas.Bool.{cases_eq}
 use Rattle.std.proofs.lemmas.Nat.Bits.{bit_at-lt}
-use Rattle.axe_bits.specs.Bits.{bits}
+use Rattle.axe_layer.specs.Bits.{bits}
 use Rattle.axe_bits.specs.Trits.{trits, HoldLayers, HoldTrits}
-use Rattle.axe_bits.specs.Words.{digit_of_words, digits_with_word}
+use Rattle.axe_layer.specs.Words.{digit_of_words, digits_with_word}
 use Rattle.axe_bits.proofs.TritPlaneLaws.{layers, trits_are, trits_at, trits_long}
-use Rattle.axe_bits.proofs.WordWrites.{length-digits_with_word, get_or-digits_with_word_same, get_or-digits_with_word_other, word_of_digits}
+use Rattle.axe_layer.proofs.WordWrites.{length-digits_with_word, get_or-digits_with_word_same, get_or-digits_with_word_other, word_of_digits}
 
 -- the digits of a word of each layer
 pub digit_of_layers : (n : ℕ) (ones twos self : List ℕ) (k one two i : ℕ) → HoldLayers n ones twos → trits (bits n ones) (bits n twos) ≡ self →

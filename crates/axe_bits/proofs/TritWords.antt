@@ -5,11 +5,11 @@ use Rattle.std.proofs.lemmas.List.{ext_get_or, get_or_past}
 use Rattle.axe_algebra.proofs.ListEntries.{listed_length, listed_at}
 use Rattle.axe_lane.specs.Words.{bit_of_words}
 use Rattle.axe_lane.specs.Trits.{AreTrits, FitAt, IsTritSum}
-use Rattle.axe_bits.specs.Bits.{bit_of, bits, HoldsBits}
-use Rattle.axe_bits.specs.Digits.{digits_with_multiple}
+use Rattle.axe_layer.specs.Bits.{bit_of, bits, HoldsBits}
+use Rattle.axe_layer.specs.Digits.{digits_with_multiple}
 use Rattle.axe_bits.specs.Trits.{trits, HoldLayers, HoldTrits}
-use Rattle.axe_bits.proofs.BitLaws.{length-bits, get_or-bits, plane_long, AreDigits-bits}
-use Rattle.axe_bits.proofs.DigitLaws.{length-digits_with_multiple, get_or-digits_with_multiple}
+use Rattle.axe_layer.proofs.BitLaws.{length-bits, get_or-bits, plane_long, AreDigits-bits}
+use Rattle.axe_layer.proofs.DigitLaws.{length-digits_with_multiple, get_or-digits_with_multiple}
 
 -- the bit of a word, in the words of both crates
 same_bit : (words : List ℕ) (e : ℕ) → bit_of_words words e ≡ bit_of words e

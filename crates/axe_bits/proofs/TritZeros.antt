@@ -8,8 +8,8 @@ use Rattle.axe_algebra.proofs.ListEntries.{listed_at}
 use Rattle.axe_lane.specs.Bytes.{multiple_modulo}
 use Rattle.axe_lane.proofs.ByteLaws.{multiple_by_one}
 use Rattle.axe_bits.specs.Trits.{trits, HoldTrits}
-use Rattle.axe_bits.proofs.BitLaws.{zeros, get_or-zeros}
-use Rattle.axe_bits.proofs.DigitLaws.{AreDigits-zeros}
+use Rattle.axe_layer.proofs.BitLaws.{zeros, get_or-zeros}
+use Rattle.axe_layer.proofs.DigitLaws.{AreDigits-zeros}
 use Rattle.axe_bits.proofs.TritLaws.{length-trits}
 
 abbrev IsZero : ℕ → Type 0

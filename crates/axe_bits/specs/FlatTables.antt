@@ -2,7 +2,7 @@
 use Rattle.std.specs.Prelude.{◌≡◌, ℕ, ◌+◌, ◌*◌, ◌/◌, ◌^◌, ◌<◌, List, length}
 use Rattle.std.specs.Simd.Lanes.{chunk}
 use Rattle.axe_algebra.specs.Lists.{listed}
-use Rattle.axe_bits.specs.Bits.{bits, HoldsBits}
+use Rattle.axe_layer.specs.Bits.{bits, HoldsBits}
 
 -- the entries of a table of bits: each has n of them, in w words
 unfoldable pub bit_entries : ℕ → ℕ → ℕ → List ℕ → List (List ℕ)

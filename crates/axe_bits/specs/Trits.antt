@@ -2,8 +2,8 @@
 use Rattle.std.specs.Prelude.{◌≡◌, ℕ, ◌+◌, ◌*◌, ◌/◌, ◌<◌, ◌≤◌, List, []}
 use Rattle.std.specs.Prelude.{length, slice_index, slice_index_or, take, drop}
 use Rattle.axe_algebra.specs.Lists.{listed}
-use Rattle.axe_bits.specs.Bits.{bits, HoldsBits}
-use Rattle.axe_bits.specs.Digits.{AreDigits}
+use Rattle.axe_layer.specs.Bits.{bits, HoldsBits}
+use Rattle.axe_layer.specs.Digits.{AreDigits}
 
 -- the digits of two layers: those of the first, and twice those of the second
 unfoldable pub trits : List ℕ → List ℕ → List ℕ

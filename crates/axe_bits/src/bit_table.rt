@@ -1,13 +1,13 @@
 //! Tables of planes of digits modulo 2.
 ghost use Rattle.std.specs.Prelude.{ℕ, List, ◌≡◌, ◌<◌, IfOk, [], length, replicate, slice_index_or, slice_set};
-ghost use Rattle.axe_bits.specs.Bits.{bits, HoldsBits};
-ghost use Rattle.axe_bits.specs.Digits.{digits_with_multiple};
+ghost use Rattle.axe_layer.specs.Bits.{bits, HoldsBits};
+ghost use Rattle.axe_layer.specs.Digits.{digits_with_multiple};
 ghost use Rattle.axe_bits.specs.Trits.{trits, trit_entries, HoldLayers, HoldTritEntries};
 
 use crate::BitPlane;
-use crate::parts::WORD;
 use crate::pieces::start_of;
 use axe_lane::{add_trits, put_xor, xor_into};
+use axe_layer::WORD;
 use std::alloc::{AllocError, Global};
 use std::marker::Model;
 

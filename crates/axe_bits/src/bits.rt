@@ -4,19 +4,18 @@ ghost use Rattle.std.specs.Prelude.{replicate, slice_index, slice_set, All, Matc
 ghost use Rattle.axe_algebra.specs.Lists.{listed};
 ghost use Rattle.axe_lane.specs.Bytes.{multiple_modulo, sum_of_products};
 ghost use Rattle.axe_lane.specs.Entries.{IsFirstNonzero, AreZerosBefore, AreZerosFrom, IsNextNonzero};
-ghost use Rattle.axe_bits.specs.Bits.{bits, HoldsBits};
-ghost use Rattle.axe_bits.specs.Digits.{AreDigits, digits_at, digits_with_four, digits_with_multiple};
-ghost use Rattle.axe_bits.specs.Digits.{AreSmallSums, numbers_with_multiple};
-ghost use Rattle.axe_bits.specs.Digits.{number_from, numbers_from, number_bound};
-ghost use Rattle.axe_bits.specs.Packed.{packed_bit};
+ghost use Rattle.axe_layer.specs.Bits.{bits, HoldsBits};
+ghost use Rattle.axe_layer.specs.Digits.{AreDigits, digits_at, digits_with_four, digits_with_multiple};
+ghost use Rattle.axe_layer.specs.Digits.{AreSmallSums, numbers_with_multiple};
+ghost use Rattle.axe_layer.specs.Digits.{number_from, numbers_from, number_bound};
+ghost use Rattle.axe_layer.specs.Packed.{packed_bit};
 
-use crate::layer::{
-    add_digits, bit_in, copy_digits, fill_with_bits, fill_with_part, fill_with_selected, next_in,
-    number_in, numbers_in, set_bit,
-};
-use crate::packed::{WORD_BYTES, packed_word, word_of_packed};
-use crate::parts::{WORD, lowest};
 use axe_lane::{any_nonzero, first_set, parity_and, xor_into, xor4_into};
+use axe_layer::{
+    WORD, WORD_BYTES, add_digits, bit_in, copy_digits, fill_with_bits, fill_with_part,
+    fill_with_selected, lowest, next_in, number_in, numbers_in, packed_word, set_bit,
+    word_of_packed,
+};
 use std::alloc::{AllocError, Global};
 use std::marker::Model;
 
@@ -32,7 +31,7 @@ pub struct BitPlane {
 
 impl Model for BitPlane {
     ghost use Rattle.std.specs.Prelude.{ℕ, List};
-    ghost use Rattle.axe_bits.specs.Bits.{bits, HoldsBits};
+    ghost use Rattle.axe_layer.specs.Bits.{bits, HoldsBits};
 
     ghost Value = { List ℕ };
 

@@ -2,13 +2,8 @@
 //! tables of many such lists.
 #![tactic(auto)]
 
-mod base_three;
 mod bit_table;
 mod bits;
-mod blocks;
-mod layer;
-mod packed;
-mod parts;
 mod pieces;
 mod places;
 mod supports;
@@ -17,9 +12,7 @@ mod trits;
 
 pub use bit_table::BitTable;
 pub use bits::BitPlane;
-pub use blocks::transposed_block;
 pub use pieces::start_of;
 pub use places::earlier;
-pub use supports::{four_in_word, next_in_word};
 pub use trit_table::TritTable;
 pub use trits::TritPlane;

@@ -1,6 +1,6 @@
 //! Tables of planes of digits modulo 3.
 ghost use Rattle.std.specs.Prelude.{◌≡◌, ◌<◌, IfOk, [], length, replicate, slice_index_or, slice_set};
-ghost use Rattle.axe_bits.specs.Digits.{digits_with_multiple};
+ghost use Rattle.axe_layer.specs.Digits.{digits_with_multiple};
 
 use crate::bit_table::add_layers_to_entry;
 use crate::{BitTable, TritPlane};

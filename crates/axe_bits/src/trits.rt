@@ -4,19 +4,17 @@ ghost use Rattle.std.specs.Prelude.{replicate, slice_index, slice_set, All, Matc
 ghost use Rattle.axe_algebra.specs.Lists.{listed};
 ghost use Rattle.axe_lane.specs.Bytes.{multiple_modulo, sum_of_products};
 ghost use Rattle.axe_lane.specs.Entries.{IsFirstNonzero, AreZerosBefore, AreZerosFrom, IsNextNonzero};
-ghost use Rattle.axe_bits.specs.Bits.{bits};
+ghost use Rattle.axe_layer.specs.Bits.{bits};
 ghost use Rattle.axe_lane.specs.Trits.{AreTrits, IsTritSum};
 ghost use Rattle.axe_bits.specs.Trits.{trits, first_half, second_half, HoldLayers};
-ghost use Rattle.axe_bits.specs.Digits.{AreDigits, digits_with_multiple};
-ghost use Rattle.axe_bits.specs.Digits.{AreSmallSums, numbers_with_multiple, numbers_from, number_bound};
+ghost use Rattle.axe_layer.specs.Digits.{AreDigits, digits_with_multiple};
+ghost use Rattle.axe_layer.specs.Digits.{AreSmallSums, numbers_with_multiple, numbers_from, number_bound};
 
-use crate::layer::{
-    add_digits, bit_in, copy_digits, fill_with_bits, fill_with_part, fill_with_selected,
-    numbers_by_digits, set_bit,
-};
-use crate::next_in_word;
-use crate::parts::WORD;
 use axe_lane::{add_trits, any_nonzero, dot_trits};
+use axe_layer::{
+    WORD, add_digits, bit_in, copy_digits, fill_with_bits, fill_with_part, fill_with_selected,
+    next_in_word, numbers_by_digits, set_bit,
+};
 use std::alloc::{AllocError, Global};
 use std::marker::Model;
 
@@ -33,7 +31,7 @@ pub struct TritPlane {
 
 impl Model for TritPlane {
     ghost use Rattle.std.specs.Prelude.{ℕ, List};
-    ghost use Rattle.axe_bits.specs.Bits.{bits};
+    ghost use Rattle.axe_layer.specs.Bits.{bits};
     ghost use Rattle.axe_bits.specs.Trits.{trits, first_half, second_half, HoldLayers};
 
     ghost Value = { List ℕ };

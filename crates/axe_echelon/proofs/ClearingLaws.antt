@@ -13,8 +13,8 @@ use Rattle.axe_algebra.proofs.FieldLaws.{zero-add, mul-zero}
 use Rattle.axe_algebra.proofs.Spanning.{span_same}
 use Rattle.axe_algebra.proofs.ElementNumbers.{element_neg, element_zero, entry-below, same_number, zero-below}
 use Rattle.axe_algebra.proofs.ListVectors.{vector_of_added, IsInCoset, coset_of_itself, added_in_coset}
-use Rattle.axe_bits.specs.Supports.{restricted}
-use Rattle.axe_bits.proofs.SupportLaws.{length-restricted}
+use Rattle.axe_layer.specs.Supports.{restricted}
+use Rattle.axe_layer.proofs.SupportLaws.{length-restricted}
 use Rattle.axe_lane.specs.Entries.{AreZerosBefore, AreZerosFrom, AreZerosBetween, IsNextNonzero}
 use Rattle.axe_field.specs.Order.{Order, IsElement}
 use Rattle.axe_field.specs.Arithmetic.{field_neg}

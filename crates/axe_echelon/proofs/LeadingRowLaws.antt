@@ -11,7 +11,7 @@ use Rattle.axe_algebra.proofs.FieldLaws.{mul-zero}
 use Rattle.axe_algebra.proofs.Spanning.{span_same, span_add, span_scale}
 use Rattle.axe_algebra.proofs.ElementNumbers.{element_neg, element_zero, entry-below, same_number, zero-below}
 use Rattle.axe_algebra.proofs.ListSpans.{row_spanned}
-use Rattle.axe_bits.specs.Supports.{restricted}
+use Rattle.axe_layer.specs.Supports.{restricted}
 use Rattle.axe_lane.specs.Entries.{AreZerosBefore, AreZerosFrom, IsNextNonzero}
 use Rattle.axe_field.specs.Order.{Order}
 use Rattle.axe_field.specs.NumberFields.{number_field, gf}

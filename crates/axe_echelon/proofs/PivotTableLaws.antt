@@ -5,8 +5,8 @@ use Rattle.std.proofs.Common.{true≢false}
 use Rattle.std.proofs.lemmas.Bool.{ne_eqb}
 use Rattle.std.proofs.lemmas.List.{length-append, length-replicate, length-set, get_or_past, get_or_append_left, get_or-append-add, get_or-set_same, get_or-set_other}
 use Rattle.axe_algebra.proofs.ListEntries.{listed_at, listed_length}
-use Rattle.axe_bits.specs.Supports.{restricted}
-use Rattle.axe_bits.proofs.SupportLaws.{restricted_away}
+use Rattle.axe_layer.specs.Supports.{restricted}
+use Rattle.axe_layer.proofs.SupportLaws.{restricted_away}
 use Rattle.axe_lane.specs.Entries.{IsNextNonzero}
 use Rattle.axe_echelon.specs.PivotTables.{marks_in, marks_of, HasRoom, IsPivotAt, HasPivots}
 use Rattle.axe_echelon.specs.declared.pivot_table.PivotTable.{PivotTable}

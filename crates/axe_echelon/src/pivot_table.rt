@@ -2,7 +2,7 @@
 
 ghost use Rattle.std.specs.Prelude.{◌≡◌, ◌≢◌, ◌<◌, ◌≤◌, ◌↔◌, [], ℕ, List, length, slice_index, slice_set};
 ghost use Rattle.std.specs.Prelude.{IfOk, IsTrue, MatchOption};
-ghost use Rattle.axe_bits.specs.Supports.{restricted};
+ghost use Rattle.axe_layer.specs.Supports.{restricted};
 ghost use Rattle.axe_lane.specs.Entries.{AreZerosFrom, IsNextNonzero};
 ghost use Rattle.axe_echelon.specs.PivotTables.{marks_of, FitsColumns, HasRoom, HasPivots};
 

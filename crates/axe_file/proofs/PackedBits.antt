@@ -2,7 +2,7 @@
 use Rattle.std.proofs.Common.{◌≡◌, ℕ, ◌+◌, ◌-◌, ◌*◌, ◌/◌, ◌%◌, ◌^◌, ◌<◌, ◌≤◌, List, length, get_or, refl, sym, ap, ap₂, ◌∙◌, arith}
 use Rattle.axe_algebra.specs.Lists.{listed}
 use Rattle.axe_field.specs.Order.{Order, Two, Three, Four, Five, Seven, Eight, Nine, order_number}
-use Rattle.axe_bits.specs.Packed.{packed_bit}
+use Rattle.axe_layer.specs.Packed.{packed_bit}
 use Rattle.axe_file.specs.Marks.{digit_of, marks_per_byte, byte_with_marks, mark_of, bytes_per_row, row_marks}
 use Rattle.axe_file.specs.Packed.{packed_row}
 use Rattle.axe_file.proofs.Digits.{number_of_digits, number_same}

@@ -7,7 +7,7 @@ use Rattle.axe_algebra.specs.Lists.{entry}
 use Rattle.axe_field.specs.Order.{Order, prime_of, degree_of, IsElement}
 use Rattle.axe_field.specs.Planes.{coefficient, element_of}
 use Rattle.axe_field.proofs.CoefficientLaws.{coefficient-below, coefficients_are, element_of-coefficients}
-use Rattle.axe_bits.specs.Words.{digit_of_words, digits_with_word}
+use Rattle.axe_layer.specs.Words.{digit_of_words, digits_with_word}
 use Rattle.axe_row.specs.Planes.{coefficients_at}
 use Rattle.axe_row.specs.Rows.{RowValue}
 use Rattle.axe_row.specs.Words.{HasWords}

@@ -1,7 +1,7 @@
 -- A row to which rows of a matrix over the field of two elements are added four at a time.
 use Rattle.std.proofs.Common.{◌≡◌, ℕ, ◌+◌, ◌<◌, List, length, get_or, sym, ap, ◌∙◌, arith}
 use Rattle.std.specs.List.{All}
-use Rattle.axe_bits.specs.Supports.{AreNextFour}
+use Rattle.axe_layer.specs.Supports.{AreNextFour}
 use Rattle.axe_field.specs.Arithmetic.{field_mul}
 use Rattle.axe_field.specs.CheckedLaws.{field_mul-one}
 use Rattle.axe_field.specs.NumberFields.{number_field}

@@ -10,9 +10,9 @@ use Rattle.axe_algebra.specs.ListArithmetic.{transpose}
 use Rattle.axe_algebra.proofs.ListEntries.{listed_length, listed_at, table_length, table_entry}
 use Rattle.axe_field.specs.Order.{Order, prime_of, degree_of, IsElement}
 use Rattle.axe_field.specs.Planes.{coefficient}
-use Rattle.axe_bits.proofs.BitLaws.{get_or-zeros}
-use Rattle.axe_bits.specs.Words.{digit_of_words, digits_with_word}
-use Rattle.axe_bits.proofs.WordWrites.{get_or-digits_with_word_same, get_or-digits_with_word_other}
+use Rattle.axe_layer.proofs.BitLaws.{get_or-zeros}
+use Rattle.axe_layer.specs.Words.{digit_of_words, digits_with_word}
+use Rattle.axe_layer.proofs.WordWrites.{get_or-digits_with_word_same, get_or-digits_with_word_other}
 use Rattle.axe_row.specs.Planes.{coefficients_at}
 use Rattle.axe_matrix.specs.Matrices.{MatrixValue, IsMatrix, row_of, zero_matrix, transposed_matrix}
 use Rattle.axe_matrix.specs.Transposes.{coefficients_of, HasEntries, HasCoefficients, HasTransposed, HasRowWords, IsShapedAsTranspose, AreZerosWithin, digit_of_block}

@@ -1,7 +1,7 @@
 -- Transposes that are written part by part.
 use Rattle.std.specs.Prelude.{◌≡◌, ◌≢◌, ℕ, ◌<◌, ◌≤◌, ◌∷◌, [], List, length, map, slice_index, slice_set}
 use Rattle.axe_algebra.specs.Lists.{entry}
-use Rattle.axe_bits.specs.Words.{digit_of_words}
+use Rattle.axe_layer.specs.Words.{digit_of_words}
 use Rattle.axe_row.specs.Planes.{coefficients_at}
 use Rattle.axe_row.specs.Words.{HasWords}
 use Rattle.axe_matrix.specs.Matrices.{MatrixValue, row_of}

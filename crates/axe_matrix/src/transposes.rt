@@ -5,13 +5,13 @@ ghost use Rattle.std.specs.Int.{bit_at};
 ghost use Rattle.std.specs.Prelude.{ℕ, ◌≡◌, ◌+◌, ◌-◌, ◌*◌, ◌%◌, ◌<◌, ◌≤◌, length, slice_index};
 ghost use Rattle.axe_algebra.specs.Lists.{entry};
 ghost use Rattle.axe_field.specs.Order.{prime_of, degree_of};
-ghost use Rattle.axe_bits.specs.Words.{digit_of_words};
+ghost use Rattle.axe_layer.specs.Words.{digit_of_words};
 ghost use Rattle.axe_matrix.specs.Matrices.{IsMatrix, zero_matrix, transposed_matrix};
 ghost use Rattle.axe_matrix.specs.Transposes.{coefficients_of, HasCoefficients, HasTransposed, IsShapedAsTranspose};
 ghost use Rattle.axe_matrix.specs.Transposes.{AreZerosWithin, HasRowWords, digit_of_block};
 
 use super::Matrix;
-use axe_bits::transposed_block;
+use axe_layer::transposed_block;
 use axe_lane::any_nonzero;
 
 /// How many rows a block has, and how many columns: as many as a word has bits.

@@ -1,7 +1,7 @@
 //! Products of a row vector and a matrix, row by row.
 
 ghost use Rattle.std.specs.Prelude.{◌≡◌, ◌+◌, ◌/◌, ◌≤◌, IfSome, MatchOption, length};
-ghost use Rattle.axe_bits.specs.Supports.{AreNextFour, IsSupportWord};
+ghost use Rattle.axe_layer.specs.Supports.{AreNextFour, IsSupportWord};
 ghost use Rattle.axe_field.specs.Order.{IsElement};
 ghost use Rattle.axe_lane.specs.Entries.{AreZerosFrom, IsNextNonzero};
 ghost use Rattle.axe_row.specs.Rows.{IsRow};
@@ -9,7 +9,7 @@ ghost use Rattle.axe_matrix.specs.Products.{row_with_product};
 ghost use Rattle.axe_matrix.specs.VectorTerms.{row_with_first_terms};
 
 use super::{Matrix, Row};
-use axe_bits::{four_in_word, next_in_word};
+use axe_layer::{four_in_word, next_in_word};
 
 /// How many places a word of a support has.
 const WORD: usize = 64;

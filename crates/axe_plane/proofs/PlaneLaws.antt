@@ -1,9 +1,9 @@
 -- Planes as their primes and digits.
 use Rattle.std.proofs.Common.{◌≡◌, ℕ, ◌<◌, List, length, set, replicate, refl, sym, ap, subst, ◌∙◌, arith, lit<}
-use Rattle.axe_bits.specs.Digits.{AreDigits, digits_with_multiple}
+use Rattle.axe_layer.specs.Digits.{AreDigits, digits_with_multiple}
 use Rattle.axe_plane.specs.Primes.{byte_prime}
 use Rattle.axe_plane.specs.Planes.{prime_of_plane, digits_of, IsPlane, IsPlaneOf}
-use Rattle.axe_bits.proofs.DigitLaws.{AreDigits-zeros, AreDigits-set, length-digits_with_multiple}
+use Rattle.axe_layer.proofs.DigitLaws.{AreDigits-zeros, AreDigits-set, length-digits_with_multiple}
 use Rattle.std.proofs.lemmas.List.{length-replicate, length-set}
 use Rattle.axe_plane.specs.declared.Plane.{Plane}
 use Rattle.axe_plane.specs.declared.Plane.TheVariants.{Bits, Trits, Bytes}

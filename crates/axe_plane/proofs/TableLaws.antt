@@ -6,13 +6,13 @@ use Rattle.std.proofs.lemmas.List.{length-replicate}
 use Rattle.std.proofs.lemmas.List.Elements.{All-take, All-drop}
 use Rattle.std.proofs.lemmas.Simd.{length-chunk, length-put_chunk}
 use Rattle.axe_algebra.proofs.ListEntries.{listed_length, listed_at}
-use Rattle.axe_bits.specs.Digits.{AreDigits, digits_with_multiple}
+use Rattle.axe_layer.specs.Digits.{AreDigits, digits_with_multiple}
 use Rattle.axe_plane.specs.FlatTables.{byte_entries, HoldsDigits}
 use Rattle.axe_plane.specs.Tables.{prime_of_table, entries_of_table, IsTable}
 use Rattle.axe_plane.specs.declared.tables.PlaneTable.{PlaneTable}
 use Rattle.axe_plane.specs.declared.tables.PlaneTable.TheVariants.{Bits, Trits, Bytes}
 use Rattle.axe_plane.proofs.PlaneLaws.{byte_prime-positive}
-use Rattle.axe_bits.proofs.DigitLaws.{AreDigits-zeros}
+use Rattle.axe_layer.proofs.DigitLaws.{AreDigits-zeros}
 use Rattle.axe_bits.proofs.PieceLaws.{piece_within, pieces_after, All-written, zero_pieces}
 
 -- ---- bytes

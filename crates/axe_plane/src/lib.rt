@@ -7,8 +7,8 @@ ghost use Rattle.std.specs.Prelude.{slice_index, slice_set, All, MatchOption, â—
 ghost use Rattle.axe_algebra.specs.Lists.{listed};
 ghost use Rattle.axe_lane.specs.Bytes.{multiple_modulo, sum_of_products};
 ghost use Rattle.axe_lane.specs.Entries.{IsFirstNonzero, AreZerosBefore, AreZerosFrom, IsNextNonzero};
-ghost use Rattle.axe_bits.specs.Digits.{AreDigits, digits_at, digits_with_four, digits_with_multiple, AreSmallSums};
-ghost use Rattle.axe_bits.specs.Digits.{numbers_with_multiple, numbers_from, number_bound};
+ghost use Rattle.axe_layer.specs.Digits.{AreDigits, digits_at, digits_with_four, digits_with_multiple, AreSmallSums};
+ghost use Rattle.axe_layer.specs.Digits.{numbers_with_multiple, numbers_from, number_bound};
 ghost use Rattle.axe_plane.specs.Planes.{negative_modulo};
 ghost use Rattle.axe_plane.specs.Tables.{plane_at, IsEntryFor};
 
@@ -42,7 +42,7 @@ pub enum Plane {
 
 impl Plane {
     ghost use Rattle.axe_plane.specs.Addends.{IsAddend};
-    ghost use Rattle.axe_bits.specs.Bits.{bits, HoldsBits};
+    ghost use Rattle.axe_layer.specs.Bits.{bits, HoldsBits};
     ghost use Rattle.axe_plane.specs.Planes.{prime_of_plane, digits_of, IsPlane};
 
     /// The plane of `len` zeros modulo 2, 3, 5 or 7. A plane of no digits takes no memory.
@@ -54,6 +54,7 @@ impl Plane {
             2 => Plane::Bits(BitPlane::zero(alloc, len)?),
             3 => Plane::Trits(TritPlane::zero(alloc, len)?),
             5 => Plane::Bytes(BytePlane::zero(alloc, BytePrime::Five, len)?),
+            // 7, the one prime that is left
             _ => Plane::Bytes(BytePlane::zero(alloc, BytePrime::Seven, len)?),
         })
     }
@@ -75,6 +76,7 @@ impl Plane {
             2 => Plane::Bits(BitPlane::of_numbers(alloc, numbers, place)?),
             3 => Plane::Trits(trits_of_numbers(alloc, numbers, place)?),
             5 => Plane::Bytes(BytePlane::of_numbers(alloc, BytePrime::Five, numbers, place)?),
+            // 7, the one prime that is left
             _ => Plane::Bytes(BytePlane::of_numbers(alloc, BytePrime::Seven, numbers, place)?),
         })
     }
@@ -97,6 +99,7 @@ impl Plane {
     {
         match self {
             Plane::Bits(plane) => plane.get(index),
+            // Trits and bytes, by a call: so a bit is read in few steps.
             _ => self.digit_by_call(index),
         }
     }
@@ -113,6 +116,7 @@ impl Plane {
     {
         match self {
             Plane::Bits(plane) => plane.numbers_from(base, size, at),
+            // Trits and bytes, by a call: so numbers are read in few steps from bits.
             _ => self.numbers_by_call(base, size, at),
         }
     }
@@ -230,6 +234,7 @@ impl Plane {
                 (Plane::Bytes(plane), Plane::Bytes(other)) => {
                     plane.add_scaled_from(start, factor, other)
                 }
+                // Two planes modulo one prime are of one kind, so no other pair comes.
                 _ => {}
             }
         }
@@ -289,6 +294,7 @@ impl Plane {
             (Plane::Bits(plane), Plane::Bits(other)) => cancel_bits(plane, index, start, other),
             (Plane::Trits(plane), Plane::Trits(other)) => cancel_trits(plane, index, start, other),
             (Plane::Bytes(plane), Plane::Bytes(other)) => plane.cancel(index, start, other),
+            // Two planes modulo one prime are of one kind, so no other pair comes.
             _ => 0,
         }
     }
@@ -377,6 +383,7 @@ impl Plane {
     {
         match self {
             Plane::Trits(other) => plane.add_scaled(1, other),
+            // A plane modulo 3 is one of trits, so no other kind comes.
             _ => {}
         }
     }
@@ -418,6 +425,7 @@ impl Plane {
             (Plane::Bits(plane), Plane::Bits(other)) => plane.dot(other),
             (Plane::Trits(plane), Plane::Trits(other)) => plane.dot(other),
             (Plane::Bytes(plane), Plane::Bytes(other)) => plane.dot(other),
+            // Two planes modulo one prime are of one kind, so no other pair comes.
             _ => 0,
         }
     }
@@ -466,6 +474,7 @@ impl Plane {
             (Plane::Bits(plane), Plane::Bits(other)) => plane.same(other),
             (Plane::Trits(plane), Plane::Trits(other)) => plane.same(other),
             (Plane::Bytes(plane), Plane::Bytes(other)) => plane.same(other),
+            // Planes of two kinds are not modulo one prime.
             _ => false,
         }
     }
@@ -519,6 +528,7 @@ fn trits_of_numbers(alloc: Global, numbers: &[u8], place: u8) -> Result<TritPlan
     let mut digits = Vec::from_slice(alloc, numbers)?;
     match place {
         0 => reduce::<1, 3>(&mut digits),
+        // 1, the one place that is left, where a digit counts 3
         _ => reduce::<3, 3>(&mut digits),
     }
     TritPlane::of_digits(alloc, &digits)

@@ -1,6 +1,6 @@
 //! The numbers of pieces of planes.
 ghost use Rattle.std.specs.Prelude.{ℕ, ◌≡◌, ◌+◌, ◌*◌, ◌^◌, ◌<◌, ◌≤◌, slice_index};
-ghost use Rattle.axe_bits.specs.Digits.{number_bound, numbers_from};
+ghost use Rattle.axe_layer.specs.Digits.{number_bound, numbers_from};
 ghost use Rattle.axe_plane.specs.Planes.{digits_of};
 
 use crate::Plane;

@@ -1,5 +1,5 @@
 //! The supports of planes, a word at a time.
-ghost use Rattle.axe_bits.specs.Supports.{IsSupportWord};
+ghost use Rattle.axe_layer.specs.Supports.{IsSupportWord};
 ghost use Rattle.axe_plane.specs.Planes.{digits_of};
 
 use crate::{BytePlane, Plane};

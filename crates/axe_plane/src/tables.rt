@@ -1,7 +1,7 @@
 //! Tables of planes: flat lists of many planes of one prime and one length.
 ghost use Rattle.std.specs.Prelude.{◌≡◌, ◌≢◌, ◌⊎◌, ◌<◌, IfOk, length, replicate, slice_index_or, slice_set, []};
-ghost use Rattle.axe_bits.specs.Bits.{bits, HoldsBits};
-ghost use Rattle.axe_bits.specs.Digits.{AreDigits, digits_with_multiple};
+ghost use Rattle.axe_layer.specs.Bits.{bits, HoldsBits};
+ghost use Rattle.axe_layer.specs.Digits.{AreDigits, digits_with_multiple};
 ghost use Rattle.axe_plane.specs.Planes.{prime_of_plane, digits_of, IsPlane};
 
 use crate::{BytePrime, ByteTable, Plane};
@@ -36,6 +36,7 @@ impl PlaneTable {
             2 => PlaneTable::Bits(BitTable::zero(alloc, count, len)?),
             3 => PlaneTable::Trits(TritTable::zero(alloc, count, len)?),
             5 => PlaneTable::Bytes(ByteTable::zero(alloc, BytePrime::Five, count, len)?),
+            // 7, the one prime that is left
             _ => PlaneTable::Bytes(ByteTable::zero(alloc, BytePrime::Seven, count, len)?),
         })
     }
@@ -77,6 +78,7 @@ impl PlaneTable {
                 (PlaneTable::Bytes(table), Plane::Bytes(plane)) => table.add_to_entry(
                     to, factor, plane,
                 ),
+                // A table and a plane modulo one prime are of one kind, so no other pair comes.
                 _ => {}
             }
         }
@@ -101,6 +103,7 @@ impl PlaneTable {
             (PlaneTable::Bits(table), Plane::Bits(plane)) if factor != 0 => {
                 table.put_sum(to, from, plane);
             }
+            // In two passes: only bits have a sum of two planes in one, and a factor 0 takes the copy alone.
             _ => {
                 self.copy_entry(to, from);
                 self.add_to_entry(to, factor, plane);
@@ -133,6 +136,7 @@ impl PlaneTable {
                     factor,
                     table.entry(index),
                 ),
+                // A table and a plane modulo one prime are of one kind, so no other pair comes.
                 _ => {}
             }
         }
@@ -163,6 +167,7 @@ impl PlaneTable {
     {
         match self {
             PlaneTable::Trits(table) => table.add_entry(index, 1, plane),
+            // A table modulo 3 is one of trits, so no other kind comes.
             _ => {}
         }
     }

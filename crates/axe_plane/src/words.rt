@@ -1,6 +1,6 @@
 //! The words of a plane modulo 2 or 3, those at one index at a time.
 ghost use Rattle.std.specs.Prelude.{ℕ, ◌≡◌, ◌+◌, ◌*◌, ◌<◌, ◌≤◌, slice_index};
-ghost use Rattle.axe_bits.specs.Words.{digit_of_words, digits_with_word};
+ghost use Rattle.axe_layer.specs.Words.{digit_of_words, digits_with_word};
 ghost use Rattle.axe_plane.specs.Planes.{prime_of_plane, digits_of, IsPlane};
 
 use crate::Plane;

@@ -3,10 +3,10 @@ use Rattle.std.proofs.Common.{◌≡◌, ℕ, ◌+◌, ◌*◌, ◌<◌, ◌≤�
 use Rattle.std.proofs.lemmas.List.{ext_get_or}
 use Rattle.axe_field.specs.Order.{Order, Two, Three, Four, Five, Seven, Eight, Nine, prime_of, degree_of, IsElement}
 use Rattle.axe_field.specs.Planes.{element_of}
-use Rattle.axe_bits.specs.Digits.{AreSmallSums, numbers_with_multiple}
+use Rattle.axe_layer.specs.Digits.{AreSmallSums, numbers_with_multiple}
 use Rattle.axe_plane.specs.Planes.{digits_of}
 use Rattle.axe_plane.specs.declared.Plane.{Plane}
-use Rattle.axe_bits.proofs.NumberSums.{length-numbers_with_multiple, get_or-numbers_with_multiple}
+use Rattle.axe_layer.proofs.NumberSums.{length-numbers_with_multiple, get_or-numbers_with_multiple}
 use Rattle.axe_row.specs.Planes.{ArePlanes}
 use Rattle.axe_row.proofs.RowPlanes.{entries_of, length-entries, entries-at, element_at, element_value, no_longer}
 

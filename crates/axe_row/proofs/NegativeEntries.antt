@@ -5,7 +5,7 @@ use Rattle.axe_field.specs.Arithmetic.{coefficients, number_of, polynomial_negat
 use Rattle.axe_field.specs.CheckedLaws.{field_neg-below}
 use Rattle.axe_field.specs.NumberFields.{number_field}
 use Rattle.axe_field.specs.Order.{Order, Two, Three, Four, Five, Seven, Eight, Nine, prime_of, degree_of, IsElement}
-use Rattle.axe_bits.proofs.DigitLaws.{digit-below}
+use Rattle.axe_layer.proofs.DigitLaws.{digit-below}
 use Rattle.axe_plane.specs.Planes.{prime_of_plane, digits_of, negative_modulo}
 use Rattle.axe_plane.specs.declared.Plane.{Plane}
 use Rattle.axe_row.specs.Operations.{sum_with_multiple, row_with_multiple}

@@ -4,13 +4,13 @@ use Rattle.std.proofs.lemmas.List.{ext_get_or, get_or-map, get_or-drop, length-d
 use Rattle.std.proofs.lemmas.Nat.{mul-add-lt}
 use native.Mathlib.Nat.{mul_comm, pow-zero, pow-suc, pow-le-pow_left, pow-le-pow_right}
 use Rattle.axe_algebra.specs.Digits.{number_with_digits}
-use Rattle.axe_bits.specs.Digits.{number_bound}
+use Rattle.axe_layer.specs.Digits.{number_bound}
 use Rattle.axe_algebra.specs.NumberField.{NumberField}
 use Rattle.axe_field.specs.Arithmetic.{field_mul}
 use Rattle.axe_field.specs.NumberFields.{number_field}
 use Rattle.axe_field.specs.Order.{Order, order_number}
 use Rattle.axe_field.proofs.Orders.{order_number-at_most}
-use Rattle.axe_bits.proofs.PieceDigits.{number_with_digits-push}
+use Rattle.axe_layer.proofs.PieceDigits.{number_with_digits-push}
 use Rattle.axe_row.specs.Combinations.{piece_number}
 use Rattle.axe_row.specs.Operations.{multiple}
 use Rattle.axe_row.specs.Rows.{RowValue}

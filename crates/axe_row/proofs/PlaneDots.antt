@@ -13,11 +13,11 @@ use Rattle.axe_field.proofs.CoefficientLaws.{coefficient-add, element_of-coeffic
 use Rattle.axe_field.proofs.Laws.{field_zero-mul}
 use Rattle.axe_field.proofs.Orders.{zero_is_element}
 use Rattle.axe_lane.specs.Bytes as lane
-use Rattle.axe_bits.specs.Digits.{AreDigits}
+use Rattle.axe_layer.specs.Digits.{AreDigits}
 use Rattle.axe_plane.specs.Planes.{prime_of_plane, digits_of, IsPlaneOf}
 use Rattle.axe_plane.specs.declared.Plane.{Plane}
-use Rattle.axe_bits.proofs.DigitLaws.{digit-below}
-use Rattle.axe_bits.proofs.DotLaws.{sum_below, dot_by_entries}
+use Rattle.axe_layer.proofs.DigitLaws.{digit-below}
+use Rattle.axe_layer.proofs.DotLaws.{sum_below, dot_by_entries}
 use Rattle.axe_plane.proofs.PlaneLaws.{prime_of_plane-positive}
 use Rattle.axe_row.specs.Operations.{dot_product}
 use Rattle.axe_row.specs.Planes.{ArePlanes}

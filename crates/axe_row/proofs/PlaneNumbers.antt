@@ -8,10 +8,10 @@ use Rattle.axe_algebra.proofs.ElementNumbers.{entry-below}
 use Rattle.axe_field.specs.NumberFields.{number_field}
 use Rattle.axe_field.specs.Order.{Order, order_number, prime_of, degree_of}
 use Rattle.axe_field.proofs.Laws.{field_one-mul}
-use Rattle.axe_bits.specs.Digits.{number_from}
+use Rattle.axe_layer.specs.Digits.{number_from}
 use Rattle.axe_plane.specs.Planes.{digits_of}
 use Rattle.axe_plane.specs.declared.Plane.{Plane}
-use Rattle.axe_bits.proofs.PieceDigits.{with_values, with_values-same, with_values-none, with_values-sum, count_from, number_from-values}
+use Rattle.axe_layer.proofs.PieceDigits.{with_values, with_values-same, with_values-none, with_values-sum, count_from, number_from-values}
 use Rattle.axe_row.specs.Combinations.{piece_number}
 use Rattle.axe_row.specs.Operations.{multiple}
 use Rattle.axe_row.specs.Planes.{ArePlanes}

@@ -3,8 +3,8 @@ use Rattle.std.proofs.Common.{◌≡◌, ◌↔◌, ℕ, length, bit_or, subst, 
 use Rattle.std.proofs.lemmas.List.{get_or_past}
 use native.Mathlib.Decide.{dec_lt}
 use Rattle.axe_field.specs.Order.{Order}
-use Rattle.axe_bits.specs.Supports.{IsSupportWord}
-use Rattle.axe_bits.proofs.SupportLaws.{support_of_three}
+use Rattle.axe_layer.specs.Supports.{IsSupportWord}
+use Rattle.axe_layer.proofs.SupportLaws.{support_of_three}
 use Rattle.axe_plane.specs.Planes.{digits_of}
 use Rattle.axe_plane.specs.declared.Plane.{Plane}
 use Rattle.axe_row.specs.Planes.{ArePlanes}

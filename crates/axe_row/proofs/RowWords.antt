@@ -4,7 +4,7 @@ use Rattle.std.proofs.lemmas.Bool.{le-ltb}
 use Rattle.std.proofs.lemmas.List.{ext_get_or, get_or-map, length-map}
 use Rattle.axe_field.specs.Order.{Order, Two, Three, Four, Five, Seven, Eight, Nine, prime_of, degree_of}
 use Rattle.axe_field.specs.Planes.{coefficient}
-use Rattle.axe_bits.specs.Words.{digit_of_words, digits_with_word}
+use Rattle.axe_layer.specs.Words.{digit_of_words, digits_with_word}
 use Rattle.axe_plane.specs.Planes.{prime_of_plane, digits_of, IsPlane}
 use Rattle.axe_plane.specs.declared.Plane.{Plane}
 use Rattle.axe_plane.proofs.PlaneWords.{plane_of_word}

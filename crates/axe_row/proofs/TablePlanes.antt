@@ -10,14 +10,14 @@ use Rattle.axe_algebra.proofs.Digits.{pow-positive}
 use Rattle.axe_field.specs.NumberFields.{number_field}
 use Rattle.axe_field.specs.Order.{Order, Two, Three, Four, Five, Seven, Eight, Nine, order_number, prime_of, degree_of, IsElement}
 use Rattle.axe_field.specs.Planes.{matrix_of_multiplication}
-use Rattle.axe_bits.specs.Digits.{AreDigits, digits_with_multiple}
+use Rattle.axe_layer.specs.Digits.{AreDigits, digits_with_multiple}
 use Rattle.axe_plane.specs.Planes.{prime_of_plane, digits_of, IsPlaneOf}
 use Rattle.axe_plane.specs.Tables.{prime_of_table, entries_of_table, plane_at, IsTable}
 use Rattle.axe_plane.specs.declared.Plane.{Plane}
 use Rattle.axe_plane.specs.declared.tables.PlaneTable.{PlaneTable}
 use Rattle.axe_plane.specs.declared.tables.PlaneTable.TheVariants.{Bits, Trits, Bytes}
 use Rattle.axe_plane.proofs.TableLaws.{written_at}
-use Rattle.axe_bits.proofs.DigitLaws.{AreDigits-zeros, AreDigits-sum, digit-below, length-digits_with_multiple, get_or-digits_with_multiple}
+use Rattle.axe_layer.proofs.DigitLaws.{AreDigits-zeros, AreDigits-sum, digit-below, length-digits_with_multiple, get_or-digits_with_multiple}
 use Rattle.axe_row.specs.Combinations.{CombosValue, IsTableOfRows, most_combined}
 use Rattle.axe_row.specs.Operations.{sum_with_multiple}
 use Rattle.axe_row.specs.Planes.{ArePlanes, digits_with_multiples, entries_of_digits}

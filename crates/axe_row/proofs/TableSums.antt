@@ -12,14 +12,14 @@ use Rattle.axe_field.specs.Order.{Order, order_number, prime_of, degree_of, IsEl
 use Rattle.axe_field.specs.Planes.{coefficient, element_of, matrix_of_multiplication}
 use Rattle.axe_field.proofs.CoefficientLaws.{coefficient-add, element_of-coefficients}
 use Rattle.axe_field.proofs.Laws.{field_one-mul}
-use Rattle.axe_bits.specs.Digits.{AreDigits, digits_with_multiple, digits_with_four}
+use Rattle.axe_layer.specs.Digits.{AreDigits, digits_with_multiple, digits_with_four}
 use Rattle.axe_plane.specs.Planes.{prime_of_plane, digits_of, IsPlane, IsPlaneOf}
 use Rattle.axe_plane.specs.Primes.{byte_prime}
 use Rattle.axe_plane.specs.Tables.{entries_of_table, plane_at, IsEntryFor}
 use Rattle.axe_plane.specs.declared.Plane.{Plane}
 use Rattle.axe_plane.specs.declared.Plane.TheVariants.{Bits as BitsOf, Trits as TritsOf, Bytes as BytesOf}
 use Rattle.axe_plane.specs.declared.tables.PlaneTable.{PlaneTable}
-use Rattle.axe_bits.proofs.DigitLaws.{AreDigits-sum, length-digits_with_multiple, get_or-digits_with_multiple, length-digits_with_four}
+use Rattle.axe_layer.proofs.DigitLaws.{AreDigits-sum, length-digits_with_multiple, get_or-digits_with_multiple, length-digits_with_four}
 use Rattle.axe_plane.proofs.PlaneLaws.{same_plane}
 use Rattle.axe_row.specs.Combinations.{CombosValue, combination_at, row_with_four, IsRowFor}
 use Rattle.axe_row.specs.Operations.{sum_with_multiple, row_with_multiple}

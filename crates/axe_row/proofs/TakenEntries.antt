@@ -10,7 +10,7 @@ use Rattle.axe_field.specs.Order.{Order, prime_of, degree_of}
 use Rattle.axe_field.specs.Planes.{element_of}
 use Rattle.axe_plane.specs.Planes.{prime_of_plane, digits_of, IsPlane, IsPlaneOf}
 use Rattle.axe_plane.specs.declared.Plane.{Plane}
-use Rattle.axe_bits.proofs.DigitLaws.{digit-below}
+use Rattle.axe_layer.proofs.DigitLaws.{digit-below}
 use Rattle.axe_row.specs.Planes.{ArePlanes}
 use Rattle.axe_row.specs.Rows.{RowValue, part_of}
 use Rattle.axe_row.proofs.KeptPlanes.{linear_is_there}

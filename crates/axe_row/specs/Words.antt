@@ -1,6 +1,6 @@
 -- Rows in which the coefficients of one power of x are replaced, a word at a time.
 use Rattle.std.specs.Prelude.{◌≡◌, ◌≢◌, ℕ, List, length}
-use Rattle.axe_bits.specs.Words.{digit_of_words, digits_with_word}
+use Rattle.axe_layer.specs.Words.{digit_of_words, digits_with_word}
 use Rattle.axe_row.specs.Planes.{coefficients_at}
 use Rattle.axe_row.specs.Rows.{RowValue}
 

@@ -1,10 +1,10 @@
 //! The entries of a row other than 0, one after another.
 ghost use Rattle.std.specs.Prelude.{◌≡◌, ◌*◌, ◌≤◌, length, MatchOption};
 ghost use Rattle.axe_lane.specs.Entries.{AreZerosFrom, IsNextNonzero};
-ghost use Rattle.axe_bits.specs.Supports.{restricted, IsSupportWord};
+ghost use Rattle.axe_layer.specs.Supports.{restricted, IsSupportWord};
 
 use crate::{BitPlane, Row};
-use axe_bits::next_in_word;
+use axe_layer::next_in_word;
 
 /// How many places a word of a support has.
 const WORD: usize = 64;

@@ -2,7 +2,7 @@
 ghost use Rattle.std.specs.Prelude.{ℕ, ◌≡◌, ◌+◌, ◌*◌, ◌/◌, ◌≤◌, None, length, slice_index};
 ghost use Rattle.axe_algebra.specs.Lists.{listed};
 ghost use Rattle.axe_field.specs.Order.{order_number};
-ghost use Rattle.axe_bits.specs.Packed.{packed_bit};
+ghost use Rattle.axe_layer.specs.Packed.{packed_bit};
 ghost use Rattle.axe_row.specs.Refusals.{Answers};
 ghost use Rattle.axe_row.specs.Rows.{IsRow};
 

@@ -1,7 +1,7 @@
 //! The numbers of pieces of a row: which combinations of the rows of a table they name.
 
 ghost use Rattle.std.specs.Prelude.{◌≡◌, ◌+◌, ◌*◌, ◌^◌, ◌<◌, ◌≤◌};
-ghost use Rattle.axe_bits.specs.Digits.{number_bound};
+ghost use Rattle.axe_layer.specs.Digits.{number_bound};
 ghost use Rattle.axe_field.specs.Order.{IsElement};
 ghost use Rattle.axe_row.specs.Combinations.{piece_number, piece_numbers};
 

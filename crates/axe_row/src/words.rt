@@ -1,6 +1,6 @@
 //! The words of a row's planes, over a field whose prime is 2 or 3: those at one index at a time.
 ghost use Rattle.std.specs.Prelude.{ℕ, ◌≡◌, ◌+◌, ◌*◌, ◌<◌, ◌≤◌, slice_index};
-ghost use Rattle.axe_bits.specs.Words.{digit_of_words};
+ghost use Rattle.axe_layer.specs.Words.{digit_of_words};
 ghost use Rattle.axe_field.specs.Order.{prime_of, degree_of};
 ghost use Rattle.axe_row.specs.Planes.{coefficients_at};
 ghost use Rattle.axe_row.specs.Rows.{IsRow};

@@ -1,10 +1,10 @@
 //! The words of a plane of digits modulo 2, one at a time.
 ghost use Rattle.std.specs.Int.{bit_at};
 ghost use Rattle.std.specs.Prelude.{ℕ, ◌≡◌, ◌+◌, ◌*◌, ◌<◌, slice_index};
-ghost use Rattle.axe_bits.specs.Words.{digits_with_word};
+ghost use Rattle.axe_layer.specs.Words.{digits_with_word};
 
 use super::BitPlane;
-use crate::parts::{WORD, lowest};
+use axe_layer::{WORD, lowest};
 
 impl BitPlane {
     /// The word at an index, counted from 0: its bit i, counted from the lowest, is the digit 64 times the index plus

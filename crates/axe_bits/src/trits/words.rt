@@ -1,11 +1,11 @@
 //! The words of a plane of digits modulo 3, one of each layer at a time.
 ghost use Rattle.std.specs.Int.{bit_at};
 ghost use Rattle.std.specs.Prelude.{ℕ, ◌≡◌, ◌+◌, ◌*◌, ◌/◌, ◌<◌, length, slice_index};
-ghost use Rattle.axe_bits.specs.Bits.{bits, HoldsBits};
-ghost use Rattle.axe_bits.specs.Words.{digit_of_words, digits_with_word};
+ghost use Rattle.axe_layer.specs.Bits.{bits, HoldsBits};
+ghost use Rattle.axe_layer.specs.Words.{digit_of_words, digits_with_word};
 
 use super::TritPlane;
-use crate::parts::{WORD, lowest};
+use axe_layer::{WORD, lowest};
 
 impl TritPlane {
     /// The words of the ones and of the twos at an index, counted from 0: digit i of these two is the plane's digit 64

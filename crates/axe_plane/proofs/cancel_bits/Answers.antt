@@ -1,5 +1,5 @@
 use Rattle.std.proofs.Common.{◌≡◌, arith, lit<}
-use Rattle.axe_bits.proofs.DigitLaws.{digits_with_multiple-none}
+use Rattle.axe_layer.proofs.DigitLaws.{digits_with_multiple-none}
 use Rattle.axe_plane.proofs.cancel_bits.Goals as goal
 
 pub returns-else-digit-ne0-clause-sum : goal.returns-else-digit-ne0-clause-sum

@@ -1,6 +1,6 @@
 use Rattle.std.proofs.Common.{◌≡◌, subst, sym, lit<, rules}
-use Rattle.axe_bits.specs.Digits.{AreDigits, digits_at}
-use Rattle.axe_bits.proofs.NumberDigits.{AreDigits-numbers}
+use Rattle.axe_layer.specs.Digits.{AreDigits, digits_at}
+use Rattle.axe_layer.proofs.NumberDigits.{AreDigits-numbers}
 use Rattle.axe_plane.proofs.trits_of_numbers.Goals as goal
 
 pub of_digits-requires : goal.of_digits-requires

@@ -1,5 +1,5 @@
 use Rattle.std.proofs.Common.{◌≡◌, ◌/◌, ◌≤◌, ◌-◌, length}
-use Rattle.axe_bits.specs.Supports.{IsSupportWord}
+use Rattle.axe_layer.specs.Supports.{IsSupportWord}
 use Rattle.axe_field.specs.NumberFields.{number_field}
 use Rattle.axe_row.specs.Rows.{IsRow}
 use Rattle.axe_matrix.specs.Products.{row_with_terms}

@@ -1,5 +1,5 @@
 use Rattle.std.proofs.Common.{not, ap}
-use Rattle.axe_bits.proofs.ZeroDigits.{zero_words}
+use Rattle.axe_layer.proofs.ZeroDigits.{zero_words}
 use Rattle.axe_matrix.proofs.TransposedBlocks.{HasTransposed-words, HasTransposed-zeros, turned-below}
 use Rattle.axe_matrix.proofs.Matrix.put_block.Goals as goal
 

@@ -1,8 +1,8 @@
 use Rattle.std.proofs.Common.{not, sym, ap, ◌∙◌}
 use Rattle.std.specs.Int.{bit_at}
 use Rattle.std.proofs.lemmas.Nat.Bits.{bit_at-zero}
-use Rattle.axe_bits.proofs.BitLaws.{get_or-zeros}
-use Rattle.axe_bits.proofs.ZeroDigits.{zero_words}
+use Rattle.axe_layer.proofs.BitLaws.{get_or-zeros}
+use Rattle.axe_layer.proofs.ZeroDigits.{zero_words}
 use Rattle.axe_matrix.proofs.transposes.transposed.Goals as goal
 
 pub returns-else-any_nonzero : goal.returns-else-any_nonzero

@@ -1,6 +1,6 @@
 use Rattle.std.proofs.Common.{rules, ◌≡◌, ◌+◌, ◌/◌, ℕ, subst, arith}
-use Rattle.axe_bits.specs.Supports.{IsSupportWord}
-use Rattle.axe_bits.proofs.SupportLaws.{stands_inside}
+use Rattle.axe_layer.specs.Supports.{IsSupportWord}
+use Rattle.axe_layer.proofs.SupportLaws.{stands_inside}
 use Rattle.axe_matrix.proofs.vectors.next_entry.Goals as goal
 
 pub returns-else-index-eq0-clause-word : goal.returns-else-index-eq0-clause-word

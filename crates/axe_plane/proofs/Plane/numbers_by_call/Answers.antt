@@ -1,8 +1,8 @@
 use Rattle.std.proofs.Common.{sym, ap, ◌∙◌}
-use Rattle.axe_bits.specs.Digits.{numbers_from}
+use Rattle.axe_layer.specs.Digits.{numbers_from}
 use Rattle.axe_plane.specs.Planes.{digits_of}
 use Rattle.axe_plane.specs.declared.Plane.{Plane}
-use Rattle.axe_bits.proofs.PieceDigits.{same_four, four_small}
+use Rattle.axe_layer.proofs.PieceDigits.{same_four, four_small}
 use Rattle.axe_plane.proofs.Plane.numbers_by_call.Goals as goal
 
 pub returns-in-Bits-clause-value : goal.returns-in-Bits-clause-value

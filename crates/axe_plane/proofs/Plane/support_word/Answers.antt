@@ -1,6 +1,6 @@
 use Rattle.std.proofs.Common.{sym, subst}
-use Rattle.axe_bits.specs.Supports.{IsSupportWord}
-use Rattle.axe_bits.proofs.SupportLaws.{support_of_bits}
+use Rattle.axe_layer.specs.Supports.{IsSupportWord}
+use Rattle.axe_layer.proofs.SupportLaws.{support_of_bits}
 use Rattle.axe_plane.specs.Planes.{digits_of}
 use Rattle.axe_plane.specs.declared.Plane.{Plane}
 use Rattle.axe_plane.proofs.Plane.support_word.Goals as goal

@@ -1,6 +1,6 @@
 use Rattle.std.proofs.Common.{ℕ, ◌+◌, ◌/◌, ◌%◌, ◌<◌, length, set, refl, ap, ◌∙◌, arith}
 use Rattle.std.proofs.lemmas.Grind.{get_or_default_zero}
-use Rattle.axe_bits.proofs.NumberDigits.{length-mapped_to, mapped_more, mapped_all}
+use Rattle.axe_layer.proofs.NumberDigits.{length-mapped_to, mapped_more, mapped_all}
 use Rattle.axe_plane.proofs.bytes.reduce.Goals as goal
 
 pub loop-at-preserved : goal.loop-at-preserved

@@ -1,5 +1,5 @@
 use Rattle.std.proofs.Common.{◌≡◌, ◌/◌, ◌%◌}
-use Rattle.axe_bits.proofs.NumberDigits.{mapped_to}
+use Rattle.axe_layer.proofs.NumberDigits.{mapped_to}
 use Rattle.axe_plane.proofs.bytes.reduce.Given as goal
 
 abbrev pub invariant-loop-at : goal.invariant-loop-at

@@ -1,5 +1,5 @@
 use Rattle.std.proofs.Common.{◌*◌, List, ℕ, length, arith, sym, ap, subst, ◌∙◌}
-use Rattle.axe_bits.specs.Digits.{AreSmallSums, numbers_with_multiple}
+use Rattle.axe_layer.specs.Digits.{AreSmallSums, numbers_with_multiple}
 use Rattle.axe_plane.specs.Planes.{digits_of}
 use Rattle.axe_row.specs.HigherPlanes.{linear_of, quadratic_of}
 use Rattle.axe_row.specs.Rows.{RowValue}

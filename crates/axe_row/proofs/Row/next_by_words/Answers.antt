@@ -1,6 +1,6 @@
 use Rattle.std.proofs.Common.{◌≡◌, ◌*◌, max, subst, sym, arith}
-use Rattle.axe_bits.specs.Supports.{IsSupportWord}
-use Rattle.axe_bits.proofs.SupportLaws.{found_in_word, none_in_all, none_in_word, stands_in_word}
+use Rattle.axe_layer.specs.Supports.{IsSupportWord}
+use Rattle.axe_layer.proofs.SupportLaws.{found_in_word, none_in_all, none_in_word, stands_in_word}
 use Rattle.axe_row.proofs.Row.next_by_words.Goals as goal
 
 pub returns-in-Some : goal.returns-in-Some

@@ -1,6 +1,6 @@
 use Rattle.std.proofs.Common.{◌*◌, ◌≤◌}
 use Rattle.axe_lane.specs.Entries.{AreZerosBetween}
-use Rattle.axe_bits.specs.Supports.{restricted}
+use Rattle.axe_layer.specs.Supports.{restricted}
 use Rattle.axe_row.proofs.Row.next_within_from.Given as goal
 
 abbrev pub invariant-loop-at : goal.invariant-loop-at

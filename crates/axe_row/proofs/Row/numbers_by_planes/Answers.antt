@@ -1,6 +1,6 @@
 use Rattle.std.proofs.Common.{◌≡◌, ◌+◌, ◌*◌, ℕ, List, get_or, refl, ap, ◌∙◌}
 use Rattle.axe_field.specs.Order.{order_number, degree_of}
-use Rattle.axe_bits.proofs.PieceDigits.{same_four}
+use Rattle.axe_layer.proofs.PieceDigits.{same_four}
 use Rattle.axe_row.specs.HigherPlanes.{linear_of, quadratic_of}
 use Rattle.axe_row.proofs.KeptPlanes.{alone_is_prime, kept_planes, kept_view}
 use Rattle.axe_row.proofs.PlaneNumbers.{number_of_plane, number_of_planes, number_is}

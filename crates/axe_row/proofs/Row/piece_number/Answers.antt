@@ -1,6 +1,6 @@
 use Rattle.std.proofs.Common.{◌≡◌, ◌+◌, ◌<◌, ◌≤◌, length, get_or, ap, ◌∙◌, arith}
 use Rattle.std.proofs.lemmas.Nat.{mul-add-lt}
-use Rattle.axe_bits.specs.Digits.{number_bound}
+use Rattle.axe_layer.specs.Digits.{number_bound}
 use Rattle.axe_field.specs.Order.{order_number}
 use Rattle.axe_field.specs.Arithmetic.{field_mul}
 use Rattle.axe_row.proofs.PieceNumbers.{IsNumberBelow-none, IsNumberBelow-more, IsNumberBelow-small}

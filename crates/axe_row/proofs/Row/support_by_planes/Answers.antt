@@ -1,5 +1,5 @@
 use Rattle.std.proofs.Common.{List, ℕ, subst}
-use Rattle.axe_bits.specs.Supports.{IsSupportWord}
+use Rattle.axe_layer.specs.Supports.{IsSupportWord}
 use Rattle.axe_row.proofs.KeptPlanes.{alone_entries, kept_planes, kept_view}
 use Rattle.axe_row.proofs.RowSupports.{support_of_planes}
 use Rattle.axe_row.proofs.Row.support_by_planes.Goals as goal

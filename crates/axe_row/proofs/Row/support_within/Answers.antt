@@ -1,4 +1,4 @@
-use Rattle.axe_bits.proofs.SupportLaws.{support_of_restricted}
+use Rattle.axe_layer.proofs.SupportLaws.{support_of_restricted}
 use Rattle.axe_row.proofs.Row.support_within.Goals as goal
 
 pub returns : goal.returns

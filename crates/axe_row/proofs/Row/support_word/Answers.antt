@@ -1,5 +1,5 @@
 use Rattle.std.proofs.Common.{List, ℕ, subst}
-use Rattle.axe_bits.specs.Supports.{IsSupportWord}
+use Rattle.axe_layer.specs.Supports.{IsSupportWord}
 use Rattle.axe_row.proofs.KeptPlanes.{alone_entries}
 use Rattle.axe_row.proofs.Row.support_word.Goals as goal
 

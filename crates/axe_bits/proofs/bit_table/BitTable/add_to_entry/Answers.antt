@@ -1,10 +1,10 @@
 use Rattle.std.proofs.Common.{◌≡◌, ◌+◌, ◌*◌, ◌/◌, ◌-◌, ◌<◌, ◌≤◌, ◌++◌, List, ℕ, [], length, get_or, set, take, drop, ap, subst, sym, ◌∙◌, arith, bit_xor}
 use Rattle.std.specs.Simd.Lanes.{chunk, put_chunk, zip2}
 use Rattle.std.proofs.lemmas.Simd.{length-zip2}
-use Rattle.axe_bits.specs.Bits.{bits, HoldsBits}
-use Rattle.axe_bits.specs.Digits.{digits_with_multiple}
+use Rattle.axe_layer.specs.Bits.{bits, HoldsBits}
+use Rattle.axe_layer.specs.Digits.{digits_with_multiple}
 use Rattle.axe_bits.specs.FlatTables.{bit_entries, HoldsEntries}
-use Rattle.axe_bits.proofs.BitLaws.{bits-xor, HoldsBits-xor}
+use Rattle.axe_layer.proofs.BitLaws.{bits-xor, HoldsBits-xor}
 use Rattle.axe_bits.proofs.PieceLaws.{written_piece}
 use Rattle.axe_bits.proofs.TableLaws.{bit_index, bit_entry-at, bit_entry-long, bit_entries-after, entries_held, entry_words, plane_held}
 use Rattle.axe_bits.proofs.bit_table.BitTable.add_to_entry.Goals as goal

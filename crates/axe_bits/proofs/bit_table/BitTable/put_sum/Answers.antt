@@ -3,10 +3,10 @@ use Rattle.std.specs.Simd.Lanes.{chunk, put_chunk, zip2}
 use Rattle.std.proofs.lemmas.List.{length-take-le}
 use Rattle.std.proofs.lemmas.Nat.{mul-le}
 use Rattle.std.proofs.lemmas.Simd.{length-zip2}
-use Rattle.axe_bits.specs.Bits.{bits, HoldsBits}
-use Rattle.axe_bits.specs.Digits.{digits_with_multiple}
+use Rattle.axe_layer.specs.Bits.{bits, HoldsBits}
+use Rattle.axe_layer.specs.Digits.{digits_with_multiple}
 use Rattle.axe_bits.specs.FlatTables.{bit_entries, HoldsEntries}
-use Rattle.axe_bits.proofs.BitLaws.{bits-xor, HoldsBits-xor}
+use Rattle.axe_layer.proofs.BitLaws.{bits-xor, HoldsBits-xor}
 use Rattle.axe_bits.proofs.PieceLaws.{piece_before, piece_within, written_after}
 use Rattle.axe_bits.proofs.TableLaws.{bit_index, bit_entry-at, bit_entry-long, bit_entries-after, entries_held, plane_held}
 use Rattle.axe_bits.proofs.bit_table.BitTable.put_sum.Goals as goal

@@ -1,7 +1,7 @@
 use Rattle.std.proofs.Common.{◌≡◌, ◌++◌, ◌+◌, ◌/◌, List, ℕ, length, take, drop, ap, sym, subst, ◌∙◌}
-use Rattle.axe_bits.specs.Bits.{bits, HoldsBits}
-use Rattle.axe_bits.specs.Digits.{digits_with_four}
-use Rattle.axe_bits.proofs.BitLaws.{written, plane_long, xor_of_five, HoldsBits-five, bits-five}
+use Rattle.axe_layer.specs.Bits.{bits, HoldsBits}
+use Rattle.axe_layer.specs.Digits.{digits_with_four}
+use Rattle.axe_layer.proofs.BitLaws.{written, plane_long, xor_of_five, HoldsBits-five, bits-five}
 use Rattle.axe_bits.proofs.bits.BitPlane.add_four.Goals as goal
 
 -- the words after

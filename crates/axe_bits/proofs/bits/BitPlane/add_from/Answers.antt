@@ -3,10 +3,10 @@ use Rattle.std.specs.Int.Bits.{xor_zero_r}
 use Rattle.std.proofs.lemmas.List.{length-drop}
 use Rattle.std.specs.Simd.Lanes.{zip2}
 use Rattle.axe_lane.specs.Entries.{AreZerosBefore}
-use Rattle.axe_bits.specs.Bits.{bits, HoldsBits}
-use Rattle.axe_bits.specs.Digits.{digits_with_multiple}
-use Rattle.axe_bits.proofs.BitLaws.{length-bits, bits-xor, HoldsBits-xor, plane_long}
-use Rattle.axe_bits.proofs.EndLaws.{end_is, zip2-written, zero_words_before, word_within}
+use Rattle.axe_layer.specs.Bits.{bits, HoldsBits}
+use Rattle.axe_layer.specs.Digits.{digits_with_multiple}
+use Rattle.axe_layer.proofs.BitLaws.{length-bits, bits-xor, HoldsBits-xor, plane_long}
+use Rattle.axe_layer.proofs.EndLaws.{end_is, zip2-written, zero_words_before, word_within}
 use Rattle.axe_bits.proofs.bits.BitPlane.add_from.Goals as goal
 
 -- the other plane has this one's length

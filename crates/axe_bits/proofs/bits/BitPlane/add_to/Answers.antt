@@ -1,7 +1,7 @@
 use Rattle.std.proofs.Common.{◌≡◌, length, ap, sym, subst, ◌∙◌, arith}
-use Rattle.axe_bits.specs.Bits.{bits}
-use Rattle.axe_bits.specs.Digits.{AreSmallSums, numbers_with_multiple}
-use Rattle.axe_bits.proofs.BitLaws.{plane_long}
+use Rattle.axe_layer.specs.Bits.{bits}
+use Rattle.axe_layer.specs.Digits.{AreSmallSums, numbers_with_multiple}
+use Rattle.axe_layer.proofs.BitLaws.{plane_long}
 use Rattle.axe_bits.proofs.bits.BitPlane.add_to.Goals as goal
 
 pub add_digits-requires-clause-long : goal.add_digits-requires-clause-long

@@ -1,9 +1,9 @@
 use Rattle.std.proofs.Common.{◌≡◌, ◌++◌, ◌+◌, ◌/◌, List, ℕ, length, take, drop, ap, sym, subst, ◌∙◌, bit_xor}
 use Rattle.std.specs.Simd.Lanes.{zip2}
 use Rattle.std.proofs.lemmas.Simd.{length-zip2}
-use Rattle.axe_bits.specs.Bits.{bits, HoldsBits}
-use Rattle.axe_bits.specs.Digits.{digits_with_multiple}
-use Rattle.axe_bits.proofs.BitLaws.{bits-xor, HoldsBits-xor, written, plane_long}
+use Rattle.axe_layer.specs.Bits.{bits, HoldsBits}
+use Rattle.axe_layer.specs.Digits.{digits_with_multiple}
+use Rattle.axe_layer.proofs.BitLaws.{bits-xor, HoldsBits-xor, written, plane_long}
 use Rattle.axe_bits.proofs.bits.BitPlane.add_words.Goals as goal
 
 -- the words after

@@ -1,5 +1,5 @@
 use Rattle.std.proofs.Common.{◌∙◌, ap}
-use Rattle.axe_bits.specs.Bits.{bits}
+use Rattle.axe_layer.specs.Bits.{bits}
 use Rattle.axe_bits.proofs.bits.BitPlane.copy.Goals as goal
 
 pub invariant_of-result : goal.invariant_of-result

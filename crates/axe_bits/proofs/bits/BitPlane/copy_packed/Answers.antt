@@ -1,8 +1,8 @@
 use Rattle.std.proofs.Common.{rules, ◌≡◌, ◌≤◌, ◌<◌, ◌*◌, ◌+◌, ◌-◌, length, arith, refl, ◌∙◌, ap, ℕ, List, get_or, min}
 use Rattle.std.proofs.lemmas.List.{get_or-take}
 use Rattle.std.proofs.lemmas.Grind.{get_or_default_zero}
-use Rattle.axe_bits.proofs.BitLaws.{plane_long}
-use Rattle.axe_bits.proofs.PackedWords.{word_packed, all_packed}
+use Rattle.axe_layer.proofs.BitLaws.{plane_long}
+use Rattle.axe_layer.proofs.PackedWords.{word_packed, all_packed}
 use Rattle.axe_bits.proofs.bits.BitPlane.copy_packed.Goals as goal
 
 pub overflow_sub-bytes : goal.overflow_sub-bytes

@@ -1,6 +1,6 @@
 use Rattle.std.proofs.Common.{length, ap, ◌∙◌, arith}
-use Rattle.axe_bits.specs.Bits.{bits}
-use Rattle.axe_bits.proofs.BitLaws.{plane_long}
+use Rattle.axe_layer.specs.Bits.{bits}
+use Rattle.axe_layer.proofs.BitLaws.{plane_long}
 use Rattle.axe_bits.proofs.bits.BitPlane.copy_to.Goals as goal
 
 pub copy_digits-requires : goal.copy_digits-requires

@@ -1,9 +1,9 @@
 use Rattle.std.proofs.Common.{◌≡◌, ◌+◌, ◌/◌, ◌%◌, List, ℕ, length, ap, ap₂, sym, subst, ◌∙◌}
 use Rattle.axe_lane.specs.Bytes.{sum_of_products}
 use Rattle.axe_lane.specs.Words.{common_bits}
-use Rattle.axe_bits.specs.Bits.{bits, HoldsBits}
-use Rattle.axe_bits.proofs.BitLaws.{length-bits}
-use Rattle.axe_bits.proofs.DotLaws.{common_bits-dot}
+use Rattle.axe_layer.specs.Bits.{bits, HoldsBits}
+use Rattle.axe_layer.proofs.BitLaws.{length-bits}
+use Rattle.axe_layer.proofs.DotLaws.{common_bits-dot}
 use Rattle.axe_bits.proofs.bits.BitPlane.dot.Goals as goal
 
 -- the other plane has this one's length

@@ -1,7 +1,7 @@
 use Rattle.std.proofs.Common.{◌≡◌, List, ℕ, length, ap, subst, arith, All, MatchOption}
 use Rattle.axe_lane.specs.Entries.{IsFirstNonzero}
 use Rattle.axe_lane.specs.Words.{HasNoSetBit, IsFirstSetBit}
-use Rattle.axe_bits.proofs.ZeroDigits.{first_of_bits}
+use Rattle.axe_layer.proofs.ZeroDigits.{first_of_bits}
 use Rattle.axe_bits.proofs.bits.BitPlane.first_nonzero.Goals as goal
 
 pub first_set-requires : goal.first_set-requires

@@ -1,6 +1,6 @@
 use Rattle.std.proofs.Common.{◌≡◌, ◌↔◌, IsTrue, List, ℕ, not, subst, All}
 use Rattle.axe_lane.specs.Entries.{HasNonzero}
-use Rattle.axe_bits.proofs.ZeroDigits.{zero_bits}
+use Rattle.axe_layer.proofs.ZeroDigits.{zero_bits}
 use Rattle.axe_bits.proofs.bits.BitPlane.is_zero.Goals as goal
 
 pub returns : goal.returns

@@ -1,6 +1,6 @@
 use Rattle.std.proofs.Common.{◌∙◌, ap, sym, length, subst}
-use Rattle.axe_bits.specs.Digits.{AreDigits}
-use Rattle.axe_bits.proofs.BitLaws.{length-bits, AreDigits-bits}
+use Rattle.axe_layer.specs.Digits.{AreDigits}
+use Rattle.axe_layer.proofs.BitLaws.{length-bits, AreDigits-bits}
 use Rattle.axe_bits.proofs.bits.BitPlane.len.Goals as goal
 
 pub returns-clause-count : goal.returns-clause-count

@@ -1,8 +1,8 @@
 use Rattle.std.proofs.Common.{MatchOption, ◌≡◌, List, ℕ, length, ap, subst, arith}
 use Rattle.axe_lane.specs.Entries.{AreZerosFrom, IsNextNonzero}
-use Rattle.axe_bits.specs.Bits.{bits, HoldsBits}
-use Rattle.axe_bits.proofs.BitLaws.{length-bits}
-use Rattle.axe_bits.proofs.NextDigits.{next_of_all}
+use Rattle.axe_layer.specs.Bits.{bits, HoldsBits}
+use Rattle.axe_layer.proofs.BitLaws.{length-bits}
+use Rattle.axe_layer.proofs.NextDigits.{next_of_all}
 use Rattle.axe_bits.proofs.bits.BitPlane.next_nonzero.Goals as goal
 
 pub next_in-requires-clause-within : goal.next_in-requires-clause-within

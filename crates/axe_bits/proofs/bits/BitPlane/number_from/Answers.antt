@@ -1,6 +1,6 @@
 use Rattle.std.proofs.Common.{◌≡◌, List, ℕ, length, ap, ◌∙◌}
-use Rattle.axe_bits.specs.Bits.{bits}
-use Rattle.axe_bits.specs.Digits.{number_from}
+use Rattle.axe_layer.specs.Bits.{bits}
+use Rattle.axe_layer.specs.Digits.{number_from}
 use Rattle.axe_bits.proofs.bits.BitPlane.number_from.Goals as goal
 
 pub number_in-requires-clause-long : goal.number_in-requires-clause-long

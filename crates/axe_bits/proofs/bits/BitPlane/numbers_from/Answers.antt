@@ -1,6 +1,6 @@
 use Rattle.std.proofs.Common.{◌≡◌, List, ℕ, length, ap, ◌∙◌}
-use Rattle.axe_bits.specs.Bits.{bits}
-use Rattle.axe_bits.specs.Digits.{numbers_from}
+use Rattle.axe_layer.specs.Bits.{bits}
+use Rattle.axe_layer.specs.Digits.{numbers_from}
 use Rattle.axe_bits.proofs.bits.BitPlane.numbers_from.Goals as goal
 
 pub numbers_in-requires-clause-long : goal.numbers_in-requires-clause-long

@@ -1,10 +1,10 @@
 use Rattle.std.proofs.Common.{◌*◌, ◌<◌, ◌≤◌, length, refl, arith, ℕ, sym, subst}
 use Rattle.std.proofs.lemmas.List.{length-replicate}
 use Rattle.axe_algebra.proofs.ListEntries.{listed_length}
-use Rattle.axe_bits.specs.Packed.{packed_bit}
-use Rattle.axe_bits.proofs.BitLaws.{zeros, get_or-zeros}
-use Rattle.axe_bits.proofs.DigitWords.{HaveDigits, have_no_digits, have_next_word, HoldsBits-digits, bits-digits}
-use Rattle.axe_bits.proofs.PackedWords.{packed_part_word}
+use Rattle.axe_layer.specs.Packed.{packed_bit}
+use Rattle.axe_layer.proofs.BitLaws.{zeros, get_or-zeros}
+use Rattle.axe_layer.proofs.DigitWords.{HaveDigits, have_no_digits, have_next_word, HoldsBits-digits, bits-digits}
+use Rattle.axe_layer.proofs.PackedWords.{packed_part_word}
 use Rattle.axe_bits.proofs.bits.BitPlane.of_packed.Goals as goal
 
 pub loop-at-init : goal.loop-at-init

@@ -1,7 +1,7 @@
 use Rattle.std.proofs.Common.{◌*◌}
 use Rattle.axe_algebra.specs.Lists.{listed}
-use Rattle.axe_bits.specs.Packed.{packed_bit}
-use Rattle.axe_bits.proofs.DigitWords.{HaveDigits}
+use Rattle.axe_layer.specs.Packed.{packed_bit}
+use Rattle.axe_layer.proofs.DigitWords.{HaveDigits}
 use Rattle.axe_bits.proofs.bits.BitPlane.of_packed.Given as goal
 
 abbrev pub invariant-loop-at : goal.invariant-loop-at

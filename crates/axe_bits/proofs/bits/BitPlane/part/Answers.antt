@@ -1,8 +1,8 @@
 use Rattle.std.proofs.Common.{◌≡◌, ◌+◌, List, ℕ, length, get_or, ap, ◌∙◌, arith}
 use Rattle.axe_algebra.specs.Lists.{listed}
-use Rattle.axe_bits.specs.Bits.{bits}
-use Rattle.axe_bits.proofs.BitLaws.{plane_long, written}
-use Rattle.axe_bits.proofs.DigitWords.{digits_of_part}
+use Rattle.axe_layer.specs.Bits.{bits}
+use Rattle.axe_layer.proofs.BitLaws.{plane_long, written}
+use Rattle.axe_layer.proofs.DigitWords.{digits_of_part}
 use Rattle.axe_bits.proofs.bits.BitPlane.part.Goals as goal
 
 pub fill_with_part-requires-clause-within : goal.fill_with_part-requires-clause-within

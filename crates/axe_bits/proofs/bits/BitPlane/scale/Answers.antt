@@ -1,8 +1,8 @@
 use Rattle.std.proofs.Common.{◌≡◌, ◌+◌, ◌/◌, length, replicate, ap, sym, ◌∙◌, arith, subst, lit<}
 use Rattle.axe_lane.proofs.ByteLaws.{multiple_by_zero, multiple_by_one}
-use Rattle.axe_bits.specs.Bits.{bits, HoldsBits}
-use Rattle.axe_bits.specs.Digits.{AreDigits}
-use Rattle.axe_bits.proofs.BitLaws.{AreDigits-bits, HoldsBits-zeros, bits-zeros, length-bits}
+use Rattle.axe_layer.specs.Bits.{bits, HoldsBits}
+use Rattle.axe_layer.specs.Digits.{AreDigits}
+use Rattle.axe_layer.proofs.BitLaws.{AreDigits-bits, HoldsBits-zeros, bits-zeros, length-bits}
 use Rattle.axe_bits.proofs.bits.BitPlane.scale.Goals as goal
 
 pub invariant_of-self : goal.invariant_of-self

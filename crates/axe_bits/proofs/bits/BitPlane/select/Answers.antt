@@ -1,7 +1,7 @@
 use Rattle.std.proofs.Common.{length, ap, ◌∙◌, arith}
-use Rattle.axe_bits.specs.Bits.{bits}
-use Rattle.axe_bits.proofs.BitLaws.{plane_long, written}
-use Rattle.axe_bits.proofs.DigitWords.{digits_gathered}
+use Rattle.axe_layer.specs.Bits.{bits}
+use Rattle.axe_layer.proofs.BitLaws.{plane_long, written}
+use Rattle.axe_layer.proofs.DigitWords.{digits_gathered}
 use Rattle.axe_bits.proofs.bits.BitPlane.select.Goals as goal
 
 pub fill_with_selected-requires-clause-within : goal.fill_with_selected-requires-clause-within

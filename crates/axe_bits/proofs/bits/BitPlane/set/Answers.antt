@@ -1,6 +1,6 @@
 use Rattle.std.proofs.Common.{arith, sym}
 use Rattle.std.proofs.lemmas.List.{set_past}
-use Rattle.axe_bits.proofs.BitLaws.{plane_long}
+use Rattle.axe_layer.proofs.BitLaws.{plane_long}
 use Rattle.axe_bits.proofs.bits.BitPlane.set.Goals as goal
 
 pub returns-else-index-self : goal.returns-else-index-self

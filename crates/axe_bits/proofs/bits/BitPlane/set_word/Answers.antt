@@ -1,6 +1,6 @@
 use Rattle.std.proofs.Common.{arith}
-use Rattle.axe_bits.proofs.BitLaws.{plane_long}
-use Rattle.axe_bits.proofs.WordWrites.{IsCutWord, HoldsBits-cut, bits-cut, digits_with_word-past}
+use Rattle.axe_layer.proofs.BitLaws.{plane_long}
+use Rattle.axe_layer.proofs.WordWrites.{IsCutWord, HoldsBits-cut, bits-cut, digits_with_word-past}
 use Rattle.axe_bits.proofs.bits.BitPlane.set_word.Goals as goal
 
 pub invariant_of-self : goal.invariant_of-self

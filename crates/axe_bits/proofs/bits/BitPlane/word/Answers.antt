@@ -1,7 +1,7 @@
 use Rattle.std.proofs.Common.{arith, ◌∙◌, sym}
 use Rattle.std.proofs.lemmas.List.{get_or_past}
 use Rattle.std.proofs.lemmas.Grind.{get_or_default_zero}
-use Rattle.axe_bits.proofs.WordWrites.{word_of_digits}
+use Rattle.axe_layer.proofs.WordWrites.{word_of_digits}
 use Rattle.axe_bits.proofs.bits.BitPlane.word.Goals as goal
 
 pub returns-then-at-len : goal.returns-then-at-len

@@ -1,6 +1,6 @@
 use Rattle.std.proofs.Common.{◌≡◌, List, ℕ, length, ap, sym, subst, ◌∙◌}
-use Rattle.axe_bits.specs.Bits.{bits, HoldsBits}
-use Rattle.axe_bits.proofs.BitLaws.{length-bits}
+use Rattle.axe_layer.specs.Bits.{bits, HoldsBits}
+use Rattle.axe_layer.proofs.BitLaws.{length-bits}
 use Rattle.axe_bits.proofs.bits.BitPlane.words.Goals as goal
 
 -- how many digits there are

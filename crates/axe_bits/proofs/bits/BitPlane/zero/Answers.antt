@@ -1,6 +1,6 @@
 use Rattle.std.proofs.Common.{◌≡◌, ◌+◌, ◌/◌, arith, ◌∙◌, ap}
-use Rattle.axe_bits.specs.Bits.{bits}
-use Rattle.axe_bits.proofs.BitLaws.{bits-zeros, HoldsBits-zeros}
+use Rattle.axe_layer.specs.Bits.{bits}
+use Rattle.axe_layer.proofs.BitLaws.{bits-zeros, HoldsBits-zeros}
 use Rattle.axe_bits.proofs.bits.BitPlane.zero.Goals as goal
 
 pub invariant_of-result : goal.invariant_of-result

@@ -1,6 +1,6 @@
 use Rattle.std.proofs.Common.{ap, subst, sym, ◌∙◌}
-use Rattle.axe_bits.specs.Bits.{bits}
-use Rattle.axe_bits.specs.Digits.{digits_with_multiple}
+use Rattle.axe_layer.specs.Bits.{bits}
+use Rattle.axe_layer.specs.Digits.{digits_with_multiple}
 use Rattle.axe_bits.specs.Trits.{trits, HoldLayers}
 use Rattle.axe_bits.proofs.TableLaws.{AreWordsOf}
 use Rattle.axe_bits.proofs.TritEntries.{digits_of_entry, layers_of_entry, other_index, trit_entry-long}

@@ -1,10 +1,10 @@
 use Rattle.std.proofs.Common.{◌≡◌, List, ℕ, length, subst, sym, ap, ◌∙◌, lit<, refl, arith}
 use Rattle.axe_lane.specs.Trits.{AreTrits}
-use Rattle.axe_bits.specs.Bits.{bits}
-use Rattle.axe_bits.specs.Digits.{digits_with_multiple}
+use Rattle.axe_layer.specs.Bits.{bits}
+use Rattle.axe_layer.specs.Digits.{digits_with_multiple}
 use Rattle.axe_bits.specs.Trits.{trits, first_half, second_half}
-use Rattle.axe_bits.proofs.DigitLaws.{digits_with_multiple-none}
-use Rattle.axe_bits.proofs.EndLaws.{word_within}
+use Rattle.axe_layer.proofs.DigitLaws.{digits_with_multiple-none}
+use Rattle.axe_layer.proofs.EndLaws.{word_within}
 use Rattle.axe_bits.proofs.TritEnds.{zero_ones_before, zero_twos_before}
 use Rattle.axe_bits.proofs.TritHalves.{halves_long, halves_wide, half_trits-sum, HalvesHold-sum}
 use Rattle.axe_bits.proofs.TritPlaneLaws.{trits_below}

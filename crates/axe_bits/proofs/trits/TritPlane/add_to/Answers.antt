@@ -1,5 +1,5 @@
 use Rattle.std.proofs.Common.{arith}
-use Rattle.axe_bits.proofs.BitLaws.{length-bits}
+use Rattle.axe_layer.proofs.BitLaws.{length-bits}
 use Rattle.axe_bits.proofs.TritHalves.{HoldLayers-len, trits-len}
 use Rattle.axe_bits.proofs.TritSums.{have_small_sums, ones_fit, ones_small, twos_fit, twos_small, twos_fit_again, twos_small_again, added}
 use Rattle.axe_bits.proofs.trits.TritPlane.add_to.Goals as goal

@@ -1,6 +1,6 @@
 use Rattle.std.proofs.Common.{length, ap, ◌∙◌, arith}
-use Rattle.axe_bits.specs.Bits.{bits}
-use Rattle.axe_bits.proofs.BitLaws.{length-bits}
+use Rattle.axe_layer.specs.Bits.{bits}
+use Rattle.axe_layer.proofs.BitLaws.{length-bits}
 use Rattle.axe_bits.proofs.TritHalves.{halves_long, HoldLayers-len, trits-len}
 use Rattle.axe_bits.proofs.TritSums.{layers_small, sum_of_layers}
 use Rattle.axe_bits.proofs.trits.TritPlane.copy_to.Goals as goal

@@ -1,7 +1,7 @@
 use Rattle.std.proofs.Common.{◌<◌, length, sym, arith}
 use Rattle.std.proofs.lemmas.List.{get_or_past}
-use Rattle.axe_bits.specs.Bits.{bits}
-use Rattle.axe_bits.proofs.BitLaws.{get_or-bits}
+use Rattle.axe_layer.specs.Bits.{bits}
+use Rattle.axe_layer.proofs.BitLaws.{get_or-bits}
 use Rattle.axe_bits.proofs.TritHalves.{halves_long}
 use Rattle.axe_bits.proofs.TritPlaneLaws.{trits_at}
 use Rattle.axe_bits.proofs.trits.TritPlane.get.Goals as goal

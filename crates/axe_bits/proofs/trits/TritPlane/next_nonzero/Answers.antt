@@ -1,6 +1,6 @@
 use Rattle.std.proofs.Common.{◌≡◌, ◌*◌, max, subst, sym, arith}
-use Rattle.axe_bits.specs.Supports.{IsSupportWord}
-use Rattle.axe_bits.proofs.SupportLaws.{found_in_word, none_in_all, stands_in_word}
+use Rattle.axe_layer.specs.Supports.{IsSupportWord}
+use Rattle.axe_layer.proofs.SupportLaws.{found_in_word, none_in_all, stands_in_word}
 use Rattle.axe_bits.proofs.TritHalves.{halves_long}
 use Rattle.axe_bits.proofs.trits.TritPlane.next_nonzero.Goals as goal
 

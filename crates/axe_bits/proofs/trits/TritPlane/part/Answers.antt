@@ -1,6 +1,6 @@
 use Rattle.std.proofs.Common.{length, ◌∙◌, arith}
-use Rattle.axe_bits.specs.Bits.{bits}
-use Rattle.axe_bits.proofs.DigitWords.{digits_of_part}
+use Rattle.axe_layer.specs.Bits.{bits}
+use Rattle.axe_layer.proofs.DigitWords.{digits_of_part}
 use Rattle.axe_bits.proofs.TritPlaneLaws.{layers_part, trits_part}
 use Rattle.axe_bits.proofs.TritHalves.{half_trits-made, HalvesHold-made}
 use Rattle.axe_bits.proofs.trits.TritPlane.part.Goals as goal

@@ -1,8 +1,8 @@
 use Rattle.std.proofs.Common.{◌≡◌, List, ℕ, ap, ap₂, subst, sym, ◌∙◌, arith, lit<}
-use Rattle.axe_bits.specs.Bits.{bits}
+use Rattle.axe_layer.specs.Bits.{bits}
 use Rattle.axe_bits.specs.Trits.{trits, HoldLayers}
 use Rattle.axe_lane.proofs.ByteLaws.{multiple_by_zero}
-use Rattle.axe_bits.proofs.BitLaws.{zeros}
+use Rattle.axe_layer.proofs.BitLaws.{zeros}
 use Rattle.axe_bits.proofs.TritHalves.{half_trits, halves_long, halves_wide, half_trits-written, half_trits-zeros, HalvesHold-written, HalvesHold-zeros, HoldLayers-split, trits-split}
 use Rattle.axe_bits.proofs.TritWords.{exchanged}
 use Rattle.axe_bits.proofs.TritZeros.{trits_by_one, trits_by_two}

@@ -1,7 +1,7 @@
 use Rattle.std.proofs.Common.{length, refl, ◌∙◌, arith}
-use Rattle.axe_bits.specs.Bits.{bits}
-use Rattle.axe_bits.proofs.BitLaws.{length-bits}
-use Rattle.axe_bits.proofs.DigitWords.{digits_gathered}
+use Rattle.axe_layer.specs.Bits.{bits}
+use Rattle.axe_layer.proofs.BitLaws.{length-bits}
+use Rattle.axe_layer.proofs.DigitWords.{digits_gathered}
 use Rattle.axe_bits.proofs.TritPlaneLaws.{layers_selected, trits_selected}
 use Rattle.axe_bits.proofs.TritHalves.{half_trits-made, HalvesHold-made}
 use Rattle.axe_bits.proofs.trits.TritPlane.select.Goals as goal

@@ -1,7 +1,7 @@
 use Rattle.std.proofs.Common.{arith, ◌∙◌}
 use Rattle.axe_bits.proofs.TritHalves.{halves_long, halves_wide, half_trits-made, HalvesHold-made, HoldLayers-split, trits-split}
 use Rattle.axe_bits.proofs.TritWordWrites.{layers_with_words, trits_with_words}
-use Rattle.axe_bits.proofs.WordWrites.{digits_with_word-past}
+use Rattle.axe_layer.proofs.WordWrites.{digits_with_word-past}
 use Rattle.axe_bits.proofs.trits.TritPlane.set_digit_words.Goals as goal
 
 pub invariant_of-self : goal.invariant_of-self

@@ -1,8 +1,8 @@
 use Rattle.std.proofs.Common.{◌+◌, ◌*◌, length, get_or, refl, arith}
-use Rattle.axe_bits.specs.Bits.{bits}
-use Rattle.axe_bits.proofs.SupportLaws.{support_of_both}
+use Rattle.axe_layer.specs.Bits.{bits}
+use Rattle.axe_layer.proofs.SupportLaws.{support_of_both}
 use Rattle.axe_bits.proofs.TritZeros.{trit_of}
-use Rattle.axe_bits.proofs.WordWrites.{word_of_digits}
+use Rattle.axe_layer.proofs.WordWrites.{word_of_digits}
 use Rattle.axe_bits.proofs.trits.TritPlane.support_word.Goals as goal
 
 pub returns-then-at-ones : goal.returns-then-at-ones

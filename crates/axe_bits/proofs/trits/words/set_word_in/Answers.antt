@@ -1,5 +1,5 @@
 use Rattle.std.proofs.Common.{refl}
-use Rattle.axe_bits.proofs.WordWrites.{IsCutWord, HoldsBits-cut, bits-cut}
+use Rattle.axe_layer.proofs.WordWrites.{IsCutWord, HoldsBits-cut, bits-cut}
 use Rattle.axe_bits.proofs.trits.words.set_word_in.Goals as goal
 
 pub returns-clause-holds : goal.returns-clause-holds

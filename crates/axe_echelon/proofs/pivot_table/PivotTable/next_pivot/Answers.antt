@@ -1,5 +1,5 @@
 use Rattle.std.proofs.Common.{List, Option, ℕ, get_or, ap, rules}
-use Rattle.axe_bits.proofs.SupportLaws.{restricted_away}
+use Rattle.axe_layer.proofs.SupportLaws.{restricted_away}
 use Rattle.axe_echelon.specs.PivotTables.{marks_in}
 use Rattle.axe_echelon.proofs.pivot_table.PivotTable.next_pivot.Goals as goal
 

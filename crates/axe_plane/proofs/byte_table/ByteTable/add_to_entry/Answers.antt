@@ -1,10 +1,10 @@
 use Rattle.std.proofs.Common.{◌≡◌, ◌+◌, ◌*◌, ◌%◌, ◌-◌, ◌<◌, ◌≤◌, ◌++◌, List, ℕ, [], length, get_or, set, take, drop, ap, subst, sym, ◌∙◌, arith}
 use Rattle.std.specs.Simd.Lanes.{chunk, put_chunk, zip2}
 use Rattle.std.proofs.lemmas.Simd.{length-chunk}
-use Rattle.axe_bits.specs.Digits.{digits_with_multiple}
+use Rattle.axe_layer.specs.Digits.{digits_with_multiple}
 use Rattle.axe_plane.specs.FlatTables.{byte_entries, HoldsDigits}
 use Rattle.axe_plane.specs.Primes.{byte_prime, ByteEntries}
-use Rattle.axe_bits.proofs.DigitLaws.{AreDigits-sum, zip2-sum, length-digits_with_multiple}
+use Rattle.axe_layer.proofs.DigitLaws.{AreDigits-sum, zip2-sum, length-digits_with_multiple}
 use Rattle.axe_bits.proofs.PieceLaws.{piece_within, written_piece}
 use Rattle.axe_plane.proofs.PlaneLaws.{byte_prime-positive}
 use Rattle.axe_plane.proofs.TableLaws.{byte_index, byte_entry-at, byte_entry-long, byte_entries-after, digits_held, entry_bytes}

@@ -1,9 +1,9 @@
 use Rattle.std.proofs.Common.{◌≡◌, ◌++◌, ◌+◌, ◌*◌, ◌%◌, List, ℕ, length, take, drop, ap, sym, ◌∙◌}
 use Rattle.std.specs.Simd.Lanes.{zip2}
-use Rattle.axe_bits.specs.Digits.{digits_with_multiple}
+use Rattle.axe_layer.specs.Digits.{digits_with_multiple}
 use Rattle.axe_plane.specs.Primes.{byte_prime, ByteDigits}
-use Rattle.axe_bits.proofs.BitLaws.{written}
-use Rattle.axe_bits.proofs.DigitLaws.{zip2-sum, length-digits_with_multiple}
+use Rattle.axe_layer.proofs.BitLaws.{written}
+use Rattle.axe_layer.proofs.DigitLaws.{zip2-sum, length-digits_with_multiple}
 use Rattle.axe_plane.proofs.bytes.BytePlane.add_bytes.Goals as goal
 
 -- the bytes after

@@ -1,9 +1,9 @@
 use Rattle.std.proofs.Common.{◌≡◌, ◌++◌, List, ℕ, length, take, drop, ap, sym, ◌∙◌}
 use Rattle.axe_lane.specs.Bytes.{sum_modulo}
-use Rattle.axe_bits.specs.Digits.{digits_with_four}
+use Rattle.axe_layer.specs.Digits.{digits_with_four}
 use Rattle.axe_plane.specs.Primes.{byte_prime, ByteDigits}
-use Rattle.axe_bits.proofs.BitLaws.{written}
-use Rattle.axe_bits.proofs.DigitLaws.{sum_of_five, length-digits_with_four}
+use Rattle.axe_layer.proofs.BitLaws.{written}
+use Rattle.axe_layer.proofs.DigitLaws.{sum_of_five, length-digits_with_four}
 use Rattle.axe_plane.proofs.bytes.BytePlane.add_four.Goals as goal
 
 -- the bytes after

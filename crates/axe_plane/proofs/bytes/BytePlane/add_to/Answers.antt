@@ -1,5 +1,5 @@
 use Rattle.std.proofs.Common.{length, arith, ap}
-use Rattle.axe_bits.proofs.NumberSums.{added_all}
+use Rattle.axe_layer.proofs.NumberSums.{added_all}
 use Rattle.axe_plane.proofs.bytes.BytePlane.add_to.Goals as goal
 
 pub returns : goal.returns

@@ -1,4 +1,4 @@
-use Rattle.axe_bits.proofs.NumberSums.{IsAddedBelow}
+use Rattle.axe_layer.proofs.NumberSums.{IsAddedBelow}
 use Rattle.axe_plane.proofs.bytes.BytePlane.add_to.Given as goal
 
 abbrev pub invariant-loop-at : goal.invariant-loop-at

@@ -1,6 +1,6 @@
 use Rattle.std.proofs.Common.{◌≡◌, ◌-◌, ◌%◌, List, ℕ, ap, subst, arith}
-use Rattle.axe_bits.specs.Digits.{AreDigits}
-use Rattle.axe_bits.proofs.DigitLaws.{digits_with_multiple-none}
+use Rattle.axe_layer.specs.Digits.{AreDigits}
+use Rattle.axe_layer.proofs.DigitLaws.{digits_with_multiple-none}
 use Rattle.axe_plane.specs.Primes.{byte_prime, ByteDigits}
 use Rattle.axe_plane.proofs.PlaneLaws.{byte_prime-positive}
 use Rattle.axe_plane.proofs.bytes.BytePlane.cancel.Goals as goal

@@ -2,7 +2,7 @@ use Rattle.std.proofs.Common.{◌≡◌, ◌+◌, ◌*◌, ◌/◌, ◌%◌, len
 use Rattle.std.specs.Simd.Lanes.{sum_l, zip2}
 use Rattle.axe_lane.specs.Bytes.{sum_of_products}
 use Rattle.axe_plane.specs.Primes.{byte_prime, ByteDigits}
-use Rattle.axe_bits.proofs.DotLaws.{dot_more, dot_all}
+use Rattle.axe_layer.proofs.DotLaws.{dot_more, dot_all}
 use Rattle.axe_plane.proofs.bytes.BytePlane.dot.Goals as goal
 
 pub loop-piece-preserved : goal.loop-piece-preserved

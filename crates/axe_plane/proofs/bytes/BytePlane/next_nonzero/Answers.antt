@@ -1,7 +1,7 @@
 use Rattle.std.proofs.Common.{◌≡◌, ◌+◌, List, ℕ, subst, arith, All}
 use Rattle.axe_lane.specs.Entries.{IsFirstNonzero, AreZerosFrom, IsNextNonzero}
 use Rattle.axe_plane.specs.Primes.{ByteDigits}
-use Rattle.axe_bits.proofs.NextDigits.{from_index, next_after, none_after}
+use Rattle.axe_layer.proofs.NextDigits.{from_index, next_after, none_after}
 use Rattle.axe_plane.proofs.bytes.BytePlane.next_nonzero.Goals as goal
 
 pub returns-in-Some : goal.returns-in-Some

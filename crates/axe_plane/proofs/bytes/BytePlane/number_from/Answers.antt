@@ -1,12 +1,12 @@
 use Rattle.std.proofs.Common.{◌≡◌, ℕ, ◌+◌, ◌*◌, ◌<◌, ◌≤◌, List, length, get_or, ap, ◌∙◌, arith, lit<}
 use native.Mathlib.Nat.{mul-le-mul_left}
-use Rattle.axe_bits.specs.Digits.{AreDigits, number_bound}
+use Rattle.axe_layer.specs.Digits.{AreDigits, number_bound}
 use Rattle.axe_plane.specs.Primes.{byte_prime, ByteDigits}
 use Rattle.axe_plane.specs.declared.primes.BytePrime.{BytePrime}
 use Rattle.axe_plane.specs.declared.primes.BytePrime.TheVariants.{Five, Seven}
-use Rattle.axe_bits.proofs.DigitLaws.{digit-below}
+use Rattle.axe_layer.proofs.DigitLaws.{digit-below}
 use Rattle.axe_plane.proofs.PlaneLaws.{byte_prime-positive}
-use Rattle.axe_bits.proofs.PieceDigits.{IsNumberOf-none, IsNumberOf-more, IsNumberOf-small, IsNumberOf-few, IsNumberOf-all}
+use Rattle.axe_layer.proofs.PieceDigits.{IsNumberOf-none, IsNumberOf-more, IsNumberOf-small, IsNumberOf-few, IsNumberOf-all}
 use Rattle.axe_plane.proofs.bytes.BytePlane.number_from.Goals as goal
 
 small_prime : (p : BytePrime) → byte_prime p < 9

@@ -1,4 +1,4 @@
-use Rattle.axe_bits.proofs.PieceDigits.{IsNumberOf}
+use Rattle.axe_layer.proofs.PieceDigits.{IsNumberOf}
 use Rattle.axe_plane.proofs.bytes.BytePlane.number_from.Given as goal
 
 abbrev pub invariant-loop-index : goal.invariant-loop-index

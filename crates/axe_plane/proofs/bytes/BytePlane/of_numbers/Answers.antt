@@ -1,7 +1,7 @@
 use Rattle.std.proofs.Common.{◌≡◌, rules}
-use Rattle.axe_bits.specs.Digits.{digits_at}
+use Rattle.axe_layer.specs.Digits.{digits_at}
 use Rattle.axe_plane.specs.Primes.{byte_prime}
-use Rattle.axe_bits.proofs.NumberDigits.{AreDigits-numbers}
+use Rattle.axe_layer.proofs.NumberDigits.{AreDigits-numbers}
 use Rattle.axe_plane.proofs.PlaneLaws.{byte_prime-positive}
 use Rattle.axe_plane.proofs.bytes.BytePlane.of_numbers.Goals as goal
 

@@ -1,5 +1,5 @@
 use Rattle.std.proofs.Common.{◌≡◌, refl, arith}
-use Rattle.axe_bits.proofs.DigitLaws.{digits_with_multiple-none}
+use Rattle.axe_layer.proofs.DigitLaws.{digits_with_multiple-none}
 use Rattle.axe_plane.proofs.PlaneLaws.{prime_of_plane-positive}
 use Rattle.axe_plane.proofs.tables.PlaneTable.add_entry.Goals as goal
 

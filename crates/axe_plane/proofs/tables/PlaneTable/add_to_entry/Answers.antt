@@ -1,6 +1,6 @@
 use Rattle.std.proofs.Common.{◌≡◌, List, [], ℕ, set, refl, ap, sym, ◌∙◌, arith}
 use Rattle.axe_plane.specs.Tables.{entries_of_table}
-use Rattle.axe_bits.proofs.DigitLaws.{digits_with_multiple-none}
+use Rattle.axe_layer.proofs.DigitLaws.{digits_with_multiple-none}
 use Rattle.std.proofs.lemmas.List.{set-get_or}
 use Rattle.axe_plane.proofs.TableLaws.{prime_of_table-positive}
 use Rattle.axe_plane.proofs.tables.PlaneTable.add_to_entry.Goals as goal

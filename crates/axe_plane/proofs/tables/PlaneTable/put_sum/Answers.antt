@@ -1,5 +1,5 @@
 use Rattle.std.proofs.Common.{◌≡◌, ◌<◌, [], length, get_or, set, subst, sym, ◌∙◌}
-use Rattle.axe_bits.specs.Digits.{digits_with_multiple}
+use Rattle.axe_layer.specs.Digits.{digits_with_multiple}
 use Rattle.axe_plane.specs.Planes.{digits_of}
 use Rattle.axe_plane.specs.Tables.{entries_of_table, prime_of_table, IsTable}
 use Rattle.axe_plane.specs.declared.tables.PlaneTable.{PlaneTable}

@@ -1,6 +1,0 @@
-use Rattle.std.proofs.Common.{◌*◌}
-use Rattle.axe_bits.proofs.BlockBits.{AreTransposedBelow}
-use Rattle.axe_bits.proofs.blocks.transposed_block.Given as goal
-
-abbrev pub invariant-loop-at : goal.invariant-loop-at
-invariant-loop-at l = AreTransposedBelow l.block (l.at * 8) l.transposed

@@ -1,7 +1,0 @@
-use Rattle.std.proofs.Common.{◌*◌}
-use Rattle.axe_bits.specs.Bits.{bits}
-use Rattle.axe_bits.proofs.NumberSums.{IsAddedBelow}
-use Rattle.axe_bits.proofs.layer.add_digits.Given as goal
-
-abbrev pub invariant-loop-at : goal.invariant-loop-at
-invariant-loop-at l = IsAddedBelow l.fn.numbers l.factor (bits l.len l.words) (l.at * 64) l.numbers

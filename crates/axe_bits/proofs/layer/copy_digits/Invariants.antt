@@ -1,7 +1,0 @@
-use Rattle.std.proofs.Common.{◌*◌, length}
-use Rattle.axe_bits.specs.Bits.{bits}
-use Rattle.axe_bits.proofs.DigitWords.{IsWrittenBelow}
-use Rattle.axe_bits.proofs.layer.copy_digits.Given as goal
-
-abbrev pub invariant-loop-at : goal.invariant-loop-at
-invariant-loop-at l = IsWrittenBelow (bits (length l.fn.numbers) l.words) (l.at * 64) l.numbers

@@ -1,8 +1,0 @@
-use Rattle.std.proofs.Common.{◌+◌, ◌*◌}
-use Rattle.axe_algebra.specs.Lists.{listed}
-use Rattle.axe_bits.specs.Bits.{bit_of}
-use Rattle.axe_bits.proofs.DigitWords.{HaveDigits}
-use Rattle.axe_bits.proofs.layer.fill_with_part.Given as goal
-
-abbrev pub invariant-loop-at : goal.invariant-loop-at
-invariant-loop-at l = HaveDigits (listed l.len (λ j. bit_of l.layer (l.start + j))) (l.at * 64) l.words

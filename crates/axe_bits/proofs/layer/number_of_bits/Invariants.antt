@@ -1,5 +1,0 @@
-use Rattle.axe_bits.proofs.PieceBits.{IsNumberOfBits}
-use Rattle.axe_bits.proofs.layer.number_of_bits.Given as goal
-
-abbrev pub invariant-loop-place : goal.invariant-loop-place
-invariant-loop-place l = IsNumberOfBits l.base l.word l.place l.number

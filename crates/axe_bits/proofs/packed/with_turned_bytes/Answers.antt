@@ -1,5 +1,0 @@
-use Rattle.axe_bits.proofs.TurnedBytes.{turned_bit}
-use Rattle.axe_bits.proofs.packed.with_turned_bytes.Goals as goal
-
-pub returns : goal.returns
-returns c = λ i low. turned_bit c.args.word i low

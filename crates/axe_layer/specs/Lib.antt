@@ -1,0 +1,5 @@
+pub mod Bits
+pub mod Digits
+pub mod Packed
+pub mod Words
+pub mod Supports
