@@ -2,8 +2,8 @@
 use Rattle.std.proofs.Common.{◌≡◌, ℕ, Bool, true, eqb, refl, ◌∙◌}
 use Rattle.std.proofs.lemmas.Bool.{eqb-true}
 use Rattle.axe_field.specs.Order.{Order, Two, Three, Four, Five, Seven, Eight, Nine, IsElement}
-use Rattle.axe_field.specs.Arithmetic.{coefficients, number_of, polynomial_sum, polynomial_multiple, polynomial_negative, polynomial_product, without_leading, polynomial_remainder, polynomial_of, field_add, field_mul}
-use Rattle.axe_field.specs.CheckedLaws.{passes_below, at_one, from_one, field_add_comm, field_add-zero, field_mul_comm, field_mul-one}
+use Rattle.axe_field.specs.Arithmetic.{coefficients, number_of, polynomial_sum, polynomial_multiple, polynomial_negative, polynomial_product, without_leading, polynomial_remainder, polynomial_of, field_mul}
+use Rattle.axe_field.specs.CheckedLaws.{passes_below, at_one, from_one, field_mul_comm, field_mul-one}
 use Rattle.axe_field.proofs.Orders.{zero_is_element, one_is_element}
 
 multiplies_zero : Order → ℕ → Bool
@@ -28,6 +28,3 @@ field_zero-mul o a ha = field_mul_comm o 0 a (zero_is_element o) ha ∙ field_mu
 
 pub field_one-mul : (o : Order) (a : ℕ) → IsElement o a → field_mul o 1 a ≡ a
 field_one-mul o a ha = field_mul_comm o 1 a (one_is_element o) ha ∙ field_mul-one o a ha
-
-pub field_zero-add : (o : Order) (a : ℕ) → IsElement o a → field_add o 0 a ≡ a
-field_zero-add o a ha = field_add_comm o 0 a (zero_is_element o) ha ∙ field_add-zero o a ha
