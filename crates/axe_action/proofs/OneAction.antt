@@ -4,7 +4,7 @@ use Rattle.std.specs.List.{All}
 use Rattle.std.proofs.lemmas.List.{ext_get_or}
 use Rattle.axe_algebra.specs.NumberField.{NumberField}
 use Rattle.axe_algebra.specs.Vectors.{HasRowsOfLength}
-use Rattle.axe_algebra.specs.Modules.{Module, IsModule}
+use Rattle.axe_algebra.specs.Modules.{Module, HasSquareMatrices}
 use Rattle.axe_algebra.specs.Bridge.{field_of, matrix_of, module_of}
 use Rattle.axe_algebra.specs.Lists.{IsMatrixOver, IsSquareOver}
 use Rattle.axe_algebra.specs.SpansOfLists.{IsIndependent}
@@ -67,7 +67,7 @@ quotient_is_one m rows a b square over first of_a second of_b =
     M : Module (field_of K)
     M = module_of K m.dim m.generators
 
-    shape : IsModule (field_of K) M
+    shape : HasSquareMatrices (field_of K) M
     shape = module_shape K m.dim m.generators square
 
     lengths : HasRowsOfLength (field_of K) m.dim (matrix_of K rows.rows)

@@ -4,7 +4,7 @@ use Rattle.std.specs.List.{All}
 use Rattle.std.proofs.lemmas.List.Elements.{All-from_get_or}
 use Rattle.axe_algebra.specs.NumberField.{NumberField}
 use Rattle.axe_algebra.specs.Field.{Field}
-use Rattle.axe_algebra.specs.Vectors.{Matrix, IsMatrix as IsMatrixOfShape, times, unit_vector, subtract}
+use Rattle.axe_algebra.specs.Vectors.{Matrix, HasShape, times, unit_vector, subtract}
 use Rattle.axe_algebra.specs.Spans.{InSpan}
 use Rattle.axe_algebra.specs.Modules.{Module, image}
 use Rattle.axe_algebra.specs.Actions
@@ -28,7 +28,7 @@ record AreListed (K : NumberField) (n count : ℕ) (g : ℕ → Matrix (field_of
   square : All (IsSquareOver K n) matrices
   each : (i : ℕ) → i < count → g i ≡ matrix_of K (get_or matrices i [])
 
-listed_matrices : (K : NumberField) (n count : ℕ) (g : ℕ → Matrix (field_of K)) → ((i : ℕ) → i < count → IsMatrixOfShape (field_of K) n n (g i)) →
+listed_matrices : (K : NumberField) (n count : ℕ) (g : ℕ → Matrix (field_of K)) → ((i : ℕ) → i < count → HasShape (field_of K) n n (g i)) →
     (matrices : List (List (List ℕ))) × AreListed K n count g matrices
 listed_matrices K n count g shape = (
   listed count rows,
@@ -70,7 +70,7 @@ some_basis_action m rows invariant = from (sub_action_exists F M k (matrix_of K 
           acts = record {
             dimension = refl;
             count = are.many;
-            square = λ i below. subst (IsMatrixOfShape F k k) (are.each i below) (S.square i below);
+            square = λ i below. subst (HasShape F k k) (are.each i below) (S.square i below);
             acts = λ i t below inside. S.acts i t below inside ∙ ap (λ (g : Matrix F). times F k (g t) (matrix_of K rows.rows)) (are.each i below);
           };
         },
@@ -109,7 +109,7 @@ some_quotient m rows square over =
           acts = record {
             dimension = refl;
             count = are.many;
-            square = λ i below. subst (IsMatrixOfShape F n n) (are.each i below) (S.square i below);
+            square = λ i below. subst (HasShape F n n) (are.each i below) (S.square i below);
             columns = S.columns;
             free = S.free;
             acts = λ i t below inside.

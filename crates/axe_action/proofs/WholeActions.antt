@@ -3,7 +3,7 @@ use Rattle.std.specs.Prelude.{◌≡◌, ℕ, ◌<◌, List, [], length, get_or,
 use Rattle.std.specs.List.{All}
 use Rattle.axe_algebra.specs.NumberField.{NumberField}
 use Rattle.axe_algebra.specs.Field.{Field}
-use Rattle.axe_algebra.specs.Vectors.{Matrix, IsMatrix as IsMatrixOfShape, times}
+use Rattle.axe_algebra.specs.Vectors.{Matrix, HasShape, times}
 use Rattle.axe_algebra.specs.Spans
 use Rattle.axe_algebra.specs.Bridge.{field_of, matrix_of}
 use Rattle.axe_algebra.specs.Lists.{IsMatrixOver, IsSquareOver}
@@ -68,7 +68,7 @@ module _ (K : NumberField) where
   conjugates_act n generators rows conjugates square square_rows count each = record {
     dimension = refl;
     count = count;
-    square = λ i below. subst (λ k. IsMatrixOfShape F k k (matrix_of K (get_or conjugates i []))) (sym square_rows.length_is)
+    square = λ i below. subst (λ k. HasShape F k k (matrix_of K (get_or conjugates i []))) (sym square_rows.length_is)
         (square_shape K n (get_or conjugates i [])
         (conjugate_is_square n rows (get_or generators i []) (get_or conjugates i []) square_rows (square i [] below) (each i below)));
     acts = λ i t below inside.

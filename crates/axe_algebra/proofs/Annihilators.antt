@@ -1,10 +1,10 @@
 -- Annihilators: of an invariant span they are invariant under the transposes.
 use Rattle.std.specs.Prelude.{◌≡◌, ◌≢◌, ℕ, zero, suc, ◌<◌, ◌≤◌, ◌⊎◌}
 use Rattle.axe_algebra.specs.Field.{Field}
-use Rattle.axe_algebra.specs.Vectors.{Vector, Matrix, HasLength, HasRowsOfLength, IsMatrix, zero_vector, unit_vector, add_vectors, scale, transposed, times, dot}
+use Rattle.axe_algebra.specs.Vectors.{Vector, Matrix, HasLength, HasRowsOfLength, HasShape, zero_vector, unit_vector, add_vectors, scale, transposed, times, dot}
 use Rattle.axe_algebra.specs.Spans.{InSpan, IsIndependent, IsDependent, SameSpan, SpansZero, SpansAll}
 use Rattle.axe_algebra.specs.Reduced.{LeadsAt}
-use Rattle.axe_algebra.specs.Modules.{Module, IsModule, image, transposed_module, IsInvariant, IsInvariantSet}
+use Rattle.axe_algebra.specs.Modules.{Module, HasSquareMatrices, image, transposed_module, IsInvariant, IsInvariantSet}
 use Rattle.axe_algebra.specs.Irreducible.{InAnnihilator}
 use Rattle.axe_algebra.specs.NortonTheorems.{SpansAnnihilator}
 use Rattle.axe_algebra.proofs.FieldLaws.{mul-zero, mul_left_comm}
@@ -116,7 +116,7 @@ module _ (F : Field) (n : ℕ) where
       c : Matrix F
       c = cut_matrix F r n b
 
-      shape : IsMatrix F r n c
+      shape : HasShape F r n c
       shape = cut_is_matrix F r n b
 
       by_elimination : IsDependent F n (transposed F c) ⊎ (IsIndependent F n (transposed F c) × (n ≤ r)) →
@@ -179,7 +179,7 @@ null_of_transpose_is_orthogonal F m n x w vanishes v = dot_times F m n v x w ∙
 
 module _ (F : Field) (M : Module F) where
   -- the annihilator of an invariant span is invariant under the transposes
-  pub annihilator_is_invariant : IsModule F M → (k : ℕ) (v : Matrix F) → IsInvariant F M k v →
+  pub annihilator_is_invariant : HasSquareMatrices F M → (k : ℕ) (v : Matrix F) → IsInvariant F M k v →
       IsInvariantSet F (transposed_module F M) (InAnnihilator F M.dimension k v)
   annihilator_is_invariant is k v invariant = record {
     zero = space.zero;
@@ -198,7 +198,7 @@ module _ (F : Field) (M : Module F) where
       space = annihilator_is_space F M.dimension k v
 
   -- rows that span the annihilator of an invariant span have an invariant span under the transposes
-  pub annihilator_rows_are_invariant : IsModule F M → (k : ℕ) (v : Matrix F) → IsInvariant F M k v → (r : ℕ) (w : Matrix F) →
+  pub annihilator_rows_are_invariant : HasSquareMatrices F M → (k : ℕ) (v : Matrix F) → IsInvariant F M k v → (r : ℕ) (w : Matrix F) →
       SpansAnnihilator F M.dimension k v r w → IsInvariant F (transposed_module F M) r w
   annihilator_rows_are_invariant is k v invariant r w spans = record {
     images = λ t i inside below. spans.back (image F (transposed_module F M) (w t) i)

@@ -1,7 +1,7 @@
 -- Matrices cut to a size: the entries outside become 0.
 use Rattle.std.specs.Prelude.{◌≡◌, ℕ, ◌<◌, ◌≤◌, cond, ltb}
 use Rattle.axe_algebra.specs.Field.{Field}
-use Rattle.axe_algebra.specs.Vectors.{Vector, Matrix, HasLength, IsMatrix, times}
+use Rattle.axe_algebra.specs.Vectors.{Vector, Matrix, HasLength, HasShape, times}
 use Rattle.axe_algebra.specs.Spans.{SpanWithin}
 use Rattle.axe_algebra.proofs.Exchange.{cut, cut_below, cut_length, times_cut}
 use Rattle.axe_algebra.proofs.Spanning.{coefficient_rows, coefficient_rows_combine}
@@ -27,7 +27,7 @@ module _ (F : Field) where
   unfolding cut_matrix
   cut_matrix_row m n a i below = fun_ext λ j. ap (λ b. cond b (cut F n (a i) j) F.zero) (lt-ltb i m below)
 
-  pub cut_is_matrix : (m n : ℕ) (a : Matrix F) → IsMatrix F m n (cut_matrix F m n a)
+  pub cut_is_matrix : (m n : ℕ) (a : Matrix F) → HasShape F m n (cut_matrix F m n a)
   unfolding cut_matrix
   cut_is_matrix m n a = record { rows = past_rows; columns = λ i j past. past_columns i j past (dec_lt i m) }
     where
@@ -39,7 +39,7 @@ module _ (F : Field) where
       past_columns i j past (no above) = past_rows i j (omega arith)
 
   -- a matrix of m rows and n columns is its own cut
-  pub cut_matrix_same : (m n : ℕ) (a : Matrix F) → IsMatrix F m n a → cut_matrix F m n a ≡ a
+  pub cut_matrix_same : (m n : ℕ) (a : Matrix F) → HasShape F m n a → cut_matrix F m n a ≡ a
   cut_matrix_same m n a shape = fun_ext λ i. row i (dec_lt i m)
     where
       row : (i : ℕ) → Dec (i < m) → cut_matrix F m n a i ≡ a i
@@ -48,7 +48,7 @@ module _ (F : Field) where
 
   -- m rows of w in the span of k rows of v: the matrix of their coefficients
   pub coefficient_matrix : (m : ℕ) (w : Matrix F) (k : ℕ) (v : Matrix F) → SpanWithin F m w k v →
-      (a : Matrix F) × IsMatrix F m k a × ((t : ℕ) → t < m → w t ≡ times F k (a t) v)
+      (a : Matrix F) × HasShape F m k a × ((t : ℕ) → t < m → w t ≡ times F k (a t) v)
   coefficient_matrix m w k v within = (cut_matrix F m k a, cut_is_matrix m k a, combine)
     where
       a : Matrix F

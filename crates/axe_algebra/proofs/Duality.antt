@@ -3,7 +3,7 @@ use Rattle.std.specs.Prelude.{◌≡◌, ◌≢◌, ℕ, zero, suc, ◌<◌, ◌
 use Rattle.axe_algebra.specs.Field.{Field}
 use Rattle.axe_algebra.specs.Vectors.{Vector, Matrix, HasLength, HasRowsOfLength, zero_vector, unit_matrix}
 use Rattle.axe_algebra.specs.Spans.{InSpan, IsIndependent, SameSpan, SpansZero, SpansAll}
-use Rattle.axe_algebra.specs.Modules.{Module, IsModule, transposed_module, IsInvariant, InGenerated, SpansGenerated, VectorGeneratesAll}
+use Rattle.axe_algebra.specs.Modules.{Module, HasSquareMatrices, transposed_module, IsInvariant, InGenerated, SpansGenerated, VectorGeneratesAll}
 use Rattle.axe_algebra.specs.Irreducible.{IsIrreducible}
 use Rattle.axe_algebra.specs.NortonTheorems.{SpansAnnihilator}
 use Rattle.axe_algebra.specs.Standard.{IsStandardBasis}
@@ -40,7 +40,7 @@ spans_all_or_not F n k v rows = by_basis (basis_of F n k v rows)
             let few = independent_at_most F n r w lengths independent in
             other (omega arith)
 
-module _ (F : Field) (M : Module F) (is : IsModule F M) where
+module _ (F : Field) (M : Module F) (is : HasSquareMatrices F M) where
   -- a nonzero proper invariant span of the transposes gives one of the module: rows that span its annihilator
   pub annihilator_of_transposed_span : (k : ℕ) (w : Matrix F) → IsInvariant F (transposed_module F M) k w →
       (r : ℕ) (v : Matrix F) → SpansAnnihilator F M.dimension k w r v → IsInvariant F M r v

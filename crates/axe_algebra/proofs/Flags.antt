@@ -3,7 +3,7 @@ use Rattle.std.specs.Prelude.{◌≡◌, ℕ, zero, suc, ◌<◌, ◌≤◌, ◌
 use Rattle.axe_algebra.specs.Field.{Field}
 use Rattle.axe_algebra.specs.Vectors.{Vector, Matrix, HasLength, add_vectors, subtract, times}
 use Rattle.axe_algebra.specs.Spans.{InSpan, IsInverse}
-use Rattle.axe_algebra.specs.Modules.{Module, IsModule, image, IsInvariant}
+use Rattle.axe_algebra.specs.Modules.{Module, HasSquareMatrices, image, IsInvariant}
 use Rattle.axe_algebra.specs.Actions.{IsSectionAction}
 use Rattle.axe_algebra.specs.Blocks.{block_start, block_size, AreBlockSizes, IsBlockLowerTriangular, IsDiagonalBlock, conjugate}
 use Rattle.axe_algebra.proofs.Sums.{sum_split}
@@ -55,7 +55,7 @@ module _ (F : Field) where
       F.add_assoc (x j) (F.neg (y j)) (y j) ∙ ap (F.add (x j)) (F.add_comm (F.neg (y j)) (y j) ∙ F.add-neg (y j)) ∙ F.add-zero (x j)
 
 -- a basis of the module: the n rows of p, with the inverse q
-module _ (F : Field) (M : Module F) (is : IsModule F M) (p q : Matrix F) (inverts : IsInverse F M.dimension p q) where
+module _ (F : Field) (M : Module F) (is : HasSquareMatrices F M) (p q : Matrix F) (inverts : IsInverse F M.dimension p q) where
   -- row t of the conjugate holds the coefficients of the image of row t of p
   conjugate_row : (i t : ℕ) → i < M.count →
       image F M (p t) i ≡ times F M.dimension (conjugate F M.dimension p (M.generator i) q t) p

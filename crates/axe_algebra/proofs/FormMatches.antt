@@ -3,9 +3,9 @@
 use Rattle.std.specs.Prelude.{◌≡◌, ◌≢◌, ℕ, ◌<◌, List, length}
 use Rattle.axe_algebra.specs.NumberField.{NumberField}
 use Rattle.axe_algebra.specs.Field.{Field}
-use Rattle.axe_algebra.specs.Vectors.{Vector, Matrix, HasLength, IsMatrix, zero_vector, scale, times}
+use Rattle.axe_algebra.specs.Vectors.{Vector, Matrix, HasLength, HasShape, zero_vector, scale, times}
 use Rattle.axe_algebra.specs.Spans.{InSpan, IsIndependent, IsNullVector}
-use Rattle.axe_algebra.specs.Modules.{Module, IsModule, image}
+use Rattle.axe_algebra.specs.Modules.{Module, HasSquareMatrices, image}
 use Rattle.axe_algebra.specs.Actions.{IsSubAction}
 use Rattle.axe_algebra.specs.Words.{Word, IsWordOf, word_value}
 use Rattle.axe_algebra.specs.Irreducible.{IsIsomorphism, AreIsomorphic}
@@ -49,8 +49,8 @@ module _ (F : Field) where
       size = standard_basis_size_is_unique F M v S.size m S.basis b S.standard standard
 
   -- of a vector whose standard basis has as many rows as the dimension, the standard matrices have one nullity with the module
-  pub standard_matrices_keep_null_space : (M A : Module F) (v : Vector F) (b : Matrix F) → IsModule F M → HasLength F M.dimension v →
-      IsMatrix F M.dimension M.dimension b → IsStandardBasis F M v M.dimension b → IsSubAction F M M.dimension b A →
+  pub standard_matrices_keep_null_space : (M A : Module F) (v : Vector F) (b : Matrix F) → HasSquareMatrices F M → HasLength F M.dimension v →
+      HasShape F M.dimension M.dimension b → IsStandardBasis F M v M.dimension b → IsSubAction F M M.dimension b A →
       (word : Word F) → IsWordOf F M word → (r : ℕ) (d : Matrix F) → SpansNullSpace F M.dimension (word_value F M word) r d → IsIndependent F r d →
       (e : Matrix F) × SpansNullSpace F A.dimension (word_value F A word) r e × IsIndependent F r e
   standard_matrices_keep_null_space M A v b is length shape standard acts word all r d spans independent = (
@@ -59,7 +59,7 @@ module _ (F : Field) where
     carried_independent F M A (λ x. times F M.dimension x T) (isomorphism_carries F M A T back) r d (λ t below. spans.lengths t) independent,
   )
     where
-      is_A : IsModule F A
+      is_A : HasSquareMatrices F A
       is_A = standard_matrices_are_module F M v is length b A shape standard acts
 
       forth : IsIsomorphism F A M b
@@ -85,7 +85,7 @@ module _ (K : NumberField) where
   inverse-nonzero c nonzero e = F.one-not-zero (sym (F.mul-inv c nonzero) ∙ ap (F.mul c) e ∙ mul-zero F c)
 
   -- where no point of the null space of the word's value in N has A as its standard matrices, A and N are not isomorphic
-  pub no_point_matches : (A N : Module F) → IsModule F A → IsModule F N → (word : Word F) → IsWordOf F A word → (v : Vector F) → v ≢ zero_vector F →
+  pub no_point_matches : (A N : Module F) → HasSquareMatrices F A → HasSquareMatrices F N → (word : Word F) → IsWordOf F A word → (v : Vector F) → v ≢ zero_vector F →
       IsNullVector F A.dimension (word_value F A word) v → AreStandardMatrices F A v A →
       (basis : List (List ℕ)) → IsMatrixOver K N.dimension basis →
       ((y : Vector F) → IsNullVector F N.dimension (word_value F N word) y → InSpan F (length basis) (matrix_of K basis) y) →

@@ -3,7 +3,7 @@ use Rattle.std.specs.Prelude.{◌≡◌, ◌≢◌, ◌↔◌, ℕ, ◌<◌, ◌
 use Rattle.axe_algebra.specs.Field.{Field}
 use Rattle.axe_algebra.specs.Vectors.{Vector, Matrix, HasLength, HasRowsOfLength, zero_vector, unit_matrix, add_vectors, scale, times}
 use Rattle.axe_algebra.specs.Spans.{InSpan, SpanWithin}
-use Rattle.axe_algebra.specs.Modules.{Module, IsModule, image, AreGenerators, path_product, IsInvariant, IsInvariantSet, IsRowTimesProduct, InGenerated, SpansGenerated}
+use Rattle.axe_algebra.specs.Modules.{Module, HasSquareMatrices, image, AreGenerators, path_product, IsInvariant, IsInvariantSet, IsRowTimesProduct, InGenerated, SpansGenerated}
 use Rattle.axe_algebra.proofs.FieldLaws.{inv-mul, one-mul, mul-zero}
 use Rattle.axe_algebra.proofs.ProductLaws.{times_times, times_identity, times_length, identity_multiply}
 use Rattle.axe_algebra.proofs.Spanning.{span_zero, span_add, span_scale, span_row}
@@ -17,7 +17,7 @@ unscaled F c v nonzero = fun_ext λ j. sym (F.mul_assoc (F.inv c) c (v j)) ∙ a
 
 module _ (F : Field) (M : Module F) where
   -- y times the product of a path and one more generator is the image of y times the product of the path
-  pub times-path_then : IsModule F M → (y : Vector F) (path : List ℕ) (i : ℕ) → AreGenerators F M path → i < M.count →
+  pub times-path_then : HasSquareMatrices F M → (y : Vector F) (path : List ℕ) (i : ℕ) → AreGenerators F M path → i < M.count →
       times F M.dimension y (path_product F M (path ++ i ∷ [])) ≡ image F M (times F M.dimension y (path_product F M path)) i
   unfolding path_product
   times-path_then is y [] i all below =
@@ -36,7 +36,7 @@ module _ (F : Field) (M : Module F) where
   are_generators_then (j ∷ path) i all below = (all.0, are_generators_then path i all.1 below)
 
   -- the image of a row times a product is one
-  pub image_of_row_times_product : IsModule F M → (k : ℕ) (v : Matrix F) (y : Vector F) (i : ℕ) →
+  pub image_of_row_times_product : HasSquareMatrices F M → (k : ℕ) (v : Matrix F) (y : Vector F) (i : ℕ) →
       IsRowTimesProduct F M k v y → i < M.count → IsRowTimesProduct F M k v (image F M y i)
   image_of_row_times_product is k v y i made below = record {
     row = made.row;
@@ -76,7 +76,7 @@ module _ (F : Field) (M : Module F) where
   pub image-times : (k : ℕ) (c : Vector F) (v : Matrix F) (i : ℕ) → image F M (times F k c v) i ≡ times F k c (λ t. image F M (v t) i)
   image-times k c v i = times_times F M.dimension k c v (M.generator i)
 
-  pub image_in_generated : IsModule F M → (k : ℕ) (v : Matrix F) (x : Vector F) (i : ℕ) → InGenerated F M k v x → i < M.count →
+  pub image_in_generated : HasSquareMatrices F M → (k : ℕ) (v : Matrix F) (x : Vector F) (i : ℕ) → InGenerated F M k v x → i < M.count →
       InGenerated F M k v (image F M x i)
   image_in_generated is k v x i p below = record {
     size = p.size;
@@ -89,7 +89,7 @@ module _ (F : Field) (M : Module F) where
   }
 
   -- the generated space is an invariant space
-  pub generated_is_invariant : IsModule F M → (k : ℕ) (v : Matrix F) → IsInvariantSet F M (InGenerated F M k v)
+  pub generated_is_invariant : HasSquareMatrices F M → (k : ℕ) (v : Matrix F) → IsInvariantSet F M (InGenerated F M k v)
   generated_is_invariant is k v = record {
     zero = zero_in_generated k v;
     sums = add_in_generated k v;
@@ -118,7 +118,7 @@ module _ (F : Field) (M : Module F) where
   invariant_set_is_space P invariant = record { zero = invariant.zero; sums = invariant.sums; multiples = invariant.multiples }
 
   -- an invariant set with y has y times every product of generators
-  pub invariant_set_has_products : IsModule F M → (P : Vector F → Type 0) → IsInvariantSet F M P →
+  pub invariant_set_has_products : HasSquareMatrices F M → (P : Vector F → Type 0) → IsInvariantSet F M P →
       (path : List ℕ) → AreGenerators F M path → (y : Vector F) → HasLength F M.dimension y → P y →
       P (times F M.dimension y (path_product F M path))
   unfolding path_product
@@ -129,7 +129,7 @@ module _ (F : Field) (M : Module F) where
       (times_length F M.dimension M.dimension y (M.generator i) (is.square i all.0).columns) (invariant.images y i holds all.0))
 
   -- the generated space is the least invariant set with the seed's rows
-  pub generated_is_least : IsModule F M → (P : Vector F → Type 0) → IsInvariantSet F M P → (k : ℕ) (v : Matrix F) →
+  pub generated_is_least : HasSquareMatrices F M → (P : Vector F → Type 0) → IsInvariantSet F M P → (k : ℕ) (v : Matrix F) →
       HasRowsOfLength F M.dimension v → ((t : ℕ) → t < k → P (v t)) → (x : Vector F) → InGenerated F M k v x → P x
   generated_is_least is P invariant k v lengths rows x p =
       space_has_span F P (invariant_set_is_space P invariant) p.size p.vectors each x p.in_span
@@ -152,13 +152,13 @@ module _ (F : Field) (M : Module F) where
   }
 
   -- the generated space lies in every invariant span with the seed's rows
-  pub generated_within : IsModule F M → (k : ℕ) (v : Matrix F) → HasRowsOfLength F M.dimension v → (r : ℕ) (w : Matrix F) →
+  pub generated_within : HasSquareMatrices F M → (k : ℕ) (v : Matrix F) → HasRowsOfLength F M.dimension v → (r : ℕ) (w : Matrix F) →
       IsInvariant F M r w → SpanWithin F k v r w → (x : Vector F) → InGenerated F M k v x → InSpan F r w x
   generated_within is k v lengths r w invariant within =
       generated_is_least is (InSpan F r w) (invariant_span_is_set r w invariant) k v lengths within
 
   -- rows of the generated space with an invariant span that has the seed's rows span it
-  pub spans_generated : IsModule F M → (k : ℕ) (v : Matrix F) → HasRowsOfLength F M.dimension v → (r : ℕ) (w : Matrix F) →
+  pub spans_generated : HasSquareMatrices F M → (k : ℕ) (v : Matrix F) → HasRowsOfLength F M.dimension v → (r : ℕ) (w : Matrix F) →
       IsInvariant F M r w → SpanWithin F k v r w → ((t : ℕ) → t < r → InGenerated F M k v (w t)) → SpansGenerated F M k v r w
   spans_generated is k v lengths r w invariant within made = record {
     forth = space_has_span F (InGenerated F M k v) (invariant_set_is_space (InGenerated F M k v) (generated_is_invariant is k v)) r w made;
@@ -166,14 +166,14 @@ module _ (F : Field) (M : Module F) where
   }
 
   -- the span of rows that span a generated space is invariant
-  pub spans_generated_is_invariant : IsModule F M → (k : ℕ) (v : Matrix F) (r : ℕ) (w : Matrix F) → SpansGenerated F M k v r w → IsInvariant F M r w
+  pub spans_generated_is_invariant : HasSquareMatrices F M → (k : ℕ) (v : Matrix F) (r : ℕ) (w : Matrix F) → SpansGenerated F M k v r w → IsInvariant F M r w
   spans_generated_is_invariant is k v r w spans = record {
     images = λ t i inside below. spans.back (image F M (w t) i)
         (image_in_generated is k v (w t) i (spans.forth (w t) (span_row F r w t inside)) below);
   }
 
   -- rows span the generated space exactly when their span is invariant, has the seed's rows, and is generated by these
-  pub spans_generated_exactly : IsModule F M → (k : ℕ) (v : Matrix F) → HasRowsOfLength F M.dimension v → (r : ℕ) (w : Matrix F) →
+  pub spans_generated_exactly : HasSquareMatrices F M → (k : ℕ) (v : Matrix F) → HasRowsOfLength F M.dimension v → (r : ℕ) (w : Matrix F) →
       SpansGenerated F M k v r w ↔ (IsInvariant F M r w × SpanWithin F k v r w × ((t : ℕ) → t < r → InGenerated F M k v (w t)))
   spans_generated_exactly is k v lengths r w = (
     (λ spans. (
@@ -189,7 +189,7 @@ module _ (F : Field) (M : Module F) where
   multiple_within P space c v nonzero holds = subst P (unscaled F c v nonzero) (space.multiples (F.inv c) (scale F c v) holds)
 
   -- a nonzero multiple of a vector generates what the vector generates
-  pub multiple_generates : IsModule F M → (c : F.Element) (v : Vector F) → c ≢ F.zero → HasLength F M.dimension v → (x : Vector F) →
+  pub multiple_generates : HasSquareMatrices F M → (c : F.Element) (v : Vector F) → c ≢ F.zero → HasLength F M.dimension v → (x : Vector F) →
       InGenerated F M 1 (λ t. scale F c v) x ↔ InGenerated F M 1 (λ t. v) x
   multiple_generates is c v nonzero length x = (forth, back)
     where

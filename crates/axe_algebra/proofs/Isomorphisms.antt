@@ -1,9 +1,9 @@
 -- Two modules with the same standard matrices are isomorphic, by the one basis times the inverse of the other.
 use Rattle.std.specs.Prelude.{◌≡◌, ℕ, ◌<◌, ◌≤◌}
 use Rattle.axe_algebra.specs.Field.{Field}
-use Rattle.axe_algebra.specs.Vectors.{Vector, Matrix, HasLength, IsMatrix, unit_matrix, times, multiply}
+use Rattle.axe_algebra.specs.Vectors.{Vector, Matrix, HasLength, HasShape, unit_matrix, times, multiply}
 use Rattle.axe_algebra.specs.Spans.{SpanWithin, IsIndependent, SpansAll, IsInverse, IsInvertible}
-use Rattle.axe_algebra.specs.Modules.{Module, IsModule, VectorGeneratesAll}
+use Rattle.axe_algebra.specs.Modules.{Module, HasSquareMatrices, VectorGeneratesAll}
 use Rattle.axe_algebra.specs.Actions.{IsSubAction}
 use Rattle.axe_algebra.specs.Irreducible.{IsIsomorphism, AreIsomorphic}
 use Rattle.axe_algebra.specs.Standard.{IsStandardBasis, AreStandardMatrices}
@@ -31,14 +31,14 @@ module _ (F : Field) where
   }
 
   -- the standard basis of a vector that generates everything spans everything
-  pub standard_basis_spans_all : (M : Module F) (v : Vector F) → IsModule F M → HasLength F M.dimension v → VectorGeneratesAll F M v →
+  pub standard_basis_spans_all : (M : Module F) (v : Vector F) → HasSquareMatrices F M → HasLength F M.dimension v → VectorGeneratesAll F M v →
       (m : ℕ) (b : Matrix F) → IsStandardBasis F M v m b → SpansAll F M.dimension m b
   standard_basis_spans_all M v is length generates m b S x long =
       generated_within F M is 1 (λ t. v) (λ t. length) m b (standard_basis_is_invariant F M v m b S)
       (λ t below. span_same F m b v (b 0) (sym S.first) (span_row F m b 0 S.nonempty)) x (generates x long)
 
   -- so it has as many rows as the dimension
-  pub standard_basis_is_square : (M : Module F) (v : Vector F) → IsModule F M → HasLength F M.dimension v → VectorGeneratesAll F M v →
+  pub standard_basis_is_square : (M : Module F) (v : Vector F) → HasSquareMatrices F M → HasLength F M.dimension v → VectorGeneratesAll F M v →
       (m : ℕ) (b : Matrix F) → IsStandardBasis F M v m b → m ≡ M.dimension
   standard_basis_is_square M v is length generates m b S =
       omega (arith, at_least, independent_at_most F M.dimension m B (cut_is_matrix F m M.dimension b).columns independent)
@@ -67,7 +67,7 @@ module _ (F : Field) where
           exchange F M.dimension (unit_matrix F M.dimension) m B (unit_rows_independent M.dimension) spans
 
   -- the matrix of a standard basis with as many rows as the dimension is invertible
-  pub standard_basis_is_invertible : (M : Module F) (v : Vector F) (n : ℕ) (b : Matrix F) → M.dimension ≡ n → IsModule F M →
+  pub standard_basis_is_invertible : (M : Module F) (v : Vector F) (n : ℕ) (b : Matrix F) → M.dimension ≡ n → HasSquareMatrices F M →
       HasLength F M.dimension v → IsStandardBasis F M v n b → IsInvertible F n (cut_matrix F n n b)
   standard_basis_is_invertible M v n b same is length S =
       invertible_of_rows F n (cut_matrix F n n b) (cut_is_matrix F n n b)
@@ -80,7 +80,7 @@ module _ (F : Field) where
       })
 
   -- b g = a b for the rows of a basis and the matrices of its sub action
-  sub_action_multiplies : (M : Module F) (n : ℕ) (b : Matrix F) (A : Module F) → M.dimension ≡ n → IsModule F M →
+  sub_action_multiplies : (M : Module F) (n : ℕ) (b : Matrix F) (A : Module F) → M.dimension ≡ n → HasSquareMatrices F M →
       ((t : ℕ) → t < n → HasLength F n (b t)) → IsSubAction F M n b A → (i : ℕ) → i < M.count →
       multiply F n (cut_matrix F n n b) (M.generator i) ≡ multiply F n (A.generator i) (cut_matrix F n n b)
   sub_action_multiplies M n b A same is lengths S i below = fun_ext λ t. at t (dec_lt t n)
@@ -102,7 +102,7 @@ module _ (F : Field) where
           ∙ sym (times_zero_coefficients F n (A.generator i t) B (λ s inside. (S.square i below).rows t s (omega arith)))
 
   -- with b g = a b, d h = a d and c the inverse of b: (c d) h = g (c d)
-  intertwining : (n : ℕ) (a b c d g h : Matrix F) → IsMatrix F n n a → IsMatrix F n n g → IsInverse F n b c →
+  intertwining : (n : ℕ) (a b c d g h : Matrix F) → HasShape F n n a → HasShape F n n g → IsInverse F n b c →
       multiply F n b g ≡ multiply F n a b → multiply F n d h ≡ multiply F n a d →
       multiply F n (multiply F n c d) h ≡ multiply F n g (multiply F n c d)
   intertwining n a b c d g h of_a of_g inverts first second =
@@ -118,7 +118,7 @@ module _ (F : Field) where
 
   -- where standard bases of two vectors, as many rows as the dimensions, have one sub action, the inverse of the one basis
   -- times the other is an isomorphism
-  pub isomorphism_of_square_bases : (M N : Module F) (v w : Vector F) → IsModule F M → IsModule F N → HasLength F M.dimension v → HasLength F N.dimension w →
+  pub isomorphism_of_square_bases : (M N : Module F) (v w : Vector F) → HasSquareMatrices F M → HasSquareMatrices F N → HasLength F M.dimension v → HasLength F N.dimension w →
       (m n : ℕ) (b d : Matrix F) (A : Module F) → m ≡ M.dimension → n ≡ N.dimension →
       IsStandardBasis F M v m b → IsSubAction F M m b A → IsStandardBasis F N w n d → IsSubAction F N n d A →
       (c : Matrix F) → IsInverse F M.dimension (cut_matrix F M.dimension M.dimension b) c →
@@ -174,18 +174,18 @@ module _ (F : Field) where
       D_inverse = standard_basis_is_invertible N w M.dimension d same is_N length_w S'_at
 
   -- the same of bases that are matrices
-  pub isomorphism_of_bases : (M N : Module F) (v w : Vector F) → IsModule F M → IsModule F N → HasLength F M.dimension v → HasLength F N.dimension w →
-      (b d : Matrix F) (A : Module F) → IsMatrix F M.dimension M.dimension b → IsMatrix F N.dimension N.dimension d →
+  pub isomorphism_of_bases : (M N : Module F) (v w : Vector F) → HasSquareMatrices F M → HasSquareMatrices F N → HasLength F M.dimension v → HasLength F N.dimension w →
+      (b d : Matrix F) (A : Module F) → HasShape F M.dimension M.dimension b → HasShape F N.dimension N.dimension d →
       IsStandardBasis F M v M.dimension b → IsSubAction F M M.dimension b A → IsStandardBasis F N w N.dimension d → IsSubAction F N N.dimension d A →
       (c : Matrix F) → IsInverse F M.dimension b c → IsIsomorphism F M N (multiply F M.dimension c d)
   isomorphism_of_bases M N v w is_M is_N length_v length_w b d A shape_b shape_d S acts S' acts' c inverts =
       subst (λ (x : Matrix F). IsIsomorphism F M N (multiply F M.dimension c x))
-      (cut_matrix_same F M.dimension M.dimension d (subst (λ k. IsMatrix F k k d) (sym acts'.dimension ∙ acts.dimension) shape_d))
+      (cut_matrix_same F M.dimension M.dimension d (subst (λ k. HasShape F k k d) (sym acts'.dimension ∙ acts.dimension) shape_d))
       (isomorphism_of_square_bases M N v w is_M is_N length_v length_w M.dimension N.dimension b d A refl refl S acts S' acts' c
       (subst (λ (x : Matrix F). IsInverse F M.dimension x c) (sym (cut_matrix_same F M.dimension M.dimension b shape_b)) inverts))
 
   -- modules with vectors that generate everything and have the same standard matrices are isomorphic
-  pub isomorphic_of_standard_matrices : (M N : Module F) (v w : Vector F) → IsModule F M → IsModule F N → HasLength F M.dimension v → HasLength F N.dimension w →
+  pub isomorphic_of_standard_matrices : (M N : Module F) (v w : Vector F) → HasSquareMatrices F M → HasSquareMatrices F N → HasLength F M.dimension v → HasLength F N.dimension w →
       VectorGeneratesAll F M v → VectorGeneratesAll F N w → (A : Module F) → AreStandardMatrices F M v A → AreStandardMatrices F N w A → AreIsomorphic F M N
   isomorphic_of_standard_matrices M N v w is_M is_N length_v length_w generates_v generates_w A S S' = record {
     matrix = multiply F M.dimension inverse.inverse (cut_matrix F M.dimension M.dimension S'.basis);
@@ -201,12 +201,12 @@ module _ (F : Field) where
       inverse = standard_basis_is_invertible M v M.dimension S.basis refl is_M length_v (subst (λ k. IsStandardBasis F M v k S.basis) square S.standard)
 
   -- a standard basis with as many rows as the dimension is an isomorphism from the module to its standard matrices
-  pub standard_basis_is_isomorphism : (M : Module F) (v : Vector F) → IsModule F M → HasLength F M.dimension v → (b : Matrix F) (A : Module F) →
-      IsMatrix F M.dimension M.dimension b → IsStandardBasis F M v M.dimension b → IsSubAction F M M.dimension b A → IsIsomorphism F A M b
+  pub standard_basis_is_isomorphism : (M : Module F) (v : Vector F) → HasSquareMatrices F M → HasLength F M.dimension v → (b : Matrix F) (A : Module F) →
+      HasShape F M.dimension M.dimension b → IsStandardBasis F M v M.dimension b → IsSubAction F M M.dimension b A → IsIsomorphism F A M b
   standard_basis_is_isomorphism M v is length b A shape S acts = record {
     dimension = acts.dimension;
     count = acts.count;
-    shape = subst (λ k. IsMatrix F k k b) (sym acts.dimension) shape;
+    shape = subst (λ k. HasShape F k k b) (sym acts.dimension) shape;
     invertible = subst (λ k. IsInvertible F k b) (sym acts.dimension)
         (subst (IsInvertible F M.dimension) (cut_matrix_same F M.dimension M.dimension b shape)
         (standard_basis_is_invertible M v M.dimension b refl is length S));

@@ -2,7 +2,7 @@
 use Rattle.std.specs.Prelude.{◌≡◌, ℕ, ◌<◌, ◌≤◌, List, [], length, get_or}
 use Rattle.axe_algebra.specs.NumberField.{NumberField}
 use Rattle.axe_algebra.specs.Field.{Field}
-use Rattle.axe_algebra.specs.Vectors.{Vector, Matrix, HasLength, HasRowsOfLength, IsMatrix}
+use Rattle.axe_algebra.specs.Vectors.{Vector, Matrix, HasLength, HasRowsOfLength, HasShape}
 use Rattle.axe_algebra.specs.Bridge.{field_of, element, vector_of, matrix_of}
 use Rattle.axe_algebra.specs.Lists.{entry, listed, table, entries_of, rows_of, IsVectorOver, IsMatrixOver, IsSquareOver}
 use Rattle.axe_algebra.proofs.ElementNumbers.{zero-below, element_of_number, element_zero, same_number, entry-below}
@@ -65,7 +65,7 @@ module _ (K : NumberField) where
   pub row_past : (rows : List (List ℕ)) (i : ℕ) → length rows ≤ i → (j : ℕ) → matrix_of K rows i j ≡ F.zero
   row_past rows i past j = ap (λ (row : List ℕ). vector_of K row j) (get_or_past rows i [] past) ∙ element_zero K
 
-  pub matrix_shape : (n : ℕ) (rows : List (List ℕ)) → IsMatrixOver K n rows → IsMatrix F (length rows) n (matrix_of K rows)
+  pub matrix_shape : (n : ℕ) (rows : List (List ℕ)) → IsMatrixOver K n rows → HasShape F (length rows) n (matrix_of K rows)
   matrix_shape n rows over = record { rows = λ i j past. row_past rows i past j; columns = λ i j past. column i j past (dec_lt i (length rows)) }
     where
       column : (i j : ℕ) → n ≤ j → Dec (i < length rows) → matrix_of K rows i j ≡ F.zero
@@ -75,8 +75,8 @@ module _ (K : NumberField) where
   pub rows_length : (n : ℕ) (rows : List (List ℕ)) → IsMatrixOver K n rows → HasRowsOfLength F n (matrix_of K rows)
   rows_length n rows over = (matrix_shape n rows over).columns
 
-  pub square_shape : (n : ℕ) (rows : List (List ℕ)) → IsSquareOver K n rows → IsMatrix F n n (matrix_of K rows)
-  square_shape n rows square = subst (λ m. IsMatrix F m n (matrix_of K rows)) square.length_is (matrix_shape n rows square.matrix)
+  pub square_shape : (n : ℕ) (rows : List (List ℕ)) → IsSquareOver K n rows → HasShape F n n (matrix_of K rows)
+  square_shape n rows square = subst (λ m. HasShape F m n (matrix_of K rows)) square.length_is (matrix_shape n rows square.matrix)
 
   -- the vector of a list made from a function, and the matrix of a table
   pub vector_of_listed : (n : ℕ) (f : ℕ → ℕ) (x : Vector F) → HasLength F n x →
@@ -87,7 +87,7 @@ module _ (K : NumberField) where
       at j (yes below) = ap (element K) (listed_at n f j 0 below) ∙ same j below
       at j (no past) = vector_past (listed n f) j (omega (arith, listed_length n f)) ∙ sym (length j (omega arith))
 
-  pub matrix_of_table : (m n : ℕ) (f : ℕ → ℕ → ℕ) (a : Matrix F) → IsMatrix F m n a →
+  pub matrix_of_table : (m n : ℕ) (f : ℕ → ℕ → ℕ) (a : Matrix F) → HasShape F m n a →
       ((i j : ℕ) → i < m → j < n → element K (f i j) ≡ a i j) → matrix_of K (table m n f) ≡ a
   matrix_of_table m n f a shape same = fun_ext λ i. row i (dec_lt i m)
     where
@@ -103,7 +103,7 @@ module _ (K : NumberField) where
   pub entries_over : (n : ℕ) (x : Vector F) → IsVectorOver K n (entries_of K n x)
   entries_over n x = listed_over n (λ j. (x j).0) (λ j below. (x j).1)
 
-  pub matrix_of_rows : (m n : ℕ) (a : Matrix F) → IsMatrix F m n a → matrix_of K (rows_of K m n a) ≡ a
+  pub matrix_of_rows : (m n : ℕ) (a : Matrix F) → HasShape F m n a → matrix_of K (rows_of K m n a) ≡ a
   matrix_of_rows m n a shape = matrix_of_table m n (λ i j. (a i j).0) a shape (λ i j below inside. element_of_number K (a i j))
 
   pub rows_over : (m n : ℕ) (a : Matrix F) → IsMatrixOver K n (rows_of K m n a)

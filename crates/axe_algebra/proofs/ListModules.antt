@@ -5,7 +5,7 @@ use Rattle.axe_algebra.specs.NumberField.{NumberField}
 use Rattle.axe_algebra.specs.Field.{Field}
 use Rattle.axe_algebra.specs.Vectors.{transposed, times}
 use Rattle.axe_algebra.specs.Spans
-use Rattle.axe_algebra.specs.Modules.{IsModule, image, transposed_module}
+use Rattle.axe_algebra.specs.Modules.{HasSquareMatrices, image, transposed_module}
 use Rattle.axe_algebra.specs.Bridge.{field_of, vector_of, matrix_of, module_of}
 use Rattle.axe_algebra.specs.Lists.{IsVectorOver, IsMatrixOver, IsSquareOver}
 use Rattle.axe_algebra.specs.ListArithmetic.{combination, transpose, transposed_generators}
@@ -27,7 +27,7 @@ module _ (K : NumberField) where
       IsSquareOver K n (get_or generators i [])
   generator_over n generators i square below = square i [] below
 
-  pub module_shape : (n : ℕ) (generators : List (List (List ℕ))) → All (IsSquareOver K n) generators → IsModule F (module_of K n generators)
+  pub module_shape : (n : ℕ) (generators : List (List (List ℕ))) → All (IsSquareOver K n) generators → HasSquareMatrices F (module_of K n generators)
   module_shape n generators square = record { square = λ i below. square_shape K n (get_or generators i []) (generator_over n generators i square below) }
 
   -- a vector times a generator is its image

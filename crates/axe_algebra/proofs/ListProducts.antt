@@ -2,7 +2,7 @@
 use Rattle.std.specs.Prelude.{◌≡◌, ℕ, ◌<◌, List, length, get_or, cond, eqb, true, false, Bool}
 use Rattle.axe_algebra.specs.NumberField.{NumberField}
 use Rattle.axe_algebra.specs.Field.{Field}
-use Rattle.axe_algebra.specs.Vectors.{Vector, IsMatrix, unit_vector, unit_matrix, add_matrices, transposed, sum, times, multiply}
+use Rattle.axe_algebra.specs.Vectors.{Vector, HasShape, unit_vector, unit_matrix, add_matrices, transposed, sum, times, multiply}
 use Rattle.axe_algebra.specs.Bridge.{field_of, element, vector_of, matrix_of}
 use Rattle.axe_algebra.specs.Lists.{entry, IsVectorOver, IsMatrixOver}
 use Rattle.axe_algebra.specs.ListArithmetic.{number_sum, product_entry, product, matrix_sum, transpose, identity, combination_entry, combination}
@@ -86,13 +86,13 @@ module _ (K : NumberField) where
       matrix_of_table K (length a) n (λ i j. K.add (entry a i j) (entry b i j)) _ shape
       (λ i j below inside. element_add K (entry a i j) (entry b i j) (matrix_entry-below K n a i j over_a) (matrix_entry-below K n b i j over_b))
     where
-      sa : IsMatrix F (length a) n (matrix_of K a)
+      sa : HasShape F (length a) n (matrix_of K a)
       sa = matrix_shape K n a over_a
 
-      sb : IsMatrix F (length b) n (matrix_of K b)
+      sb : HasShape F (length b) n (matrix_of K b)
       sb = matrix_shape K n b over_b
 
-      shape : IsMatrix F (length a) n (add_matrices F (matrix_of K a) (matrix_of K b))
+      shape : HasShape F (length a) n (add_matrices F (matrix_of K a) (matrix_of K b))
       shape = record {
         rows = λ i j past. ap₂ F.add (sa.rows i j past) (sb.rows i j (omega arith)) ∙ zero-add F F.zero;
         columns = λ i j past. ap₂ F.add (sa.columns i j past) (sb.columns i j past) ∙ zero-add F F.zero;

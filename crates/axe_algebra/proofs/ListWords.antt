@@ -3,8 +3,8 @@ use Rattle.std.specs.Prelude.{◌≡◌, ℕ, ◌<◌, List, [], ◌∷◌, ◌+
 use Rattle.std.specs.List.{All, AllByRecursion}
 use Rattle.axe_algebra.specs.NumberField.{NumberField}
 use Rattle.axe_algebra.specs.Field.{Field}
-use Rattle.axe_algebra.specs.Vectors.{Matrix, IsMatrix, add_matrices, scale, multiply}
-use Rattle.axe_algebra.specs.Modules.{Module, IsModule, AreGenerators, path_product}
+use Rattle.axe_algebra.specs.Vectors.{Matrix, HasShape, add_matrices, scale, multiply}
+use Rattle.axe_algebra.specs.Modules.{Module, HasSquareMatrices, AreGenerators, path_product}
 use Rattle.axe_algebra.specs.Words.{Word, IsWordOf, word_value}
 use Rattle.axe_algebra.specs.Bridge.{field_of, element, matrix_of, module_of, word_of}
 use Rattle.axe_algebra.specs.Lists.{entry, table, IsSquareOver}
@@ -25,7 +25,7 @@ use native.Mathlib.Decide.{dec_lt}
 
 module _ (F : Field) (M : Module F) where
   -- the product of a path and one more generator
-  pub path_product_then : IsModule F M → (path : List ℕ) (i : ℕ) → AreGenerators F M path → i < M.count →
+  pub path_product_then : HasSquareMatrices F M → (path : List ℕ) (i : ℕ) → AreGenerators F M path → i < M.count →
       path_product F M (path ++ i ∷ []) ≡ multiply F M.dimension (path_product F M path) (M.generator i)
   unfolding path_product
   path_product_then is [] i all below =
@@ -108,13 +108,13 @@ module _ (K : NumberField) where
         over_value : IsSquareOver K n value
         over_value = is_value.square
 
-        shape_value : IsMatrix F n n (matrix_of K value)
+        shape_value : HasShape F n n (matrix_of K value)
         shape_value = square_shape K n value over_value
 
-        shape_term : IsMatrix F n n (matrix_of K term)
+        shape_term : HasShape F n n (matrix_of K term)
         shape_term = square_shape K n term over_term
 
-        shape_sum : IsMatrix F n n (matrix_of K sum)
+        shape_sum : HasShape F n n (matrix_of K sum)
         shape_sum = square_shape K n sum over_sum
 
         none : (i j : ℕ) → matrix_of K value i j ≡ F.zero → matrix_of K term i j ≡ F.zero →

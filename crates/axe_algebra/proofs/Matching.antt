@@ -1,9 +1,9 @@
 -- Matching modules by the null vectors of a word's value: isomorphic modules have a match, and one nullity.
 use Rattle.std.specs.Prelude.{◌≡◌, ◌≢◌, ℕ, ◌<◌, ◌≤◌, List, [], ◌∷◌}
 use Rattle.axe_algebra.specs.Field.{Field}
-use Rattle.axe_algebra.specs.Vectors.{Vector, Matrix, HasLength, IsMatrix, zero_vector, unit_vector, times}
+use Rattle.axe_algebra.specs.Vectors.{Vector, Matrix, HasLength, HasShape, zero_vector, unit_vector, times}
 use Rattle.axe_algebra.specs.Spans.{InSpan, IsIndependent, IsInverse, IsNullVector}
-use Rattle.axe_algebra.specs.Modules.{Module, IsModule, AreGenerators}
+use Rattle.axe_algebra.specs.Modules.{Module, HasSquareMatrices, AreGenerators}
 use Rattle.axe_algebra.specs.Actions.{IsSubAction}
 use Rattle.axe_algebra.specs.Words.{Word, IsWordOf, word_value}
 use Rattle.axe_algebra.specs.Irreducible.{IsIsomorphism, AreIsomorphic}
@@ -37,7 +37,7 @@ module _ (F : Field) where
   isomorphism_keeps_nonzero M N T iso v length nonzero vanishes = nonzero ((isomorphism_carries F M N T iso).injective v length vanishes)
 
   -- where no nonzero null vector of a word's value in N has the standard matrices of one in M, the modules are not isomorphic
-  pub not_isomorphic_without_match : (M N : Module F) → IsModule F M → (word : Word F) → IsWordOf F M word → (v : Vector F) → v ≢ zero_vector F →
+  pub not_isomorphic_without_match : (M N : Module F) → HasSquareMatrices F M → (word : Word F) → IsWordOf F M word → (v : Vector F) → v ≢ zero_vector F →
       IsNullVector F M.dimension (word_value F M word) v → (A : Module F) → AreStandardMatrices F M v A →
       ((y : Vector F) → y ≢ zero_vector F → IsNullVector F N.dimension (word_value F N word) y → ¬ (AreStandardMatrices F N y A)) →
       ¬ (AreIsomorphic F M N)
@@ -48,7 +48,7 @@ module _ (F : Field) where
       (isomorphism_keeps_standard_matrices F M N iso.matrix is iso.isomorphism v null.length A S)
 
   -- an isomorphism carries rows that span the null space of a word's value to such rows
-  pub isomorphism_carries_null_space : (M N : Module F) (T : Matrix F) → IsModule F M → IsModule F N → IsIsomorphism F M N T →
+  pub isomorphism_carries_null_space : (M N : Module F) (T : Matrix F) → HasSquareMatrices F M → HasSquareMatrices F N → IsIsomorphism F M N T →
       (word : Word F) → IsWordOf F M word → (r : ℕ) (b : Matrix F) → SpansNullSpace F M.dimension (word_value F M word) r b →
       SpansNullSpace F N.dimension (word_value F N word) r (λ t. times F M.dimension (b t) T)
   isomorphism_carries_null_space M N T is_M is_N iso word all r b spans = record {
@@ -83,7 +83,7 @@ module _ (F : Field) where
               ∙ times_times F M.dimension r within.coefficients b T
 
   -- so the null spaces of a word's values in isomorphic modules have bases of one size
-  pub isomorphism_keeps_nullity : (M N : Module F) → IsModule F M → IsModule F N → AreIsomorphic F M N → (word : Word F) → IsWordOf F M word →
+  pub isomorphism_keeps_nullity : (M N : Module F) → HasSquareMatrices F M → HasSquareMatrices F N → AreIsomorphic F M N → (word : Word F) → IsWordOf F M word →
       (r : ℕ) (b : Matrix F) (s : ℕ) (d : Matrix F) → SpansNullSpace F M.dimension (word_value F M word) r b → IsIndependent F r b →
       SpansNullSpace F N.dimension (word_value F N word) s d → IsIndependent F s d → r ≡ s
   isomorphism_keeps_nullity M N is_M is_N iso word all r b s d of_M independent_b of_N independent_d = omega (arith, at_most, at_least)
@@ -106,12 +106,12 @@ module _ (F : Field) where
       at_least = exchange F s d r c independent_d (λ t below. carried.back (d t) (of_N.forth (d t) (span_row F s d t below)))
 
   -- the standard matrices of a vector whose standard basis b has as many rows as the dimension
-  module _ (M : Module F) (v : Vector F) (is : IsModule F M) (length : HasLength F M.dimension v) (b : Matrix F) (A : Module F)
-      (shape : IsMatrix F M.dimension M.dimension b) (S : IsStandardBasis F M v M.dimension b) (acts : IsSubAction F M M.dimension b A) where
+  module _ (M : Module F) (v : Vector F) (is : HasSquareMatrices F M) (length : HasLength F M.dimension v) (b : Matrix F) (A : Module F)
+      (shape : HasShape F M.dimension M.dimension b) (S : IsStandardBasis F M v M.dimension b) (acts : IsSubAction F M M.dimension b A) where
     -- are a module
-    pub standard_matrices_are_module : IsModule F A
+    pub standard_matrices_are_module : HasSquareMatrices F A
     standard_matrices_are_module = record {
-      square = λ i below. subst (λ n. IsMatrix F n n (A.generator i)) (sym acts.dimension) (acts.square i (subst (λ n. i < n) acts.count below));
+      square = λ i below. subst (λ n. HasShape F n n (A.generator i)) (sym acts.dimension) (acts.square i (subst (λ n. i < n) acts.count below));
     }
 
     iso : IsIsomorphism F A M b

@@ -3,7 +3,7 @@ use Rattle.std.specs.Prelude.{◌≡◌, ◌≢◌, ℕ, ◌<◌, ◌⊎◌}
 use Rattle.axe_algebra.specs.Field.{Field}
 use Rattle.axe_algebra.specs.Vectors.{Vector, Matrix, HasLength, HasRowsOfLength, zero_vector, unit_vector, transposed, times, dot}
 use Rattle.axe_algebra.specs.Spans.{InSpan, SpanWithin, IsNullVector, SpansZero, SpansAll}
-use Rattle.axe_algebra.specs.Modules.{Module, IsModule, transposed_module, IsInvariant, VectorGeneratesAll}
+use Rattle.axe_algebra.specs.Modules.{Module, HasSquareMatrices, transposed_module, IsInvariant, VectorGeneratesAll}
 use Rattle.axe_algebra.specs.Irreducible.{InAnnihilator, IsIrreducible}
 use Rattle.axe_algebra.specs.Words.{Word, IsWordOf, word_value}
 use Rattle.axe_algebra.proofs.ProductLaws.{transposed_is_matrix, unit_length}
@@ -18,13 +18,13 @@ use native.Mathlib.Decide.{dec_lt}
 
 module _ (F : Field) (M : Module F) where
   -- the transposes are a module
-  pub transposed_is_module : IsModule F M → IsModule F (transposed_module F M)
+  pub transposed_is_module : HasSquareMatrices F M → HasSquareMatrices F (transposed_module F M)
   transposed_is_module is = record {
     square = λ i below. transposed_is_matrix F M.dimension M.dimension (M.generator i) (is.square i below);
   }
 
   -- a vector that generates everything and is orthogonal to an invariant span makes it zero
-  zero_of_orthogonal : IsModule F M → (k : ℕ) (v : Matrix F) → HasRowsOfLength F M.dimension v → IsInvariant F M k v → (w : Vector F) →
+  zero_of_orthogonal : HasSquareMatrices F M → (k : ℕ) (v : Matrix F) → HasRowsOfLength F M.dimension v → IsInvariant F M k v → (w : Vector F) →
       InAnnihilator F M.dimension k v w → VectorGeneratesAll F (transposed_module F M) w → SpansZero F k v
   zero_of_orthogonal is k v rows invariant w within generates t below = fun_ext λ j. at j (dec_lt j M.dimension)
     where
@@ -40,7 +40,7 @@ module _ (F : Field) (M : Module F) where
 
   -- Norton's criterion for a matrix x that maps every list of rows with an invariant span into that span: where every nonzero
   -- null vector of x generates everything, and one null vector of its transpose does under the transposes
-  pub norton_of_matrix : IsModule F M → (x : Matrix F) →
+  pub norton_of_matrix : HasSquareMatrices F M → (x : Matrix F) →
       ((k : ℕ) (v : Matrix F) → HasRowsOfLength F M.dimension v → IsInvariant F M k v → SpanWithin F k (λ t. times F M.dimension (v t) x) k v) →
       ((y : Vector F) → y ≢ zero_vector F → IsNullVector F M.dimension x y → VectorGeneratesAll F M y) →
       (w : Vector F) → IsNullVector F M.dimension (transposed F x) w → VectorGeneratesAll F (transposed_module F M) w →
@@ -73,7 +73,7 @@ module _ (F : Field) (M : Module F) where
 
   -- Norton's criterion: where every nonzero null vector of a word's value generates everything, and one null vector of its
   -- transpose generates everything under the transposes, the module is irreducible
-  pub norton : IsModule F M → (word : Word F) → IsWordOf F M word →
+  pub norton : HasSquareMatrices F M → (word : Word F) → IsWordOf F M word →
       ((x : Vector F) → x ≢ zero_vector F → IsNullVector F M.dimension (word_value F M word) x → VectorGeneratesAll F M x) →
       (w : Vector F) → IsNullVector F M.dimension (transposed F (word_value F M word)) w → VectorGeneratesAll F (transposed_module F M) w →
       IsIrreducible F M

@@ -1,7 +1,7 @@
 -- The null space of a matrix, and so an annihilator, is the span of some rows.
 use Rattle.std.specs.Prelude.{◌≡◌, ◌≢◌, ℕ, zero, suc, ◌<◌, ◌+◌}
 use Rattle.axe_algebra.specs.Field.{Field}
-use Rattle.axe_algebra.specs.Vectors.{Vector, Matrix, HasLength, HasRowsOfLength, IsMatrix, zero_vector, unit_vector, add_vectors, subtract, scale, transposed, times, dot}
+use Rattle.axe_algebra.specs.Vectors.{Vector, Matrix, HasLength, HasRowsOfLength, HasShape, zero_vector, unit_vector, add_vectors, subtract, scale, transposed, times, dot}
 use Rattle.axe_algebra.specs.Spans.{InSpan, IsIndependent, IsNullVector}
 use Rattle.axe_algebra.specs.Irreducible.{InAnnihilator}
 use Rattle.axe_algebra.specs.NortonTheorems.{SpansNullSpace, SpansAnnihilator}
@@ -185,7 +185,7 @@ module _ (F : Field) where
       c : Matrix F
       c = cut_matrix F k n v
 
-      shape : IsMatrix F k n c
+      shape : HasShape F k n c
       shape = cut_is_matrix F k n v
 
       same_dot : (x : Vector F) (t : ℕ) → t < k → times F n x (transposed F c) t ≡ dot F n (v t) x

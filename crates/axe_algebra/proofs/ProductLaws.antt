@@ -1,7 +1,7 @@
 -- The laws of vectors times matrices and of products of matrices.
 use Rattle.std.specs.Prelude.{◌≡◌, ◌≢◌, ℕ, suc, ◌<◌, ◌≤◌, cond}
 use Rattle.axe_algebra.specs.Field.{Field}
-use Rattle.axe_algebra.specs.Vectors.{Vector, Matrix, HasLength, HasRowsOfLength, IsMatrix, zero_vector, unit_vector, unit_matrix, add_vectors, subtract, scale, add_matrices, transposed, sum, times, multiply, dot}
+use Rattle.axe_algebra.specs.Vectors.{Vector, Matrix, HasLength, HasRowsOfLength, HasShape, zero_vector, unit_vector, unit_matrix, add_vectors, subtract, scale, add_matrices, transposed, sum, times, multiply, dot}
 use Rattle.axe_algebra.proofs.FieldLaws.{mul-zero, zero-mul, add-mul, one-mul, mul_left_comm, neg-mul}
 use Rattle.axe_algebra.proofs.Sums.{sum_same, sum_zeros, sum-add, mul-sum, sum-mul, neg-sum, sum_swap, sum_one, sum_longer}
 use Rattle.std.proofs.lemmas.Bool.{eq-eqb, ne_eqb, lt-ltb, le-ltb}
@@ -116,7 +116,7 @@ module _ (F : Field) where
   unfolding unit_matrix
   identity_past n i past = fun_ext λ j. ap (λ b. cond b (unit_vector F i j) 𝟘) (le-ltb i n past)
 
-  pub unit_is_matrix : (n : ℕ) → IsMatrix F n n (unit_matrix F n)
+  pub unit_is_matrix : (n : ℕ) → HasShape F n n (unit_matrix F n)
   unit_is_matrix n = record {
     rows = λ i j past. ap (λ (x : Vector F). x j) (identity_past n i past);
     columns = λ i j past. entry_past i j past (dec_lt i n);
@@ -162,10 +162,10 @@ module _ (F : Field) where
   pub multiply_assoc : (m n : ℕ) (a b c : Matrix F) → multiply F n (multiply F m a b) c ≡ multiply F m a (multiply F n b c)
   multiply_assoc m n a b c = fun_ext λ i. times_times n m (a i) b c
 
-  pub multiply_identity : (m n : ℕ) (a : Matrix F) → IsMatrix F m n a → multiply F n a (unit_matrix F n) ≡ a
+  pub multiply_identity : (m n : ℕ) (a : Matrix F) → HasShape F m n a → multiply F n a (unit_matrix F n) ≡ a
   multiply_identity m n a shape = fun_ext λ i. times_identity n (a i) (shape.columns i)
 
-  pub identity_multiply : (m n : ℕ) (a : Matrix F) → IsMatrix F m n a → multiply F m (unit_matrix F m) a ≡ a
+  pub identity_multiply : (m n : ℕ) (a : Matrix F) → HasShape F m n a → multiply F m (unit_matrix F m) a ≡ a
   identity_multiply m n a shape = fun_ext λ i. row i (dec_lt i m)
     where
       row : (i : ℕ) → Dec (i < m) → times F m (unit_matrix F m i) a ≡ a i
@@ -187,13 +187,13 @@ module _ (F : Field) where
       multiply F n a (add_matrices F b c) ≡ add_matrices F (multiply F n a b) (multiply F n a c)
   multiply-add_right n a b c = fun_ext λ i. times-add_matrices n (a i) b c
 
-  pub multiply_is_matrix : (m n k : ℕ) (a b : Matrix F) → IsMatrix F m n a → IsMatrix F n k b → IsMatrix F m k (multiply F n a b)
+  pub multiply_is_matrix : (m n k : ℕ) (a b : Matrix F) → HasShape F m n a → HasShape F n k b → HasShape F m k (multiply F n a b)
   multiply_is_matrix m n k a b left right = record {
     rows = λ i j past. ap (λ (x : Vector F). x j) (times_zero_coefficients n (a i) b (λ t below. left.rows i t past));
     columns = λ i. times_length n k (a i) b right.columns;
   }
 
-  pub transposed_is_matrix : (m n : ℕ) (a : Matrix F) → IsMatrix F m n a → IsMatrix F n m (transposed F a)
+  pub transposed_is_matrix : (m n : ℕ) (a : Matrix F) → HasShape F m n a → HasShape F n m (transposed F a)
   transposed_is_matrix m n a shape = record { rows = λ i j past. shape.columns j i past; columns = λ i j past. shape.rows j i past }
 
   pub transposed_unit : (n : ℕ) → transposed F (unit_matrix F n) ≡ unit_matrix F n

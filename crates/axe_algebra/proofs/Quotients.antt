@@ -4,7 +4,7 @@ use Rattle.axe_algebra.specs.Field.{Field}
 use Rattle.axe_algebra.specs.Vectors.{Vector, Matrix, HasLength, HasRowsOfLength, unit_vector, subtract, times}
 use Rattle.axe_algebra.specs.Spans.{InSpan}
 use Rattle.axe_algebra.specs.Reduced.{IsPivot, IsAscendingListOf, IsReducedBasis, IsZeroAtPivots, IsRepresentative}
-use Rattle.axe_algebra.specs.Modules.{Module, IsModule, image}
+use Rattle.axe_algebra.specs.Modules.{Module, HasSquareMatrices, image}
 use Rattle.axe_algebra.specs.Actions.{IsFree, unit_vectors, IsQuotientAction}
 use Rattle.axe_algebra.proofs.FieldLaws.{mul-zero, neg-neg, neg-zero, zero-add}
 use Rattle.axe_algebra.proofs.Sums.{sum_one, sum_zeros}
@@ -106,7 +106,7 @@ module _ (F : Field) where
       times-at F m c (unit_vectors F p) j
       ∙ sum_zeros F m _ (λ t below. ap (F.mul (c t)) (unit_off F (p t) j (none t below)) ∙ mul-zero F (c t))
 
-  module _ (M : Module F) (is : IsModule F M) (k : ℕ) (v : Matrix F) (rows : HasRowsOfLength F M.dimension v) where
+  module _ (M : Module F) (is : HasSquareMatrices F M) (k : ℕ) (v : Matrix F) (rows : HasRowsOfLength F M.dimension v) where
     -- the combinations of unit vectors of free columns are zero at the pivots
     unit_combination_at_pivots : (m : ℕ) (p : ℕ → ℕ) → IsAscendingListOf (IsFree F M.dimension k v) m p → (c : Vector F) →
         IsZeroAtPivots F k v (times F m c (unit_vectors F p))

@@ -4,7 +4,7 @@ use Rattle.std.specs.Prelude.{◌≡◌, ℕ, zero, suc, ◌<◌, ◌+◌, ◌-�
 use Rattle.axe_algebra.specs.Field.{Field}
 use Rattle.axe_algebra.specs.Vectors.{Vector, Matrix}
 use Rattle.axe_algebra.specs.Spans.{InSpan}
-use Rattle.axe_algebra.specs.Modules.{Module, IsModule, image, IsInvariant}
+use Rattle.axe_algebra.specs.Modules.{Module, HasSquareMatrices, image, IsInvariant}
 use Rattle.axe_algebra.specs.Actions.{IsSectionAction}
 use Rattle.axe_algebra.specs.Blocks.{block_start, block_size}
 use Rattle.axe_algebra.specs.ModuleTheorems.{IsInvariantChain}
@@ -50,7 +50,7 @@ module _ (F : Field) (M : Module F) where
         next : block_start sizes b + (actions b).dimension ≡ block_start sizes (suc b)
         next = ap (λ d. block_start sizes b + d) (dimension b (omega arith)) ∙ sym (block_start_next sizes b (omega arith))
 
-    pub section_of_chain : (b : ℕ) → b < length sizes → IsModule F (actions b) →
+    pub section_of_chain : (b : ℕ) → b < length sizes → HasSquareMatrices F (actions b) →
         IsSectionAction F M p (block_start sizes b) (block_size sizes b) (actions b)
     section_of_chain b below is =
         subst (λ d. IsSectionAction F M p (block_start sizes b) d (actions b)) (dimension b below) (record {

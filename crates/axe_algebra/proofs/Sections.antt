@@ -4,7 +4,7 @@ use Rattle.std.specs.Prelude.{◌≡◌, ℕ, ◌<◌, ◌+◌}
 use Rattle.axe_algebra.specs.Field.{Field}
 use Rattle.axe_algebra.specs.Vectors.{Vector, Matrix, zero_vector, unit_vector, unit_matrix, add_vectors, subtract, times, multiply}
 use Rattle.axe_algebra.specs.Spans.{InSpan, SpanWithin, SpansAll}
-use Rattle.axe_algebra.specs.Modules.{Module, IsModule, image, IsInvariant}
+use Rattle.axe_algebra.specs.Modules.{Module, HasSquareMatrices, image, IsInvariant}
 use Rattle.axe_algebra.specs.Actions.{IsSubAction, IsQuotientAction, unit_vectors}
 use Rattle.axe_algebra.specs.Irreducible.{IsIsomorphism}
 use Rattle.axe_algebra.proofs.FieldLaws.{mul-neg, zero-add, difference_of_same}
@@ -140,7 +140,7 @@ module _ (F : Field) where
             combined = times F D.dimension (D.generator i s) r
 
   -- the whole module acts on the unit vectors modulo nothing
-  pub whole_section : (M : Module F) → IsModule F M → (l : Matrix F) → ActsModulo F M 0 l (unit_matrix F M.dimension) M
+  pub whole_section : (M : Module F) → HasSquareMatrices F M → (l : Matrix F) → ActsModulo F M 0 l (unit_matrix F M.dimension) M
   whole_section M is l = record {
     count = refl;
     acts = λ i t below inside. nothing_left 0 l _ _
@@ -149,7 +149,7 @@ module _ (F : Field) where
   }
 
   -- an isomorphism is a sub action on its own rows
-  pub action_of_isomorphism : (A D : Module F) (T : Matrix F) → IsModule F A → IsIsomorphism F A D T → IsSubAction F D A.dimension T A
+  pub action_of_isomorphism : (A D : Module F) (T : Matrix F) → HasSquareMatrices F A → IsIsomorphism F A D T → IsSubAction F D A.dimension T A
   action_of_isomorphism A D T is iso = record {
     dimension = refl;
     count = iso.count;

@@ -1,7 +1,7 @@
 -- Square matrices: invertible exactly when the null space is zero, exactly when the transpose is.
 use Rattle.std.specs.Prelude.{◌≡◌, ◌≢◌, ℕ, ◌<◌, ◌≤◌, ◌⊎◌}
 use Rattle.axe_algebra.specs.Field.{Field}
-use Rattle.axe_algebra.specs.Vectors.{Vector, Matrix, HasLength, IsMatrix, zero_vector, unit_vector, unit_matrix, transposed, times, multiply}
+use Rattle.axe_algebra.specs.Vectors.{Vector, Matrix, HasLength, HasShape, zero_vector, unit_vector, unit_matrix, transposed, times, multiply}
 use Rattle.axe_algebra.specs.Spans.{IsIndependent, IsDependent, IsInverse, IsInvertible, IsNullVector, HasZeroNullSpace, SpansAll}
 use Rattle.axe_algebra.specs.Theorems.{InvertibleExactlyWhenNullSpaceIsZero, InvertibleExactlyWhenRowsAreIndependent, InvertibleExactlyWhenTransposeIs}
 use Rattle.axe_algebra.proofs.ProductLaws.{times_times, times_zero, times_identity, identity_row, identity_past, unit_length, multiply_assoc, multiply_identity, identity_multiply, transposed_multiply, transposed_is_matrix, transposed_unit, multiply_is_matrix}
@@ -52,7 +52,7 @@ module _ (F : Field) where
   pub left_inverse : (n : ℕ) (a : Matrix F) → SpansAll F n n a → Matrix F
   left_inverse n a all i = solution n a all i (dec_lt i n)
 
-  pub left_inverse_is_matrix : (n : ℕ) (a : Matrix F) (all : SpansAll F n n a) → IsMatrix F n n (left_inverse n a all)
+  pub left_inverse_is_matrix : (n : ℕ) (a : Matrix F) (all : SpansAll F n n a) → HasShape F n n (left_inverse n a all)
   unfolding left_inverse solution
   left_inverse_is_matrix n a all = record { rows = λ i j past. row i j past (dec_lt i n); columns = λ i. column i (dec_lt i n) }
     where
@@ -74,54 +74,54 @@ module _ (F : Field) where
           ∙ sym (all (unit_vector F i) (unit_length F n i below)).combines ∙ sym (identity_row F n i below)
       row i (no past) = times_zero F n a ∙ sym (identity_past F n i (omega arith))
 
-  left_inverse_of_zero_null_space : (n : ℕ) (a : Matrix F) → IsMatrix F n n a → HasZeroNullSpace F n a →
-      (b : Matrix F) × IsMatrix F n n b × (multiply F n b a ≡ unit_matrix F n)
+  left_inverse_of_zero_null_space : (n : ℕ) (a : Matrix F) → HasShape F n n a → HasZeroNullSpace F n a →
+      (b : Matrix F) × HasShape F n n b × (multiply F n b a ≡ unit_matrix F n)
   left_inverse_of_zero_null_space n a shape none =
       let all : SpansAll F n n a = square_rows_span F n a shape.columns (rows_of_zero_null_space n a none) in
       (left_inverse n a all, left_inverse_is_matrix n a all, left_inverse_inverts n a all)
 
   -- a left and a right inverse are the same
-  left_is_right : (n : ℕ) (a b c : Matrix F) → IsMatrix F n n b → IsMatrix F n n c → multiply F n b a ≡ unit_matrix F n →
+  left_is_right : (n : ℕ) (a b c : Matrix F) → HasShape F n n b → HasShape F n n c → multiply F n b a ≡ unit_matrix F n →
       multiply F n a c ≡ unit_matrix F n → b ≡ c
   left_is_right n a b c shape_b shape_c left right =
       sym (multiply_identity F n n b shape_b) ∙ ap (multiply F n b) (sym right) ∙ sym (multiply_assoc F n n b a c)
       ∙ ap (λ (x : Matrix F). multiply F n x c) left ∙ identity_multiply F n n c shape_c
 
   -- a one-sided inverse is two-sided
-  pub two_sided : (n : ℕ) (a b : Matrix F) → IsMatrix F n n a → IsMatrix F n n b → multiply F n a b ≡ unit_matrix F n → IsInverse F n a b
+  pub two_sided : (n : ℕ) (a b : Matrix F) → HasShape F n n a → HasShape F n n b → multiply F n a b ≡ unit_matrix F n → IsInverse F n a b
   two_sided n a b shape_a shape_b right = from_left (left_inverse_of_zero_null_space n a shape_a (zero_null_space_of_right n a b right))
     where
-      from_left : (c : Matrix F) × IsMatrix F n n c × (multiply F n c a ≡ unit_matrix F n) → IsInverse F n a b
+      from_left : (c : Matrix F) × HasShape F n n c × (multiply F n c a ≡ unit_matrix F n) → IsInverse F n a b
       from_left (c, shape_c, left) = record {
         shape = shape_b;
         left = ap (λ (x : Matrix F). multiply F n x a) (sym (left_is_right n a c b shape_c shape_b left right)) ∙ left;
         right = right;
       }
 
-  pub inverse_sym : (n : ℕ) (a b : Matrix F) → IsMatrix F n n a → IsInverse F n a b → IsInverse F n b a
+  pub inverse_sym : (n : ℕ) (a b : Matrix F) → HasShape F n n a → IsInverse F n a b → IsInverse F n b a
   inverse_sym n a b shape inverts = record { shape = shape; left = inverts.right; right = inverts.left }
 
-  pub left_two_sided : (n : ℕ) (a b : Matrix F) → IsMatrix F n n a → IsMatrix F n n b → multiply F n b a ≡ unit_matrix F n → IsInverse F n a b
+  pub left_two_sided : (n : ℕ) (a b : Matrix F) → HasShape F n n a → HasShape F n n b → multiply F n b a ≡ unit_matrix F n → IsInverse F n a b
   left_two_sided n a b shape_a shape_b left = inverse_sym n b a shape_b (two_sided n b a shape_b shape_a left)
 
   pub inverse_is_unique : (n : ℕ) (a b c : Matrix F) → IsInverse F n a b → IsInverse F n a c → b ≡ c
   inverse_is_unique n a b c first second = left_is_right n a b c first.shape second.shape first.left second.right
 
   -- where the null space is zero the matrix is invertible
-  pub inverse_of_zero_null_space : (n : ℕ) (a : Matrix F) → IsMatrix F n n a → HasZeroNullSpace F n a → IsInvertible F n a
+  pub inverse_of_zero_null_space : (n : ℕ) (a : Matrix F) → HasShape F n n a → HasZeroNullSpace F n a → IsInvertible F n a
   inverse_of_zero_null_space n a shape none = from_left (left_inverse_of_zero_null_space n a shape none)
     where
-      from_left : (b : Matrix F) × IsMatrix F n n b × (multiply F n b a ≡ unit_matrix F n) → IsInvertible F n a
+      from_left : (b : Matrix F) × HasShape F n n b × (multiply F n b a ≡ unit_matrix F n) → IsInvertible F n a
       from_left (b, shape_b, left) = record { inverse = b; inverts = left_two_sided n a b shape shape_b left }
 
-  pub invertible_of_rows : (n : ℕ) (a : Matrix F) → IsMatrix F n n a → IsIndependent F n a → IsInvertible F n a
+  pub invertible_of_rows : (n : ℕ) (a : Matrix F) → HasShape F n n a → IsIndependent F n a → IsInvertible F n a
   invertible_of_rows n a shape independent = inverse_of_zero_null_space n a shape (zero_null_space_of_rows n a independent)
 
   pub rows_of_invertible : (n : ℕ) (a : Matrix F) → IsInvertible F n a → IsIndependent F n a
   rows_of_invertible n a invertible = rows_of_zero_null_space n a (zero_null_space_of_inverse n a invertible)
 
   -- a square matrix has a nonzero null vector, or an inverse
-  pub null_vector_or_inverse : (n : ℕ) (a : Matrix F) → IsMatrix F n n a →
+  pub null_vector_or_inverse : (n : ℕ) (a : Matrix F) → HasShape F n n a →
       ((v : Vector F) × (v ≢ zero_vector F) × IsNullVector F n a v) ⊎ IsInvertible F n a
   null_vector_or_inverse n a shape = cases (eliminate F n n a shape.columns)
     where
@@ -148,7 +148,7 @@ module _ (F : Field) where
   }
 
   -- the product of invertible matrices
-  pub inverse_of_product : (n : ℕ) (a b c d : Matrix F) → IsMatrix F n n a → IsMatrix F n n b → IsInverse F n a c → IsInverse F n b d →
+  pub inverse_of_product : (n : ℕ) (a b c d : Matrix F) → HasShape F n n a → HasShape F n n b → IsInverse F n a c → IsInverse F n b d →
       IsInverse F n (multiply F n a b) (multiply F n d c)
   inverse_of_product n a b c d shape_a shape_b first second = record {
     shape = multiply_is_matrix F n n n d c second.shape first.shape;

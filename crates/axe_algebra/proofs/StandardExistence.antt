@@ -3,7 +3,7 @@ use Rattle.std.specs.Prelude.{◌≡◌, ◌≢◌, ℕ, zero, suc, ◌<◌, ◌
 use Rattle.axe_algebra.specs.Field.{Field}
 use Rattle.axe_algebra.specs.Vectors.{Vector, Matrix, HasLength, HasRowsOfLength, zero_vector, unit_vector}
 use Rattle.axe_algebra.specs.Spans.{InSpan, IsIndependent}
-use Rattle.axe_algebra.specs.Modules.{Module, IsModule, image}
+use Rattle.axe_algebra.specs.Modules.{Module, HasSquareMatrices, image}
 use Rattle.axe_algebra.specs.Standard.{Precedes, InSpanUpTo, IsStandardBasis}
 use Rattle.axe_algebra.proofs.ProductLaws.{times_none, times_unit, times_length, times_longer, times_same, unit_off}
 use Rattle.axe_algebra.proofs.Skipping.{skip_before, put_in, put_in_at, put_in_skip}
@@ -184,7 +184,7 @@ module _ (F : Field) (M : Module F) (v : Vector F) where
         by_place (inl (inl p)) = let reach = found.reach in old_image s j (omega arith) (found.images s j (omega arith) inside (inl p))
         by_place (inl (inr (e, p))) = let reach = found.reach in old_image s j (omega arith) (found.images s j (omega arith) inside (inr (e, p)))
 
-    add_row : IsModule F M → i < M.count → IsIndependent F (suc found.size) new_basis → Found F M v r (suc i)
+    add_row : HasSquareMatrices F M → i < M.count → IsIndependent F (suc found.size) new_basis → Found F M v r (suc i)
     unfolding new_basis
     add_row is inside independent = record {
       size = suc found.size;
@@ -212,7 +212,7 @@ module _ (F : Field) (M : Module F) (v : Vector F) where
     }
 
   -- the next image is looked at
-  look_at : IsModule F M → (r i : ℕ) → i < M.count → Found F M v r i → Found F M v r (suc i)
+  look_at : HasSquareMatrices F M → (r i : ℕ) → i < M.count → Found F M v r i → Found F M v r (suc i)
   unfolding new_basis
   look_at is r i inside found =
       decide (spanned_or_independent F M.dimension found.size found.basis (image F M (found.basis r) i) found.lengths
@@ -225,7 +225,7 @@ module _ (F : Field) (M : Module F) (v : Vector F) where
       decide (inr independent) = add_row r i found is inside independent
 
   -- the images of one row under the first i generators
-  look_at_row : IsModule F M → (r i : ℕ) → i ≤ M.count → Found F M v r 0 → Found F M v r i
+  look_at_row : HasSquareMatrices F M → (r i : ℕ) → i ≤ M.count → Found F M v r 0 → Found F M v r i
   look_at_row is r zero within found = found
   look_at_row is r (suc i) within found = look_at is r i (omega arith) (look_at_row is r i (omega arith) found)
 
@@ -279,7 +279,7 @@ module _ (F : Field) (M : Module F) (v : Vector F) where
       by_place s j below inside (no other) = inl (omega arith)
 
   -- row after row, at most as many as the dimension
-  search_rows : IsModule F M → (rounds r : ℕ) → M.dimension ≤ r + rounds → Found F M v r 0 →
+  search_rows : HasSquareMatrices F M → (rounds r : ℕ) → M.dimension ≤ r + rounds → Found F M v r 0 →
       (m : ℕ) × (b : Matrix F) × HasRowsOfLength F M.dimension b × IsStandardBasis F M v m b
   search_rows is zero r within found =
       let most = independent_at_most F M.dimension found.size found.basis found.lengths found.independent in
@@ -319,7 +319,7 @@ module _ (F : Field) (M : Module F) (v : Vector F) where
       none s j (inr (e, p)) = omega arith
 
   -- a nonzero vector has a standard basis
-  pub standard_basis_exists : IsModule F M → HasLength F M.dimension v → v ≢ zero_vector F → (m : ℕ) × (b : Matrix F) × HasRowsOfLength F M.dimension b × IsStandardBasis F M v m b
+  pub standard_basis_exists : HasSquareMatrices F M → HasLength F M.dimension v → v ≢ zero_vector F → (m : ℕ) × (b : Matrix F) × HasRowsOfLength F M.dimension b × IsStandardBasis F M v m b
   standard_basis_exists is length nonzero =
       decide (spanned_or_independent F M.dimension 0 (λ t. zero_vector F) v (λ t j past. refl) length
       (record { only_zero = λ c vanishes t below. absurd (omega arith) }))

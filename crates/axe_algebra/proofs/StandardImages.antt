@@ -3,7 +3,7 @@ use Rattle.std.specs.Prelude.{◌≡◌, ◌≢◌, ℕ, zero, suc, ◌<◌, Lis
 use Rattle.axe_algebra.specs.Field.{Field}
 use Rattle.axe_algebra.specs.Vectors.{Vector, Matrix, HasLength, zero_vector, add_vectors, scale, times}
 use Rattle.axe_algebra.specs.Spans.{IsIndependent, IsNullVector}
-use Rattle.axe_algebra.specs.Modules.{Module, IsModule, image, AreGenerators, path_product}
+use Rattle.axe_algebra.specs.Modules.{Module, HasSquareMatrices, image, AreGenerators, path_product}
 use Rattle.axe_algebra.specs.Words.{Word, IsWordOf, word_value}
 use Rattle.axe_algebra.specs.Actions.{IsSubAction}
 use Rattle.axe_algebra.specs.Irreducible.{IsIsomorphism}
@@ -34,7 +34,7 @@ module _ (F : Field) where
   }
 
   -- the rows of a standard basis have the length of the module
-  pub standard_row_length : (M : Module F) (v : Vector F) → IsModule F M → HasLength F M.dimension v → (m : ℕ) (b : Matrix F) →
+  pub standard_row_length : (M : Module F) (v : Vector F) → HasSquareMatrices F M → HasLength F M.dimension v → (m : ℕ) (b : Matrix F) →
       IsStandardBasis F M v m b → (t : ℕ) → t < m → HasLength F M.dimension (b t)
   standard_row_length M v is length m b S t below = by_place (ℕ_discrete t 0)
     where
@@ -67,7 +67,7 @@ module _ (F : Field) where
     }
 
     -- and carries the standard basis of v to that of its image
-    pub carried_standard_basis : IsModule F M → (v : Vector F) → HasLength F M.dimension v → (m : ℕ) (b : Matrix F) →
+    pub carried_standard_basis : HasSquareMatrices F M → (v : Vector F) → HasLength F M.dimension v → (m : ℕ) (b : Matrix F) →
         IsStandardBasis F M v m b → IsStandardBasis F N (f v) m (λ t. f (b t))
     carried_standard_basis is v length m b S = record {
       nonempty = S.nonempty;
@@ -102,7 +102,7 @@ module _ (F : Field) where
     }
 
     -- so it keeps the standard matrices
-    pub carried_standard_matrices : IsModule F M → (v : Vector F) → HasLength F M.dimension v → (A : Module F) →
+    pub carried_standard_matrices : HasSquareMatrices F M → (v : Vector F) → HasLength F M.dimension v → (A : Module F) →
         AreStandardMatrices F M v A → AreStandardMatrices F N (f v) A
     carried_standard_matrices is v length A S = record {
       size = S.size;
@@ -112,7 +112,7 @@ module _ (F : Field) where
     }
 
     -- x times a product of generators, and the image of x times that product
-    carried_path : IsModule F M → ((x : Vector F) → HasLength F M.dimension x → HasLength F N.dimension (f x)) → (path : List ℕ) → AreGenerators F M path →
+    carried_path : HasSquareMatrices F M → ((x : Vector F) → HasLength F M.dimension x → HasLength F N.dimension (f x)) → (path : List ℕ) → AreGenerators F M path →
         (x : Vector F) → HasLength F M.dimension x → f (times F M.dimension x (path_product F M path)) ≡ times F N.dimension (f x) (path_product F N path)
     unfolding path_product
     carried_path is lengths [] all x length = ap f (times_identity F M.dimension x length) ∙ sym (times_identity F N.dimension (f x) (lengths x length))
@@ -123,7 +123,7 @@ module _ (F : Field) where
         ∙ times_times F N.dimension N.dimension (f x) (N.generator i) (path_product F N path)
 
     -- x times the value of a word, and the image of x times its value in the other module
-    pub carried_word_value : IsModule F M → ((x : Vector F) → HasLength F M.dimension x → HasLength F N.dimension (f x)) →
+    pub carried_word_value : HasSquareMatrices F M → ((x : Vector F) → HasLength F M.dimension x → HasLength F N.dimension (f x)) →
         (word : Word F) → IsWordOf F M word → (x : Vector F) → HasLength F M.dimension x →
         f (times F M.dimension x (word_value F M word)) ≡ times F N.dimension (f x) (word_value F N word)
     carried_word_value is lengths [] all x length = ap f (times-no_terms F M x) ∙ carried_zero ∙ sym (times-no_terms F N (f x))
@@ -154,7 +154,7 @@ module _ (F : Field) where
   }
 
   -- it carries null vectors of a word's value to null vectors of the word's value in the other module
-  pub isomorphism_carries_null_vectors : (M N : Module F) (T : Matrix F) → IsModule F M → IsIsomorphism F M N T → (word : Word F) → IsWordOf F M word →
+  pub isomorphism_carries_null_vectors : (M N : Module F) (T : Matrix F) → HasSquareMatrices F M → IsIsomorphism F M N T → (word : Word F) → IsWordOf F M word →
       (x : Vector F) → IsNullVector F M.dimension (word_value F M word) x →
       IsNullVector F N.dimension (word_value F N word) (times F M.dimension x T)
   isomorphism_carries_null_vectors M N T is iso word all x null = record {
@@ -178,18 +178,18 @@ module _ (F : Field) where
   }
 
   -- so an isomorphism carries the standard basis of v to that of its image
-  pub isomorphism_carries_standard_basis : (M N : Module F) (T : Matrix F) → IsModule F M → IsIsomorphism F M N T → (v : Vector F) →
+  pub isomorphism_carries_standard_basis : (M N : Module F) (T : Matrix F) → HasSquareMatrices F M → IsIsomorphism F M N T → (v : Vector F) →
       HasLength F M.dimension v → (m : ℕ) (b : Matrix F) → IsStandardBasis F M v m b →
       IsStandardBasis F N (times F M.dimension v T) m (λ t. times F M.dimension (b t) T)
   isomorphism_carries_standard_basis M N T is iso =
       carried_standard_basis M N (λ x. times F M.dimension x T) (isomorphism_carries M N T iso) is
 
-  pub isomorphism_keeps_standard_matrices : (M N : Module F) (T : Matrix F) → IsModule F M → IsIsomorphism F M N T → (v : Vector F) →
+  pub isomorphism_keeps_standard_matrices : (M N : Module F) (T : Matrix F) → HasSquareMatrices F M → IsIsomorphism F M N T → (v : Vector F) →
       HasLength F M.dimension v → (A : Module F) → AreStandardMatrices F M v A → AreStandardMatrices F N (times F M.dimension v T) A
   isomorphism_keeps_standard_matrices M N T is iso =
       carried_standard_matrices M N (λ x. times F M.dimension x T) (isomorphism_carries M N T iso) is
 
   -- and a nonzero multiple of v has the same standard matrices
-  pub multiple_keeps_standard_matrices : (M : Module F) (c : F.Element) → c ≢ F.zero → IsModule F M → (v : Vector F) →
+  pub multiple_keeps_standard_matrices : (M : Module F) (c : F.Element) → c ≢ F.zero → HasSquareMatrices F M → (v : Vector F) →
       HasLength F M.dimension v → (A : Module F) → AreStandardMatrices F M v A → AreStandardMatrices F M (scale F c v) A
   multiple_keeps_standard_matrices M c nonzero = carried_standard_matrices M M (scale F c) (multiple_carries M c nonzero)

@@ -1,7 +1,7 @@
 -- The sub action on independent rows with an invariant span: exactly one family of matrices.
 use Rattle.std.specs.Prelude.{◌≡◌, ℕ, ◌<◌}
 use Rattle.axe_algebra.specs.Field.{Field}
-use Rattle.axe_algebra.specs.Vectors.{Vector, Matrix, IsMatrix, times}
+use Rattle.axe_algebra.specs.Vectors.{Vector, Matrix, HasShape, times}
 use Rattle.axe_algebra.specs.Spans.{IsIndependent}
 use Rattle.axe_algebra.specs.Modules.{Module, image, IsInvariant}
 use Rattle.axe_algebra.specs.Actions.{IsSubAction}
@@ -26,7 +26,7 @@ module _ (F : Field) (M : Module F) (k : ℕ) (b : Matrix F) where
 
   -- the matrix of one generator
   Acts : ℕ → Type 0
-  Acts i = (a : Matrix F) × IsMatrix F k k a × ((t : ℕ) → t < k → image F M (b t) i ≡ times F k (a t) b)
+  Acts i = (a : Matrix F) × HasShape F k k a × ((t : ℕ) → t < k → image F M (b t) i ≡ times F k (a t) b)
 
   acting : IsInvariant F M k b → (i : ℕ) → i < M.count → Acts i
   unfolding Acts
@@ -50,7 +50,7 @@ module _ (F : Field) (M : Module F) (k : ℕ) (b : Matrix F) where
     },
   )
     where
-      square : (i : ℕ) → i < M.count → (decided : Dec (i < M.count)) → IsMatrix F k k (matrix_or_rows i invariant decided)
+      square : (i : ℕ) → i < M.count → (decided : Dec (i < M.count)) → HasShape F k k (matrix_or_rows i invariant decided)
       square i below (yes within) = (acting invariant i within).1
       square i below (no past) = absurd (past below)
 

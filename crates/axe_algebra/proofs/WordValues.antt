@@ -1,9 +1,9 @@
 -- The value of a word keeps invariant sets, and maps an invariant span onto itself where it has no null vector in it.
 use Rattle.std.specs.Prelude.{◌≡◌, ◌≢◌, ℕ, ◌<◌, ◌≤◌, ◌⊎◌, List, [], ◌∷◌}
 use Rattle.axe_algebra.specs.Field.{Field}
-use Rattle.axe_algebra.specs.Vectors.{Vector, Matrix, HasLength, HasRowsOfLength, IsMatrix, zero_vector, add_vectors, add_matrices, scale, times, multiply}
+use Rattle.axe_algebra.specs.Vectors.{Vector, Matrix, HasLength, HasRowsOfLength, HasShape, zero_vector, add_vectors, add_matrices, scale, times, multiply}
 use Rattle.axe_algebra.specs.Spans.{InSpan, SpanWithin, IsIndependent, SameSpan, IsNullVector, IsInvertible}
-use Rattle.axe_algebra.specs.Modules.{Module, IsModule, AreGenerators, path_product, IsInvariant, IsInvariantSet}
+use Rattle.axe_algebra.specs.Modules.{Module, HasSquareMatrices, AreGenerators, path_product, IsInvariant, IsInvariantSet}
 use Rattle.axe_algebra.specs.Words.{Word, IsWordOf, word_value}
 use Rattle.axe_algebra.specs.NortonTheorems.{HasNoNullVectorIn}
 use Rattle.axe_algebra.proofs.ProductLaws.{times_same, times_times, times_zero, times_zero_rows, times_identity, times-add_matrices, times-scaled_rows, multiply_is_matrix, unit_is_matrix}
@@ -19,8 +19,8 @@ use native.Mathlib.Omega.{arith}
 use native.Mathlib.Decide.{dec_lt}
 
 -- a multiple of one matrix plus another of its shape
-pub term_is_matrix : (F : Field) (m n : ℕ) (c : F.Element) (a b : Matrix F) → IsMatrix F m n a → IsMatrix F m n b →
-    IsMatrix F m n (add_matrices F (λ i. scale F c (a i)) b)
+pub term_is_matrix : (F : Field) (m n : ℕ) (c : F.Element) (a b : Matrix F) → HasShape F m n a → HasShape F m n b →
+    HasShape F m n (add_matrices F (λ i. scale F c (a i)) b)
 term_is_matrix F m n c a b first rest = record {
   rows = λ i j past. ap₂ (λ x y. F.add (F.mul c x) y) (first.rows i j past) (rest.rows i j past) ∙ zeros;
   columns = λ i j past. ap₂ (λ x y. F.add (F.mul c x) y) (first.columns i j past) (rest.columns i j past) ∙ zeros;
@@ -31,7 +31,7 @@ term_is_matrix F m n c a b first rest = record {
 
 module _ (F : Field) (M : Module F) where
   -- the product of generators is a square matrix of the dimension
-  pub path_product_is_matrix : IsModule F M → (path : List ℕ) → AreGenerators F M path → IsMatrix F M.dimension M.dimension (path_product F M path)
+  pub path_product_is_matrix : HasSquareMatrices F M → (path : List ℕ) → AreGenerators F M path → HasShape F M.dimension M.dimension (path_product F M path)
   unfolding path_product
   path_product_is_matrix is [] all = unit_is_matrix F M.dimension
   path_product_is_matrix is (i ∷ path) all =
@@ -39,7 +39,7 @@ module _ (F : Field) (M : Module F) where
       (path_product_is_matrix is path all.1)
 
   -- and so is the value of a word
-  pub word_value_is_matrix : IsModule F M → (word : Word F) → IsWordOf F M word → IsMatrix F M.dimension M.dimension (word_value F M word)
+  pub word_value_is_matrix : HasSquareMatrices F M → (word : Word F) → IsWordOf F M word → HasShape F M.dimension M.dimension (word_value F M word)
   unfolding word_value
   word_value_is_matrix is [] all = record { rows = λ i j past. refl; columns = λ i j past. refl }
   word_value_is_matrix is (term ∷ word) all =
@@ -61,7 +61,7 @@ module _ (F : Field) (M : Module F) where
       (times-scaled_rows F M.dimension c x (path_product F M path))
 
   -- an invariant set with x has x times the value of a word
-  pub invariant_set_has_word_images : IsModule F M → (P : Vector F → Type 0) → IsInvariantSet F M P → (word : Word F) → IsWordOf F M word →
+  pub invariant_set_has_word_images : HasSquareMatrices F M → (P : Vector F → Type 0) → IsInvariantSet F M P → (word : Word F) → IsWordOf F M word →
       (x : Vector F) → HasLength F M.dimension x → P x → P (times F M.dimension x (word_value F M word))
   invariant_set_has_word_images is P invariant [] all x length holds = subst P (sym (times-no_terms x)) invariant.zero
   invariant_set_has_word_images is P invariant (term ∷ word) all x length holds =
@@ -72,7 +72,7 @@ module _ (F : Field) (M : Module F) where
       (invariant_set_has_word_images is P invariant word all.1 x length holds))
 
   -- the value of a word keeps an invariant span
-  pub word_value_keeps : IsModule F M → (word : Word F) → IsWordOf F M word → (k : ℕ) (v : Matrix F) → HasRowsOfLength F M.dimension v →
+  pub word_value_keeps : HasSquareMatrices F M → (word : Word F) → IsWordOf F M word → (k : ℕ) (v : Matrix F) → HasRowsOfLength F M.dimension v →
       IsInvariant F M k v → (x : Vector F) → HasLength F M.dimension x → InSpan F k v x → InSpan F k v (times F M.dimension x (word_value F M word))
   word_value_keeps is word all k v rows invariant =
       invariant_set_has_word_images is (InSpan F k v) (invariant_span_is_set F M k v invariant) word all
@@ -146,7 +146,7 @@ module _ (F : Field) (n : ℕ) where
           in_v : (y : Vector F) → InSpan F r b y → InSpan F k v y
           in_v y = span_within F r b k v y same.back
 
-          by_matrix : (a : Matrix F) × IsMatrix F r r a × ((t : ℕ) → t < r → times F n (b t) x ≡ times F r (a t) b) →
+          by_matrix : (a : Matrix F) × HasShape F r r a × ((t : ℕ) → t < r → times F n (b t) x ≡ times F r (a t) b) →
               HasNullVectorIn F n k v x ⊎ ((y : Vector F) → InSpan F k v y → IsOnto F n k v x y)
           by_matrix (a, shape, combine) = by_null (null_vector_or_inverse F r a shape)
             where
@@ -161,13 +161,13 @@ module _ (F : Field) (n : ℕ) where
 
 module _ (F : Field) (M : Module F) where
   -- the value of a word maps invariant rows into their span
-  pub word_value_within : IsModule F M → (word : Word F) → IsWordOf F M word → (k : ℕ) (v : Matrix F) → HasRowsOfLength F M.dimension v →
+  pub word_value_within : HasSquareMatrices F M → (word : Word F) → IsWordOf F M word → (k : ℕ) (v : Matrix F) → HasRowsOfLength F M.dimension v →
       IsInvariant F M k v → SpanWithin F k (λ t. times F M.dimension (v t) (word_value F M word)) k v
   word_value_within is word all k v rows invariant t below =
       word_value_keeps F M is word all k v rows invariant (v t) (rows t) (span_row F k v t below)
 
   -- where it has no nonzero null vector in an invariant span, it maps that span onto itself
-  pub word_value_maps_onto : IsModule F M → (word : Word F) → IsWordOf F M word → (k : ℕ) (v : Matrix F) → HasRowsOfLength F M.dimension v →
+  pub word_value_maps_onto : HasSquareMatrices F M → (word : Word F) → IsWordOf F M word → (k : ℕ) (v : Matrix F) → HasRowsOfLength F M.dimension v →
       IsInvariant F M k v → HasNoNullVectorIn F M.dimension k v (word_value F M word) →
       (y : Vector F) → InSpan F k v y → (x : Vector F) × InSpan F k v x × (times F M.dimension x (word_value F M word) ≡ y)
   word_value_maps_onto is word all k v rows invariant none y within =

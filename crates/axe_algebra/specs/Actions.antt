@@ -1,7 +1,7 @@
 -- The actions of a module on an invariant space and modulo it (Parker 1984).
 use Rattle.std.specs.Prelude.{◌≡◌, ℕ, ◌<◌, ◌+◌}
 use Rattle.axe_algebra.specs.Field.{Field}
-use Rattle.axe_algebra.specs.Vectors.{Matrix, IsMatrix, subtract, times, unit_vector}
+use Rattle.axe_algebra.specs.Vectors.{Matrix, HasShape, subtract, times, unit_vector}
 use Rattle.axe_algebra.specs.Spans.{InSpan}
 use Rattle.axe_algebra.specs.Reduced.{IsPivot, IsAscendingListOf}
 use Rattle.axe_algebra.specs.Modules.{Module, image}
@@ -11,7 +11,7 @@ use Rattle.axe_algebra.specs.Modules.{Module, image}
 pub record IsSubAction (F : Field) (M : Module F) (k : ℕ) (b : Matrix F) (A : Module F) : Type 0 where
   pub dimension : A.dimension ≡ k
   pub count : A.count ≡ M.count
-  pub square : (i : ℕ) → i < M.count → IsMatrix F k k (A.generator i)
+  pub square : (i : ℕ) → i < M.count → HasShape F k k (A.generator i)
   pub acts : (i t : ℕ) → i < M.count → t < k → image F M (b t) i ≡ times F k (A.generator i t) b
 
 -- a column below n that is no pivot of the span of k rows of v
@@ -28,7 +28,7 @@ unit_vectors F columns = λ s. unit_vector F (columns s)
 pub record IsQuotientAction (F : Field) (M : Module F) (k : ℕ) (v : Matrix F) (m : ℕ) (Q : Module F) : Type 0 where
   pub dimension : Q.dimension ≡ m
   pub count : Q.count ≡ M.count
-  pub square : (i : ℕ) → i < M.count → IsMatrix F m m (Q.generator i)
+  pub square : (i : ℕ) → i < M.count → HasShape F m m (Q.generator i)
   pub columns : ℕ → ℕ
   pub free : IsAscendingListOf (IsFree F M.dimension k v) m columns
   pub acts : (i t : ℕ) → i < M.count → t < m →
@@ -40,6 +40,6 @@ pub record IsQuotientAction (F : Field) (M : Module F) (k : ℕ) (v : Matrix F) 
 pub record IsSectionAction (F : Field) (M : Module F) (b : Matrix F) (c d : ℕ) (D : Module F) : Type 0 where
   pub dimension : D.dimension ≡ d
   pub count : D.count ≡ M.count
-  pub square : (i : ℕ) → i < M.count → IsMatrix F d d (D.generator i)
+  pub square : (i : ℕ) → i < M.count → HasShape F d d (D.generator i)
   pub acts : (i t : ℕ) → i < M.count → t < d →
       InSpan F c b (subtract F (image F M (b (c + t)) i) (times F d (D.generator i t) (λ s. b (c + s))))

@@ -1,7 +1,7 @@
 -- Block lower triangular matrices (any linear algebra text).
 use Rattle.std.specs.Prelude.{◌≡◌, ℕ, zero, suc, ◌<◌, ◌≤◌, ◌+◌, List, [], ◌∷◌, length, get_or}
 use Rattle.axe_algebra.specs.Field.{Field}
-use Rattle.axe_algebra.specs.Vectors.{Matrix, IsMatrix, multiply}
+use Rattle.axe_algebra.specs.Vectors.{Matrix, HasShape, multiply}
 
 -- where block number b begins: the sum of the sizes before it
 abbrev pub block_start : List ℕ → ℕ → ℕ
@@ -25,7 +25,7 @@ pub record IsBlockLowerTriangular (F : Field) (sizes : List ℕ) (a : Matrix F) 
 
 -- d is the diagonal block number b of a
 pub record IsDiagonalBlock (F : Field) (sizes : List ℕ) (b : ℕ) (a d : Matrix F) : Type 0 where
-  pub shape : IsMatrix F (block_size sizes b) (block_size sizes b) d
+  pub shape : HasShape F (block_size sizes b) (block_size sizes b) d
   pub entries : (i j : ℕ) → i < block_size sizes b → j < block_size sizes b →
       d i j ≡ a (block_start sizes b + i) (block_start sizes b + j)
 

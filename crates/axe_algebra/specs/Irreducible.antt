@@ -1,7 +1,7 @@
 -- Irreducible modules, isomorphisms and annihilators (Holt and Rees 1994).
 use Rattle.std.specs.Prelude.{◌≡◌, ℕ, ◌<◌, ◌⊎◌}
 use Rattle.axe_algebra.specs.Field.{Field}
-use Rattle.axe_algebra.specs.Vectors.{Vector, Matrix, HasLength, HasRowsOfLength, IsMatrix, multiply, dot}
+use Rattle.axe_algebra.specs.Vectors.{Vector, Matrix, HasLength, HasRowsOfLength, HasShape, multiply, dot}
 use Rattle.axe_algebra.specs.Spans.{IsInvertible, SpansZero, SpansAll}
 use Rattle.axe_algebra.specs.Modules.{Module, IsInvariant}
 
@@ -14,7 +14,7 @@ pub record IsIrreducible (F : Field) (M : Module F) : Type 0 where
 pub record IsIsomorphism (F : Field) (M N : Module F) (T : Matrix F) : Type 0 where
   pub dimension : M.dimension ≡ N.dimension
   pub count : M.count ≡ N.count
-  pub shape : IsMatrix F M.dimension M.dimension T
+  pub shape : HasShape F M.dimension M.dimension T
   pub invertible : IsInvertible F M.dimension T
   pub intertwines : (i : ℕ) → i < M.count →
       multiply F M.dimension T (N.generator i) ≡ multiply F M.dimension (M.generator i) T

@@ -1,7 +1,7 @@
 -- Modules, products of generators, invariant and generated spaces (Parker 1984; Holt, Eick, O'Brien, chapter 7).
 use Rattle.std.specs.Prelude.{◌≡◌, ℕ, ◌<◌, List, [], ◌∷◌, ⊤}
 use Rattle.axe_algebra.specs.Field.{Field}
-use Rattle.axe_algebra.specs.Vectors.{Vector, Matrix, IsMatrix, HasLength, transposed, unit_matrix, times, multiply}
+use Rattle.axe_algebra.specs.Vectors.{Vector, Matrix, HasShape, HasLength, transposed, unit_matrix, times, multiply}
 use Rattle.axe_algebra.specs.Vectors.{zero_vector, add_vectors, scale}
 use Rattle.axe_algebra.specs.Spans.{InSpan}
 
@@ -12,8 +12,8 @@ pub record Module (F : Field) : Type 0 where
   pub generator : ℕ → Matrix F
 
 -- the generators are square matrices of the dimension
-pub record IsModule (F : Field) (M : Module F) : Type 0 where
-  pub square : (i : ℕ) → i < M.count → IsMatrix F M.dimension M.dimension (M.generator i)
+pub record HasSquareMatrices (F : Field) (M : Module F) : Type 0 where
+  pub square : (i : ℕ) → i < M.count → HasShape F M.dimension M.dimension (M.generator i)
 
 -- the transposed module: its generators are the transposes
 abbrev pub transposed_module : (F : Field) → Module F → Module F

@@ -2,10 +2,10 @@
 -- Parker 1984; Holt and Rees 1994).
 use Rattle.std.specs.Prelude.{◌≡◌, ◌≢◌, ◌↔◌, ℕ}
 use Rattle.axe_algebra.specs.Field.{Field}
-use Rattle.axe_algebra.specs.Vectors.{Vector, Matrix, HasLength, HasRowsOfLength, IsMatrix, zero_vector, scale}
+use Rattle.axe_algebra.specs.Vectors.{Vector, Matrix, HasLength, HasRowsOfLength, HasShape, zero_vector, scale}
 use Rattle.axe_algebra.specs.Vectors.{transposed, times, dot}
 use Rattle.axe_algebra.specs.Spans.{InSpan, IsNullVector, SpansZero, SpansAll}
-use Rattle.axe_algebra.specs.Modules.{Module, IsModule, transposed_module, IsInvariant, InGenerated, VectorGeneratesAll}
+use Rattle.axe_algebra.specs.Modules.{Module, HasSquareMatrices, transposed_module, IsInvariant, InGenerated, VectorGeneratesAll}
 use Rattle.axe_algebra.specs.Words.{Word, IsWordOf, word_value}
 use Rattle.axe_algebra.specs.Irreducible.{InAnnihilator, IsIrreducible}
 
@@ -28,12 +28,12 @@ module _ (F : Field) where
   -- the value of a word is a square matrix of the dimension
   abbrev pub WordValueIsMatrix : Type 0
   WordValueIsMatrix =
-      (M : Module F) → IsModule F M → (word : Word F) → IsWordOf F M word →
-      IsMatrix F M.dimension M.dimension (word_value F M word)
+      (M : Module F) → HasSquareMatrices F M → (word : Word F) → IsWordOf F M word →
+      HasShape F M.dimension M.dimension (word_value F M word)
 
   -- the value of a word keeps an invariant span
   abbrev pub WordValueKeepsInvariantSpans : Type 0
-  WordValueKeepsInvariantSpans = (M : Module F) → IsModule F M → (word : Word F) → IsWordOf F M word →
+  WordValueKeepsInvariantSpans = (M : Module F) → HasSquareMatrices F M → (word : Word F) → IsWordOf F M word →
       (k : ℕ) (v : Matrix F) → HasRowsOfLength F M.dimension v → IsInvariant F M k v →
       (x : Vector F) → HasLength F M.dimension x → InSpan F k v x →
       InSpan F k v (times F M.dimension x (word_value F M word))
@@ -41,7 +41,7 @@ module _ (F : Field) where
   -- where it has no nonzero null vector in an invariant span, it maps that span onto itself: each vector of the span is
   -- an image
   abbrev pub WordValueMapsOnto : Type 0
-  WordValueMapsOnto = (M : Module F) → IsModule F M → (word : Word F) → IsWordOf F M word →
+  WordValueMapsOnto = (M : Module F) → HasSquareMatrices F M → (word : Word F) → IsWordOf F M word →
       (k : ℕ) (v : Matrix F) → HasRowsOfLength F M.dimension v → IsInvariant F M k v →
       HasNoNullVectorIn F M.dimension k v (word_value F M word) →
       (y : Vector F) → InSpan F k v y →
@@ -65,7 +65,7 @@ module _ (F : Field) where
 
   -- the rows orthogonal to an invariant span have an invariant span under the transposes
   abbrev pub AnnihilatorIsInvariant : Type 0
-  AnnihilatorIsInvariant = (M : Module F) → IsModule F M → (k : ℕ) (v : Matrix F) → IsInvariant F M k v →
+  AnnihilatorIsInvariant = (M : Module F) → HasSquareMatrices F M → (k : ℕ) (v : Matrix F) → IsInvariant F M k v →
       (r : ℕ) (w : Matrix F) → SpansAnnihilator F M.dimension k v r w → IsInvariant F (transposed_module F M) r w
 
   -- the annihilator of a proper space is not zero
@@ -81,7 +81,7 @@ module _ (F : Field) where
   -- Norton's criterion: where every nonzero null vector of a word's value generates everything, and one null vector of
   -- its transpose generates everything under the transposes, the module is irreducible
   abbrev pub NortonsCriterion : Type 0
-  NortonsCriterion = (M : Module F) → IsModule F M → (word : Word F) → IsWordOf F M word →
+  NortonsCriterion = (M : Module F) → HasSquareMatrices F M → (word : Word F) → IsWordOf F M word →
       ((x : Vector F) → x ≢ zero_vector F → IsNullVector F M.dimension (word_value F M word) x →
       VectorGeneratesAll F M x) →
       (w : Vector F) → IsNullVector F M.dimension (transposed F (word_value F M word)) w →
@@ -91,21 +91,21 @@ module _ (F : Field) where
   -- a nonzero multiple of a vector generates what the vector generates
   abbrev pub MultipleGeneratesTheSame : Type 0
   MultipleGeneratesTheSame =
-      (M : Module F) → IsModule F M → (c : F.Element) (v : Vector F) → c ≢ F.zero → HasLength F M.dimension v →
+      (M : Module F) → HasSquareMatrices F M → (c : F.Element) (v : Vector F) → c ≢ F.zero → HasLength F M.dimension v →
       (x : Vector F) → InGenerated F M 1 (λ t. scale F c v) x ↔ InGenerated F M 1 (λ t. v) x
 
   -- an invariant span of the transposes gives one of the module: its annihilator
   abbrev pub AnnihilatorOfTransposedSpanIsInvariant : Type 0
   AnnihilatorOfTransposedSpanIsInvariant =
-      (M : Module F) → IsModule F M → (k : ℕ) (w : Matrix F) → IsInvariant F (transposed_module F M) k w →
+      (M : Module F) → HasSquareMatrices F M → (k : ℕ) (w : Matrix F) → IsInvariant F (transposed_module F M) k w →
       (r : ℕ) (v : Matrix F) → SpansAnnihilator F M.dimension k w r v → IsInvariant F M r v
 
   -- each nonzero vector of an irreducible module generates everything
   abbrev pub NonzeroVectorGeneratesAll : Type 0
   NonzeroVectorGeneratesAll =
-      (M : Module F) → IsModule F M → IsIrreducible F M → (v : Vector F) → HasLength F M.dimension v →
+      (M : Module F) → HasSquareMatrices F M → IsIrreducible F M → (v : Vector F) → HasLength F M.dimension v →
       v ≢ zero_vector F → VectorGeneratesAll F M v
 
   -- the transposes of an irreducible module are an irreducible module
   abbrev pub TransposesAreIrreducible : Type 0
-  TransposesAreIrreducible = (M : Module F) → IsModule F M → IsIrreducible F M → IsIrreducible F (transposed_module F M)
+  TransposesAreIrreducible = (M : Module F) → HasSquareMatrices F M → IsIrreducible F M → IsIrreducible F (transposed_module F M)

@@ -1,7 +1,7 @@
 -- Spans, independence and inverses (any linear algebra text).
 use Rattle.std.specs.Prelude.{◌≡◌, ◌≢◌, ℕ, ◌<◌}
 use Rattle.axe_algebra.specs.Field.{Field}
-use Rattle.axe_algebra.specs.Vectors.{Vector, Matrix, HasLength, IsMatrix, zero_vector, times, multiply, unit_matrix}
+use Rattle.axe_algebra.specs.Vectors.{Vector, Matrix, HasLength, HasShape, zero_vector, times, multiply, unit_matrix}
 
 -- x is in the span of the first k rows of v: the set of all their combinations
 pub record InSpan (F : Field) (k : ℕ) (v : Matrix F) (x : Vector F) : Type 0 where
@@ -39,7 +39,7 @@ SpansAll F n k v = (x : Vector F) → HasLength F n x → InSpan F k v x
 
 -- b is the inverse of the square matrix a of n rows
 pub record IsInverse (F : Field) (n : ℕ) (a b : Matrix F) : Type 0 where
-  pub shape : IsMatrix F n n b
+  pub shape : HasShape F n n b
   pub left : multiply F n b a ≡ unit_matrix F n
   pub right : multiply F n a b ≡ unit_matrix F n
 

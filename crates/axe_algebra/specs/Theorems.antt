@@ -1,7 +1,7 @@
 -- What the law functions promise, over one field (any linear algebra text).
 use Rattle.std.specs.Prelude.{◌≡◌, ℕ, ◌<◌, ◌≤◌, ◌⊎◌, ◌↔◌}
 use Rattle.axe_algebra.specs.Field.{Field}
-use Rattle.axe_algebra.specs.Vectors.{Vector, Matrix, HasLength, HasRowsOfLength, IsMatrix, zero_vector, unit_matrix}
+use Rattle.axe_algebra.specs.Vectors.{Vector, Matrix, HasLength, HasRowsOfLength, HasShape, zero_vector, unit_matrix}
 use Rattle.axe_algebra.specs.Vectors.{add_matrices, transposed, multiply}
 use Rattle.axe_algebra.specs.Spans.{InSpan, IsIndependent, IsDependent, SpanWithin, SameSpan, SpansAll, IsInverse}
 use Rattle.axe_algebra.specs.Spans.{IsInvertible, HasZeroNullSpace}
@@ -25,11 +25,11 @@ module _ (F : Field) where
 
   -- 1 a = a
   abbrev pub IdentityIsLeftNeutral : Type 0
-  IdentityIsLeftNeutral = (m n : ℕ) (a : Matrix F) → IsMatrix F m n a → multiply F m (unit_matrix F m) a ≡ a
+  IdentityIsLeftNeutral = (m n : ℕ) (a : Matrix F) → HasShape F m n a → multiply F m (unit_matrix F m) a ≡ a
 
   -- a 1 = a
   abbrev pub IdentityIsRightNeutral : Type 0
-  IdentityIsRightNeutral = (m n : ℕ) (a : Matrix F) → IsMatrix F m n a → multiply F n a (unit_matrix F n) ≡ a
+  IdentityIsRightNeutral = (m n : ℕ) (a : Matrix F) → HasShape F m n a → multiply F n a (unit_matrix F n) ≡ a
 
   -- (a b)^T = b^T a^T
   abbrev pub TransposeReversesProducts : Type 0
@@ -74,12 +74,12 @@ module _ (F : Field) where
   -- a square matrix is invertible exactly when its null space is zero
   abbrev pub InvertibleExactlyWhenNullSpaceIsZero : Type 0
   InvertibleExactlyWhenNullSpaceIsZero =
-      (n : ℕ) (a : Matrix F) → IsMatrix F n n a → IsInvertible F n a ↔ HasZeroNullSpace F n a
+      (n : ℕ) (a : Matrix F) → HasShape F n n a → IsInvertible F n a ↔ HasZeroNullSpace F n a
 
   -- a square matrix is invertible exactly when its rows are independent
   abbrev pub InvertibleExactlyWhenRowsAreIndependent : Type 0
   InvertibleExactlyWhenRowsAreIndependent =
-      (n : ℕ) (a : Matrix F) → IsMatrix F n n a → IsInvertible F n a ↔ IsIndependent F n a
+      (n : ℕ) (a : Matrix F) → HasShape F n n a → IsInvertible F n a ↔ IsIndependent F n a
 
   -- a square matrix is invertible exactly when its transpose is
   abbrev pub InvertibleExactlyWhenTransposeIs : Type 0
@@ -87,12 +87,12 @@ module _ (F : Field) where
 
   -- a right inverse of a square matrix is its inverse
   abbrev pub RightInverseIsInverse : Type 0
-  RightInverseIsInverse = (n : ℕ) (a b : Matrix F) → IsMatrix F n n a → IsMatrix F n n b →
+  RightInverseIsInverse = (n : ℕ) (a b : Matrix F) → HasShape F n n a → HasShape F n n b →
       multiply F n a b ≡ unit_matrix F n → IsInverse F n a b
 
   -- a left inverse of a square matrix is its inverse
   abbrev pub LeftInverseIsInverse : Type 0
-  LeftInverseIsInverse = (n : ℕ) (a b : Matrix F) → IsMatrix F n n a → IsMatrix F n n b →
+  LeftInverseIsInverse = (n : ℕ) (a b : Matrix F) → HasShape F n n a → HasShape F n n b →
       multiply F n b a ≡ unit_matrix F n → IsInverse F n a b
 
   -- the reduced basis of the span of k rows of length n

@@ -20,7 +20,7 @@ abbrev pub HasRowsOfLength : (F : Field) → ℕ → Matrix F → Type 0
 HasRowsOfLength F n a = (i : ℕ) → HasLength F n (a i)
 
 -- a matrix of m rows and n columns: all other entries are 0
-pub record IsMatrix (F : Field) (m n : ℕ) (a : Matrix F) : Type 0 where
+pub record HasShape (F : Field) (m n : ℕ) (a : Matrix F) : Type 0 where
   pub rows : (i j : ℕ) → m ≤ i → a i j ≡ F.zero
   pub columns : HasRowsOfLength F n a
 

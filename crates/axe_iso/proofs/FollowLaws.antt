@@ -6,7 +6,7 @@ use Rattle.std.proofs.lemmas.Bool.{false≢true}
 use Rattle.std.proofs.lemmas.List.{get_or_append_left, length_push}
 use Rattle.axe_algebra.specs.NumberField.{NumberField}
 use Rattle.axe_algebra.specs.Field.{Field}
-use Rattle.axe_algebra.specs.Vectors.{IsMatrix as HasShape, times}
+use Rattle.axe_algebra.specs.Vectors.{HasShape, times}
 use Rattle.axe_algebra.specs.Modules.{Module, image}
 use Rattle.axe_algebra.specs.Modules
 use Rattle.axe_algebra.specs.Bridge.{field_of, vector_of, matrix_of, module_of, element}
@@ -111,7 +111,7 @@ module _ (m matrices : ModuleValue) (is_module : IsModule m) (form : AreFormMatr
   squares : All (IsSquareOver K matrices.dim) matrices.generators
   squares = subst (λ o. All (IsSquareOver (number_field o) matrices.dim) matrices.generators) form.field form.well_formed.over.square
 
-  A_is_module : Modules.IsModule F A
+  A_is_module : Modules.HasSquareMatrices F A
   A_is_module = module_shape K matrices.dim matrices.generators squares
 
   over_rows : (v : List ℕ) (basis : MatrixValue) (r i : ℕ) → IsFollowedBasis m matrices v basis r i → IsMatrixOver K m.dim basis.rows

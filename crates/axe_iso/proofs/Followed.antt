@@ -1,9 +1,9 @@
 -- Rows that are followed as standard matrices tell, over one field: the first row, one image more, the next row, and the end.
 use Rattle.std.proofs.Common.{◌≡◌, ◌≢◌, ℕ, ◌+◌, ◌<◌, ◌≤◌, ◌⊎◌, inl, inr, refl, sym, ap, subst, ◌∙◌, arith}
 use Rattle.axe_algebra.specs.Field.{Field}
-use Rattle.axe_algebra.specs.Vectors.{Vector, Matrix, IsMatrix, unit_vector, times, multiply}
+use Rattle.axe_algebra.specs.Vectors.{Vector, Matrix, HasShape, unit_vector, times, multiply}
 use Rattle.axe_algebra.specs.Spans.{IsIndependent}
-use Rattle.axe_algebra.specs.Modules.{Module, IsModule, image}
+use Rattle.axe_algebra.specs.Modules.{Module, HasSquareMatrices, image}
 use Rattle.axe_algebra.specs.Actions.{IsSubAction}
 use Rattle.axe_algebra.specs.Standard.{Precedes, IsStandardBasis, AreStandardMatrices}
 use Rattle.axe_algebra.specs.Irreducible.{IsIsomorphism}
@@ -154,7 +154,7 @@ module _ (F : Field) (M A : Module F) where
 
   -- ---- the end
 
-  module _ (own : AreOfUnitVector F A) (count : A.count ≡ M.count) (is_module : IsModule F A) (k r : ℕ) (b : Matrix F)
+  module _ (own : AreOfUnitVector F A) (count : A.count ≡ M.count) (is_module : HasSquareMatrices F A) (k r : ℕ) (b : Matrix F)
       (all : A.dimension ≤ r) (followed : AreFollowedUpTo F M A k b r 0) where
     pub followed_all : k ≡ A.dimension
     followed_all = none_to_come F A own k r followed.some followed.no_more all (followed.to_come own)
@@ -178,8 +178,8 @@ module _ (F : Field) (M A : Module F) where
       acts = λ i t below within. followed.told t i (inl (omega (arith, within, all))) below b (λ s small. refl);
     }
 
-    module _ (dimension : A.dimension ≡ M.dimension) (square : (i : ℕ) → i < M.count → IsMatrix F M.dimension M.dimension (M.generator i))
-        (shape : IsMatrix F A.dimension A.dimension b) (independent : IsIndependent F A.dimension b) where
+    module _ (dimension : A.dimension ≡ M.dimension) (square : (i : ℕ) → i < M.count → HasShape F M.dimension M.dimension (M.generator i))
+        (shape : HasShape F A.dimension A.dimension b) (independent : IsIndependent F A.dimension b) where
       -- independent rows are an isomorphism
       intertwines : (i : ℕ) → i < A.count → multiply F A.dimension b (M.generator i) ≡ multiply F A.dimension (A.generator i) b
       intertwines i below = fun_ext λ t. at t (dec_lt t A.dimension)

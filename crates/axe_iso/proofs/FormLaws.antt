@@ -183,10 +183,10 @@ module _ (a m : ModuleValue) (is_a : IsModule a) (is_m : IsModule m) (field : m.
   abbrev word_of_both : ℕ → ℕ → WordValue
   word_of_both seed number = drawn_word seed number (order_number m.order) (length a.generators)
 
-  A_is_module : Modules.IsModule F A
+  A_is_module : Modules.HasSquareMatrices F A
   A_is_module = module_shape K' a.dim a.generators (subst (λ o. IsModuleOver (number_field o) a.dim a.generators) (sym field) is_a.over).square
 
-  N_is_module : Modules.IsModule F N
+  N_is_module : Modules.HasSquareMatrices F N
   N_is_module = module_shape K' m.dim m.generators is_m.over.square
 
   is_word_of_A : (seed number : ℕ) → IsWordOf F A (word_of K' (word_of_both seed number))

@@ -2,7 +2,7 @@
 use Rattle.std.proofs.Common.{◌≡◌, ℕ, length, refl, sym, subst, ◌∙◌}
 use Rattle.axe_algebra.specs.NumberField.{NumberField}
 use Rattle.axe_algebra.specs.Field.{Field}
-use Rattle.axe_algebra.specs.Vectors.{HasLength, IsMatrix, unit_vector}
+use Rattle.axe_algebra.specs.Vectors.{HasLength, HasShape, unit_vector}
 use Rattle.axe_algebra.specs.Spans.{IsNullVector, IsInvertible}
 use Rattle.axe_algebra.specs.Modules.{Module}
 use Rattle.axe_algebra.specs.Modules
@@ -49,7 +49,7 @@ module _ (m : ModuleValue) (v : RowValue) (basis : MatrixValue) (is_module : Val
   abbrev M : Module F
   M = module_of K m.dim m.generators
 
-  M_is_module : Modules.IsModule F M
+  M_is_module : Modules.HasSquareMatrices F M
   M_is_module = module_shape K m.dim m.generators is_module.over.square
 
   long : HasLength F m.dim (vector_of K v.entries)
@@ -77,7 +77,7 @@ module _ (m : ModuleValue) (v : RowValue) (basis : MatrixValue) (is_module : Val
         subst (λ k. Actions.IsSubAction F M m.dim (matrix_of K basis.rows) (module_of K k action.generators)) (sym (acts.dimension ∙ basis_is_square))
         (subst (λ k. Actions.IsSubAction F M k (matrix_of K basis.rows) (module_of K k action.generators)) basis_is_square acts.acts)
 
-    shape : IsMatrix F m.dim m.dim (matrix_of K basis.rows)
+    shape : HasShape F m.dim m.dim (matrix_of K basis.rows)
     shape = square_shape K m.dim basis.rows square
 
     iso : IsIsomorphism F A M (matrix_of K basis.rows)

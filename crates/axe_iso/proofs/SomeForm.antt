@@ -3,7 +3,7 @@ use Rattle.std.proofs.Common.{◌≡◌, ◌≢◌, ℕ, zero, suc, ◌<◌, ◌
 use Rattle.std.proofs.Math.Seq.{drop-cons}
 use Rattle.axe_algebra.specs.NumberField.{NumberField}
 use Rattle.axe_algebra.specs.Field.{Field}
-use Rattle.axe_algebra.specs.Vectors.{Matrix, zero_vector, IsMatrix as HasShape}
+use Rattle.axe_algebra.specs.Vectors.{Matrix, zero_vector, HasShape}
 use Rattle.axe_algebra.specs.Modules.{Module}
 use Rattle.axe_algebra.specs.Words.{word_value}
 use Rattle.axe_algebra.specs.Bridge.{vector_of, matrix_of, module_of, word_of}

@@ -2,7 +2,7 @@
 use Rattle.std.specs.Prelude.{◌≡◌, ℕ, ◌<◌, List, length, get_or}
 use Rattle.axe_algebra.specs.NumberField.{NumberField}
 use Rattle.axe_algebra.specs.Field.{Field}
-use Rattle.axe_algebra.specs.Vectors.{Vector, Matrix, IsMatrix, multiply}
+use Rattle.axe_algebra.specs.Vectors.{Vector, Matrix, HasShape, multiply}
 use Rattle.axe_algebra.specs.Bridge.{field_of, element, matrix_of}
 use Rattle.axe_algebra.specs.Lists.{entry, table, IsMatrixOver}
 use Rattle.axe_algebra.specs.ListArithmetic.{product_entry}
@@ -47,7 +47,7 @@ module _ (K : NumberField) where
       (λ i j. K.add (entry rows i j) (K.mul c (product_entry K (at_pivots pivots rows) reduced (length reduced) i j)))
 
   less_shape : (columns : ℕ) (pivots : List ℕ) (reduced rows : List (List ℕ)) → IsMatrixOver K columns reduced → IsMatrixOver K columns rows →
-      IsMatrix F (length rows) columns (less_reduced pivots reduced rows)
+      HasShape F (length rows) columns (less_reduced pivots reduced rows)
   less_shape columns pivots reduced rows over_reduced over_rows = record {
     rows = λ i j past.
         ap₂ (λ x y. F.add x (F.neg y)) (shape.rows i j past)
@@ -62,7 +62,7 @@ module _ (K : NumberField) where
         ∙ F.add-neg F.zero;
   }
     where
-      shape : IsMatrix F (length rows) columns (matrix_of K rows)
+      shape : HasShape F (length rows) columns (matrix_of K rows)
       shape = matrix_shape K columns rows over_rows
 
   cleared_entry : (columns c : ℕ) (pivots : List ℕ) (reduced rows : List (List ℕ)) (i j : ℕ) → c < K.order → element K c ≡ F.neg F.one →

@@ -1,7 +1,7 @@
 -- A module that is isomorphic to an irreducible one is irreducible; an invertible basis is an isomorphism from the action on it.
 use Rattle.std.specs.Prelude.{◌≡◌, ℕ, ◌<◌, ◌⊎◌}
 use Rattle.axe_algebra.specs.Field.{Field}
-use Rattle.axe_algebra.specs.Vectors.{Vector, Matrix, HasLength, HasRowsOfLength, IsMatrix, zero_vector, times}
+use Rattle.axe_algebra.specs.Vectors.{Vector, Matrix, HasLength, HasRowsOfLength, HasShape, zero_vector, times}
 use Rattle.axe_algebra.specs.Spans.{InSpan, IsInvertible, SpansZero, SpansAll}
 use Rattle.axe_algebra.specs.Modules.{Module, IsInvariant, image}
 use Rattle.axe_algebra.specs.Actions.{IsSubAction}
@@ -70,12 +70,12 @@ module _ (F : Field) (M N : Module F) (T : Matrix F) (iso : IsIsomorphism F M N 
 
 module _ (F : Field) where
   -- a square invertible basis is an isomorphism from the action on it
-  pub basis_is_isomorphism : (D A : Module F) (n : ℕ) (T : Matrix F) → D.dimension ≡ n → A.dimension ≡ n → IsMatrix F n n T → IsInvertible F n T →
+  pub basis_is_isomorphism : (D A : Module F) (n : ℕ) (T : Matrix F) → D.dimension ≡ n → A.dimension ≡ n → HasShape F n n T → IsInvertible F n T →
       IsSubAction F D n T A → IsIsomorphism F A D T
   basis_is_isomorphism D A n T of_D of_A shape invertible action = record {
     dimension = of_A ∙ sym of_D;
     count = action.count;
-    shape = subst (λ k. IsMatrix F k k T) (sym of_A) shape;
+    shape = subst (λ k. HasShape F k k T) (sym of_A) shape;
     invertible = subst (λ k. IsInvertible F k T) (sym of_A) invertible;
     intertwines = λ i below. fun_ext λ t. row i t (subst (λ c. i < c) action.count below) (dec_lt t n);
   }

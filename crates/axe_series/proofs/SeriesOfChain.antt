@@ -38,7 +38,7 @@ isomorphic_back m n is_m is_n fields iso =
     subst (λ o. AreIsomorphic (number_field o) n.dim n.generators m.dim m.generators) fields
     (isomorphic_sym (gf m.order) (module_of (number_field m.order) m.dim m.generators) (module_of (number_field m.order) n.dim n.generators)
     (module_shape (number_field m.order) m.dim m.generators is_m.over.square)
-    (subst (λ o. Modules.IsModule (gf o) (module_of (number_field o) n.dim n.generators)) (sym fields) (module_shape (number_field n.order) n.dim n.generators is_n.over.square))
+    (subst (λ o. Modules.HasSquareMatrices (gf o) (module_of (number_field o) n.dim n.generators)) (sym fields) (module_shape (number_field n.order) n.dim n.generators is_n.over.square))
     iso)
 
 pub isomorphic_to_itself : (m : ModuleValue) → IsModule m → IsIsomorphicTo m m

@@ -109,7 +109,7 @@ module _ (m : ModuleValue) (is : IsModule m) (rows : List (List ℕ)) (over : Is
   conjugate_at : (i : ℕ) (d : List (List ℕ)) → i < length m.generators → get_or (map conjugated m.generators) i d ≡ conjugated (get_or m.generators i [])
   conjugate_at i d below = get_or-map conjugated m.generators i [] d below
 
-  M_is : Modules.IsModule F M
+  M_is : Modules.HasSquareMatrices F M
   M_is = module_shape K m.dim m.generators is.over.square
 
   module _ (sizes : List ℕ) (blocks : AreBlockSizes m.dim sizes) where

@@ -4,7 +4,7 @@ use Rattle.std.specs.List.{All}
 use Rattle.axe_algebra.specs.NumberField.{NumberField}
 use Rattle.axe_algebra.specs.Field.{Field}
 use Rattle.axe_algebra.specs.Vectors.{Vector, Matrix, HasLength, scale, times, multiply}
-use Rattle.axe_algebra.specs.Modules.{Module, IsModule}
+use Rattle.axe_algebra.specs.Modules.{Module, HasSquareMatrices}
 use Rattle.axe_algebra.specs.Actions.{IsSubAction}
 use Rattle.axe_algebra.specs.Standard.{IsStandardBasis}
 use Rattle.axe_algebra.specs.Bridge.{field_of, element, vector_of, matrix_of, module_of}
@@ -35,7 +35,7 @@ use native.Mathlib.Omega.{arith}
 
 module _ (F : Field) where
   -- the sub action on the standard basis of v is that on the standard basis of a nonzero multiple
-  pub action_of_multiple : (M : Module F) (c : F.Element) (v w : Vector F) → c ≢ F.zero → IsModule F M → HasLength F M.dimension v → w ≡ scale F c v →
+  pub action_of_multiple : (M : Module F) (c : F.Element) (v w : Vector F) → c ≢ F.zero → HasSquareMatrices F M → HasLength F M.dimension v → w ≡ scale F c v →
       (k l : ℕ) (b d : Matrix F) (A : ℕ → Module F) → IsStandardBasis F M v k b → IsStandardBasis F M w l d → IsSubAction F M k b (A k) →
       IsSubAction F M l d (A l)
   action_of_multiple M c v w nonzero is length w_is k l b d A own other acts =
@@ -158,7 +158,7 @@ multiple_has_same_matrices m c v basis other matrices is_m element_c nonzero of 
     w : Vector F
     w = vector_of K multiplied
 
-    shape : IsModule F M
+    shape : HasSquareMatrices F M
     shape = module_shape K m.dim m.generators is_m.over.square
 
     over_v : IsVectorOver K m.dim v.entries
