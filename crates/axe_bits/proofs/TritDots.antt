@@ -3,9 +3,9 @@ use Rattle.std.proofs.Common.{◌≡◌, ℕ, zero, suc, ◌+◌, ◌*◌, ◌%�
 use Rattle.std.proofs.Math.Nat.{add-mul}
 use native.Mathlib.Nat.{mul-add, mul_assoc, mul_comm}
 use Rattle.axe_lane.specs.Bytes.{sum_of_products}
-use Rattle.axe_lane.specs.Words.{common_bits}
+use Rattle.axe_lane.specs.Words.{bit_of, common_bits}
 use Rattle.axe_lane.specs.Trits.{common_trits}
-use Rattle.axe_layer.specs.Bits.{bit_of, bits, HoldsBits}
+use Rattle.axe_layer.specs.Bits.{bits, HoldsBits}
 use Rattle.axe_bits.specs.Trits.{trits, HoldLayers}
 use Rattle.axe_layer.proofs.BitLaws.{length-bits, get_or-bits}
 use Rattle.axe_layer.proofs.DotLaws.{common_bits-dot, dot_by_entries, sum_below, sum_below-same}

@@ -6,7 +6,7 @@ use Rattle.std.proofs.lemmas.List.{get_or-drop, length-drop}
 use Rattle.std.proofs.lemmas.Nat.Bits.{bit_at-zero}
 use Rattle.axe_lane.specs.Entries.{AreZerosBefore}
 use Rattle.axe_lane.specs.Trits.{AreTrits, FitAt, IsTritSum}
-use Rattle.axe_lane.specs.Words.{bit_of_words}
+use Rattle.axe_lane.specs.Words.{bit_of}
 use Rattle.axe_layer.specs.Bits.{bits}
 use Rattle.axe_bits.specs.Trits.{trits, HoldLayers}
 use Rattle.axe_layer.proofs.EndLaws.{end-before, end-after, end_is, end_written, length-end, zero_words_before}
@@ -15,7 +15,8 @@ use Rattle.axe_bits.proofs.TritLaws.{get_or-trits}
 -- ---- the words from one on
 
 -- a bit of them
-bit-drop : (a : ℕ) (words : List ℕ) (i : ℕ) → a * 64 ≤ i → bit_of_words (drop a words) (i - a * 64) ≡ bit_of_words words i
+bit-drop : (a : ℕ) (words : List ℕ) (i : ℕ) → a * 64 ≤ i → bit_of (drop a words) (i - a * 64) ≡ bit_of words i
+unfolding bit_of
 bit-drop a words i from =
     let word : a + (i - a * 64) / 64 ≡ i / 64 = omega arith in
     let place : (i - a * 64) % 64 ≡ i % 64 = omega arith in
@@ -31,18 +32,20 @@ AreTrits-drop a ones twos h = record {
   as_long = omega (arith, length-drop a ones, length-drop a twos, h.as_long);
   apart = λ i.
       let back : i + a * 64 - a * 64 ≡ i = omega arith in
-      let one = ap (bit_of_words (drop a ones)) (sym back) ∙ bit-drop a ones (i + a * 64) (omega arith) in
-      let two = ap (bit_of_words (drop a twos)) (sym back) ∙ bit-drop a twos (i + a * 64) (omega arith) in
+      let one = ap (bit_of (drop a ones)) (sym back) ∙ bit-drop a ones (i + a * 64) (omega arith) in
+      let two = ap (bit_of (drop a twos)) (sym back) ∙ bit-drop a twos (i + a * 64) (omega arith) in
       omega (arith, one, two, h.apart (i + a * 64));
 }
 
 -- ---- words with another end
 
 module _ (a : ℕ) (words new : List ℕ) (room : a ≤ length words) where
-  bit-before : (i : ℕ) → i < a * 64 → bit_of_words (take a words ++ new) i ≡ bit_of_words words i
+  bit-before : (i : ℕ) → i < a * 64 → bit_of (take a words ++ new) i ≡ bit_of words i
+  unfolding bit_of
   bit-before i before = ap (λ w. bit_at w (i % 64)) (end-before a words new room (i / 64) (omega arith))
 
-  bit-after : (i : ℕ) → a * 64 ≤ i → bit_of_words (take a words ++ new) i ≡ bit_of_words new (i - a * 64)
+  bit-after : (i : ℕ) → a * 64 ≤ i → bit_of (take a words ++ new) i ≡ bit_of new (i - a * 64)
+  unfolding bit_of
   bit-after i from =
       let word : i / 64 - a ≡ (i - a * 64) / 64 = omega arith in
       let place : i % 64 ≡ (i - a * 64) % 64 = omega arith in
@@ -50,7 +53,8 @@ module _ (a : ℕ) (words new : List ℕ) (room : a ≤ length words) where
       ∙ ap₂ (λ k p. bit_at (get_or new k 0) p) word place
 
 -- words that are 0 have no bit
-no_bit_before : (a : ℕ) (words : List ℕ) (i : ℕ) → AreZerosBefore words a → i < a * 64 → bit_of_words words i ≡ 0
+no_bit_before : (a : ℕ) (words : List ℕ) (i : ℕ) → AreZerosBefore words a → i < a * 64 → bit_of words i ≡ 0
+unfolding bit_of
 no_bit_before a words i zeros before = ap (λ w. bit_at w (i % 64)) (zeros (i / 64) (omega arith)) ∙ bit_at-zero (i % 64)
 
 -- ---- the sum

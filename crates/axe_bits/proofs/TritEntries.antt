@@ -4,7 +4,8 @@ use Rattle.std.proofs.lemmas.List.{set-get_or}
 use Rattle.std.specs.Simd.Lanes.{put_chunk}
 use Rattle.axe_lane.specs.Trits.{IsTritSum}
 use Rattle.axe_layer.specs.Bits.{bits, HoldsBits}
-use Rattle.axe_layer.specs.Digits.{digits_with_multiple, AreDigits}
+use Rattle.axe_lane.specs.Bytes.{AreDigits}
+use Rattle.axe_layer.specs.Digits.{digits_with_multiple}
 use Rattle.axe_bits.specs.FlatTables.{bit_entries, HoldsEntries}
 use Rattle.axe_bits.specs.Trits.{trits, trit_entries, HoldLayers, HoldTrits, HoldTritEntries}
 use Rattle.axe_layer.proofs.DigitLaws.{digits_with_multiple-none}

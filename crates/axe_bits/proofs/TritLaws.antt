@@ -20,7 +20,3 @@ get_or-trits a b h e = elim (dec_lt e (length a)) [
       let whole = get_or_past (trits a b) e 0 (omega (arith, length-trits a b)) in
       omega (arith, left, right, whole)
 ]
-
--- a digit is below 3
-pub trit-below : (a b : List ℕ) → HoldTrits a b → (e : ℕ) → get_or (trits a b) e 0 < 3
-trit-below a b h e = omega (arith, get_or-trits a b h e, h.apart e)

@@ -6,7 +6,8 @@ use Rattle.std.proofs.lemmas.List.Elements.{All-from_get_or}
 use native.Mathlib.Decide.{dec_lt}
 use Rattle.axe_algebra.specs.Lists.{listed}
 use Rattle.axe_algebra.proofs.ListEntries.{listed_length, listed_at}
-use Rattle.axe_layer.specs.Digits.{AreDigits, digits_at}
+use Rattle.axe_lane.specs.Bytes.{AreDigits}
+use Rattle.axe_layer.specs.Digits.{digits_at}
 use Rattle.axe_bits.specs.Trits.{trits, HoldTrits}
 use Rattle.axe_bits.proofs.TritLaws.{length-trits, get_or-trits}
 

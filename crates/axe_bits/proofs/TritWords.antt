@@ -3,18 +3,13 @@ use Rattle.std.proofs.Common.{◌≡◌, ℕ, ◌+◌, ◌*◌, ◌%◌, ◌<◌
 use Rattle.std.proofs.lemmas.Bool.{cases_lt}
 use Rattle.std.proofs.lemmas.List.{ext_get_or, get_or_past}
 use Rattle.axe_algebra.proofs.ListEntries.{listed_length, listed_at}
-use Rattle.axe_lane.specs.Words.{bit_of_words}
+use Rattle.axe_lane.specs.Words.{bit_of}
 use Rattle.axe_lane.specs.Trits.{AreTrits, FitAt, IsTritSum}
-use Rattle.axe_layer.specs.Bits.{bit_of, bits, HoldsBits}
+use Rattle.axe_layer.specs.Bits.{bits, HoldsBits}
 use Rattle.axe_layer.specs.Digits.{digits_with_multiple}
 use Rattle.axe_bits.specs.Trits.{trits, HoldLayers, HoldTrits}
 use Rattle.axe_layer.proofs.BitLaws.{length-bits, get_or-bits, plane_long, AreDigits-bits}
 use Rattle.axe_layer.proofs.DigitLaws.{length-digits_with_multiple, get_or-digits_with_multiple}
-
--- the bit of a word, in the words of both crates
-same_bit : (words : List ℕ) (e : ℕ) → bit_of_words words e ≡ bit_of words e
-unfolding bit_of
-same_bit words e = refl
 
 -- how many digits two layers of n bits have, and which
 pub length-layers : (n : ℕ) (o t : List ℕ) → length (trits (bits n o) (bits n t)) ≡ n
@@ -38,7 +33,7 @@ apart_bits n o t h e = elim (cases_lt e n) [
 pub layers_are_trits : (n : ℕ) (o t : List ℕ) → HoldLayers n o t → AreTrits o t
 layers_are_trits n o t h = record {
   as_long = h.twos_held.long ∙ sym h.ones_held.long;
-  apart = λ e. omega (arith, same_bit o e, same_bit t e, apart_bits n o t h e);
+  apart = λ e. omega (arith, apart_bits n o t h e);
 }
 
 -- two layers of words are layers where no place has a bit in both
@@ -70,7 +65,7 @@ module _ (n : ℕ) (o t a b p q : List ℕ) (row : HoldLayers n o t) (more : Hol
   }
 
   digit : (e : ℕ) → bit_of p e + 2 * bit_of q e ≡ (bit_of o e + 2 * bit_of t e + (bit_of a e + 2 * bit_of b e)) % 3
-  digit e = omega (arith, sum.entries e, same_bit p e, same_bit q e, same_bit o e, same_bit t e, same_bit a e, same_bit b e)
+  digit e = omega (arith, sum.entries e)
 
   unused_digit : (e : ℕ) → n ≤ e → bit_of p e + 2 * bit_of q e ≡ 0
   unused_digit e past =
@@ -91,7 +86,7 @@ module _ (n : ℕ) (o t a b p q : List ℕ) (row : HoldLayers n o t) (more : Hol
         long = sum.are_trits.as_long ∙ sum.long ∙ row.ones_held.long;
         unused = λ e past. omega (arith, unused_digit e past);
       })
-      (λ e. omega (arith, sum.are_trits.apart e, same_bit p e, same_bit q e))
+      (λ e. omega (arith, sum.are_trits.apart e))
 
   pub digits_of_sum : trits (bits n p) (bits n q) ≡ digits_with_multiple 3 (trits (bits n o) (bits n t)) 1 (trits (bits n a) (bits n b))
   digits_of_sum =

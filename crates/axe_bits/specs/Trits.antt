@@ -3,7 +3,7 @@ use Rattle.std.specs.Prelude.{◌≡◌, ℕ, ◌+◌, ◌*◌, ◌/◌, ◌<◌
 use Rattle.std.specs.Prelude.{length, slice_index, slice_index_or, take, drop}
 use Rattle.axe_algebra.specs.Lists.{listed}
 use Rattle.axe_layer.specs.Bits.{bits, HoldsBits}
-use Rattle.axe_layer.specs.Digits.{AreDigits}
+use Rattle.axe_lane.specs.Bytes.{AreDigits}
 
 -- the digits of two layers: those of the first, and twice those of the second
 unfoldable pub trits : List ℕ → List ℕ → List ℕ

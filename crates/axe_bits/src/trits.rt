@@ -2,12 +2,12 @@
 ghost use Rattle.std.specs.Prelude.{ℕ, ◌≡◌, ◌+◌, ◌*◌, ◌%◌, ◌^◌, ◌<◌, ◌≤◌, ◌↔◌, IsTrue, IfOk, length, map};
 ghost use Rattle.std.specs.Prelude.{replicate, slice_index, slice_set, All, MatchOption};
 ghost use Rattle.axe_algebra.specs.Lists.{listed};
-ghost use Rattle.axe_lane.specs.Bytes.{multiple_modulo, sum_of_products};
+ghost use Rattle.axe_lane.specs.Bytes.{multiple_modulo, sum_of_products, AreDigits};
 ghost use Rattle.axe_lane.specs.Entries.{IsFirstNonzero, AreZerosBefore, AreZerosFrom, IsNextNonzero};
 ghost use Rattle.axe_layer.specs.Bits.{bits};
 ghost use Rattle.axe_lane.specs.Trits.{AreTrits, IsTritSum};
 ghost use Rattle.axe_bits.specs.Trits.{trits, first_half, second_half, HoldLayers};
-ghost use Rattle.axe_layer.specs.Digits.{AreDigits, digits_with_multiple};
+ghost use Rattle.axe_layer.specs.Digits.{digits_with_multiple};
 ghost use Rattle.axe_layer.specs.Digits.{AreSmallSums, numbers_with_multiple, numbers_from, number_bound};
 
 use axe_lane::{add_trits, any_nonzero, dot_trits};

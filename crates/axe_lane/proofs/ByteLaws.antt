@@ -2,31 +2,31 @@
 use Rattle.std.proofs.Common.{◌≡◌, ℕ, ◌+◌, ◌*◌, ◌%◌, ◌<◌, List, [], ◌∷◌, length, replicate, refl, sym, ap, ap₂, subst, ◌∙◌, arith}
 use Rattle.std.proofs.lemmas.List.Elements.{All-map, All-head, All-tail}
 use Rattle.std.proofs.Math.Nat.{mod-eq_of_lt}
-use Rattle.axe_lane.specs.Bytes.{AreBelow, sum_with_multiple_modulo, multiple_modulo}
+use Rattle.axe_lane.specs.Bytes.{AreDigits, sum_with_multiple_modulo, multiple_modulo}
 use Rattle.axe_lane.proofs.Progress.{All-zip2}
 use Rattle.axe_lane.proofs.VectorLaws.{zip2-agree, zip2-first, map-same}
 use Rattle.axe_lane.proofs.ResidueLaws.{below_mod}
 
 module _ (p q m : ℕ) (some : 1 < q) (same : p ≡ q) (new : List ℕ) where
-  pub sum_is_below : (a b : List ℕ) → new ≡ sum_with_multiple_modulo q a m b → AreBelow p new
+  pub sum_is_below : (a b : List ℕ) → new ≡ sum_with_multiple_modulo q a m b → AreDigits p new
   sum_is_below a b is =
-      subst (λ k. AreBelow k new) (sym same)
-      (subst (AreBelow q) (sym is) (All-zip2 (λ x y. (x + m * y) % q) (λ x. x < q) (λ x y. below_mod q (x + m * y) some) a b))
+      subst (λ k. AreDigits k new) (sym same)
+      (subst (AreDigits q) (sym is) (All-zip2 (λ x y. (x + m * y) % q) (λ x. x < q) (λ x y. below_mod q (x + m * y) some) a b))
 
-  pub multiple_is_below : (a : List ℕ) → new ≡ multiple_modulo q m a → AreBelow p new
+  pub multiple_is_below : (a : List ℕ) → new ≡ multiple_modulo q m a → AreDigits p new
   multiple_is_below a is =
-      subst (λ k. AreBelow k new) (sym same)
-      (subst (AreBelow q) (sym is) (All-map (λ x. x < q) (λ x. (m * x) % q) a (λ k d h. below_mod q _ some)))
+      subst (λ k. AreDigits k new) (sym same)
+      (subst (AreDigits q) (sym is) (All-map (λ x. x < q) (λ x. (m * x) % q) a (λ k d h. below_mod q _ some)))
 
 module _ (p m : ℕ) where
-  pub sum_with_none : m ≡ 0 → (a b : List ℕ) → length b ≡ length a → AreBelow p a → a ≡ sum_with_multiple_modulo p a m b
+  pub sum_with_none : m ≡ 0 → (a b : List ℕ) → length b ≡ length a → AreDigits p a → a ≡ sum_with_multiple_modulo p a m b
   sum_with_none none a b fits below =
       map-same a ∙ sym (zip2-first (λ x. x) a b fits)
       ∙ sym (zip2-agree (λ x. x < p) (λ _. Unit {0}) (λ x y. (x + m * y) % p) (λ x y. x)
       (λ x y h _. let product : m * y ≡ 0 * y = ap (λ k. k * y) none in let sum : x + m * y ≡ x = omega arith in ap (λ z. z % p) sum ∙ mod-eq_of_lt h)
       a b below (λ k d h. tt))
 
-  pub multiple_by_one : m ≡ 1 → (a : List ℕ) → AreBelow p a → a ≡ multiple_modulo p m a
+  pub multiple_by_one : m ≡ 1 → (a : List ℕ) → AreDigits p a → a ≡ multiple_modulo p m a
   multiple_by_one one [] below = refl
   multiple_by_one one (x ∷ a) below =
       let product : m * x ≡ 1 * x = ap (λ k. k * x) one in

@@ -7,7 +7,7 @@ use Rattle.std.proofs.lemmas.List.{get_or_past, length-set}
 use Rattle.std.proofs.lemmas.Nat.Bits.{bit_at-lt, bit_at_or, bit_at_xor}
 use Rattle.std.proofs.lemmas.Nat.{or_lt, xor_lt}
 use Rattle.std.proofs.lemmas.Simd.{get_or-chunk, get_or-put_chunk_above, get_or-put_chunk_at, get_or-put_chunk_below, get_or-zip2, length-chunk, length-put_chunk}
-use Rattle.axe_lane.specs.Words.{bit_of_words}
+use Rattle.axe_lane.specs.Words.{bit_of}
 use Rattle.axe_lane.specs.Trits.{trit_of, turned_bits, ones_of_sum, twos_of_sum, AreTrits, FitAt, HasSumBetween, IsTritSum}
 use Rattle.axe_lane.proofs.VectorLaws.{length-zip2_of}
 
@@ -173,27 +173,32 @@ module _ (o t a b p q : List ℕ) (row : AreTrits o t) (more : AreTrits a b) (fi
 
   module _ (i : ℕ) where
     abbrev bit : List ℕ → ℕ
-    bit words = bit_of_words words i
+    bit words = bit_of words i
 
     turned_bit : bit_at (turned_bits (get_or o (i / 64) 0) (get_or t (i / 64) 0) (get_or a (i / 64) 0) (get_or b (i / 64) 0)) (i % 64)
         ≡ (max (bit o) (bit b) + max (bit t) (bit a)) % 2
+    unfolding bit_of
     turned_bit = bit_at_xor _ _ (i % 64) ∙ ap₂ (λ x y. (x + y) % 2) (bit_at_or _ _ (i % 64)) (bit_at_or _ _ (i % 64))
 
     ones_bit : bit p ≡ ((max (bit o) (bit b) + max (bit t) (bit a)) % 2 + max (bit t) (bit b)) % 2
+    unfolding bit_of
     ones_bit =
         ap (λ w. bit_at w (i % 64)) (ones_word (i / 64)) ∙ bit_at_xor _ _ (i % 64)
         ∙ ap₂ (λ x y. (x + y) % 2) turned_bit (bit_at_or _ _ (i % 64))
 
     twos_bit : bit q ≡ ((max (bit o) (bit b) + max (bit t) (bit a)) % 2 + max (bit o) (bit a)) % 2
+    unfolding bit_of
     twos_bit =
         ap (λ w. bit_at w (i % 64)) (twos_word (i / 64)) ∙ bit_at_xor _ _ (i % 64)
         ∙ ap₂ (λ x y. (x + y) % 2) turned_bit (bit_at_or _ _ (i % 64))
 
     apart_here : bit p + bit q ≤ 1
+    unfolding bit_of
     apart_here =
         omega (arith, ones_bit, twos_bit, apart_bits (bit o) (bit t) (bit a) (bit b) (bit_at-lt _ _) (bit_at-lt _ _) (bit_at-lt _ _) (bit_at-lt _ _) (row.apart i) (more.apart i))
 
     sum_here : trit_of p q i ≡ (trit_of o t i + trit_of a b i) % 3
+    unfolding bit_of
     sum_here =
         ap₂ (λ x y. x + 2 * y) ones_bit twos_bit
         ∙ sum_of_bits (bit o) (bit t) (bit a) (bit b) (bit_at-lt _ _) (bit_at-lt _ _) (bit_at-lt _ _) (bit_at-lt _ _) (row.apart i) (more.apart i)

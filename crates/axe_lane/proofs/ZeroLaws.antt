@@ -10,7 +10,7 @@ use Rattle.std.proofs.lemmas.List.Elements.{All-get_or, All-from_get_or}
 use Rattle.std.proofs.lemmas.Nat.{le_or_l, le_or_r}
 use Rattle.std.proofs.lemmas.Nat.Bits.{bit_at-zero}
 use Rattle.axe_lane.specs.Entries.{HasNonzero, AreZerosBefore, IsFirstNonzero}
-use Rattle.axe_lane.specs.Words.{HasNoSetBit, IsFirstSetBit}
+use Rattle.axe_lane.specs.Words.{bit_of, HasNoSetBit, IsFirstSetBit}
 
 first_and_rest : (x : ℕ) (xs : List ℕ) → x ≡ 0 → ((j : ℕ) → get_or xs j 0 ≡ 0) → (j : ℕ) → get_or (x ∷ xs) j 0 ≡ 0
 first_and_rest x xs e rest zero = e
@@ -50,11 +50,13 @@ no_bit_past words n i zeros =
     ]
 
 pub no_set_bit : (words : List ℕ) → All (λ x. x ≡ 0) words → HasNoSetBit words
+unfolding bit_of
 no_set_bit words zeros i = no_bit_past words (i / 64) (i % 64) zeros
 
 -- the lowest bit of the first word that is not zero
 pub first_set_bit : (words : List ℕ) (at bit : ℕ) → IsFirstNonzero words at → bit < 64 → bit_at (get_or words at 0) bit ≡ 1
     → ((i : ℕ) → i < bit → bit_at (get_or words at 0) i ≡ 0) → IsFirstSetBit words (at * 64 + bit)
+unfolding bit_of
 first_set_bit words at bit first small set unset =
     let word : (at * 64 + bit) / 64 ≡ at = omega arith in
     let place : (at * 64 + bit) % 64 ≡ bit = omega arith in

@@ -6,9 +6,9 @@ use Rattle.std.specs.Simd.Lanes.{zip2}
 abbrev pub IsSmallPrime : ℕ → Type 0
 IsSmallPrime p = (p ≡ 2) ⊎ ((p ≡ 3) ⊎ ((p ≡ 5) ⊎ (p ≡ 7)))
 
--- each byte is below p
-abbrev pub AreBelow : ℕ → List ℕ → Type 0
-AreBelow p bytes = All (λ byte. byte < p) bytes
+-- each digit is below p
+abbrev pub AreDigits : ℕ → List ℕ → Type 0
+AreDigits p digits = All (λ digit. digit < p) digits
 
 -- the sum of two rows modulo p, entry by entry
 abbrev pub sum_modulo : ℕ → List ℕ → List ℕ → List ℕ

@@ -1,16 +1,16 @@
 -- Pairs of lists of 64-bit words as rows over the field of order 3: an entry is 1 where its bit is set in the list of
 -- ones, 2 where it is set in the list of twos, and else 0. Bit i of a list is bit i mod 64 of its word i / 64.
 use Rattle.std.specs.Prelude.{◌≡◌, ◌⊎◌, ℕ, ◌+◌, ◌*◌, ◌%◌, ◌^◌, ◌<◌, ◌≤◌, List, length, slice_index, bit_or, bit_xor}
-use Rattle.axe_lane.specs.Words.{bit_of_words, common_bits}
+use Rattle.axe_lane.specs.Words.{bit_of, common_bits}
 
 -- entry i of a row
 abbrev pub trit_of : List ℕ → List ℕ → ℕ → ℕ
-trit_of ones twos i = bit_of_words ones i + 2 * bit_of_words twos i
+trit_of ones twos i = bit_of ones i + 2 * bit_of twos i
 
 -- two lists of one length, and no bit is set in both
 pub record AreTrits (ones twos : List ℕ) : Type 0 where
   pub as_long : length twos ≡ length ones
-  pub apart : (i : ℕ) → bit_of_words ones i + bit_of_words twos i ≤ 1
+  pub apart : (i : ℕ) → bit_of ones i + bit_of twos i ≤ 1
 
 -- the words at an index of two rows have 64 bits
 pub record FitAt (k : ℕ) (ones twos more_ones more_twos : List ℕ) : Type 0 where

@@ -8,19 +8,19 @@ use Rattle.std.specs.Simd.Lanes.{zip2}
 abbrev pub xor_of_words : List ℕ → List ℕ → List ℕ
 xor_of_words a b = zip2 bit_xor a b
 
--- bit i of a list of words
-abbrev pub bit_of_words : List ℕ → ℕ → ℕ
-bit_of_words words i = bit_at (slice_index words (i / 64)) (i % 64)
+-- bit e of a list of words: bit e mod 64 of word e / 64, where bit 0 is the lowest
+unfoldable pub bit_of : List ℕ → ℕ → ℕ
+bit_of words e = bit_at (slice_index words (e / 64)) (e % 64)
 
 -- no bit is set
 abbrev pub HasNoSetBit : List ℕ → Type 0
-HasNoSetBit words = (i : ℕ) → bit_of_words words i ≡ 0
+HasNoSetBit words = (i : ℕ) → bit_of words i ≡ 0
 
 -- the set bit of the least index is the one at this index
 pub record IsFirstSetBit (words : List ℕ) (index : ℕ) : Type 0 where
   pub within : index / 64 < length words
-  pub is_set : bit_of_words words index ≡ 1
-  pub unset_before : (i : ℕ) → i < index → bit_of_words words i ≡ 0
+  pub is_set : bit_of words index ≡ 1
+  pub unset_before : (i : ℕ) → i < index → bit_of words i ≡ 0
 
 -- how many bits are set in both lists at the same index
 abbrev pub common_bits : List ℕ → List ℕ → ℕ

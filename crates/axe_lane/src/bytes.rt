@@ -1,7 +1,7 @@
 //! Kernels on bytes that are entries over a prime field.
 ghost use Rattle.std.specs.Prelude.{◌≡◌, ◌+◌, ◌*◌, ◌%◌, ◌^◌, ◌<◌, ◌≤◌, length, map, All, IsTrue, MatchOption};
 ghost use Rattle.std.specs.Simd.Lanes.{chunk, products, put_chunk, sum_l};
-ghost use Rattle.axe_lane.specs.Bytes.{AreBelow, IsSmallPrime, less_where_not_below, multiple_modulo, sum_modulo};
+ghost use Rattle.axe_lane.specs.Bytes.{AreDigits, IsSmallPrime, less_where_not_below, multiple_modulo, sum_modulo};
 ghost use Rattle.axe_lane.specs.Bytes.{sum_of_products, sum_with_multiple_modulo};
 ghost use Rattle.axe_lane.specs.Entries.{AreZerosBefore, IsFirstNonzero};
 
@@ -19,10 +19,10 @@ pub fn add_scaled_bytes(dst: &mut [u8], src: &[u8], m: u8, p: u8)
     requires prime { IsSmallPrime p }
     requires factor { m < p }
     requires fits { length src.now ≡ length dst.old }
-    requires dst_below { AreBelow p dst.old }
-    requires src_below { AreBelow p src.now }
+    requires dst_below { AreDigits p dst.old }
+    requires src_below { AreDigits p src.now }
     ensures sum { dst.new ≡ sum_with_multiple_modulo p dst.old m src.now }
-    ensures below { AreBelow p dst.new }
+    ensures below { AreDigits p dst.new }
 {
     match p {
         2 => add_multiple_over::<2>(dst, src, m),
@@ -40,13 +40,13 @@ pub fn add4_bytes(dst: &mut [u8], a: &[u8], b: &[u8], c: &[u8], d: &[u8], p: u8)
     requires b_fits { length b.now ≡ length dst.old }
     requires c_fits { length c.now ≡ length dst.old }
     requires d_fits { length d.now ≡ length dst.old }
-    requires dst_below { AreBelow p dst.old }
-    requires a_below { AreBelow p a.now }
-    requires b_below { AreBelow p b.now }
-    requires c_below { AreBelow p c.now }
-    requires d_below { AreBelow p d.now }
+    requires dst_below { AreDigits p dst.old }
+    requires a_below { AreDigits p a.now }
+    requires b_below { AreDigits p b.now }
+    requires c_below { AreDigits p c.now }
+    requires d_below { AreDigits p d.now }
     ensures sum { dst.new ≡ sum_modulo p (sum_modulo p (sum_modulo p (sum_modulo p dst.old a.now) b.now) c.now) d.now }
-    ensures below { AreBelow p dst.new }
+    ensures below { AreDigits p dst.new }
 {
     let whole = dst.len() / BLOCK;
     for block in 0..whole {
@@ -61,9 +61,9 @@ pub fn add4_bytes(dst: &mut [u8], a: &[u8], b: &[u8], c: &[u8], d: &[u8], p: u8)
 pub fn scale_bytes(dst: &mut [u8], m: u8, p: u8)
     requires prime { IsSmallPrime p }
     requires factor { m < p }
-    requires dst_below { AreBelow p dst.old }
+    requires dst_below { AreDigits p dst.old }
     ensures multiple { dst.new ≡ multiple_modulo p m dst.old }
-    ensures below { AreBelow p dst.new }
+    ensures below { AreDigits p dst.new }
 {
     match p {
         2 => scale_over::<2>(dst, m),
@@ -109,8 +109,8 @@ fn add_multiple_over<const P: u8>(dst: &mut [u8], src: &[u8], m: u8)
     requires prime { IsSmallPrime P }
     requires factor { m < P }
     requires fits { length src.now ≡ length dst.old }
-    requires dst_below { AreBelow P dst.old }
-    requires src_below { AreBelow P src.now }
+    requires dst_below { AreDigits P dst.old }
+    requires src_below { AreDigits P src.now }
     ensures { dst.new ≡ sum_with_multiple_modulo P dst.old m src.now }
 {
     match m {
@@ -124,10 +124,11 @@ fn add_multiple_over<const P: u8>(dst: &mut [u8], src: &[u8], m: u8)
     }
 }
 
+/// Multiplies a row by a number over the field of order `P`. The factor is told apart here, outside the loops.
 fn scale_over<const P: u8>(dst: &mut [u8], m: u8)
     requires prime { IsSmallPrime P }
     requires factor { m < P }
-    requires dst_below { AreBelow P dst.old }
+    requires dst_below { AreDigits P dst.old }
     ensures { dst.new ≡ multiple_modulo P m dst.old }
 {
     match m {
@@ -141,12 +142,13 @@ fn scale_over<const P: u8>(dst: &mut [u8], m: u8)
     }
 }
 
+/// Adds M times a row over the field of order `P`: whole blocks by vectors, and then the bytes that are left one by one.
 fn add_multiple<const M: u8, const P: u8>(dst: &mut [u8], src: &[u8])
     requires prime { IsSmallPrime P }
     requires factor { (0 < M) × (M < P) }
     requires fits { length src.now ≡ length dst.old }
-    requires dst_below { AreBelow P dst.old }
-    requires src_below { AreBelow P src.now }
+    requires dst_below { AreDigits P dst.old }
+    requires src_below { AreDigits P src.now }
     ensures { dst.new ≡ sum_with_multiple_modulo P dst.old M src.now }
 {
     let whole = dst.len() / BLOCK;
@@ -158,10 +160,12 @@ fn add_multiple<const M: u8, const P: u8>(dst: &mut [u8], src: &[u8])
     }
 }
 
+/// Multiplies a row by M over the field of order `P`: whole blocks by vectors, and then the bytes that are left one by
+/// one.
 fn scale<const M: u8, const P: u8>(dst: &mut [u8])
     requires prime { IsSmallPrime P }
     requires factor { (0 < M) × (M < P) }
-    requires dst_below { AreBelow P dst.old }
+    requires dst_below { AreDigits P dst.old }
     ensures { dst.new ≡ multiple_modulo P M dst.old }
 {
     let whole = dst.len() / BLOCK;
@@ -180,8 +184,8 @@ fn add_block<const M: u8, const P: u8>(dst: &mut [u8], src: &[u8], at: usize)
     requires factor { (0 < M) × (M < P) }
     requires dst_has_block { at + BLOCK ≤ length dst.old }
     requires src_has_block { at + BLOCK ≤ length src.now }
-    requires dst_below { AreBelow P dst.old }
-    requires src_below { AreBelow P src.now }
+    requires dst_below { AreDigits P dst.old }
+    requires src_below { AreDigits P src.now }
     ensures { dst.new ≡ put_chunk at dst.old
         (sum_with_multiple_modulo P (chunk at BLOCK dst.old) M (chunk at BLOCK src.now)) }
 {
@@ -198,11 +202,11 @@ fn add4_block(dst: &mut [u8], a: &[u8], b: &[u8], c: &[u8], d: &[u8], p: u8, at:
     requires b_has_block { at + BLOCK ≤ length b.now }
     requires c_has_block { at + BLOCK ≤ length c.now }
     requires d_has_block { at + BLOCK ≤ length d.now }
-    requires dst_below { AreBelow p dst.old }
-    requires a_below { AreBelow p a.now }
-    requires b_below { AreBelow p b.now }
-    requires c_below { AreBelow p c.now }
-    requires d_below { AreBelow p d.now }
+    requires dst_below { AreDigits p dst.old }
+    requires a_below { AreDigits p a.now }
+    requires b_below { AreDigits p b.now }
+    requires c_below { AreDigits p c.now }
+    requires d_below { AreDigits p d.now }
     ensures { dst.new ≡ put_chunk at dst.old (sum_modulo p (chunk at BLOCK dst.old)
         (sum_modulo p (sum_modulo p (sum_modulo p (chunk at BLOCK a.now) (chunk at BLOCK b.now))
         (chunk at BLOCK c.now)) (chunk at BLOCK d.now))) }
@@ -232,7 +236,7 @@ fn scale_block<const M: u8, const P: u8>(dst: &mut [u8], at: usize)
     requires prime { IsSmallPrime P }
     requires factor { (0 < M) × (M < P) }
     requires dst_has_block { at + BLOCK ≤ length dst.old }
-    requires dst_below { AreBelow P dst.old }
+    requires dst_below { AreDigits P dst.old }
     ensures { dst.new ≡ put_chunk at dst.old (multiple_modulo P M (chunk at BLOCK dst.old)) }
 {
     let product = sum_of::<M, P>(u8x32::splat(0), u8x32::from_slice(&dst[at..]));
@@ -245,8 +249,8 @@ fn scale_block<const M: u8, const P: u8>(dst: &mut [u8], at: usize)
 fn sum_of<const M: u8, const P: u8>(d: u8x32, s: u8x32) -> u8x32
     requires prime { IsSmallPrime P }
     requires factor { (0 < M) × (M < P) }
-    requires d_below { AreBelow P d }
-    requires s_below { AreBelow P s }
+    requires d_below { AreDigits P d }
+    requires s_below { AreDigits P s }
     ensures { result ≡ sum_with_multiple_modulo P d M s }
 {
     let minus_one = P - 1;

@@ -12,8 +12,10 @@ use Rattle.std.specs.Simd.Lanes.{zip2}
 use native.Mathlib.Decide.{dec_lt}
 use native.Mathlib.Nat.{div-div-eq-div-mul}
 use Rattle.axe_algebra.proofs.ListEntries.{listed_length, listed_at}
-use Rattle.axe_layer.specs.Bits.{bit_of, bits, HoldsBits}
-use Rattle.axe_layer.specs.Digits.{AreDigits, digits_with_four, digits_with_multiple}
+use Rattle.axe_lane.specs.Words.{bit_of}
+use Rattle.axe_layer.specs.Bits.{bits, HoldsBits}
+use Rattle.axe_lane.specs.Bytes.{AreDigits}
+use Rattle.axe_layer.specs.Digits.{digits_with_four, digits_with_multiple}
 use Rattle.axe_layer.proofs.DigitLaws.{length-digits_with_multiple, get_or-digits_with_multiple}
 
 pub length-bits : (n : ℕ) (words : List ℕ) → length (bits n words) ≡ n

@@ -7,8 +7,8 @@ use Rattle.std.proofs.lemmas.Simd.{get_or-zip2, length-zip2}
 use Rattle.std.specs.Simd.Lanes.{zip2}
 use native.Mathlib.Decide.{dec_lt}
 use Rattle.axe_algebra.proofs.ListEntries.{listed_length, listed_at}
-use Rattle.axe_lane.specs.Bytes.{sum_modulo}
-use Rattle.axe_layer.specs.Digits.{AreDigits, digits_with_four, digits_with_multiple}
+use Rattle.axe_lane.specs.Bytes.{sum_modulo, AreDigits}
+use Rattle.axe_layer.specs.Digits.{digits_with_four, digits_with_multiple}
 
 pub length-digits_with_multiple : (p : ℕ) (a : List ℕ) (m : ℕ) (b : List ℕ) → length (digits_with_multiple p a m b) ≡ length a
 unfolding digits_with_multiple

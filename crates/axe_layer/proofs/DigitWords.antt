@@ -12,7 +12,8 @@ use Rattle.std.specs.Simd.Lanes.{chunk, put_chunk}
 use native.Mathlib.Decide.{dec_lt}
 use Rattle.axe_algebra.specs.Lists.{listed}
 use Rattle.axe_algebra.proofs.ListEntries.{listed_length, listed_at}
-use Rattle.axe_layer.specs.Bits.{bit_of, bits, HoldsBits}
+use Rattle.axe_lane.specs.Words.{bit_of}
+use Rattle.axe_layer.specs.Bits.{bits, HoldsBits}
 use Rattle.axe_layer.proofs.BitLaws.{plane_long, length-bits, get_or-bits, bit_at-shifted, bit_of-further, bit_of-word, bit_of-below, bit_of-past}
 
 -- words whose bits below an index are these digits
@@ -110,15 +111,6 @@ pub record IsRunBelow (indices : List ℕ) (most count : ℕ) : Type 0 where
   pub some : 1 ≤ count
   pub within : count ≤ most
   pub run : (i : ℕ) → i < count → get_or indices i 0 ≡ get_or indices 0 0 + i
-
-pub run_of_one : (indices : List ℕ) (most : ℕ) → 1 ≤ most → IsRunBelow indices most 1
-run_of_one indices most room = record {
-  some = omega arith;
-  within = room;
-  run = λ i below.
-      let first : i ≡ 0 = omega arith in
-      ap (λ j. get_or indices j 0) first ∙ rw first (omega arith);
-}
 
 pub run_more : (indices : List ℕ) (most count : ℕ) → IsRunBelow indices most count → count < most →
     get_or indices count 0 ≡ get_or indices 0 0 + count → IsRunBelow indices most (count + 1)

@@ -11,9 +11,9 @@ use Rattle.std.proofs.lemmas.Nat.Bits.{bit_at-lt, bit_at_and, bit_at_lowest, bit
 use Rattle.std.proofs.lemmas.Simd.{get_or-zip2, length-zip2}
 use lib.Count.{ones_step}
 use Rattle.axe_lane.specs.Bytes.{sum_of_products}
-use Rattle.axe_lane.specs.Words.{common_bits}
+use Rattle.axe_lane.specs.Words.{bit_of, common_bits}
 use Rattle.axe_lane.proofs.SumLaws.{sum_is, sum_block, chunk-zip2}
-use Rattle.axe_layer.specs.Bits.{bit_of, bits, HoldsBits}
+use Rattle.axe_layer.specs.Bits.{bits, HoldsBits}
 use Rattle.axe_layer.proofs.BitLaws.{length-bits, get_or-bits, bit_of-word}
 
 -- the sum of the values at the numbers below n

@@ -8,8 +8,8 @@ use Rattle.std.proofs.lemmas.Nat.Bits.{bit_at-zero, bit_at_above, bit_at-trailin
 use Rattle.std.proofs.Math.Nat.{div-le_self}
 use native.Mathlib.Decide.{dec_lt}
 use Rattle.axe_lane.specs.Entries.{IsFirstNonzero, AreZerosBetween, AreZerosFrom, IsNextNonzero}
-use Rattle.axe_lane.specs.Words.{HasNoSetBit, IsFirstSetBit}
-use Rattle.axe_layer.specs.Bits.{bit_of, bits, HoldsBits}
+use Rattle.axe_lane.specs.Words.{bit_of, HasNoSetBit, IsFirstSetBit}
+use Rattle.axe_layer.specs.Bits.{bits, HoldsBits}
 use Rattle.axe_layer.proofs.BitLaws.{length-bits, get_or-bits, bit_of-word, bit_of-further, bit_at-shifted}
 
 -- the digits of words, also past the end
@@ -91,7 +91,8 @@ none_in_word words start word is none j from before =
     sym (from_place words start word j is from (omega arith)) ∙ ap (λ w. bit_at w (j - start)) none ∙ bit_at-zero (j - start)
 
 -- a bit of the words after some
-bit_of-drop : (words : List ℕ) (k i : ℕ) → bit_at (get_or (drop k words) (i / 64) 0) (i % 64) ≡ bit_of words (k * 64 + i)
+bit_of-drop : (words : List ℕ) (k i : ℕ) → bit_of (drop k words) i ≡ bit_of words (k * 64 + i)
+unfolding bit_of
 bit_of-drop words k i =
     let word : k + i / 64 ≡ (k * 64 + i) / 64 = omega arith in
     let place : i % 64 ≡ (k * 64 + i) % 64 = omega arith in
@@ -99,14 +100,15 @@ bit_of-drop words k i =
     ∙ ap₂ (λ w p. bit_at (get_or words w 0) p) word place ∙ sym (bit_of-word words (k * 64 + i))
 
 -- the bits from a word on
-unset_before : (words : List ℕ) (k i j : ℕ) → ((i' : ℕ) → i' < i → bit_at (get_or (drop k words) (i' / 64) 0) (i' % 64) ≡ 0) →
+unset_before : (words : List ℕ) (k i j : ℕ) → ((i' : ℕ) → i' < i → bit_of (drop k words) i' ≡ 0) →
     k * 64 ≤ j → j < k * 64 + i → bit_of words j ≡ 0
 unset_before words k i j unset from before =
     let there : k * 64 + (j - k * 64) ≡ j = omega arith in
     sym (ap (bit_of words) there) ∙ sym (bit_of-drop words k (j - k * 64)) ∙ unset (j - k * 64) (omega arith)
 
 -- a bit of the first words of a list
-bit_of-take : (words : List ℕ) (m i : ℕ) → i / 64 < m → bit_at (get_or (take m words) (i / 64) 0) (i % 64) ≡ bit_at (get_or words (i / 64) 0) (i % 64)
+bit_of-take : (words : List ℕ) (m i : ℕ) → i / 64 < m → bit_of (take m words) i ≡ bit_of words i
+unfolding bit_of
 bit_of-take words m i inside = ap (λ w. bit_at w (i % 64)) (get_or-take m words (i / 64) 0 inside)
 
 -- the lowest bit of some words after that of an index
@@ -139,10 +141,6 @@ none_in_words n words start word m end held is none unset all = λ j from before
     ]
 
 -- ---- any numbers
-
--- a list has none from its length on
-pub none_past : (numbers : List ℕ) (start : ℕ) → length numbers ≤ start → AreZerosFrom numbers start
-none_past numbers start past = λ j from. get_or_past numbers j 0 (omega arith)
 
 -- what stands before the length of a list stands in the whole of it
 pub next_of_all : (numbers : List ℕ) (start end : ℕ) (r : Option ℕ) → length numbers ≡ end →

@@ -27,22 +27,6 @@ pub record IsAddedBelow (old : List ℕ) (m : ℕ) (digits : List ℕ) (at : ℕ
   pub done : (e : ℕ) → e < at → get_or now e 0 ≡ get_or old e 0 + m * get_or digits e 0
   pub left : (e : ℕ) → at ≤ e → get_or now e 0 ≡ get_or old e 0
 
-pub added_none : (old : List ℕ) (m : ℕ) (digits : List ℕ) → IsAddedBelow old m digits 0 old
-added_none old m digits = record { long = refl; done = λ e below. absurd (omega arith); left = λ e _. refl }
-
-pub added_more : (old : List ℕ) (m : ℕ) (digits : List ℕ) (at sum next : ℕ) (now : List ℕ) → IsAddedBelow old m digits at now → at < length old →
-    sum ≡ get_or now at 0 + m * get_or digits at 0 → next ≡ at + 1 → IsAddedBelow old m digits next (set now at sum)
-added_more old m digits at sum next now h inside is more = record {
-  long = length-set now at sum ∙ h.long;
-  done = λ e below. elim (cases_eq e at) [
-    | inl same ↦
-        ap (λ k. get_or (set now at sum) k 0) same ∙ get_or-set_same now at sum 0 (omega (arith, h.long)) ∙ is
-        ∙ ap (λ x. x + m * get_or digits at 0) (h.left at (omega arith)) ∙ ap (λ k. get_or old k 0 + m * get_or digits k 0) (sym same)
-    | inr other ↦ get_or-set_other now at e sum 0 other ∙ h.done e (omega (arith, other, more))
-  ];
-  left = λ e past. let other : e ≢ at = omega (arith, more) in get_or-set_other now at e sum 0 other ∙ h.left e (omega (arith, more));
-}
-
 pub added_all : (old : List ℕ) (m : ℕ) (digits : List ℕ) (at : ℕ) (now : List ℕ) → IsAddedBelow old m digits at now → length digits ≤ at →
     now ≡ numbers_with_multiple old m digits
 added_all old m digits at now h all =

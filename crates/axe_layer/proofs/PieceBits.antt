@@ -7,7 +7,8 @@ use native.Mathlib.Nat.{mul-le-mul_left}
 use Rattle.axe_algebra.specs.Digits.{number_with_digits}
 use Rattle.axe_algebra.specs.Lists.{listed}
 use Rattle.axe_algebra.proofs.ListEntries.{listed_length, listed_at}
-use Rattle.axe_layer.specs.Bits.{bit_of, bits}
+use Rattle.axe_lane.specs.Words.{bit_of}
+use Rattle.axe_layer.specs.Bits.{bits}
 use Rattle.axe_layer.specs.Digits.{number_bound, number_from}
 use Rattle.axe_layer.proofs.BitLaws.{plane_long, get_or-bits, bit_at-shifted}
 use Rattle.axe_layer.proofs.PieceDigits.{with_values, with_values-same, with_values-small, number_of_first, count_from, number_from-values}

@@ -5,8 +5,9 @@ use Rattle.std.proofs.lemmas.Bool.{cases_eq, eq-eqb, ne_eqb}
 use Rattle.std.proofs.lemmas.List.{ext_get_or, get_or_past, length-set}
 use native.Mathlib.Decide.{dec_lt}
 use Rattle.axe_algebra.proofs.ListEntries.{listed_length, listed_at}
-use Rattle.axe_layer.specs.Bits.{bit_of, bits, HoldsBits}
-use Rattle.axe_layer.specs.Digits.{AreDigits}
+use Rattle.axe_lane.specs.Words.{bit_of}
+use Rattle.axe_layer.specs.Bits.{bits, HoldsBits}
+use Rattle.axe_lane.specs.Bytes.{AreDigits}
 use Rattle.axe_layer.specs.Words.{digits_with_word}
 use Rattle.axe_layer.proofs.BitLaws.{length-bits, get_or-bits, bit_of-word}
 

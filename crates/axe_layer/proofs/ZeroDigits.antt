@@ -8,8 +8,8 @@ use Rattle.std.proofs.lemmas.Bool.{cases_eq}
 use Rattle.std.proofs.lemmas.Nat.Bits.{bit_at-zero, same_from_bits_below}
 use native.Mathlib.Decide.{dec_lt}
 use Rattle.axe_lane.specs.Entries.{HasNonzero, IsFirstNonzero}
-use Rattle.axe_lane.specs.Words.{HasNoSetBit, IsFirstSetBit}
-use Rattle.axe_layer.specs.Bits.{bit_of, bits, HoldsBits}
+use Rattle.axe_lane.specs.Words.{bit_of, HasNoSetBit, IsFirstSetBit}
+use Rattle.axe_layer.specs.Bits.{bits, HoldsBits}
 use Rattle.axe_layer.proofs.BitLaws.{length-bits, get_or-bits, bit_of-word}
 
 abbrev IsZero : ℕ → Type 0
@@ -18,11 +18,11 @@ IsZero digit = digit ≡ 0
 no_digit : (n : ℕ) (words : List ℕ) → HasNoSetBit words → All IsZero (bits n words)
 no_digit n words none =
     All-from_get_or IsZero (bits n words) 0 (λ e inside.
-    get_or-bits n words e (omega (arith, length-bits n words)) ∙ bit_of-word words e ∙ none e)
+    get_or-bits n words e (omega (arith, length-bits n words)) ∙ none e)
 
 first_digit : (n : ℕ) (words : List ℕ) (index : ℕ) → HoldsBits n words → IsFirstSetBit words index → IsFirstNonzero (bits n words) index
 first_digit n words index held h =
-    let set : bit_of words index ≡ 1 = bit_of-word words index ∙ h.is_set in
+    let set : bit_of words index ≡ 1 = h.is_set in
     let within : index < n = elim (dec_lt index n) [
       | yes inside ↦ inside
       | no outside ↦ absurd (omega (arith, set, held.unused index (omega arith)))
@@ -31,7 +31,7 @@ first_digit n words index held h =
       within = omega (arith, length-bits n words);
       nonzero = λ none. absurd (omega (arith, none, set, get_or-bits n words index within));
       zeros_before = λ j before.
-          let inside : j < n = omega arith in get_or-bits n words j inside ∙ bit_of-word words j ∙ h.unset_before j before;
+          let inside : j < n = omega arith in get_or-bits n words j inside ∙ h.unset_before j before;
     }
 
 -- the first set bit is the first digit

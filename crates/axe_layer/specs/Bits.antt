@@ -1,11 +1,7 @@
 -- Words of 64 bits as lists of digits modulo 2.
-use Rattle.std.specs.Prelude.{◌≡◌, ℕ, ◌+◌, ◌/◌, ◌%◌, ◌^◌, ◌<◌, ◌≤◌, List, length, slice_index}
-use Rattle.std.specs.Int.{bit_at}
+use Rattle.std.specs.Prelude.{◌≡◌, ℕ, ◌+◌, ◌/◌, ◌^◌, ◌<◌, ◌≤◌, List, length, slice_index}
 use Rattle.axe_algebra.specs.Lists.{listed}
-
--- bit e of a list of words: bit e mod 64 of word e / 64, where bit 0 is the lowest
-unfoldable pub bit_of : List ℕ → ℕ → ℕ
-bit_of words e = bit_at (slice_index words (e / 64)) (e % 64)
+use Rattle.axe_lane.specs.Words.{bit_of}
 
 -- the first n bits of a list of words
 unfoldable pub bits : ℕ → List ℕ → List ℕ

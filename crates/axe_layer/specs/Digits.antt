@@ -1,13 +1,9 @@
 -- Lists of digits modulo a prime.
 use Rattle.std.specs.Prelude.{ℕ, ◌+◌, ◌*◌, ◌/◌, ◌%◌, ◌^◌, ◌<◌, List, [], ◌∷◌}
-use Rattle.std.specs.Prelude.{length, map, slice_index, All}
+use Rattle.std.specs.Prelude.{length, map, slice_index}
 use Rattle.std.specs.Simd.Lanes.{chunk}
 use Rattle.axe_algebra.specs.Digits.{number_with_digits}
 use Rattle.axe_algebra.specs.Lists.{listed}
-
--- each digit is below p
-abbrev pub AreDigits : ℕ → List ℕ → Type 0
-AreDigits p digits = All (λ digit. digit < p) digits
 
 -- a list of digits plus m times another, modulo p, digit by digit (any linear algebra text)
 unfoldable pub digits_with_multiple : ℕ → List ℕ → ℕ → List ℕ → List ℕ

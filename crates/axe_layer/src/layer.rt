@@ -6,7 +6,8 @@ ghost use Rattle.std.specs.Prelude.{slice_index, slice_set, All, MatchOption};
 ghost use Rattle.axe_algebra.specs.Digits.{number_with_digits};
 ghost use Rattle.axe_algebra.specs.Lists.{listed};
 ghost use Rattle.axe_lane.specs.Entries.{AreZerosBetween, IsNextNonzero};
-ghost use Rattle.axe_layer.specs.Bits.{bit_of, bits, HoldsBits};
+ghost use Rattle.axe_lane.specs.Words.{bit_of};
+ghost use Rattle.axe_layer.specs.Bits.{bits, HoldsBits};
 ghost use Rattle.axe_layer.specs.Digits.{AreSmallSums, digits_at, numbers_with_multiple};
 ghost use Rattle.axe_layer.specs.Digits.{number_from, numbers_from, number_bound};
 

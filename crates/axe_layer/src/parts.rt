@@ -1,7 +1,7 @@
 //! Digits modulo 2 of a list of words, as words of their own.
 ghost use Rattle.std.specs.Int.{bit_at};
 ghost use Rattle.std.specs.Prelude.{ℕ, ◌≡◌, ◌≢◌, ◌+◌, ◌*◌, ◌/◌, ◌^◌, ◌<◌, ◌≤◌, length, map, slice_index, All};
-ghost use Rattle.axe_layer.specs.Bits.{bit_of};
+ghost use Rattle.axe_lane.specs.Words.{bit_of};
 
 use axe_lane::add_bits;
 

@@ -1,7 +1,7 @@
 -- Planes in which the digits of one word are replaced.
 use Rattle.std.proofs.Common.{◌≡◌, ℕ, ◌<◌, List, get_or, length, sym, ap, subst, ◌∙◌, arith}
 use Rattle.std.specs.Int.{bit_at}
-use Rattle.axe_layer.specs.Digits.{AreDigits}
+use Rattle.axe_lane.specs.Bytes.{AreDigits}
 use Rattle.axe_layer.specs.Words.{digit_of_words, digits_with_word}
 use Rattle.axe_layer.proofs.WordWrites.{length-digits_with_word, AreDigits-digits_with_word, digits_with_word-as}
 use Rattle.axe_plane.specs.Planes.{prime_of_plane, digits_of, IsPlane, IsPlaneOf}

@@ -6,7 +6,8 @@ use Rattle.std.proofs.lemmas.List.{length-replicate}
 use Rattle.std.proofs.lemmas.List.Elements.{All-take, All-drop}
 use Rattle.std.proofs.lemmas.Simd.{length-chunk, length-put_chunk}
 use Rattle.axe_algebra.proofs.ListEntries.{listed_length, listed_at}
-use Rattle.axe_layer.specs.Digits.{AreDigits, digits_with_multiple}
+use Rattle.axe_lane.specs.Bytes.{AreDigits}
+use Rattle.axe_layer.specs.Digits.{digits_with_multiple}
 use Rattle.axe_plane.specs.FlatTables.{byte_entries, HoldsDigits}
 use Rattle.axe_plane.specs.Tables.{prime_of_table, entries_of_table, IsTable}
 use Rattle.axe_plane.specs.declared.tables.PlaneTable.{PlaneTable}
@@ -44,13 +45,6 @@ byte_entry-long p n count x bytes self h is inside =
     let below = byte_index n count x bytes self is inside in
     ap (λ (s : List (List ℕ)). length (get_or s x [])) (sym is) ∙ ap length (byte_entry-at n count bytes x below)
     ∙ length-chunk (x * n) n bytes (omega (arith, h.long, piece_within n count x below))
-
-pub byte_entry-digits : (p n count x : ℕ) (bytes : List ℕ) (self : List (List ℕ)) → HoldsDigits p n count bytes → byte_entries n count bytes ≡ self →
-    x < length self → AreDigits p (get_or self x [])
-byte_entry-digits p n count x bytes self h is inside =
-    let below = byte_index n count x bytes self is inside in
-    subst (AreDigits p) (sym (byte_entry-at n count bytes x below) ∙ ap (λ (s : List (List ℕ)). get_or s x []) is)
-    (All-take (λ digit. digit < p) n _ (All-drop (λ digit. digit < p) (x * n) bytes h.digits))
 
 pub digits_held : (p n count to : ℕ) (bytes new : List ℕ) → to < count → HoldsDigits p n count bytes → length new ≡ n → AreDigits p new →
     HoldsDigits p n count (put_chunk (to * n) bytes new)

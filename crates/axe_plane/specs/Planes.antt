@@ -1,6 +1,6 @@
 -- A plane as its prime and its digits.
 use Rattle.std.specs.Prelude.{◌≡◌, ℕ, ◌-◌, ◌%◌, List, length}
-use Rattle.axe_layer.specs.Digits.{AreDigits}
+use Rattle.axe_lane.specs.Bytes.{AreDigits}
 use Rattle.axe_plane.specs.Primes.{byte_prime}
 use Rattle.axe_plane.specs.declared.Plane.{Plane}
 use Rattle.axe_plane.specs.declared.Plane.TheVariants.{Bits, Trits, Bytes}

@@ -1,6 +1,7 @@
 //! Tables of planes of digits modulo 5 or 7.
 ghost use Rattle.std.specs.Prelude.{◌≡◌, ◌<◌, IfOk, [], length, replicate, slice_index_or, slice_set};
-ghost use Rattle.axe_layer.specs.Digits.{AreDigits, digits_with_multiple};
+ghost use Rattle.axe_lane.specs.Bytes.{AreDigits};
+ghost use Rattle.axe_layer.specs.Digits.{digits_with_multiple};
 ghost use Rattle.axe_plane.specs.Primes.{byte_prime, ByteEntries};
 
 use crate::{BytePlane, BytePrime};

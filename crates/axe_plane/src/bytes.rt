@@ -2,9 +2,9 @@
 ghost use Rattle.std.specs.Prelude.{map, replicate, slice_index, slice_set, All, MatchOption, ◌≡◌, ◌+◌, ◌/◌, ◌%◌};
 ghost use Rattle.std.specs.Prelude.{◌<◌, ◌≤◌, ◌↔◌, IsTrue, IfOk, length, ◌^◌};
 ghost use Rattle.axe_algebra.specs.Lists.{listed};
-ghost use Rattle.axe_lane.specs.Bytes.{multiple_modulo, sum_of_products};
+ghost use Rattle.axe_lane.specs.Bytes.{multiple_modulo, sum_of_products, AreDigits};
 ghost use Rattle.axe_lane.specs.Entries.{IsFirstNonzero, AreZerosBefore, AreZerosFrom, IsNextNonzero};
-ghost use Rattle.axe_layer.specs.Digits.{AreDigits, digits_at, digits_with_four, digits_with_multiple, AreSmallSums};
+ghost use Rattle.axe_layer.specs.Digits.{digits_at, digits_with_four, digits_with_multiple, AreSmallSums};
 ghost use Rattle.axe_layer.specs.Digits.{numbers_with_multiple, number_from, number_bound};
 ghost use Rattle.axe_plane.specs.Planes.{negative_modulo};
 ghost use Rattle.axe_plane.specs.Primes.{byte_prime, ByteDigits};
@@ -25,7 +25,7 @@ pub struct BytePlane {
 }
 
 impl Model for BytePlane {
-    ghost use Rattle.axe_layer.specs.Digits.{AreDigits};
+    ghost use Rattle.axe_lane.specs.Bytes.{AreDigits};
     ghost use Rattle.axe_plane.specs.Primes.{byte_prime, ByteDigits};
 
     ghost Value = { ByteDigits };

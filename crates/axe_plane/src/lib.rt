@@ -5,9 +5,9 @@
 ghost use Rattle.std.specs.Prelude.{ℕ, ◌≡◌, ◌≢◌, ◌⊎◌, ◌+◌, ◌%◌, ◌<◌, ◌≤◌, ◌↔◌, IsTrue, IfOk, length, map, replicate};
 ghost use Rattle.std.specs.Prelude.{slice_index, slice_set, All, MatchOption, ◌^◌, ◌*◌};
 ghost use Rattle.axe_algebra.specs.Lists.{listed};
-ghost use Rattle.axe_lane.specs.Bytes.{multiple_modulo, sum_of_products};
+ghost use Rattle.axe_lane.specs.Bytes.{multiple_modulo, sum_of_products, AreDigits};
 ghost use Rattle.axe_lane.specs.Entries.{IsFirstNonzero, AreZerosBefore, AreZerosFrom, IsNextNonzero};
-ghost use Rattle.axe_layer.specs.Digits.{AreDigits, digits_at, digits_with_four, digits_with_multiple, AreSmallSums};
+ghost use Rattle.axe_layer.specs.Digits.{digits_at, digits_with_four, digits_with_multiple, AreSmallSums};
 ghost use Rattle.axe_layer.specs.Digits.{numbers_with_multiple, numbers_from, number_bound};
 ghost use Rattle.axe_plane.specs.Planes.{negative_modulo};
 ghost use Rattle.axe_plane.specs.Tables.{plane_at, IsEntryFor};

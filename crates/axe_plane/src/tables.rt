@@ -1,7 +1,8 @@
 //! Tables of planes: flat lists of many planes of one prime and one length.
 ghost use Rattle.std.specs.Prelude.{◌≡◌, ◌≢◌, ◌⊎◌, ◌<◌, IfOk, length, replicate, slice_index_or, slice_set, []};
 ghost use Rattle.axe_layer.specs.Bits.{bits, HoldsBits};
-ghost use Rattle.axe_layer.specs.Digits.{AreDigits, digits_with_multiple};
+ghost use Rattle.axe_lane.specs.Bytes.{AreDigits};
+ghost use Rattle.axe_layer.specs.Digits.{digits_with_multiple};
 ghost use Rattle.axe_plane.specs.Planes.{prime_of_plane, digits_of, IsPlane};
 
 use crate::{BytePrime, ByteTable, Plane};

@@ -8,7 +8,8 @@ use Rattle.axe_field.specs.Arithmetic.{polynomial_of, coefficients}
 use Rattle.axe_field.specs.Order.{Order, Two, Three, Four, Five, Seven, Eight, Nine, prime_of, degree_of, IsElement}
 use Rattle.axe_field.specs.Planes.{coefficient, element_of}
 use Rattle.axe_field.proofs.CoefficientLaws.{coefficient-below, element_of-coefficients}
-use Rattle.axe_layer.specs.Digits.{AreDigits, digits_at}
+use Rattle.axe_lane.specs.Bytes.{AreDigits}
+use Rattle.axe_layer.specs.Digits.{digits_at}
 use Rattle.axe_plane.specs.Planes.{digits_of, IsPlane, IsPlaneOf}
 use Rattle.axe_plane.specs.declared.Plane.{Plane}
 use Rattle.axe_row.specs.Planes.{ArePlanes, coefficients_at}

@@ -7,7 +7,7 @@ use Rattle.axe_field.specs.Order.{Order, Two, Three, Four, Five, Seven, Eight, N
 use Rattle.axe_field.specs.Planes.{matrix_of_multiplication}
 use Rattle.axe_field.proofs.CoefficientLaws.{matrix_of_multiplication-first}
 use Rattle.axe_lane.specs.Bytes as lane
-use Rattle.axe_layer.specs.Digits.{AreDigits}
+use Rattle.axe_lane.specs.Bytes.{AreDigits}
 use Rattle.axe_layer.proofs.DigitLaws.{length-digits_with_multiple}
 use Rattle.axe_plane.specs.Planes.{prime_of_plane, digits_of, IsPlane, IsPlaneOf}
 use Rattle.axe_plane.specs.declared.Plane.{Plane}

@@ -13,7 +13,8 @@ use Rattle.axe_field.proofs.CoefficientLaws.{coefficient-below, element_of-coeff
 use Rattle.axe_field.proofs.Laws.{field_zero-mul}
 use Rattle.axe_field.proofs.Orders.{one_is_element}
 use Rattle.axe_lane.specs.Bytes as lane
-use Rattle.axe_layer.specs.Digits.{AreDigits, digits_with_multiple}
+use Rattle.axe_lane.specs.Bytes.{AreDigits}
+use Rattle.axe_layer.specs.Digits.{digits_with_multiple}
 use Rattle.axe_plane.specs.Planes.{prime_of_plane, digits_of, IsPlane, IsPlaneOf}
 use Rattle.axe_plane.specs.declared.Plane.{Plane}
 use Rattle.axe_layer.proofs.DigitLaws.{AreDigits-sum, length-digits_with_multiple, get_or-digits_with_multiple}

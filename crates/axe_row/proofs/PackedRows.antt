@@ -4,7 +4,7 @@ use Rattle.axe_algebra.specs.Lists.{listed}
 use Rattle.axe_algebra.proofs.ListEntries.{listed_length, listed_at}
 use Rattle.axe_field.specs.Order.{Order, Two, order_number, prime_of, degree_of}
 use Rattle.axe_field.proofs.Orders.{order_number-injective}
-use Rattle.axe_layer.specs.Digits.{AreDigits}
+use Rattle.axe_lane.specs.Bytes.{AreDigits}
 use Rattle.axe_layer.specs.Packed.{packed_bit}
 use Rattle.axe_layer.proofs.PackedWords.{packed_bit_below}
 use Rattle.axe_plane.specs.Planes.{digits_of, IsPlane, IsPlaneOf}

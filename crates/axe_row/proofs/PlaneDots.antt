@@ -13,7 +13,7 @@ use Rattle.axe_field.proofs.CoefficientLaws.{coefficient-add, element_of-coeffic
 use Rattle.axe_field.proofs.Laws.{field_zero-mul}
 use Rattle.axe_field.proofs.Orders.{zero_is_element}
 use Rattle.axe_lane.specs.Bytes as lane
-use Rattle.axe_layer.specs.Digits.{AreDigits}
+use Rattle.axe_lane.specs.Bytes.{AreDigits}
 use Rattle.axe_plane.specs.Planes.{prime_of_plane, digits_of, IsPlaneOf}
 use Rattle.axe_plane.specs.declared.Plane.{Plane}
 use Rattle.axe_layer.proofs.DigitLaws.{digit-below}

@@ -9,7 +9,8 @@ use Rattle.axe_field.specs.CheckedLaws.{field_add-below, field_mul-below}
 use Rattle.axe_field.specs.NumberFields.{number_field}
 use Rattle.axe_field.specs.Planes.{coefficient, element_of, matrix_of_multiplication}
 use Rattle.axe_field.proofs.CoefficientLaws.{coefficient-add, coefficient-mul, coefficient-below, element_of-coefficients, matrix_of_multiplication-below, matrix_of_multiplication-outside}
-use Rattle.axe_layer.specs.Digits.{AreDigits, digits_with_multiple}
+use Rattle.axe_lane.specs.Bytes.{AreDigits}
+use Rattle.axe_layer.specs.Digits.{digits_with_multiple}
 use Rattle.axe_plane.specs.Planes.{prime_of_plane, digits_of, IsPlane, IsPlaneOf}
 use Rattle.axe_plane.specs.declared.Plane.{Plane}
 use Rattle.axe_layer.proofs.DigitLaws.{AreDigits-sum, length-digits_with_multiple, get_or-digits_with_multiple}

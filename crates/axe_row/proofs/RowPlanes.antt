@@ -8,7 +8,7 @@ use Rattle.axe_field.specs.Arithmetic.{number_of}
 use Rattle.axe_field.specs.Order.{Order, Two, Three, Four, Five, Seven, Eight, Nine, prime_of, degree_of, IsElement}
 use Rattle.axe_field.specs.Planes.{coefficient, IsCoefficient, element_of, matrix_of_multiplication}
 use Rattle.axe_field.proofs.CoefficientLaws.{coefficient-below, element_of-coefficients, coefficients_are, IsElementOf, matrix_of_multiplication-below, matrix_of_multiplication-first}
-use Rattle.axe_layer.specs.Digits.{AreDigits}
+use Rattle.axe_lane.specs.Bytes.{AreDigits}
 use Rattle.axe_plane.specs.Planes.{prime_of_plane, digits_of, IsPlane, IsPlaneOf}
 use Rattle.axe_plane.specs.declared.Plane.{Plane}
 use Rattle.axe_layer.proofs.BitLaws.{get_or-zeros}

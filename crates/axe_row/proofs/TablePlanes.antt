@@ -10,7 +10,8 @@ use Rattle.axe_algebra.proofs.Digits.{pow-positive}
 use Rattle.axe_field.specs.NumberFields.{number_field}
 use Rattle.axe_field.specs.Order.{Order, Two, Three, Four, Five, Seven, Eight, Nine, order_number, prime_of, degree_of, IsElement}
 use Rattle.axe_field.specs.Planes.{matrix_of_multiplication}
-use Rattle.axe_layer.specs.Digits.{AreDigits, digits_with_multiple}
+use Rattle.axe_lane.specs.Bytes.{AreDigits}
+use Rattle.axe_layer.specs.Digits.{digits_with_multiple}
 use Rattle.axe_plane.specs.Planes.{prime_of_plane, digits_of, IsPlaneOf}
 use Rattle.axe_plane.specs.Tables.{prime_of_table, entries_of_table, plane_at, IsTable}
 use Rattle.axe_plane.specs.declared.Plane.{Plane}

@@ -12,7 +12,8 @@ use Rattle.axe_field.specs.Order.{Order, order_number, prime_of, degree_of, IsEl
 use Rattle.axe_field.specs.Planes.{coefficient, element_of, matrix_of_multiplication}
 use Rattle.axe_field.proofs.CoefficientLaws.{coefficient-add, element_of-coefficients}
 use Rattle.axe_field.proofs.Laws.{field_one-mul}
-use Rattle.axe_layer.specs.Digits.{AreDigits, digits_with_multiple, digits_with_four}
+use Rattle.axe_lane.specs.Bytes.{AreDigits}
+use Rattle.axe_layer.specs.Digits.{digits_with_multiple, digits_with_four}
 use Rattle.axe_plane.specs.Planes.{prime_of_plane, digits_of, IsPlane, IsPlaneOf}
 use Rattle.axe_plane.specs.Primes.{byte_prime}
 use Rattle.axe_plane.specs.Tables.{entries_of_table, plane_at, IsEntryFor}

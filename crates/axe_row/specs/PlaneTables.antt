@@ -2,7 +2,7 @@
 use Rattle.std.specs.Prelude.{◌≡◌, ℕ, ◌^◌, ◌≤◌, List, [], length, replicate, slice_index_or, All, cond, ltb}
 use Rattle.axe_algebra.specs.Lists.{listed}
 use Rattle.axe_field.specs.Order.{Order, order_number, prime_of, degree_of}
-use Rattle.axe_layer.specs.Digits.{AreDigits}
+use Rattle.axe_lane.specs.Bytes.{AreDigits}
 use Rattle.axe_plane.specs.Tables.{prime_of_table, entries_of_table}
 use Rattle.axe_plane.specs.declared.tables.PlaneTable.{PlaneTable}
 use Rattle.axe_row.specs.Combinations.{most_combined}

@@ -4,7 +4,8 @@ use Rattle.axe_algebra.specs.Lists.{listed}
 use Rattle.axe_field.specs.Order.{Order, prime_of, degree_of}
 use Rattle.axe_field.specs.Planes.{coefficient, element_of}
 use Rattle.axe_lane.specs.Entries.{AreZerosBefore}
-use Rattle.axe_layer.specs.Digits.{AreDigits, digits_with_multiple}
+use Rattle.axe_lane.specs.Bytes.{AreDigits}
+use Rattle.axe_layer.specs.Digits.{digits_with_multiple}
 use Rattle.axe_plane.specs.Planes.{prime_of_plane, digits_of, IsPlaneOf}
 use Rattle.axe_plane.specs.declared.Plane.{Plane}
 

@@ -3,7 +3,8 @@ ghost use Rattle.std.specs.Prelude.{◌≡◌, ◌≢◌, ◌<◌, ◌≤◌, If
 ghost use Rattle.axe_field.specs.Order.{prime_of, degree_of};
 ghost use Rattle.axe_field.specs.Planes.{IsCoefficient, element_of};
 ghost use Rattle.axe_lane.specs.Entries.{AreZerosBefore};
-ghost use Rattle.axe_layer.specs.Digits.{AreDigits, digits_with_multiple};
+ghost use Rattle.axe_lane.specs.Bytes.{AreDigits};
+ghost use Rattle.axe_layer.specs.Digits.{digits_with_multiple};
 ghost use Rattle.axe_plane.specs.Planes.{prime_of_plane, digits_of, IsPlane};
 ghost use Rattle.axe_row.specs.Planes.{AreAddable, HaveZerosBefore, IsAddable, ReachWhereNonzero};
 ghost use Rattle.axe_row.specs.Planes.{coefficients_at, digits_with_multiples};

@@ -1,6 +1,6 @@
 //! Kernels on words and on bytes, at lengths around those of whole vectors, beside sums that are made entry by entry.
 ghost use Rattle.std.specs.Prelude.{◌≡◌, length};
-ghost use Rattle.axe_lane.specs.Bytes.{AreBelow, IsSmallPrime};
+ghost use Rattle.axe_lane.specs.Bytes.{AreDigits, IsSmallPrime};
 
 use axe_lane::{
     add_scaled_bytes, add4_bytes, any_nonzero, bits_of_bytes, dot_bytes, first_byte, first_set,
@@ -69,7 +69,7 @@ fn assert_prime(rt: &impl Abort, p: u8)
 /// Asserts that there are so many bytes, each below a number.
 fn assert_bytes(rt: &impl Abort, bytes: &[u8], len: usize, p: u8)
     ensures length { length bytes.now ≡ len }
-    ensures below { AreBelow p bytes.now }
+    ensures below { AreDigits p bytes.now }
 {
     assert!(rt; bytes.len() == len);
     assert!(rt; bytes.iter().all(|&byte| byte < p));

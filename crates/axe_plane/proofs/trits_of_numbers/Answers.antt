@@ -1,5 +1,6 @@
 use Rattle.std.proofs.Common.{◌≡◌, subst, sym, lit<, rules}
-use Rattle.axe_layer.specs.Digits.{AreDigits, digits_at}
+use Rattle.axe_lane.specs.Bytes.{AreDigits}
+use Rattle.axe_layer.specs.Digits.{digits_at}
 use Rattle.axe_layer.proofs.NumberDigits.{AreDigits-numbers}
 use Rattle.axe_plane.proofs.trits_of_numbers.Goals as goal
 

@@ -1,15 +1,15 @@
 use Rattle.std.proofs.Common.{◌≡◌, ◌+◌, ◌*◌, ◌/◌, ◌<◌, List, ℕ, length, get_or, set, ap, sym, subst, ◌∙◌, arith}
 use Rattle.std.specs.Simd.Lanes.{chunk, put_chunk, zip2}
-use Rattle.axe_lane.specs.Bytes.{AreBelow}
+use Rattle.axe_lane.specs.Bytes.{AreDigits}
 use Rattle.axe_lane.proofs.FiveRows.{four, four_long, chunk-four, get_or-four, one_by_one, plus, plus_associative, sum_bound, sum_of_five}
 use Rattle.axe_lane.proofs.Progress.{combined_to, combined_to_block, combined_to_more, combined_to_end, length-combined_to, All-combined_to}
 use Rattle.axe_lane.proofs.ResidueLaws.{small_primes, below_mod}
 use Rattle.axe_lane.proofs.bytes.add4_bytes.Goals as goal
 
 -- what is made so far has bytes below p
-so_far : (p n : ℕ) (dst x s : List ℕ) → 1 < p → dst ≡ combined_to (plus p) n x s → AreBelow p x → AreBelow p dst
+so_far : (p n : ℕ) (dst x s : List ℕ) → 1 < p → dst ≡ combined_to (plus p) n x s → AreDigits p x → AreDigits p dst
 so_far p n dst x s some e h =
-    subst (AreBelow p) (sym e) (All-combined_to (plus p) (λ k. k < p) (λ i j. below_mod p (i + j) some) n x s h)
+    subst (AreDigits p) (sym e) (All-combined_to (plus p) (λ k. k < p) (λ i j. below_mod p (i + j) some) n x s h)
 
 pub add4_block-requires-clause-dst_below : goal.add4_block-requires-clause-dst_below
 add4_block-requires-clause-dst_below c =

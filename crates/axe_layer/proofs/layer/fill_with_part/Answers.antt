@@ -1,6 +1,6 @@
 use Rattle.std.proofs.Common.{◌*◌, ◌<◌, ◌≤◌, ◌+◌, ◌/◌, length, refl, arith, sym, ap, ◌∙◌}
 use Rattle.axe_algebra.proofs.ListEntries.{listed_length}
-use Rattle.axe_layer.specs.Bits.{bit_of}
+use Rattle.axe_lane.specs.Words.{bit_of}
 use Rattle.axe_layer.proofs.DigitWords.{have_no_digits, have_next_word, HoldsBits-digits, bits-digits, part_word}
 use Rattle.axe_layer.proofs.layer.fill_with_part.Goals as goal
 

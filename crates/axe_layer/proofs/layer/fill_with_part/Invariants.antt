@@ -1,6 +1,6 @@
 use Rattle.std.proofs.Common.{◌+◌, ◌*◌}
 use Rattle.axe_algebra.specs.Lists.{listed}
-use Rattle.axe_layer.specs.Bits.{bit_of}
+use Rattle.axe_lane.specs.Words.{bit_of}
 use Rattle.axe_layer.proofs.DigitWords.{HaveDigits}
 use Rattle.axe_layer.proofs.layer.fill_with_part.Given as goal
 

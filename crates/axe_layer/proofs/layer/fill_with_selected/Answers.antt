@@ -1,6 +1,6 @@
 use Rattle.std.proofs.Common.{◌*◌, ◌<◌, ◌≤◌, ◌+◌, ◌/◌, length, refl, arith, sym, ap, ◌∙◌}
 use Rattle.std.proofs.lemmas.List.{length-map}
-use Rattle.axe_layer.specs.Bits.{bit_of}
+use Rattle.axe_lane.specs.Words.{bit_of}
 use Rattle.axe_layer.proofs.DigitWords.{have_no_digits, have_next_word, HoldsBits-digits, bits-digits}
 use Rattle.axe_layer.proofs.layer.fill_with_selected.Goals as goal
 

@@ -1,5 +1,5 @@
 use Rattle.std.proofs.Common.{◌*◌, map}
-use Rattle.axe_layer.specs.Bits.{bit_of}
+use Rattle.axe_lane.specs.Words.{bit_of}
 use Rattle.axe_layer.proofs.DigitWords.{HaveDigits}
 use Rattle.axe_layer.proofs.layer.fill_with_selected.Given as goal
 

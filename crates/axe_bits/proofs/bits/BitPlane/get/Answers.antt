@@ -1,6 +1,6 @@
 use Rattle.std.proofs.Common.{List, ℕ, length, get_or, arith, sym, ◌∙◌, ap}
 use Rattle.std.proofs.lemmas.List.{get_or_past}
-use Rattle.axe_layer.specs.Bits.{bit_of}
+use Rattle.axe_lane.specs.Words.{bit_of}
 use Rattle.axe_layer.proofs.BitLaws.{length-bits, get_or-bits}
 use Rattle.axe_bits.proofs.bits.BitPlane.get.Goals as goal
 

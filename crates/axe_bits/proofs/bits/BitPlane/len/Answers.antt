@@ -1,5 +1,5 @@
 use Rattle.std.proofs.Common.{◌∙◌, ap, sym, length, subst}
-use Rattle.axe_layer.specs.Digits.{AreDigits}
+use Rattle.axe_lane.specs.Bytes.{AreDigits}
 use Rattle.axe_layer.proofs.BitLaws.{length-bits, AreDigits-bits}
 use Rattle.axe_bits.proofs.bits.BitPlane.len.Goals as goal
 

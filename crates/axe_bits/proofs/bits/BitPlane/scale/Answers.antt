@@ -1,7 +1,7 @@
 use Rattle.std.proofs.Common.{◌≡◌, ◌+◌, ◌/◌, length, replicate, ap, sym, ◌∙◌, arith, subst, lit<}
 use Rattle.axe_lane.proofs.ByteLaws.{multiple_by_zero, multiple_by_one}
 use Rattle.axe_layer.specs.Bits.{bits, HoldsBits}
-use Rattle.axe_layer.specs.Digits.{AreDigits}
+use Rattle.axe_lane.specs.Bytes.{AreDigits}
 use Rattle.axe_layer.proofs.BitLaws.{AreDigits-bits, HoldsBits-zeros, bits-zeros, length-bits}
 use Rattle.axe_bits.proofs.bits.BitPlane.scale.Goals as goal
 

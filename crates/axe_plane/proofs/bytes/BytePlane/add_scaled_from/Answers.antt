@@ -2,7 +2,8 @@ use Rattle.std.proofs.Common.{◌≡◌, ◌++◌, ◌+◌, ◌-◌, ◌*◌, �
 use Rattle.std.proofs.Math.Nat.{mod-eq_of_lt}
 use Rattle.std.specs.Simd.Lanes.{zip2}
 use Rattle.axe_lane.specs.Entries.{AreZerosBefore}
-use Rattle.axe_layer.specs.Digits.{AreDigits, digits_with_multiple}
+use Rattle.axe_lane.specs.Bytes.{AreDigits}
+use Rattle.axe_layer.specs.Digits.{digits_with_multiple}
 use Rattle.axe_layer.proofs.DigitLaws.{digit-below, zip2-sum}
 use Rattle.axe_layer.proofs.EndLaws.{zip2-written}
 use Rattle.axe_plane.specs.Primes.{byte_prime, ByteDigits}

@@ -1,6 +1,7 @@
 use Rattle.std.proofs.Common.{◌≡◌, ℕ, ◌+◌, ◌*◌, ◌<◌, ◌≤◌, List, length, get_or, ap, ◌∙◌, arith, lit<}
 use native.Mathlib.Nat.{mul-le-mul_left}
-use Rattle.axe_layer.specs.Digits.{AreDigits, number_bound}
+use Rattle.axe_lane.specs.Bytes.{AreDigits}
+use Rattle.axe_layer.specs.Digits.{number_bound}
 use Rattle.axe_plane.specs.Primes.{byte_prime, ByteDigits}
 use Rattle.axe_plane.specs.declared.primes.BytePrime.{BytePrime}
 use Rattle.axe_plane.specs.declared.primes.BytePrime.TheVariants.{Five, Seven}

@@ -1,7 +1,7 @@
 use Rattle.std.proofs.Common.{◌≡◌, ◌<◌, length, refl, sym, ap, subst, ◌∙◌}
 use Rattle.axe_field.specs.Order.{degree_of}
 use Rattle.axe_field.specs.Planes.{matrix_of_multiplication}
-use Rattle.axe_layer.specs.Digits.{AreDigits}
+use Rattle.axe_lane.specs.Bytes.{AreDigits}
 use Rattle.axe_plane.specs.Planes.{digits_of}
 use Rattle.axe_plane.specs.Tables.{plane_at, prime_of_table}
 use Rattle.axe_row.specs.HigherPlanes.{linear_of, quadratic_of}
