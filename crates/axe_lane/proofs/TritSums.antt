@@ -1,5 +1,5 @@
 -- The sum of two rows over the field of order 3, words by words: what is made so far, and what it is at each entry.
-use Rattle.std.proofs.Common.{◌≡◌, ◌⊎◌, ℕ, ◌+◌, ◌-◌, ◌*◌, ◌/◌, ◌%◌, ◌^◌, ◌<◌, ◌≤◌, List, length, get_or, set, max, refl, sym, ap, ap₂, subst, ◌∙◌, arith, inl, inr, bit_or, bit_xor, get_or-set_same, get_or-set_other}
+use Rattle.std.proofs.Common.{◌≡◌, ◌⊎◌, ℕ, ◌+◌, ◌-◌, ◌*◌, ◌/◌, ◌%◌, ◌^◌, ◌<◌, ◌≤◌, List, length, get_or, set, max, sym, ap, ap₂, subst, ◌∙◌, arith, inl, inr, bit_or, bit_xor, get_or-set_same, get_or-set_other}
 use Rattle.std.specs.Int.{bit_at}
 use Rattle.std.specs.Simd.Lanes.{chunk, put_chunk, zip2}
 use Rattle.std.proofs.lemmas.Bool.{cases_lt}
@@ -10,17 +10,6 @@ use Rattle.std.proofs.lemmas.Simd.{get_or-chunk, get_or-put_chunk_above, get_or-
 use Rattle.axe_lane.specs.Words.{bit_of}
 use Rattle.axe_lane.specs.Trits.{trit_of, turned_bits, ones_of_sum, twos_of_sum, AreTrits, FitAt, HasSumBetween, IsTritSum}
 use Rattle.axe_lane.proofs.VectorLaws.{length-zip2_of}
-
--- nothing is made at first
-pub nothing_made : (n : ℕ) (o t a b : List ℕ) → HasSumBetween n n o t a b o t
-nothing_made n o t a b = record {
-  ones_long = refl;
-  twos_long = refl;
-  ones_made = λ k from to. absurd (omega arith);
-  twos_made = λ k from to. absurd (omega arith);
-  ones_kept = λ k outside. refl;
-  twos_kept = λ k outside. refl;
-}
 
 -- a part more
 pub made_more : (n m : ℕ) (o t a b o' t' p q : List ℕ) → HasSumBetween 0 n o t a b o' t' → HasSumBetween n m o' t' a b p q → n ≤ m →

@@ -1,12 +1,12 @@
 -- Entries that are zero, and the first that is not.
-use Rattle.std.proofs.Common.{◌≡◌, ◌↔◌, ℕ, zero, suc, ◌+◌, ◌-◌, ◌*◌, ◌/◌, ◌%◌, ◌<◌, ◌≤◌, List, [], ◌∷◌, Option, Some, None, length, get_or, refl, sym, ap, ap₂, ◌∙◌, arith, inl, inr, IsTrue, MatchOption, is_some, bit_or}
+use Rattle.std.proofs.Common.{◌≡◌, ◌↔◌, ℕ, zero, suc, ◌+◌, ◌-◌, ◌*◌, ◌/◌, ◌%◌, ◌<◌, List, [], ◌∷◌, Option, Some, None, length, get_or, refl, sym, ap, ap₂, ◌∙◌, arith, inl, inr, IsTrue, MatchOption, is_some, bit_or}
 use Rattle.std.specs.Simd.Lanes.{fold_l, chunk}
 use Rattle.std.specs.List.{All}
 use Rattle.std.specs.Int.{bit_at}
 use Rattle.std.proofs.lemmas.Simd.{get_or-chunk}
 use Rattle.std.proofs.lemmas.Bool.{cases_lt}
 use Rattle.std.proofs.lemmas.List.{get_or_default, get_or_past}
-use Rattle.std.proofs.lemmas.List.Elements.{All-get_or, All-from_get_or}
+use Rattle.std.proofs.lemmas.List.Elements.{All-get_or}
 use Rattle.std.proofs.lemmas.Nat.{le_or_l, le_or_r}
 use Rattle.std.proofs.lemmas.Nat.Bits.{bit_at-zero}
 use Rattle.axe_lane.specs.Entries.{HasNonzero, AreZerosBefore, IsFirstNonzero}
@@ -33,9 +33,6 @@ zeros_more n k m xs sum before block j h =
           let within : j - n < k = omega arith in
           ap (λ i. get_or xs i 0) (sym at) ∙ sym (get_or-chunk n k xs (j - n) 0 within) ∙ block (j - n) within
     ]
-
-pub all_zeros : (xs : List ℕ) (n : ℕ) → length xs ≤ n → AreZerosBefore xs n → All (λ x. x ≡ 0) xs
-all_zeros xs n h zeros = All-from_get_or (λ x. x ≡ 0) xs 0 (λ j l. zeros j (omega arith))
 
 pub some_is_nonzero : (r : Option ℕ) (xs : List ℕ) → MatchOption r (All (λ x. x ≡ 0) xs) (IsFirstNonzero xs) → IsTrue (is_some r) ↔ HasNonzero xs
 some_is_nonzero None xs zeros = (λ h. cc, λ some. absurd (some.4 (sym some.3 ∙ zeros some.0 some.1 some.2)))

@@ -1,5 +1,5 @@
 -- The words of supports, and the places that they have.
-use Rattle.std.proofs.Common.{◌≡◌, ◌≢◌, ◌↔◌, ℕ, ◌+◌, ◌-◌, ◌*◌, ◌/◌, ◌%◌, ◌^◌, ◌<◌, ◌≤◌, Option, MatchOption, List, length, get_or, take, cond, eqb, max, sym, ap, ◌∙◌, arith, inl, inr, w64}
+use Rattle.std.proofs.Common.{◌≡◌, ◌≢◌, ◌↔◌, ℕ, ◌+◌, ◌-◌, ◌*◌, ◌/◌, ◌%◌, ◌^◌, ◌<◌, ◌≤◌, List, length, get_or, take, cond, eqb, max, sym, ap, ◌∙◌, arith, inl, inr, w64}
 use Rattle.std.specs.Int.{bit_at, trailing_zeros}
 use Rattle.std.specs.Int.RustNames.{bit_or}
 use Rattle.std.specs.Int.Bits.{bit_and}
@@ -13,10 +13,6 @@ use Rattle.axe_lane.specs.Entries.{AreZerosBetween, AreZerosFrom, IsNextNonzero}
 use Rattle.axe_layer.specs.Supports.{restricted, IsSupportWord}
 use Rattle.axe_layer.proofs.BitLaws.{bit_at-shifted}
 use Rattle.axe_layer.proofs.NextDigits.{within_word}
-
--- the place of the first number other than 0 from an index on, or none before another
-abbrev pub IsNextUntil : List ℕ → ℕ → ℕ → Option ℕ → Type 0
-IsNextUntil numbers start end place = MatchOption place (AreZerosBetween numbers start end) (IsNextNonzero numbers start)
 
 -- ---- the places of one word
 
