@@ -1,5 +1,5 @@
 -- What reads take from a source, what a turn of a bounded read makes of one, and what all turns make of it.
-use Rattle.std.proofs.Common.{◌≡◌, ℕ, ◌+◌, ◌<◌, ◌≤◌, Bool, false, eqb, eqb-true, Option, Some, None, IfSome, List, [], ◌++◌, length, take, Result, Ok, Err, Vec, refl, ap, sym, ◌∙◌, subst, append_assoc, append-nil, length-append, arith}
+use Rattle.std.proofs.Common.{◌≡◌, ℕ, ◌+◌, ◌<◌, ◌≤◌, Bool, false, eqb, eqb-true, Option, Some, None, IfSome, List, [], ◌++◌, length, take, Result, Ok, Err, Vec, ap, sym, ◌∙◌, subst, append_assoc, append-nil, length-append, arith}
 use Rattle.std.specs.Bool.{⊤}
 use Rattle.std.specs.Result.{IsErrAnd}
 use Rattle.std.proofs.lemmas.List.{take-append-le, length-take-le}
