@@ -1,3 +1,2 @@
 pub mod FlatTables
 pub mod Trits
-pub mod Earlier

@@ -5,7 +5,6 @@
 mod bit_table;
 mod bits;
 mod pieces;
-mod places;
 mod supports;
 mod trit_table;
 mod trits;
@@ -13,6 +12,5 @@ mod trits;
 pub use bit_table::BitTable;
 pub use bits::BitPlane;
 pub use pieces::start_of;
-pub use places::earlier;
 pub use trit_table::TritTable;
 pub use trits::TritPlane;

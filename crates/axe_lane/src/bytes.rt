@@ -142,7 +142,8 @@ fn scale_over<const P: u8>(dst: &mut [u8], m: u8)
     }
 }
 
-/// Adds M times a row over the field of order `P`: whole blocks by vectors, and then the bytes that are left one by one.
+/// Adds M times another row over the field of order `P`: whole blocks by vectors, and then the bytes that are left one
+/// by one.
 fn add_multiple<const M: u8, const P: u8>(dst: &mut [u8], src: &[u8])
     requires prime { IsSmallPrime P }
     requires factor { (0 < M) × (M < P) }

@@ -2,4 +2,5 @@ pub mod Bits
 pub mod Digits
 pub mod Packed
 pub mod Words
+pub mod Earlier
 pub mod Supports

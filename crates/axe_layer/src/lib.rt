@@ -1,5 +1,5 @@
-//! Layers: digits modulo 2 as the bits of a list of words, 64 in each. A layer is made of numbers or of another layer, its
-//! digits are read, written, counted and looked for, and words of them are packed in bytes and transposed.
+//! Layers: digits modulo 2 as the bits of a list of words, 64 in each. A layer is made of numbers or of another layer;
+//! its digits are read, written, counted and looked for; and words of them are packed in bytes and transposed.
 #![tactic(auto)]
 
 mod base_three;
@@ -7,6 +7,7 @@ mod blocks;
 mod layer;
 mod packed;
 mod parts;
+mod places;
 mod supports;
 
 pub use blocks::transposed_block;
@@ -16,4 +17,5 @@ pub use layer::{
 };
 pub use packed::{WORD_BYTES, packed_word, word_of_packed};
 pub use parts::{WORD, lowest};
+pub use places::earlier;
 pub use supports::{four_in_word, next_in_word};

@@ -11,8 +11,8 @@ ghost use Rattle.axe_matrix.specs.Transposes.{coefficients_of, HasCoefficients, 
 ghost use Rattle.axe_matrix.specs.Transposes.{AreZerosWithin, HasRowWords, digit_of_block};
 
 use super::Matrix;
-use axe_layer::transposed_block;
 use axe_lane::any_nonzero;
+use axe_layer::transposed_block;
 
 /// How many rows a block has, and how many columns: as many as a word has bits.
 const BLOCK: usize = 64;

@@ -12,7 +12,8 @@ ghost use Rattle.axe_layer.specs.Digits.{numbers_with_multiple, numbers_from, nu
 ghost use Rattle.axe_plane.specs.Planes.{negative_modulo};
 ghost use Rattle.axe_plane.specs.Tables.{plane_at, IsEntryFor};
 
-use axe_bits::{BitPlane, TritPlane};
+pub use axe_bits::BitPlane;
+use axe_bits::TritPlane;
 pub use byte_table::ByteTable;
 pub use bytes::BytePlane;
 use bytes::reduce;

@@ -13,7 +13,7 @@ use Rattle.axe_plane.specs.Planes.{digits_of}
 use Rattle.axe_plane.specs.declared.Plane.{Plane}
 use Rattle.axe_lane.specs.Entries.{IsFirstNonzero}
 use Rattle.axe_row.specs.Operations.{IsZeroVector}
-use Rattle.axe_bits.specs.Earlier.{earlier_of}
+use Rattle.axe_layer.specs.Earlier.{earlier_of}
 use Rattle.axe_row.specs.Planes.{ArePlanes, HaveZerosBefore}
 use Rattle.axe_row.specs.Rows.{RowValue}
 use Rattle.axe_row.proofs.RowPlanes.{entries_of, length-entries, entries-at, element_at, element_of-zeros, no_longer}

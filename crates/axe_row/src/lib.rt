@@ -28,8 +28,8 @@ mod sums;
 mod words;
 
 pub use axe_bits::BitPlane;
-use axe_bits::earlier;
 use axe_field::Field;
+use axe_layer::earlier;
 use axe_plane::Plane;
 pub use combos::{Combos, most_combined};
 use higher::Higher;

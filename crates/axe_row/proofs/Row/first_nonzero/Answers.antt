@@ -2,7 +2,7 @@ use Rattle.std.proofs.Common.{Option, ℕ, refl, ap, sym, subst, ◌∙◌, Matc
 use Rattle.axe_lane.specs.Entries.{IsFirstNonzero}
 use Rattle.axe_row.specs.HigherPlanes.{linear_of, quadratic_of}
 use Rattle.axe_row.specs.Operations.{IsZeroVector}
-use Rattle.axe_bits.specs.Earlier.{earlier_of}
+use Rattle.axe_layer.specs.Earlier.{earlier_of}
 use Rattle.axe_row.specs.Rows.{RowValue}
 use Rattle.axe_row.proofs.FirstEntries.{first_of_planes}
 use Rattle.axe_row.proofs.KeptPlanes.{alone_is_prime, kept_planes, kept_view}

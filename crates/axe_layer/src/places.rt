@@ -1,6 +1,6 @@
 //! The earlier of two places.
 ghost use Rattle.std.specs.Prelude.{◌≡◌};
-ghost use Rattle.axe_bits.specs.Earlier.{earlier_of};
+ghost use Rattle.axe_layer.specs.Earlier.{earlier_of};
 
 /// The earlier of two places, each of which may be missing.
 pub fn earlier(a: Option<usize>, b: Option<usize>) -> Option<usize>
