@@ -16,7 +16,7 @@ use crate::packed::numbers_of_pieces;
 use crate::parts::{WORD, add_spread, gathered, lowest, spread, word_from};
 use axe_lane::{bits_of_bytes, first_set};
 
-/// Makes words the layer of the bits that numbers have at a place, counted from the lowest.
+/// Makes words, as many as the digits take, the layer of the bits that numbers have at a place, the lowest being at 0.
 pub fn fill_with_bits(words: &mut [u64], numbers: &[u8], place: u8)
     requires long { length words.old ≡ (length numbers.now + 63) / 64 }
     requires place { place < 8 }
@@ -28,7 +28,8 @@ pub fn fill_with_bits(words: &mut [u64], numbers: &[u8], place: u8)
     }
 }
 
-/// Makes words the layer of the digits that another layer has at these indices, in their order.
+/// Makes words, as many as the digits take, the layer of the digits that another layer has at these indices, in their
+/// order. Indices are counted from 0.
 pub fn fill_with_selected(words: &mut [u64], layer: &[u64], indices: &[usize])
     requires long { length words.old ≡ (length indices.now + 63) / 64 }
     requires within { All (λ index. index / 64 < length layer.now) indices.now }
@@ -40,7 +41,8 @@ pub fn fill_with_selected(words: &mut [u64], layer: &[u64], indices: &[usize])
     }
 }
 
-/// Makes words the layer of the `len` digits that another layer has from an index on.
+/// Makes words, as many as the digits take, the layer of the `len` digits that another layer has from an index on,
+/// counted from 0.
 pub fn fill_with_part(words: &mut [u64], layer: &[u64], start: usize, len: usize)
     requires long { length words.old ≡ (len + 63) / 64 }
     requires within { start + len ≤ 64 * length layer.now }
@@ -80,7 +82,7 @@ pub fn add_digits(words: &[u64], len: usize, factor: u8, numbers: &mut [u8])
     }
 }
 
-/// The digit of a layer at an index.
+/// The digit of a layer at an index, counted from 0.
 #[inline]
 pub fn bit_in(words: &[u64], index: usize) -> u8
     requires { index / 64 < length words.now }
@@ -90,7 +92,7 @@ pub fn bit_in(words: &[u64], index: usize) -> u8
     ((words[index / WORD] >> (index % WORD)) & 1) as u8
 }
 
-/// Makes a digit of a layer the one at an index; all others stay, whatever the length of the layer.
+/// Makes a digit of a layer the one at an index, counted from 0; all others stay, whatever the length of the layer.
 pub fn set_bit(words: &mut [u64], index: usize, digit: u8)
     requires index { index / 64 < length words.old }
     requires digit { digit < 2 }
@@ -102,7 +104,7 @@ pub fn set_bit(words: &mut [u64], index: usize, digit: u8)
 }
 
 /// The number whose digits in a base up to 9, most significant first, are up to eight of those of a layer of `len`
-/// digits from an index on: `size` of them or those that there are.
+/// digits from an index on, counted from 0: `size` of them or those that there are.
 #[inline]
 pub fn number_in(words: &[u64], len: usize, base: usize, size: usize, at: usize) -> usize
     requires long { length words.now ≡ (len + 63) / 64 }
@@ -120,8 +122,8 @@ pub fn number_in(words: &[u64], len: usize, base: usize, size: usize, at: usize)
 }
 
 /// Four numbers in a base up to 9, the digits of each being up to eight of those of a layer of `len` digits, most
-/// significant first: those of the pieces of `size` digits one after another from an index on, as far as the layer
-/// goes. In base 2 all four are read at once where there are so many digits.
+/// significant first: those of the pieces of `size` digits one after another from an index on, counted from 0, as far
+/// as the layer goes. In base 2 all four are read at once where there are so many digits.
 #[inline]
 pub fn numbers_in(words: &[u64], len: usize, base: usize, size: usize, at: usize) -> [usize; 4]
     requires long { length words.now ≡ (len + 63) / 64 }
@@ -180,9 +182,9 @@ pub fn numbers_by_digits(
     ]
 }
 
-/// The index of the first digit other than 0 from an index on, or `None` where every digit from there on and before an
-/// end is 0, whatever the length of the layer. The words past that of the end are not looked at, so a digit past the
-/// end may be found or not.
+/// The index of the first digit other than 0 from an index on, both counted from 0, or `None` where every digit from
+/// there on and before an end is 0, whatever the length of the layer. The words past that of the end are not looked at,
+/// so a digit past the end may be found or not.
 #[inline]
 pub fn next_in(words: &[u64], start: usize, end: usize) -> Option<usize>
     requires within { end ≤ 64 * length words.now }
