@@ -3,6 +3,7 @@ pub mod OperationLaws
 pub mod UnitRows
 pub mod RowPlanes
 pub mod KeptPlanes
+pub mod MadePlanes
 pub mod PlaneSums
 pub mod PrimeRows
 pub mod FirstEntries

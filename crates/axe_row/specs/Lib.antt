@@ -4,6 +4,7 @@ pub mod Refusals
 pub mod Operations
 pub mod Planes
 pub mod HigherPlanes
+pub mod MadePlanes
 pub mod Combinations
 pub mod PlaneTables
 pub mod Words

@@ -9,7 +9,8 @@ ghost use Rattle.axe_field.specs.Order.{IsElement, prime_of, degree_of};
 ghost use Rattle.axe_lane.specs.Entries.{AreZerosBefore, IsFirstNonzero};
 ghost use Rattle.axe_row.specs.Operations.{dot_product, row_with_multiple, multiple_row, IsZeroVector};
 ghost use Rattle.axe_plane.specs.Planes.{digits_of, IsPlaneOf};
-ghost use Rattle.axe_row.specs.Planes.{entries_of_digits, ArePlanes};
+ghost use Rattle.axe_row.specs.MadePlanes.{row_of_planes, AnswersMade, IfMade};
+ghost use Rattle.axe_row.specs.Planes.{ArePlanes};
 ghost use Rattle.axe_row.specs.Rows.{RowValue, IsRow};
 ghost use Rattle.axe_row.specs.Refusals.{Answers};
 
@@ -36,7 +37,7 @@ use higher::Higher;
 use planes::{add_multiples, digits_in_plane, element, plane_of, quadratic_at};
 pub use refusals::Refusal;
 use scaling::exponent;
-use std::alloc::Global;
+use std::alloc::{AllocError, Global};
 use std::marker::Model;
 
 /// A row vector over one of the seven fields. It may have no entries. An entry is a polynomial modulo a prime, and a
@@ -78,8 +79,8 @@ impl Row {
         if field.degree() == 1 {
             return Ok(Row::of_plane(field, constant));
         }
-        let linear = Plane::zero(alloc, prime, len)?;
-        let quadratic = Plane::zero(alloc, prime, digits_in_plane(&field, 2, len))?;
+        let linear = Plane::zero(alloc, prime, len);
+        let quadratic = Plane::zero(alloc, prime, digits_in_plane(&field, 2, len));
         Row::of_planes(alloc, field, constant, linear, quadratic)
     }
 
@@ -104,8 +105,8 @@ impl Row {
         if field.degree() == 1 {
             return Ok(Row::of_plane(field, constant));
         }
-        let linear = plane_of(alloc, &field, elements, 1)?;
-        let quadratic = plane_of(alloc, &field, elements, 2)?;
+        let linear = plane_of(alloc, &field, elements, 1);
+        let quadratic = plane_of(alloc, &field, elements, 2);
         Row::of_planes(alloc, field, constant, linear, quadratic)
     }
 
@@ -208,8 +209,8 @@ impl Row {
         let Some(higher) = &self.higher else {
             return Ok(Row::of_plane(self.field, constant));
         };
-        let linear = higher.linear.copy(alloc)?;
-        let quadratic = higher.quadratic.copy(alloc)?;
+        let linear = higher.linear.copy(alloc);
+        let quadratic = higher.quadratic.copy(alloc);
         Row::of_planes(alloc, self.field, constant, linear, quadratic)
     }
 
@@ -331,22 +332,23 @@ impl Row {
         }
     }
 
-    /// The row over a field that is not prime with these planes of coefficients.
+    /// The row over a field that is not prime with these planes of coefficients, where there was memory for them. The
+    /// planes of x and x^2 come as their making answered, so that a caller need not leave early.
     fn of_planes(
         alloc: Global,
         field: Field,
         constant: Plane,
-        linear: Plane,
-        quadratic: Plane,
+        linear: Result<Plane, AllocError>,
+        quadratic: Result<Plane, AllocError>,
     ) -> Result<Row, Refusal>
         requires degree { degree_of field ≢ 1 }
-        requires planes { ArePlanes field (length (digits_of constant)) constant linear quadratic }
-        ensures entries { Answers None (λ row. row ≡ record {
-          order = field;
-          entries = entries_of_digits field (digits_of constant) (digits_of linear) (digits_of quadratic);
-        }) result }
+        requires planes { IfMade linear quadratic (ArePlanes field (length (digits_of constant)) constant) }
+        ensures entries { AnswersMade linear quadratic (row_of_planes field constant) result }
         ensures well_formed { Answers None IsRow result }
     {
+        let (Ok(linear), Ok(quadratic)) = (linear, quadratic) else {
+            return Err(Refusal::Memory);
+        };
         let higher = Box::new(alloc, Higher { linear, quadratic })?;
         Ok(Row {
             field,

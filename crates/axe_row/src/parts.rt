@@ -18,10 +18,10 @@ impl Row {
         let Some(higher) = &self.higher else {
             return Ok(Row::of_plane(self.field, constant));
         };
-        let linear = higher.linear.part(alloc, start, len)?;
+        let linear = higher.linear.part(alloc, start, len);
         let at = digits_in_plane(&self.field, 2, start);
         let count = digits_in_plane(&self.field, 2, len);
-        let quadratic = higher.quadratic.part(alloc, at, count)?;
+        let quadratic = higher.quadratic.part(alloc, at, count);
         Row::of_planes(alloc, self.field, constant, linear, quadratic)
     }
 
@@ -38,9 +38,9 @@ impl Row {
         let Some(higher) = &self.higher else {
             return Ok(Row::of_plane(self.field, constant));
         };
-        let linear = higher.linear.select(alloc, columns)?;
+        let linear = higher.linear.select(alloc, columns);
         let in_quadratic = &columns[..digits_in_plane(&self.field, 2, columns.len())];
-        let quadratic = higher.quadratic.select(alloc, in_quadratic)?;
+        let quadratic = higher.quadratic.select(alloc, in_quadratic);
         Row::of_planes(alloc, self.field, constant, linear, quadratic)
     }
 

@@ -1,6 +1,6 @@
 use Rattle.std.proofs.Common.{List, ℕ, ap, sym, ◌∙◌}
 use Rattle.axe_row.proofs.ElementPlanes.{planes_of_elements, row_of_elements, prime_elements, prime_plane_of_elements}
-use Rattle.axe_row.proofs.KeptPlanes.{same_answer}
+use Rattle.axe_row.proofs.MadePlanes.{made, answers_made}
 use Rattle.axe_row.proofs.RowPlanes.{with_length}
 use Rattle.axe_row.proofs.Row.from_elements.Goals as goal
 
@@ -15,11 +15,10 @@ returns-then-degree-eq1-clause-copied c =
 
 pub of_planes-requires-clause-planes : goal.of_planes-requires-clause-planes
 of_planes-requires-clause-planes c =
-    with_length _ _ _ _ _
-    (planes_of_elements _ _ _ _ _ c.requires c.in_ok-constant.ensures c.in_ok-linear.ensures c.in_ok-quadratic.ensures)
+    made _ _ _ _ _ c.plane_of-linear.ensures c.plane_of-quadratic.ensures (λ l q hl hq.
+    with_length _ _ _ _ _ (planes_of_elements _ _ _ _ _ c.requires c.in_ok-constant.ensures hl hq))
 
 pub returns-clause-copied : goal.returns-clause-copied
 returns-clause-copied c =
-    same_answer _ _ _
-    (row_of_elements _ _ _ _ _ c.requires c.in_ok-constant.ensures c.in_ok-linear.ensures c.in_ok-quadratic.ensures)
-    c.of_planes.ensures.entries
+    answers_made _ _ _ _ _ _ _ c.plane_of-linear.ensures c.plane_of-quadratic.ensures c.of_planes.ensures.entries (λ l q hl hq.
+    row_of_elements _ _ _ _ _ c.requires c.in_ok-constant.ensures hl hq)
