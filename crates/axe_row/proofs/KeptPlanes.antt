@@ -177,6 +177,12 @@ alone_same o r c c' higher others self other h h' self_is other_is is orders sam
     ∙ ap (λ s. record { order = s; entries = digits_of c }) orders ∙ ap (λ (x : Plane). record { order = r; entries = digits_of x }) same
     ∙ alone_row r c' others other h' other_is (others_alone o r _ c' others h' (alone_is_prime o _ c higher h is) orders)
 
+-- the field of a row of one plane alone
+pub alone_order : (o : Order) (n : ℕ) (c : Plane) (higher : HigherPlanes) (entries : List ℕ) (self : RowValue) → AreKeptPlanes o n c higher →
+    record { order = o; entries = entries } ≡ self → higher ≡ None → degree_of self.order ≡ 1
+alone_order o n c higher entries self h self_is is =
+    ap (λ (r : RowValue). degree_of r.order) (sym self_is) ∙ alone_is_prime o n c higher h is
+
 -- where another row of the field keeps one plane alone
 pub other_alone : (o r : Order) (n : ℕ) (c c' : Plane) (higher others : HigherPlanes) (self other : RowValue) → AreKeptPlanes r n c' others →
     record { order = o; entries = entries_of o c (linear_of o higher) (quadratic_of o higher) } ≡ self →

@@ -3,11 +3,12 @@ use Rattle.axe_field.specs.Order.{degree_of}
 use Rattle.axe_plane.specs.Planes.{digits_of}
 use Rattle.axe_row.specs.HigherPlanes.{linear_of, quadratic_of}
 use Rattle.axe_row.specs.Combinations.{row_with_four}
-use Rattle.axe_row.proofs.KeptPlanes.{alone_is_prime, kept_planes, kept_view, kept_not_prime}
+use Rattle.axe_row.proofs.KeptPlanes.{alone_is_prime, other_alone, kept_planes, kept_view, kept_not_prime}
 use Rattle.axe_row.proofs.RowPlanes.{IsRow-of_planes, with_length}
 use Rattle.axe_row.proofs.TableSums.{IsRowOf, row_of, plus_four, plus_four_constant, as_long_as}
 use Rattle.axe_row.proofs.AddedRows.{row_added_to, constant_added_to, linear_added_to, quadratic_added_to}
 use Rattle.axe_row.proofs.Row.add_four_rows.Goals as goal
+use Rattle.axe_row.proofs.Row.add_four_rows.Goals.{in_default-2-via-in_default, in_default-2-via-in-Some+in_default, in_default-2-via-in-Some+in-Some+in_default, in_default-2-via-in-Some+in-Some+in-Some+in_default}
 
 pub add_four-requires-clause-a : goal.add_four-requires-clause-a
 add_four-requires-clause-a c =
@@ -107,3 +108,30 @@ returns-in_default-clause-as_long c =
 
 pub returns-in_default-clause-well_formed : goal.returns-in_default-clause-well_formed
 returns-in_default-clause-well_formed c = IsRow-of_planes _ _ _ _ _ (invariant_of-self c).planes
+
+-- the others keep all planes where this row does
+all_kept : (c : goal.In_default-2) → ⊥
+all_kept c =
+    elim c.in_default-2.branch [
+      | in_default-2-via-in_default w ↦
+          kept_not_prime _ _ _ _ c.self.invariant _ c.in-Some.is
+          (other_alone _ _ _ c.self.inside.constant _ c.self.inside.higher _ _ _ c.a.invariant c.self.view_is c.a.view_is c.requires.a.field w.in_default-2.is-0)
+      | in_default-2-via-in-Some+in_default w ↦
+          kept_not_prime _ _ _ _ c.self.invariant _ c.in-Some.is
+          (other_alone _ _ _ c.self.inside.constant _ c.self.inside.higher _ _ _ c.b.invariant c.self.view_is c.b.view_is c.requires.b.field w.in_default-2.is-1)
+      | in_default-2-via-in-Some+in-Some+in_default w ↦
+          kept_not_prime _ _ _ _ c.self.invariant _ c.in-Some.is
+          (other_alone _ _ _ c.self.inside.constant _ c.self.inside.higher _ _ _ c.c.invariant c.self.view_is c.c.view_is c.requires.c.field w.in_default-2.is-2)
+      | in_default-2-via-in-Some+in-Some+in-Some+in_default w ↦
+          kept_not_prime _ _ _ _ c.self.invariant _ c.in-Some.is
+          (other_alone _ _ _ c.self.inside.constant _ c.self.inside.higher _ _ _ c.d.invariant c.self.view_is c.d.view_is c.requires.d.field w.in_default-2.is-3)
+    ]
+
+pub returns-in_default-2-clause-sum : goal.returns-in_default-2-clause-sum
+returns-in_default-2-clause-sum c = absurd (all_kept c)
+
+pub returns-in_default-2-clause-as_long : goal.returns-in_default-2-clause-as_long
+returns-in_default-2-clause-as_long c = absurd (all_kept c)
+
+pub returns-in_default-2-clause-well_formed : goal.returns-in_default-2-clause-well_formed
+returns-in_default-2-clause-well_formed c = absurd (all_kept c)

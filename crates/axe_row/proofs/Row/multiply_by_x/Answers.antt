@@ -1,5 +1,5 @@
-use Rattle.std.proofs.Common.{◌∙◌}
-use Rattle.axe_row.proofs.KeptPlanes.{kept_planes, kept_view, kept_not_prime}
+use Rattle.std.proofs.Common.{◌∙◌, arith}
+use Rattle.axe_row.proofs.KeptPlanes.{alone_order, kept_planes, kept_view, kept_not_prime}
 use Rattle.axe_row.proofs.RowPlanes.{IsRow-of_planes, with_length}
 use Rattle.axe_row.proofs.MultiplesByX.{degree_along, turned, factor_is, middle_addable, last_addable, top_factor_is_digit, times_x_planes, times_x_entries, row_times_x}
 use Rattle.axe_row.proofs.Row.multiply_by_x.Goals as goal
@@ -62,3 +62,13 @@ returns-clause-multiple c =
 
 pub returns-clause-well_formed : goal.returns-clause-well_formed
 returns-clause-well_formed c = IsRow-of_planes _ _ _ _ _ (invariant_of-self-2 c).planes
+
+-- over a field that is not prime all planes are kept
+not_alone : (c : goal.In_default) → ⊥
+not_alone c = omega (arith, c.requires, alone_order _ _ _ _ _ _ c.self.invariant c.self.view_is c.in_default.is)
+
+pub returns-in_default-clause-multiple : goal.returns-in_default-clause-multiple
+returns-in_default-clause-multiple c = absurd (not_alone c)
+
+pub returns-in_default-clause-well_formed : goal.returns-in_default-clause-well_formed
+returns-in_default-clause-well_formed c = absurd (not_alone c)

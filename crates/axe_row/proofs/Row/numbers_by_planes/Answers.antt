@@ -41,3 +41,40 @@ returns c =
     (c.number_of_parts-4.ensures
     ∙ number_is _ _ _ _ _ _ _ _ _ (ap (λ (l : List ℕ). get_or l 3 0) constant) (ap (λ (l : List ℕ). get_or l 3 0) linear) (ap (λ (l : List ℕ). get_or l 3 0) quadratic) c.prime-prime.ensures
     (number_of_planes _ q size (at + 3 * size) _ _ _ _ planes view_is base))
+
+-- the parts of a piece are small
+pub number_of_parts-requires-clause-constant : goal.number_of_parts-requires-clause-constant
+number_of_parts-requires-clause-constant c = c.numbers_from-constant.ensures.small 0
+
+pub number_of_parts-requires-clause-linear : goal.number_of_parts-requires-clause-linear
+number_of_parts-requires-clause-linear c = c.numbers_from-linear.ensures.small 0
+
+pub number_of_parts-requires-clause-quadratic : goal.number_of_parts-requires-clause-quadratic
+number_of_parts-requires-clause-quadratic c = c.numbers_from-quadratic.ensures.small 0
+
+pub number_of_parts-requires-2-clause-constant : goal.number_of_parts-requires-2-clause-constant
+number_of_parts-requires-2-clause-constant c = c.numbers_from-constant.ensures.small 1
+
+pub number_of_parts-requires-2-clause-linear : goal.number_of_parts-requires-2-clause-linear
+number_of_parts-requires-2-clause-linear c = c.numbers_from-linear.ensures.small 1
+
+pub number_of_parts-requires-2-clause-quadratic : goal.number_of_parts-requires-2-clause-quadratic
+number_of_parts-requires-2-clause-quadratic c = c.numbers_from-quadratic.ensures.small 1
+
+pub number_of_parts-requires-3-clause-constant : goal.number_of_parts-requires-3-clause-constant
+number_of_parts-requires-3-clause-constant c = c.numbers_from-constant.ensures.small 2
+
+pub number_of_parts-requires-3-clause-linear : goal.number_of_parts-requires-3-clause-linear
+number_of_parts-requires-3-clause-linear c = c.numbers_from-linear.ensures.small 2
+
+pub number_of_parts-requires-3-clause-quadratic : goal.number_of_parts-requires-3-clause-quadratic
+number_of_parts-requires-3-clause-quadratic c = c.numbers_from-quadratic.ensures.small 2
+
+pub number_of_parts-requires-4-clause-constant : goal.number_of_parts-requires-4-clause-constant
+number_of_parts-requires-4-clause-constant c = c.numbers_from-constant.ensures.small 3
+
+pub number_of_parts-requires-4-clause-linear : goal.number_of_parts-requires-4-clause-linear
+number_of_parts-requires-4-clause-linear c = c.numbers_from-linear.ensures.small 3
+
+pub number_of_parts-requires-4-clause-quadratic : goal.number_of_parts-requires-4-clause-quadratic
+number_of_parts-requires-4-clause-quadratic c = c.numbers_from-quadratic.ensures.small 3

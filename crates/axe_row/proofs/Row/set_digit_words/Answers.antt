@@ -1,5 +1,6 @@
+use Rattle.std.proofs.Common.{arith}
 use Rattle.axe_row.specs.HigherPlanes.{linear_of, quadratic_of}
-use Rattle.axe_row.proofs.KeptPlanes.{kept_planes, kept_view, kept_not_prime}
+use Rattle.axe_row.proofs.KeptPlanes.{alone_order, kept_planes, kept_view, kept_not_prime}
 use Rattle.axe_row.proofs.RowPlanes.{IsRow-of_planes, with_length}
 use Rattle.axe_row.proofs.RowWords.{constant_with_words, linear_with_words, quadratic_with_words, row_with_constant, row_with_linear, row_with_quadratic, third_power}
 use Rattle.axe_row.proofs.Row.set_digit_words.Goals.{then-power-eq1, else-power-eq1}
@@ -54,3 +55,15 @@ returns-clause-written c =
 
 pub returns-clause-well_formed : goal.returns-clause-well_formed
 returns-clause-well_formed c = IsRow-of_planes _ _ _ _ _ (invariant_of-self-2 c).planes
+
+-- a power other than the first stands over no prime field
+not_alone : (c : goal.In_default) → ⊥
+not_alone c =
+    c.if-power-eq0.false
+    (omega (arith, c.requires.power, alone_order _ _ _ _ _ _ c.self.invariant c.self.view_is c.in_default.is))
+
+pub returns-in_default-clause-written : goal.returns-in_default-clause-written
+returns-in_default-clause-written c = absurd (not_alone c)
+
+pub returns-in_default-clause-well_formed : goal.returns-in_default-clause-well_formed
+returns-in_default-clause-well_formed c = absurd (not_alone c)
