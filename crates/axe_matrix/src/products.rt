@@ -31,8 +31,14 @@ impl Matrix {
             return Err(Refusal::ShapesDiffer);
         }
         let mut product = Matrix::zero(alloc, *self.field(), self.rows(), other.cols())?;
-        product.add_product(alloc, 1, self, other)?;
-        Ok(product)
+        match product.add_product(alloc, 1, self, other) {
+            Ok(()) => Ok(product),
+            Err(refusal) => {
+                // By a call, so that the end of the matrix is proved apart from this function.
+                drop(product);
+                Err(refusal)
+            }
+        }
     }
 
     /// Adds a multiple of the product of two matrices over the same field: each entry d becomes d + c s, where c is the
@@ -300,8 +306,14 @@ impl FourTables {
         ensures tables { Answers None (AreTablesFor field len) result }
     {
         let front = two_tables(alloc, field, len, size)?;
-        let back = two_tables(alloc, field, len, size)?;
-        Ok(FourTables::of_pairs(size, front, back))
+        match two_tables(alloc, field, len, size) {
+            Ok(back) => Ok(FourTables::of_pairs(size, front, back)),
+            Err(refusal) => {
+                // By a call, so that the end of the tables is proved apart from this function.
+                drop(front);
+                Err(refusal)
+            }
+        }
     }
 
     /// The four tables of two pairs.
@@ -356,8 +368,14 @@ fn two_tables(
     ensures second { Answers None (λ tables. IsTableFor field len size tables.1) result }
 {
     let first = Combos::new(alloc, field, len, size)?;
-    let second = Combos::new(alloc, field, len, size)?;
-    Ok((first, second))
+    match Combos::new(alloc, field, len, size) {
+        Ok(second) => Ok((first, second)),
+        Err(refusal) => {
+            // By a call, so that the end of the table is proved apart from this function.
+            drop(first);
+            Err(refusal)
+        }
+    }
 }
 
 /// Makes a table that of the combinations of a piece of a matrix's rows: `size` of them from an index on, or those that

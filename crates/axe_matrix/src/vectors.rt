@@ -89,6 +89,19 @@ fn next_entry(row: &Row, start: usize, word: &mut u64) -> Option<usize>
         }
         return Some(index);
     }
+    next_in_row(row, start, word)
+}
+
+/// The index of the next entry of a row other than 0 from an index on, whichever word of the row's support has it, or
+/// `None` where every entry from there on is 0. A word becomes the one in which the index after the entry stands.
+#[inline(always)]
+fn next_in_row(row: &Row, start: usize, word: &mut u64) -> Option<usize>
+    requires { start ≤ length row.now.entries }
+    ensures next { MatchOption result (AreZerosFrom row.now.entries start) (IsNextNonzero row.now.entries start) }
+    ensures word { IfSome result (λ index. IsSupportWord row.now.entries ((index + 1) / 64) word.new) }
+{
+    // `len` is called for what it says of the length: that it is a number of the machine, so that no sum below wraps.
+    prove!(start <= row.len());
     let index = row.next_nonzero(start)?;
     *word = row.support_word((index + 1) / WORD);
     Some(index)
