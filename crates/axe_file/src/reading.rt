@@ -183,12 +183,43 @@ fn matrix_of(alloc: Global, header: &Header, bytes: &[u8]) -> Result<Matrix, Fil
         layout.columns,
         header.rows,
     ).map_err(|_refusal| FileFault::Memory)?;
+    match take_rows(alloc, header, &table, bytes, &mut matrix) {
+        Ok(()) => Ok(matrix),
+        Err(fault) => {
+            // By a call, so that the end of the matrix is proved apart from this function.
+            drop(matrix);
+            Err(fault)
+        }
+    }
+}
+
+/// Appends the rows that bytes without fault hold to a matrix without rows. Over two elements the table is not looked
+/// at.
+fn take_rows(
+    alloc: Global,
+    header: &Header,
+    table: &[u8],
+    bytes: &[u8],
+    matrix: &mut Matrix,
+) -> Result<(), FileFault>
+    requires says { SaysShape bytes.now header.now.layout.field header.now.rows header.now.layout.columns }
+    requires whole { length bytes.now ≡ 16 + data_length bytes.now }
+    requires table { order_number header.now.layout.field ≢ 2 → table.now ≡ marks_of_bytes header.now.layout.field }
+    requires no_rows { matrix.old ≡ record {
+      order = header.now.layout.field;
+      cols = header.now.layout.columns;
+      rows = [];
+    } }
+    ensures value { OnOk result (matrix.new ≡ unpacked bytes.now) }
+    ensures memory { IfErr result (λ fault. fault ≡ Memory) }
+{
+    let layout = &header.layout;
     for index in 0..header.rows {
         let start = HEADER_LENGTH + index * layout.width;
-        let row = row_of(alloc, layout, &table, &bytes[start..start + layout.width])?;
+        let row = row_of(alloc, layout, table, &bytes[start..start + layout.width])?;
         matrix.push_row(row).map_err(|_row| FileFault::Memory)?;
     }
-    Ok(matrix)
+    Ok(())
 }
 
 /// The marks of each byte, one byte's after the other's.

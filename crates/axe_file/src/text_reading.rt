@@ -2,7 +2,7 @@
 
 ghost use Rattle.std.specs.Prelude.{◌≡◌, ℕ, ◌+◌, ◌-◌, ◌*◌, ◌<◌, ◌≤◌, None, Some, length, drop, map, filter, ◌++◌};
 ghost use Rattle.std.specs.List.{prefix_len};
-ghost use Rattle.std.specs.Prelude.{min, All, IsTrue, IfOk, IfErr, MatchResult, ◌⊎◌};
+ghost use Rattle.std.specs.Prelude.{[], min, All, IsTrue, IfOk, OnOk, IfErr, MatchResult, ◌⊎◌};
 ghost use Rattle.axe_field.specs.Order.{order_number};
 ghost use Rattle.axe_matrix.specs.Limits.{most_rows, most_columns};
 ghost use Rattle.axe_matrix.specs.Matrices.{MatrixValue, IsMatrix};
@@ -161,11 +161,44 @@ fn matrix_of_digits(
     ensures memory { IfErr result (λ fault. fault ≡ Memory) }
 {
     let mut matrix = Matrix::empty(alloc, field, columns);
+    match take_rows(alloc, field, rows, columns, bytes, start, &mut matrix) {
+        Ok(()) => Ok(matrix),
+        Err(fault) => {
+            // By a call, so that the end of the matrix is proved apart from this function.
+            drop(matrix);
+            Err(fault)
+        }
+    }
+}
+
+/// Appends the rows of the digits from an offset on to a matrix without rows.
+fn take_rows(
+    alloc: Global,
+    field: Field,
+    rows: usize,
+    columns: usize,
+    bytes: &[u8],
+    start: usize,
+    matrix: &mut Matrix,
+) -> Result<(), FileFault>
+    requires rows_fit { rows ≤ most_rows }
+    requires within { start ≤ length bytes.now }
+    requires elements { All (λ byte. IsTrue (is_element_digit (order_number field) byte))
+        (filter is_dark (drop start bytes.now)) }
+    requires enough { rows * columns ≤ length (filter is_dark (drop start bytes.now)) }
+    requires no_rows { matrix.old ≡ record { order = field; cols = columns; rows = [] } }
+    ensures matrix { OnOk result (matrix.new ≡ record {
+      order = field;
+      cols = columns;
+      rows = in_rows rows columns (map digit_value (filter is_dark (drop start bytes.now)));
+    }) }
+    ensures memory { IfErr result (λ fault. fault ≡ Memory) }
+{
     let mut at = start;
     for _ in 0..rows {
         let (row, end) = next_row(alloc, field, columns, bytes, at)?;
         matrix.push_row(row).map_err(|_row| FileFault::Memory)?;
         at = end;
     }
-    Ok(matrix)
+    Ok(())
 }

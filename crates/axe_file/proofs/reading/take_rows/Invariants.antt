@@ -1,7 +1,7 @@
 use Rattle.std.proofs.Common.{◌≡◌}
 use Rattle.axe_algebra.specs.Lists.{listed}
 use Rattle.axe_file.specs.Packed.{mark_at}
-use Rattle.axe_file.proofs.reading.matrix_of.Given as goal
+use Rattle.axe_file.proofs.reading.take_rows.Given as goal
 
 abbrev pub invariant-loop-index : goal.invariant-loop-index
 invariant-loop-index l =

@@ -1,10 +1,10 @@
 use Rattle.std.proofs.Common.{refl, arith}
 use Rattle.axe_file.proofs.Scans.{when_ok}
 use Rattle.axe_file.proofs.TextScans.{rows_begun, row_left, rows_more, rows_done}
-use Rattle.axe_file.proofs.text_reading.matrix_of_digits.Goals as goal
+use Rattle.axe_file.proofs.text_reading.take_rows.Goals as goal
 
 pub loop-init : goal.loop-init
-loop-init c = rows_begun c.args.field c.args.rows c.args.columns c.args.bytes.now c.args.start c.empty-matrix.result c.empty-matrix.ensures.no_rows c.requires.within c.requires.elements c.requires.enough
+loop-init c = rows_begun c.args.field c.args.rows c.args.columns c.args.bytes.now c.args.start c.args.matrix.now c.requires.no_rows c.requires.within c.requires.elements c.requires.enough
 
 pub next_row-requires-clause-within : goal.next_row-requires-clause-within
 next_row-requires-clause-within c = c.loop.invariant.within

@@ -1,5 +1,5 @@
 use Rattle.axe_file.proofs.TextScans.{RowsRead}
-use Rattle.axe_file.proofs.text_reading.matrix_of_digits.Given as goal
+use Rattle.axe_file.proofs.text_reading.take_rows.Given as goal
 
 abbrev pub invariant-loop : goal.invariant-loop
 invariant-loop l = RowsRead l.field l.rows l.columns l.bytes l.start l.counter l.at l.matrix

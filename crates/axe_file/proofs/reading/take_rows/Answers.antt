@@ -4,7 +4,7 @@ use Rattle.axe_row.specs.Rows.{RowValue}
 use Rattle.axe_file.specs.Packed.{mark_at}
 use Rattle.axe_file.proofs.Scans.{data_fits, rows_before, data_by_layout, marks_at, length-row_marks, pushed, unpacked_is, when_ok}
 use Rattle.axe_algebra.proofs.ListEntries.{listed_length}
-use Rattle.axe_file.proofs.reading.matrix_of.Goals as goal
+use Rattle.axe_file.proofs.reading.take_rows.Goals as goal
 
 pub overflow_mul-start : goal.overflow_mul-start
 overflow_mul-start c =
