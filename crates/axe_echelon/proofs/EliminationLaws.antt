@@ -221,10 +221,10 @@ module _ (o : Order) (n : ℕ) (steps : List Step) (are : AreSteps o n steps) (f
           ∙ number_field-mul o (get_or row.entries column 0) step.scalar
           ∙ ap (λ q. field_mul q (get_or row.entries column 0) step.scalar) (sym cleared.row_field) ∙ scaled.inverse
 
--- the same of a copy of the row, for the echelon form that has these steps
+-- the same for the echelon form that has these steps
 module _ (o : Order) (n : ℕ) (steps : List Step) (are : AreSteps o n steps) (e : EchelonValue) (view : echelon_of o n steps ≡ e)
-    (first copy row multipliers : RowValue) (copied : copy ≡ first) (well_formed : IsRow copy) (field : first.order ≡ e.order)
-    (fits : length first.entries ≡ e.cols) (of_copy : IsCleared copy.order (length copy.entries) steps copy row multipliers) where
+    (first row multipliers : RowValue) (well_formed : IsRow first) (field : first.order ≡ e.order) (fits : length first.entries ≡ e.cols)
+    (of_row : IsCleared first.order (length first.entries) steps first row multipliers) where
   order_is : first.order ≡ o
   order_is = field ∙ sym (ap (λ (x : EchelonValue). x.order) view)
 
@@ -232,13 +232,12 @@ module _ (o : Order) (n : ℕ) (steps : List Step) (are : AreSteps o n steps) (e
   columns_are = fits ∙ sym (ap (λ (x : EchelonValue). x.cols) view)
 
   over_first : IsVectorOver (number_field o) n first.entries
-  over_first = over_of_row o n first order_is (subst IsRow copied well_formed) columns_are
+  over_first = over_of_row o n first order_is well_formed columns_are
 
   cleared : IsCleared o n steps first row multipliers
   cleared =
       subst (λ k. IsCleared o k steps first row multipliers) columns_are
-      (subst (λ q. IsCleared q (length first.entries) steps first row multipliers) order_is
-      (subst (λ (r : RowValue). IsCleared r.order (length r.entries) steps r row multipliers) copied of_copy))
+      (subst (λ q. IsCleared q (length first.entries) steps first row multipliers) order_is of_row)
 
   pub row_cancels : (coefficients : RowValue) → IsZeroVector row.entries →
       IsSolved multipliers.order (length multipliers.entries) steps multipliers coefficients → Cancels e first coefficients

@@ -1,5 +1,5 @@
 -- One more step.
-use Rattle.std.specs.Prelude.{◌≡◌, ℕ, suc, ◌+◌, ◌<◌, List, [], ◌∷◌, ◌++◌, map, length, get_or, set}
+use Rattle.std.specs.Prelude.{◌≡◌, ℕ, suc, ◌+◌, ◌<◌, List, [], ◌∷◌, ◌++◌, map, length, get_or}
 use Rattle.std.proofs.lemmas.List.{length-map, map-append, get_or_append_left, get_or-append-add}
 use Rattle.std.proofs.lemmas.List.Elements.{All-push}
 use Rattle.axe_algebra.specs.NumberField.{NumberField}
@@ -12,11 +12,10 @@ use Rattle.axe_field.specs.NumberFields.{number_field, gf}
 use Rattle.axe_echelon.specs.Echelons.{EchelonValue}
 use Rattle.axe_echelon.specs.Forms.{IsEchelonForm}
 use Rattle.axe_echelon.specs.Steps.{inserted_rows, echelon_rows, multiplier_rows, scalars, pivots, echelon_of, IsStep, AreSteps, AreTabledSteps, IsNextStep}
-use Rattle.axe_echelon.specs.PivotTables.{marks_of, HasRoom}
+use Rattle.axe_echelon.specs.PivotTables.{HasPivots}
 use Rattle.axe_echelon.specs.declared.Step.{Step}
 use Rattle.axe_echelon.specs.declared.pivot_table.PivotTable.{PivotTable}
 use Rattle.axe_echelon.proofs.FormLaws.{form_more}
-use Rattle.axe_echelon.proofs.PivotLaws.{table_more}
 use Rattle.axe_echelon.proofs.StepLaws.{length-inserted, inserted_are_over}
 use mathlib.Core.Path.{sym, ◌∙◌, ap, ap₂, subst}
 use native.Mathlib.Omega.{arith}
@@ -100,14 +99,13 @@ steps_more o n steps step v are next = record {
 }
 
 -- the table with the pivot of that step
-pub tabled_by_step : (o : Order) (n : ℕ) (steps next : List Step) (step : Step) (v : List ℕ) (table after : PivotTable) (column index : ℕ) →
-    next ≡ steps ++ step ∷ [] → AreTabledSteps o n steps table → IsNextStep (echelon_of o n steps) (echelon_rows steps) v step → HasRoom n table →
-    step.pivot ≡ column → index ≡ length steps → marks_of after ≡ set (marks_of table) column 1 → after.rows.items ≡ set table.rows.items column index →
+pub tabled_by_step : (o : Order) (n : ℕ) (steps next : List Step) (step : Step) (v : List ℕ) (table after : PivotTable) → next ≡ steps ++ step ∷ [] →
+    AreTabledSteps o n steps table → IsNextStep (echelon_of o n steps) (echelon_rows steps) v step → HasPivots n (pivots next) after →
     AreTabledSteps o n next after
-tabled_by_step o n steps next step v table after column index pushed tabled given room pivot counted marks rows =
-    subst (λ (l : List Step). AreTabledSteps o n l after) (sym pushed)
-    (table_more o n steps step table after tabled (steps_more o n steps step v tabled.are_steps given) room given.place
-    (marks ∙ ap (λ k. set (marks_of table) k 1) (sym pivot)) (rows ∙ ap₂ (λ (k i : ℕ). set table.rows.items k i) (sym pivot) counted))
+tabled_by_step o n steps next step v table after pushed tabled given has = record {
+  are_steps = subst (AreSteps o n) (sym pushed) (steps_more o n steps step v tabled.are_steps given);
+  tabled = has;
+}
 
 -- the rows that are inserted then
 pub echelon_of_more : (o : Order) (n : ℕ) (steps next : List Step) (step : Step) (v : List ℕ) (e : EchelonValue) → next ≡ steps ++ step ∷ [] →

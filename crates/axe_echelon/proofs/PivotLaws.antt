@@ -61,18 +61,17 @@ tabled_none o n steps table none some fit has = subst (λ (l : List Step). AreTa
   tabled = has;
 })
 
--- another table that has the pivots that the first has
-pub same_table : (o : Order) (n : ℕ) (steps : List Step) (table after : PivotTable) → AreTabledSteps o n steps table →
-    ((pivots : List ℕ) → HasPivots n pivots table → HasPivots n pivots after) → AreTabledSteps o n steps after
-same_table o n steps table after tabled same = record { are_steps = tabled.are_steps; tabled = same (pivots steps) tabled.tabled }
-
 -- the pivot of one more step is marked
-pub table_more : (o : Order) (n : ℕ) (steps : List Step) (step : Step) (table after : PivotTable) → AreTabledSteps o n steps table →
-    AreSteps o n (steps ++ step ∷ []) → HasRoom n table → step.pivot < n → marks_of after ≡ set (marks_of table) step.pivot 1 →
-    after.rows.items ≡ set table.rows.items step.pivot (length steps) → AreTabledSteps o n (steps ++ step ∷ []) after
-table_more o n steps step table after tabled are room inside marks rows = record {
-  are_steps = are;
-  tabled = subst (λ (l : List ℕ). HasPivots n l after) (sym (map-append (λ (s : Step). s.pivot) steps (step ∷ [])))
-      (pivots_more n (pivots steps) step.pivot table after tabled.tabled room inside marks
-      (rows ∙ ap (set table.rows.items step.pivot) (sym (length-map steps (λ (s : Step). s.pivot)))));
-}
+pub pivots_by_step : (n : ℕ) (steps next : List Step) (step : Step) (table after : PivotTable) (index : ℕ) → next ≡ steps ++ step ∷ [] →
+    HasPivots n (pivots steps) table → HasRoom n table → step.pivot < n → index ≡ length steps → marks_of after ≡ set (marks_of table) step.pivot 1 →
+    after.rows.items ≡ set table.rows.items step.pivot index → HasPivots n (pivots next) after
+pivots_by_step n steps next step table after index pushed has room inside counted marks rows =
+    subst (λ (l : List ℕ). HasPivots n l after) (sym (ap pivots pushed ∙ map-append (λ (s : Step). s.pivot) steps (step ∷ [])))
+    (pivots_more n (pivots steps) step.pivot table after has room inside marks
+    (rows ∙ ap (set table.rows.items step.pivot) (counted ∙ sym (length-map steps (λ (s : Step). s.pivot)))))
+
+-- steps that are equal to these, and the table that has their pivots
+pub tabled_as : (o : Order) (n : ℕ) (steps next : List Step) (table after : PivotTable) → next ≡ steps → AreTabledSteps o n steps table →
+    HasPivots n (pivots next) after → AreTabledSteps o n next after
+tabled_as o n steps next table after same tabled has =
+    record { are_steps = subst (AreSteps o n) (sym same) tabled.are_steps; tabled = has }

@@ -1,6 +1,6 @@
 -- Subspaces: the rows of an echelon form as the steps of an elimination that is given these rows, and what one more row spans.
 use Rattle.std.specs.Prelude.{◌≡◌, ℕ, zero, suc, ◌+◌, ◌<◌, List, [], ◌∷◌, ◌++◌, length, get_or, set, true, false}
-use Rattle.std.proofs.lemmas.List.{get_or_append_left, get_or-map}
+use Rattle.std.proofs.lemmas.List.{get_or_append_left, get_or-map, length-map, map-append}
 use Rattle.axe_algebra.specs.NumberField.{NumberField}
 use Rattle.axe_algebra.specs.Field.{Field}
 use Rattle.axe_algebra.specs.Vectors.{Vector, add_vectors, subtract, scale, times}
@@ -26,15 +26,17 @@ use Rattle.axe_lane.specs.Entries.{IsFirstNonzero}
 use Rattle.axe_row.specs.Operations.{multiple, multiple_row, IsZeroVector}
 use Rattle.axe_row.proofs.OperationLaws.{get_or-multiple, length-multiple}
 use Rattle.axe_echelon.specs.Echelons.{EchelonValue, IsEchelon}
-use Rattle.axe_echelon.specs.Steps.{inserted_rows, echelon_rows, echelon_of, IsStep, AreSteps, IsNextStep, AreTabledSteps}
-use Rattle.axe_echelon.specs.PivotTables.{marks_of, HasRoom}
-use Rattle.axe_echelon.specs.Subspaces.{step_of, steps_from, steps_of, IsNextEchelonRow, SpansOneMore}
+use Rattle.axe_echelon.specs.Steps.{inserted_rows, echelon_rows, echelon_of, IsStep, AreSteps, IsNextStep, AreTabledSteps, pivots}
+use Rattle.axe_echelon.specs.PivotTables.{marks_of, HasRoom, HasPivots}
+use Rattle.axe_echelon.specs.Subspaces.{step_of, steps_from, steps_of, pivots_of, IsNextEchelonRow, SpansOneMore}
 use Rattle.axe_echelon.specs.declared.Step.{Step}
 use Rattle.axe_echelon.specs.declared.pivot_table.PivotTable.{PivotTable}
 use Rattle.axe_echelon.specs.declared.subspace.PivotRow.{PivotRow}
 use Rattle.axe_echelon.proofs.EliminationLaws.{vector_of_zero_row, zero_row_of_vector}
 use Rattle.axe_echelon.proofs.FormLaws.{below_or_at}
 use Rattle.axe_echelon.proofs.MoreStepsLaws.{tabled_by_step, echelon_of_more}
+use Rattle.axe_echelon.proofs.PivotLaws.{tabled_as}
+use Rattle.axe_echelon.proofs.PivotTableLaws.{pivots_more}
 use Rattle.axe_echelon.proofs.StepLaws.{over_of_row, below_of_element, zeros_over, vector_of_zeros, length-inserted, step_at}
 use mathlib.Core.Path.{refl, sym, ◌∙◌, ap, ap₂, subst, fun_ext}
 use native.Mathlib.Omega.{arith}
@@ -265,13 +267,32 @@ next_step_of_row o n rows p v given =
     (subst (λ (l : List (List ℕ)). IsNextStep (echelon_of o n (steps_of o n rows)) l p.row.entries (step_of o n (length (inserted_rows (steps_of o n rows))) p))
     (rows_from o n 0 rows) given.next)
 
-pub tabled_more : (o : Order) (n : ℕ) (rows next : List PivotRow) (p : PivotRow) (v : List ℕ) (table after : PivotTable) (index : ℕ) → next ≡ rows ++ p ∷ [] →
-    AreTabledSteps o n (steps_of o n rows) table → IsNextEchelonRow (echelon_of o n (steps_of o n rows)) v p → HasRoom n table → index ≡ length rows →
-    marks_of after ≡ set (marks_of table) p.pivot 1 → after.rows.items ≡ set table.rows.items p.pivot index → AreTabledSteps o n (steps_of o n next) after
-tabled_more o n rows next p v table after index pushed tabled given room counted marks items =
-    tabled_by_step o n (steps_of o n rows) (steps_of o n next) (step_of o n (length rows) p) p.row.entries table after p.pivot index
-    (ap (steps_of o n) pushed ∙ steps_of_more o n rows p) tabled (next_step_of_row o n rows p v given) room refl
-    (counted ∙ sym (length-steps_from o n 0 rows)) marks items
+-- the steps' pivots are the rows'
+pub pivots_from : (o : Order) (n t : ℕ) (rows : List PivotRow) → pivots (steps_from o n t rows) ≡ pivots_of rows
+pivots_from o n t [] = refl
+pivots_from o n t (p ∷ rest) = ap (λ (l : List ℕ). p.pivot ∷ l) (pivots_from o n (suc t) rest)
+
+pub pivots_by_row : (n : ℕ) (rows next : List PivotRow) (row : PivotRow) (table after : PivotTable) (index : ℕ) → next ≡ rows ++ row ∷ [] →
+    HasPivots n (pivots_of rows) table → HasRoom n table → row.pivot < n → index ≡ length rows → marks_of after ≡ set (marks_of table) row.pivot 1 →
+    after.rows.items ≡ set table.rows.items row.pivot index → HasPivots n (pivots_of next) after
+pivots_by_row n rows next row table after index pushed has room inside counted marks items =
+    subst (λ (l : List ℕ). HasPivots n l after) (sym (ap pivots_of pushed ∙ map-append (λ (p : PivotRow). p.pivot) rows (row ∷ [])))
+    (pivots_more n (pivots_of rows) row.pivot table after has room inside marks
+    (items ∙ ap (set table.rows.items row.pivot) (counted ∙ sym (length-map rows (λ (p : PivotRow). p.pivot)))))
+
+pub tabled_more : (o : Order) (n : ℕ) (rows next : List PivotRow) (p : PivotRow) (v : List ℕ) (table after : PivotTable) → next ≡ rows ++ p ∷ [] →
+    AreTabledSteps o n (steps_of o n rows) table → IsNextEchelonRow (echelon_of o n (steps_of o n rows)) v p → HasPivots n (pivots_of next) after →
+    AreTabledSteps o n (steps_of o n next) after
+tabled_more o n rows next p v table after pushed tabled given has =
+    tabled_by_step o n (steps_of o n rows) (steps_of o n next) (step_of o n (length rows) p) p.row.entries table after
+    (ap (steps_of o n) pushed ∙ steps_of_more o n rows p) tabled (next_step_of_row o n rows p v given)
+    (subst (λ (l : List ℕ). HasPivots n l after) (sym (pivots_from o n 0 next)) has)
+
+pub tabled_same : (o : Order) (n : ℕ) (rows next : List PivotRow) (table after : PivotTable) → next ≡ rows → AreTabledSteps o n (steps_of o n rows) table →
+    HasPivots n (pivots_of next) after → AreTabledSteps o n (steps_of o n next) after
+tabled_same o n rows next table after same tabled has =
+    tabled_as o n (steps_of o n rows) (steps_of o n next) table after (ap (steps_of o n) same) tabled
+    (subst (λ (l : List ℕ). HasPivots n l after) (sym (pivots_from o n 0 next)) has)
 
 pub spans_one_more : (o : Order) (n : ℕ) (rows next : List PivotRow) (p : PivotRow) (v : List ℕ) (e : EchelonValue) → next ≡ rows ++ p ∷ [] →
     echelon_of o n (steps_of o n rows) ≡ e → IsNextEchelonRow e v p → SpansOneMore true e v (echelon_of o n (steps_of o n next))

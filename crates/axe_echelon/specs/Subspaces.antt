@@ -1,5 +1,5 @@
 -- Subspaces, by a basis of each.
-use Rattle.std.specs.Prelude.{◌≡◌, ℕ, suc, ◌<◌, List, ◌++◌, ◌∷◌, [], length, get_or, replicate, Bool, if◌then◌else◌}
+use Rattle.std.specs.Prelude.{◌≡◌, ℕ, suc, ◌<◌, List, ◌++◌, ◌∷◌, [], length, get_or, map, replicate, Bool, if◌then◌else◌}
 use Rattle.axe_algebra.specs.SpansOfLists.{HaveSameSpan, IsSpanned}
 use Rattle.axe_field.specs.Order.{Order}
 use Rattle.axe_field.specs.NumberFields.{number_field}
@@ -36,6 +36,10 @@ steps_from order cols t (p ∷ rest) = step_of order cols t p ∷ steps_from ord
 -- these steps for all rows
 abbrev pub steps_of : Order → ℕ → List PivotRow → List Step
 steps_of order cols rows = steps_from order cols 0 rows
+
+-- the pivots of the rows
+abbrev pub pivots_of : List PivotRow → List ℕ
+pivots_of rows = map (λ (p : PivotRow). p.pivot) rows
 
 -- the row of the echelon form that one more vector gives
 pub record IsNextEchelonRow (e : EchelonValue) (v : List ℕ) (p : PivotRow) : Type 0 where

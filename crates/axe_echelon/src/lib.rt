@@ -15,7 +15,8 @@ ghost use Rattle.axe_matrix.specs.Limits.{most_columns};
 ghost use Rattle.axe_matrix.specs.Matrices.{IsMatrix};
 ghost use Rattle.axe_echelon.specs.Echelons.{IsEchelon, with_row_where, AreCoordinates, IsReducedMatrix};
 ghost use Rattle.axe_echelon.specs.Steps.{AreSteps, AreTabledSteps, IsCleared, IsSolved, IsScaledStep};
-ghost use Rattle.axe_echelon.specs.Steps.{IsNextStep, IsPivotRow, echelon_of, echelon_rows, inserted_rows};
+ghost use Rattle.axe_echelon.specs.Steps.{IsNextStep, IsPivotRow, echelon_of, echelon_rows, inserted_rows, pivots};
+ghost use Rattle.axe_echelon.specs.PivotTables.{HasPivots};
 
 mod inverses;
 mod leading_rows;
@@ -46,6 +47,13 @@ struct Step {
     pivot: usize,
     row: Row,
     scalar: u8,
+    multipliers: Row,
+}
+
+/// What is left of a row when pivots are cleared from it, and the multipliers of the rows that were added for that.
+#[derive(Drop)]
+struct Elimination {
+    rest: Row,
     multipliers: Row,
 }
 
@@ -133,11 +141,7 @@ impl Echelon {
         let Some(step) = next else {
             return Ok(false);
         };
-        let (pivot, index) = (step.pivot, self.steps.len());
-        // The table has room first, and tells the same: so where the push finds no memory nothing has changed.
-        self.pivots.make_room(self.cols)?;
-        self.steps.push(step)?;
-        self.pivots.mark(pivot, index);
+        add_step(&mut self.steps, &mut self.pivots, self.cols, step)?;
         Ok(true)
     }
 
@@ -172,15 +176,13 @@ impl Echelon {
             (AreCoordinates self.now row.now.entries)) result }
         ensures well_formed { IsEchelon self.now }
     {
-        let mut multipliers = Row::zero(alloc, *self.field(), self.cols())?;
-        let mut rest = row.copy(alloc)?;
-        eliminate(&self.steps, &self.pivots, &mut rest, &mut multipliers);
-        if !rest.is_zero() {
+        let mut left = left_of(alloc, &self.steps, &self.pivots, row)?;
+        if !left.rest.is_zero() {
             return Ok(None);
         }
-        solve(&self.steps, &mut multipliers);
+        solve(&self.steps, &mut left.multipliers);
         // The row plus the combination with what they are now is zero, so their negatives combine to the row.
-        Ok(Some(negated_start(alloc, &multipliers, self.rank())?))
+        Ok(Some(negated_start(alloc, &left.multipliers, self.rank())?))
     }
 
     /// The reduced basis of the span: for each pivot, in ascending order, the vector of the span that is 1 there and 0
@@ -222,6 +224,25 @@ impl Echelon {
     {
         self.pivots.is_pivot(column)
     }
+}
+
+/// What is left of a row when the pivots of the steps, which are those of the table, are cleared from it, and the
+/// multipliers of the rows of the echelon form that were added.
+fn left_of(
+    alloc: Global,
+    steps: &[Step],
+    pivots: &PivotTable,
+    row: &Row,
+) -> Result<Elimination, Refusal>
+    requires steps { AreTabledSteps row.now.order (length row.now.entries) steps.now pivots.now }
+    ensures cleared { Answers None (λ left. IsCleared row.now.order (length row.now.entries) steps.now
+        row.now left.rest left.multipliers) result }
+    ensures row_well_formed { IsRow row.now }
+{
+    let mut multipliers = Row::zero(alloc, *row.field(), row.len())?;
+    let mut rest = row.copy(alloc)?;
+    eliminate(steps, pivots, &mut rest, &mut multipliers);
+    Ok(Elimination { rest, multipliers })
 }
 
 /// Clears the pivots of the steps, which are those of the table, from a row by adding multiples of their rows of the
@@ -277,22 +298,22 @@ fn next_step(
         (IsNextStep (echelon_of row.order (length row.entries) steps.now) (echelon_rows steps.now) row.entries))
         result }
 {
-    let mut rest = row.copy(alloc)?;
-    let mut multipliers = Row::zero(alloc, *row.field(), row.len())?;
-    eliminate(steps, pivots, &mut rest, &mut multipliers);
-    let Some(pivot) = rest.first_nonzero() else {
-        return Ok(None);
-    };
-    Ok(Some(scaled_step(row, rest, pivot, multipliers)))
+    let left = left_of(alloc, steps, pivots, &row)?;
+    match left.rest.first_nonzero() {
+        Some(pivot) => Ok(Some(scaled_step(row, left, pivot))),
+        None => Ok(None),
+    }
 }
 
-/// The step of a row, from what is left of it, the column of the first entry of that, and the multipliers of what was
-/// added.
-fn scaled_step(inserted: Row, rest: Row, pivot: usize, multipliers: Row) -> Step
-    requires { IsFirstNonzero rest.entries pivot }
-    ensures { IsScaledStep inserted rest pivot multipliers result }
+/// The step of a row, from what is left of it and the column of the first entry of that.
+fn scaled_step(inserted: Row, left: Elimination, pivot: usize) -> Step
+    requires { IsFirstNonzero left.rest.entries pivot }
+    ensures { IsScaledStep inserted left.rest pivot left.multipliers result }
 {
-    let mut row = rest;
+    let Elimination {
+        rest: mut row,
+        multipliers,
+    } = left;
     let scalar = row.field().inv(row.get(pivot));
     row.scale(scalar);
     Step {
@@ -302,6 +323,27 @@ fn scaled_step(inserted: Row, rest: Row, pivot: usize, multipliers: Row) -> Step
         scalar,
         multipliers,
     }
+}
+
+/// Adds a step to others, and marks its pivot in the table of theirs. For want of memory the steps stay as they are.
+fn add_step(
+    steps: &mut Vec<Step>,
+    table: &mut PivotTable,
+    cols: usize,
+    step: Step,
+) -> Result<(), Refusal>
+    requires place { step.pivot < cols }
+    requires tabled { HasPivots cols (pivots steps.old.items) table.old }
+    ensures added { Answers None (λ _. steps.new.items ≡ steps.old.items ++ step ∷ []) result }
+    ensures unchanged { OnErr result (steps.new.items ≡ steps.old.items) }
+    ensures tabled { HasPivots cols (pivots steps.new.items) table.new }
+{
+    let (pivot, index) = (step.pivot, steps.len());
+    // The table has room first, and tells the same: so where the push finds no memory nothing has changed.
+    table.make_room(cols)?;
+    steps.push(step)?;
+    table.mark(pivot, index);
+    Ok(())
 }
 
 /// The negatives of the first entries of a row.

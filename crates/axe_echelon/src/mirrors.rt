@@ -2,7 +2,7 @@
 
 ghost use Rattle.std.specs.Prelude.{◌≡◌, ◌<◌, length, None};
 ghost use Rattle.axe_row.specs.Refusals.{Answers};
-ghost use Rattle.axe_matrix.specs.Matrices.{IsMatrix, reversed_matrix, transposed_matrix};
+ghost use Rattle.axe_matrix.specs.Matrices.{IsMatrix, transposed_matrix};
 ghost use Rattle.axe_echelon.specs.Mirrored.{mirrored_row, IsMirrored};
 
 use axe_matrix::{Matrix, Refusal, Row};
@@ -25,23 +25,11 @@ pub(crate) fn mirrored_matrix(alloc: Global, matrix: &Matrix) -> Result<Matrix, 
 /// little, unlike that of the entries of each.
 pub(crate) fn mirrored_columns(alloc: Global, matrix: &Matrix) -> Result<Matrix, Refusal>
     requires { 0 < length matrix.now.rows }
-    ensures mirrored { Answers None (IsMirrored (transposed_matrix matrix.now)) result }
-    ensures well_formed { IsMatrix matrix.now }
+    ensures { Answers None (IsMirrored (transposed_matrix matrix.now)) result }
 {
-    reversed(alloc, matrix)?.transpose(alloc)
-}
-
-/// The matrix with its rows in the opposite order.
-fn reversed(alloc: Global, matrix: &Matrix) -> Result<Matrix, Refusal>
-    ensures reversed { Answers None (λ reversed. reversed ≡ reversed_matrix matrix.now) result }
-    ensures well_formed { IsMatrix matrix.now }
-{
-    let mut reversed = Matrix::with_capacity(alloc, *matrix.field(), matrix.cols(), matrix.rows())?;
-    for index in (0..matrix.rows()).rev() {
-        let row = matrix.row(index).copy(alloc)?;
-        reversed.append(row)?;
-    }
-    Ok(reversed)
+    let mut reversed = matrix.copy(alloc)?;
+    reversed.reverse();
+    reversed.transpose(alloc)
 }
 
 /// The row with its entries in the opposite order.

@@ -1,6 +1,6 @@
 //! Subspaces, each by an echelon form of it.
 
-ghost use Rattle.std.specs.Prelude.{⊤, ◌≡◌, ◌<◌, ◌≤◌, ◌↔◌, [], length, get_or, IsTrue, None, IfOk, MatchOption, OnErr};
+ghost use Rattle.std.specs.Prelude.{⊤, ◌≡◌, ◌<◌, ◌≤◌, ◌↔◌, ◌++◌, ◌∷◌, [], length, get_or, IsTrue, None, IfOk, MatchOption, OnErr};
 ghost use Rattle.axe_algebra.specs.SpansOfLists.{IsPivot, IsRepresentative, IsSpanned};
 ghost use Rattle.axe_field.specs.NumberFields.{number_field};
 ghost use Rattle.axe_row.specs.Refusals.{Answers};
@@ -10,7 +10,8 @@ ghost use Rattle.axe_matrix.specs.Matrices.{IsMatrix};
 ghost use Rattle.axe_echelon.specs.Echelons.{IsEchelon, IsReducedMatrix};
 ghost use Rattle.axe_echelon.specs.Orthogonal.{IsPivotOfRow};
 ghost use Rattle.axe_echelon.specs.Steps.{IsPivotRow};
-ghost use Rattle.axe_echelon.specs.Subspaces.{IsNextEchelonRow, SpansOneMore};
+ghost use Rattle.axe_echelon.specs.PivotTables.{HasPivots};
+ghost use Rattle.axe_echelon.specs.Subspaces.{IsNextEchelonRow, SpansOneMore, pivots_of};
 
 use crate::leading_rows::{clear_after, take_row};
 use crate::pivot_table::PivotTable;
@@ -142,11 +143,7 @@ impl Subspace {
         let Some(next) = self.next_row(row) else {
             return Ok(false);
         };
-        let (pivot, index) = (next.pivot, self.rows.len());
-        // The table has room first, and tells the same: so where the push finds no memory nothing has changed.
-        self.pivots.make_room(self.cols)?;
-        self.rows.push(next)?;
-        self.pivots.mark(pivot, index);
+        add_row(&mut self.rows, &mut self.pivots, self.cols, next)?;
         Ok(true)
     }
 
@@ -280,4 +277,26 @@ impl Subspace {
     {
         self.pivots.is_pivot(column)
     }
+}
+
+/// Adds a row to those of an echelon form, and marks its pivot in the table of theirs. For want of memory the rows stay
+/// as they are.
+fn add_row(
+    rows: &mut Vec<PivotRow>,
+    table: &mut PivotTable,
+    cols: usize,
+    row: PivotRow,
+) -> Result<(), Refusal>
+    requires place { row.pivot < cols }
+    requires tabled { HasPivots cols (pivots_of rows.old.items) table.old }
+    ensures added { Answers None (λ _. rows.new.items ≡ rows.old.items ++ row ∷ []) result }
+    ensures unchanged { OnErr result (rows.new.items ≡ rows.old.items) }
+    ensures tabled { HasPivots cols (pivots_of rows.new.items) table.new }
+{
+    let (pivot, index) = (row.pivot, rows.len());
+    // The table has room first, and tells the same: so where the push finds no memory nothing has changed.
+    table.make_room(cols)?;
+    rows.push(row)?;
+    table.mark(pivot, index);
+    Ok(())
 }

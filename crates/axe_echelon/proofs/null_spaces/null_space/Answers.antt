@@ -16,7 +16,7 @@ returns-clause-basis c =
     (transpose_refusal-none c.args.matrix.now some)
     (answers_more c.orthogonal_to.result _ _ c.orthogonal_to.ensures.basis (λ basis orthogonal.
     null_space_by_columns c.args.matrix.now c.in_ok-mirrored_columns.field-0 basis c.in_ok-space.space c.rows.ensures.well_formed
-    c.in_ok-mirrored_columns.ensures.mirrored c.in_ok-space.ensures orthogonal))
+    c.in_ok-mirrored_columns.ensures c.in_ok-space.ensures orthogonal))
 
 pub returns-clause-well_formed : goal.returns-clause-well_formed
 returns-clause-well_formed c = value_if_answered c.orthogonal_to.result _ c.orthogonal_to.ensures.well_formed

@@ -1,14 +1,14 @@
-use Rattle.std.proofs.Common.{◌≡◌, ◌≢◌, List, length, ap, sym, ◌∙◌, arith, refl, true≢false}
+use Rattle.std.proofs.Common.{◌≡◌, ◌≢◌, List, length, ap, sym, ◌∙◌, refl, subst, ℕ, true≢false}
 use Rattle.std.proofs.lemmas.Result.{IfOk-from_err}
-use Rattle.axe_row.specs.declared.refusals.Refusal.TheVariants.{Memory}
+use Rattle.axe_echelon.specs.PivotTables.{HasPivots}
 use Rattle.axe_echelon.specs.Steps.{echelon_of}
 use Rattle.axe_echelon.specs.Subspaces.{steps_of, IsNextEchelonRow}
 use Rattle.axe_echelon.specs.declared.subspace.PivotRow.{PivotRow}
 use Rattle.axe_echelon.proofs.Exits.{no_memory, in_any_case}
 use Rattle.axe_echelon.proofs.EliminationLaws.{full_echelon_spans, room_of_echelon}
 use Rattle.axe_echelon.proofs.StepLaws.{echelon_of_steps}
-use Rattle.axe_echelon.proofs.PivotLaws.{same_table}
-use Rattle.axe_echelon.proofs.SubspaceLaws.{tabled_more, spans_one_more, spans_no_more}
+use Rattle.axe_echelon.proofs.SubspaceLaws.{pivots_from, tabled_same, tabled_more, spans_one_more, spans_no_more}
+use Rattle.axe_echelon.proofs.subspace.Subspace.insert.Goals.{In-Some}
 use Rattle.axe_echelon.proofs.subspace.Subspace.insert.Goals as goal
 
 pub returns-then-dim-cols-clause-exactly : goal.returns-then-dim-cols-clause-exactly
@@ -29,23 +29,26 @@ next_row-requires-clause-field c = c.requires.field
 pub next_row-requires-clause-fits : goal.next_row-requires-clause-fits
 next_row-requires-clause-fits c = c.requires.fits
 
-pub invariant_of-self : goal.invariant_of-self
-invariant_of-self c = same_table _ _ _ _ c.make_room.new.self c.self.invariant c.make_room.ensures.pivots
+given : (c : In-Some) → IsNextEchelonRow (echelon_of c.self.inside.field c.self.inside.cols
+    (steps_of c.self.inside.field c.self.inside.cols c.self.inside.rows.items)) c.args.row.entries c.in-Some.next
+given c = rw c.self.view_is c.in-Some.ensures
 
-pub invariant_of-self-in_err-push : goal.invariant_of-self-in_err-push
-invariant_of-self-in_err-push c =
-    let kept : c.push.new.self.items ≡ c.self.inside.rows.items = c.in_err-push.ensures.items in
-    rw kept (same_table _ _ _ _ c.make_room.new.self c.self.invariant c.make_room.ensures.pivots)
+pub add_row-requires : goal.add_row-requires
+add_row-requires c = record {
+  place = (given (goal.at.add_row-requires c).In-Some).next.place;
+  tabled = subst (λ (l : List ℕ). HasPivots c.self.inside.cols l c.self.inside.pivots)
+      (pivots_from c.self.inside.field c.self.inside.cols 0 c.self.inside.rows.items) c.self.invariant.tabled;
+}
+
+pub invariant_of-self : goal.invariant_of-self
+invariant_of-self c =
+    tabled_same _ _ c.self.inside.rows.items c.add_row.new.rows.items c.self.inside.pivots c.add_row.new.table c.in_err-add_row.ensures.unchanged
+    c.self.invariant c.add_row.ensures.tabled
 
 pub invariant_of-self-2 : goal.invariant_of-self-2
 invariant_of-self-2 c =
-    let given : IsNextEchelonRow (echelon_of c.self.inside.field c.self.inside.cols (steps_of c.self.inside.field c.self.inside.cols c.self.inside.rows.items))
-    c.args.row.entries c.in-Some.next =
-    rw c.self.view_is c.in-Some.ensures in
-    tabled_more _ _ c.self.inside.rows.items c.push.new.self.items c.in-Some.next c.args.row.entries c.make_room.new.self c.mark.new.self c.len-index.result
-    c.in_ok-push.ensures.items (same_table _ _ _ _ c.make_room.new.self c.self.invariant c.make_room.ensures.pivots) given
-    (c.in_ok-make_room.ensures.room _ c.self.invariant.tabled) (omega (arith, c.len-index.ensures, c.self.inside.rows.ok.0))
-    c.mark.ensures.marks c.mark.ensures.rows
+    tabled_more _ _ c.self.inside.rows.items c.add_row.new.rows.items c.in-Some.next c.args.row.entries c.self.inside.pivots c.add_row.new.table
+    c.in_ok-add_row.ensures.added c.self.invariant (given (goal.at.invariant_of-self-2 c).In-Some) c.add_row.ensures.tabled
 
 pub returns-clause-well_formed : goal.returns-clause-well_formed
 returns-clause-well_formed c = echelon_of_steps _ _ _ (invariant_of-self-2 c).are_steps
@@ -57,8 +60,8 @@ returns-clause-exactly c =
 
 pub returns-clause-inserted : goal.returns-clause-inserted
 returns-clause-inserted c =
-    spans_one_more c.self.inside.field c.self.inside.cols c.self.inside.rows.items c.push.new.self.items c.in-Some.next c.args.row.entries c.args.self.now
-    c.in_ok-push.ensures.items c.self.view_is c.in-Some.ensures
+    spans_one_more c.self.inside.field c.self.inside.cols c.self.inside.rows.items c.add_row.new.rows.items c.in-Some.next c.args.row.entries
+    c.args.self.now c.in_ok-add_row.ensures.added c.self.view_is c.in-Some.ensures
 
 pub returns-clause-unchanged : goal.returns-clause-unchanged
 returns-clause-unchanged c = tt
@@ -84,30 +87,17 @@ returns-in_default-clause-unchanged c = tt
 pub returns-in_default-clause-well_formed : goal.returns-in_default-clause-well_formed
 returns-in_default-clause-well_formed c = c.dim.ensures.well_formed
 
-pub returns-in_err-make_room-clause-exactly : goal.returns-in_err-make_room-clause-exactly
-returns-in_err-make_room-clause-exactly c = IfOk-from_err c.from_residual.result _ c.from_residual.ensures.0
+pub returns-in_err-add_row-clause-exactly : goal.returns-in_err-add_row-clause-exactly
+returns-in_err-add_row-clause-exactly c = IfOk-from_err c.from_residual.result _ c.from_residual.ensures.0
 
-pub returns-in_err-make_room-clause-inserted : goal.returns-in_err-make_room-clause-inserted
-returns-in_err-make_room-clause-inserted c = no_memory _ c.from_residual.result Memory c.from_residual.ensures.1 refl
+pub returns-in_err-add_row-clause-inserted : goal.returns-in_err-add_row-clause-inserted
+returns-in_err-add_row-clause-inserted c = no_memory _ c.from_residual.result _ c.from_residual.ensures.1 c.in_err-add_row.ensures.added
 
-pub returns-in_err-make_room-clause-unchanged : goal.returns-in_err-make_room-clause-unchanged
-returns-in_err-make_room-clause-unchanged c = in_any_case c.from_residual.result _ c.self.view_is
-
-pub returns-in_err-make_room-clause-well_formed : goal.returns-in_err-make_room-clause-well_formed
-returns-in_err-make_room-clause-well_formed c = echelon_of_steps _ _ _ c.self.invariant.are_steps
-
-pub returns-in_err-push-clause-exactly : goal.returns-in_err-push-clause-exactly
-returns-in_err-push-clause-exactly c = IfOk-from_err c.from_residual-in_err-push.result _ c.from_residual-in_err-push.ensures.0
-
-pub returns-in_err-push-clause-inserted : goal.returns-in_err-push-clause-inserted
-returns-in_err-push-clause-inserted c =
-    no_memory _ c.from_residual-in_err-push.result Memory c.from_residual-in_err-push.ensures.1 refl
-
-pub returns-in_err-push-clause-unchanged : goal.returns-in_err-push-clause-unchanged
-returns-in_err-push-clause-unchanged c =
-    in_any_case c.from_residual-in_err-push.result _
+pub returns-in_err-add_row-clause-unchanged : goal.returns-in_err-add_row-clause-unchanged
+returns-in_err-add_row-clause-unchanged c =
+    in_any_case c.from_residual.result _
     (ap (λ (rows : List PivotRow). echelon_of c.self.inside.field c.self.inside.cols (steps_of c.self.inside.field c.self.inside.cols rows))
-    c.in_err-push.ensures.items ∙ c.self.view_is)
+    c.in_err-add_row.ensures.unchanged ∙ c.self.view_is)
 
-pub returns-in_err-push-clause-well_formed : goal.returns-in_err-push-clause-well_formed
-returns-in_err-push-clause-well_formed c = echelon_of_steps _ _ _ (invariant_of-self-in_err-push c).are_steps
+pub returns-in_err-add_row-clause-well_formed : goal.returns-in_err-add_row-clause-well_formed
+returns-in_err-add_row-clause-well_formed c = echelon_of_steps _ _ _ (invariant_of-self c).are_steps
