@@ -74,13 +74,26 @@ fn orthogonal_to(alloc: Global, space: &Subspace) -> Result<Matrix, Refusal>
     ensures well_formed { Answers None IsMatrix result }
 {
     let reduced = reduced_where_many(alloc, space)?;
+    orthogonal_rows(alloc, space, &reduced)
+}
+
+/// The same, where the reduced basis of the space was made if it serves.
+fn orthogonal_rows(
+    alloc: Global,
+    space: &Subspace,
+    reduced: &Option<Matrix>,
+) -> Result<Matrix, Refusal>
+    requires { IsReducedBasisOrNone space.now reduced.now }
+    ensures basis { Answers None (IsOrthogonalToSpace space.now) result }
+    ensures well_formed { Answers None IsMatrix result }
+{
     let count = space.cols().saturating_sub(space.dim());
     let mut orthogonal = Matrix::with_capacity(alloc, *space.field(), space.cols(), count)?;
     for column in (0..space.cols()).rev() {
         if space.is_pivot(column) {
             continue;
         }
-        let vector = orthogonal_vector(alloc, space, &reduced, column)?;
+        let vector = orthogonal_vector(alloc, space, reduced, column)?;
         orthogonal.append(vector)?;
     }
     Ok(orthogonal)
