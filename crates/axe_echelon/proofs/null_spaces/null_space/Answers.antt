@@ -1,7 +1,8 @@
 use Rattle.std.proofs.Common.{◌≡◌, ◌≢◌, length, arith}
+use Rattle.std.proofs.lemmas.Result.{IfOk-from_err}
 use Rattle.axe_matrix.proofs.TransposeLaws.{transpose_refusal-none}
 use Rattle.axe_echelon.specs.Echelons.{null_space_refusal, IsNullSpaceMatrix}
-use Rattle.axe_echelon.proofs.Exits.{answers_early, answers_more, value_if_answered}
+use Rattle.axe_echelon.proofs.Exits.{answers_early, answers_more, no_memory, value_if_answered}
 use Rattle.axe_echelon.proofs.Transposes.{null_space_by_columns}
 use Rattle.axe_echelon.proofs.ZeroMatrices.{identity_is_null_space}
 use Rattle.axe_echelon.proofs.null_spaces.null_space.Goals as goal
@@ -30,3 +31,35 @@ returns-then-is_zero-clause-basis c =
     (answers_more c.identity.result _ _ c.identity.ensures.identity (λ basis is.
     identity_is_null_space c.args.matrix.now basis _ _ (omega (arith, some)) (omega (arith, c.rows.ensures.well_formed.rows_fit))
     (c.is_zero.ensures.0 c.if-is_zero.true) c.field.ensures.order c.rows-then-is_zero.ensures.count is))
+
+pub identity-requires-clause-some_row : goal.identity-requires-clause-some_row
+identity-requires-clause-some_row c = omega (arith, c.rows-then-is_zero.ensures.count, c.rows.ensures.count, c.if-rows-eq0.false)
+
+pub identity-requires-clause-rows_fit : goal.identity-requires-clause-rows_fit
+identity-requires-clause-rows_fit c = omega (arith, c.rows-then-is_zero.ensures.count, c.rows.ensures.well_formed.rows_fit)
+
+pub identity-requires-clause-columns_fit : goal.identity-requires-clause-columns_fit
+identity-requires-clause-columns_fit c = omega (arith, c.rows-then-is_zero.ensures.count, c.rows.ensures.well_formed.rows_fit)
+
+pub returns-then-is_zero-clause-well_formed : goal.returns-then-is_zero-clause-well_formed
+returns-then-is_zero-clause-well_formed c = c.identity.ensures.well_formed
+
+pub returns-in_err-mirrored_columns-clause-basis : goal.returns-in_err-mirrored_columns-clause-basis
+returns-in_err-mirrored_columns-clause-basis c =
+    let some : length c.args.matrix.now.rows ≢ 0 = omega (arith, c.rows.ensures.count, c.if-rows-eq0.false) in
+    answers_early (null_space_refusal c.args.matrix.now) (IsNullSpaceMatrix c.args.matrix.now) c.from_residual.result
+    (transpose_refusal-none c.args.matrix.now some)
+    (no_memory _ c.from_residual.result _ c.from_residual.ensures.1 c.in_err-mirrored_columns.ensures)
+
+pub returns-in_err-mirrored_columns-clause-well_formed : goal.returns-in_err-mirrored_columns-clause-well_formed
+returns-in_err-mirrored_columns-clause-well_formed c = IfOk-from_err c.from_residual.result _ c.from_residual.ensures.0
+
+pub returns-in_err-space-clause-basis : goal.returns-in_err-space-clause-basis
+returns-in_err-space-clause-basis c =
+    let some : length c.args.matrix.now.rows ≢ 0 = omega (arith, c.rows.ensures.count, c.if-rows-eq0.false) in
+    answers_early (null_space_refusal c.args.matrix.now) (IsNullSpaceMatrix c.args.matrix.now) c.from_residual-in_err-space.result
+    (transpose_refusal-none c.args.matrix.now some)
+    (no_memory _ c.from_residual-in_err-space.result _ c.from_residual-in_err-space.ensures.1 c.in_err-space.ensures)
+
+pub returns-in_err-space-clause-well_formed : goal.returns-in_err-space-clause-well_formed
+returns-in_err-space-clause-well_formed c = IfOk-from_err c.from_residual-in_err-space.result _ c.from_residual-in_err-space.ensures.0

@@ -6,6 +6,7 @@ use Rattle.axe_echelon.specs.Echelons.{IsReducedMatrix}
 use Rattle.axe_echelon.specs.Mirrored.{mirrored_row}
 use Rattle.axe_echelon.proofs.OrthogonalLaws.{ArePlacesBefore, no_places, place_of_pivot, places_more, places_same}
 use Rattle.axe_echelon.proofs.OrthogonalRows.{by_basis_start, by_basis_more, by_basis_same, by_basis_all}
+use Rattle.axe_echelon.proofs.Exits.{no_memory}
 use Rattle.axe_echelon.proofs.null_spaces.vector_by_basis.Goals.{then-is_pivot, then-entry-ne0, else-entry-ne0, else-is_pivot}
 use Rattle.axe_echelon.proofs.null_spaces.vector_by_basis.Goals as goal
 
@@ -84,3 +85,9 @@ returns c =
     c.requires.basis c.requires.no_pivot c.loop-pivot.index (mirrored_row c.loop-pivot.vector) c.loop-pivot.invariant.vector
     (subst (λ k. ArePlacesBefore (length c.args.basis.now.rows) c.requires.basis.basis.pivots k c.loop-pivot.index) whole
     (c.loop-pivot.invariant.places c.requires.basis))
+
+pub get-entry-requires-clause-column : goal.get-entry-requires-clause-column
+get-entry-requires-clause-column c = omega (arith, c.requires.within, c.requires.basis.columns)
+
+pub returns-in_err-vector : goal.returns-in_err-vector
+returns-in_err-vector c = no_memory _ c.from_residual.result _ c.from_residual.ensures.1 c.in_err-vector.ensures.unit
