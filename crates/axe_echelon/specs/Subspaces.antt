@@ -1,5 +1,6 @@
 -- Subspaces, by a basis of each.
-use Rattle.std.specs.Prelude.{◌≡◌, ℕ, suc, ◌<◌, List, ◌++◌, ◌∷◌, [], length, get_or, map, replicate, Bool, if◌then◌else◌}
+use Rattle.std.specs.Prelude.{◌≡◌, ℕ, suc, ◌<◌, List, ◌++◌, ◌∷◌, [], length, get_or, map, replicate}
+use Rattle.std.specs.Prelude.{Bool, if◌then◌else◌}
 use Rattle.axe_algebra.specs.SpansOfLists.{HaveSameSpan, IsSpanned}
 use Rattle.axe_field.specs.Order.{Order}
 use Rattle.axe_field.specs.NumberFields.{number_field}
