@@ -1,18 +1,23 @@
 -- The blocks of a generator by the pivots of a span and the other columns, row by row.
-use Rattle.std.specs.Prelude.{◌≡◌, ℕ, ◌+◌, ◌<◌, ◌≤◌, ◌⊎◌, ◌↔◌, List, [], ◌∷◌, ◌++◌, length, get_or, map, All, Bool, true, false, IsTrue}
+use Rattle.std.specs.Prelude.{◌≡◌, ℕ, ◌+◌, ◌<◌, ◌≤◌, ◌⊎◌, ◌↔◌, List, [], ◌∷◌, ◌++◌, length, get_or, map, All, Bool, true, false, IsTrue, Result, None, IfOk}
 use Rattle.std.proofs.lemmas.List.{length-append, length-map, map-append, get_or-append-add}
 use Rattle.std.proofs.lemmas.List.Elements.{All-from_get_or}
 use Rattle.axe_field.specs.Order.{Order}
 use Rattle.axe_row.specs.Rows.{RowValue}
+use Rattle.axe_row.specs.Refusals.{Answers}
+use Rattle.axe_row.specs.declared.refusals.Refusal.{Refusal}
 use Rattle.axe_matrix.specs.Matrices.{MatrixValue, IsMatrix}
+use Rattle.axe_matrix.specs.Limits.{most_columns}
 use Rattle.axe_matrix.specs.RowLists.{AreRowsOf}
+use Rattle.axe_echelon.proofs.Exits.{answers_with}
 use Rattle.axe_echelon.proofs.FormLaws.{below_or_at}
 use Rattle.axe_action.specs.Coordinates.{entries_at, matrix_at, rows_chosen}
 use Rattle.axe_action.specs.FreeColumns.{AreComplementary, IsNextPivot}
+use Rattle.axe_action.specs.Blocks.{with_entries, FitsBlocks, AreBlocksWith}
 use Rattle.axe_action.proofs.ColumnLaws.{HasFirstEntries, entries_none, entries_more, entries_all}
 use Rattle.axe_action.proofs.EntryLaws.{chosen_length, chosen_row}
 use mathlib.Core.Logic.{inl, inr}
-use mathlib.Core.Path.{sym, ◌∙◌, ap, subst}
+use mathlib.Core.Path.{refl, sym, ◌∙◌, ap, subst}
 use native.Mathlib.Omega.{arith}
 use native.Mathlib.Decide.{ℕ_discrete, dec_lt}
 
@@ -126,9 +131,9 @@ blocks_none g pivots columns o s m a b c field wide other a_is b_is c_is =
 module _ (g : MatrixValue) (pivots columns : List ℕ) (both : AreComplementary g.cols pivots columns) (k l : ℕ) (a b c : MatrixValue)
     (blocks : AreBlocks g pivots columns k l a b c) where
   -- a row at a pivot
-  pub blocks_pivot : (next : MatrixValue) (row : RowValue) → IsNextPivot pivots k l → row.entries ≡ entries_at pivots (get_or g.rows (k + l) []) →
-      next ≡ record { order = a.order; cols = a.cols; rows = a.rows ++ row.entries ∷ [] } → AreBlocks g pivots columns (length next.rows) l next b c
-  blocks_pivot next row is_next row_is is = subst (λ x. AreBlocks g pivots columns x l next b c) (sym more.count) (record {
+  pub blocks_pivot : (next : MatrixValue) (v : List ℕ) → IsNextPivot pivots k l → v ≡ get_or g.rows (k + l) [] → next ≡ with_entries a pivots v →
+      AreBlocks g pivots columns (length next.rows) l next b c
+  blocks_pivot next v is_next row_is is = subst (λ x. AreBlocks g pivots columns x l next b c) (sym more.count) (record {
     at_pivots = more;
     across = blocks.across;
     at_columns = blocks.at_columns;
@@ -136,20 +141,17 @@ module _ (g : MatrixValue) (pivots columns : List ℕ) (both : AreComplementary 
   })
     where
       more : HasFirstEntries pivots (rows_chosen pivots g) (k + 1) next
-      more = entries_more pivots (rows_chosen pivots g) k a next row blocks.at_pivots
-          (row_is ∙ ap (entries_at pivots) (ap (λ j. get_or g.rows j []) (sym is_next.1) ∙ sym (chosen_row pivots g.rows k is_next.0))) is
+      more = entries_more pivots (rows_chosen pivots g) k a next v blocks.at_pivots
+          (row_is ∙ ap (λ j. get_or g.rows j []) (sym is_next.1) ∙ sym (chosen_row pivots g.rows k is_next.0)) is
 
   -- a row at another column
-  pub blocks_column : (across at_columns : MatrixValue) (row other : RowValue) → k + l < g.cols → ¬ (IsNextPivot pivots k l) →
-      row.entries ≡ entries_at pivots (get_or g.rows (k + l) []) → other.entries ≡ entries_at columns (get_or g.rows (k + l) []) →
-      across ≡ record { order = b.order; cols = b.cols; rows = b.rows ++ row.entries ∷ [] } →
-      at_columns ≡ record { order = c.order; cols = c.cols; rows = c.rows ++ other.entries ∷ [] } →
-      AreBlocks g pivots columns k (length across.rows) a across at_columns
-  blocks_column across at_columns row other below not row_is other_is is also =
+  pub blocks_column : (across at_columns : MatrixValue) (v : List ℕ) → k + l < g.cols → ¬ (IsNextPivot pivots k l) → v ≡ get_or g.rows (k + l) [] →
+      across ≡ with_entries b pivots v → at_columns ≡ with_entries c columns v → AreBlocks g pivots columns k (length across.rows) a across at_columns
+  blocks_column across at_columns v below not row_is is also =
       subst (λ x. AreBlocks g pivots columns k x a across at_columns) (sym more.count) (record {
         at_pivots = blocks.at_pivots;
         across = more;
-        at_columns = entries_more columns (rows_chosen columns g) l c at_columns other blocks.at_columns (other_is ∙ ap (entries_at columns) place) also;
+        at_columns = entries_more columns (rows_chosen columns g) l c at_columns v blocks.at_columns (row_is ∙ place) also;
         taken = column_taken g.cols pivots columns both k l blocks.taken next.0 next.1;
       })
     where
@@ -160,10 +162,10 @@ module _ (g : MatrixValue) (pivots columns : List ℕ) (both : AreComplementary 
       place = ap (λ j. get_or g.rows j []) (sym next.1) ∙ sym (chosen_row columns g.rows l next.0)
 
       more : HasFirstEntries pivots (rows_chosen columns g) (l + 1) across
-      more = entries_more pivots (rows_chosen columns g) l b across row blocks.across (row_is ∙ ap (entries_at pivots) place) is
+      more = entries_more pivots (rows_chosen columns g) l b across v blocks.across (row_is ∙ place) is
 
   -- there is room for it
-  pub column_room : k + l < g.cols → ¬ (IsNextPivot pivots k l) → (length b.rows < length columns) × (length c.rows < length columns)
+  column_room : k + l < g.cols → ¬ (IsNextPivot pivots k l) → (length b.rows < length columns) × (length c.rows < length columns)
   column_room below not =
       let next : (l < length columns) × (get_or columns l 0 ≡ k + l) = next_column g.cols pivots columns both k l blocks.taken below not in
       (omega (arith, blocks.across.count, next.0), omega (arith, blocks.at_columns.count, next.0))
@@ -219,10 +221,10 @@ rows_whole g done left rows none =
     )
 
 -- the columns of both kinds are within
-pub pivots_within : (n : ℕ) (pivots columns : List ℕ) → AreComplementary n pivots columns → All (λ column. column < n) pivots
+pivots_within : (n : ℕ) (pivots columns : List ℕ) → AreComplementary n pivots columns → All (λ column. column < n) pivots
 pivots_within n pivots columns both = All-from_get_or (λ column. column < n) pivots 0 both.pivots_below
 
-pub columns_within : (n : ℕ) (pivots columns : List ℕ) → AreComplementary n pivots columns → All (λ column. column < n) columns
+columns_within : (n : ℕ) (pivots columns : List ℕ) → AreComplementary n pivots columns → All (λ column. column < n) columns
 columns_within n pivots columns both = All-from_get_or (λ column. column < n) columns 0 both.columns_below
 
 -- what a test for the next pivot tells
@@ -238,6 +240,28 @@ not_next pivots taken passed k l test first second exactly is = λ next.
   where
     different : (b : Bool) → b ≡ false → b ≡ true → ⊥
     different b first second = cc
+
+-- the entries of a row at a pivot were appended to the first block
+pub pivot_row_added : {T : Type 0} (pivots columns v : List ℕ) (a b c x : MatrixValue) (result : Result T Refusal) → IsNextPivot pivots (length a.rows) (length b.rows) →
+    Answers None (λ _. x ≡ with_entries a pivots v) result → IfOk result (λ _. IsMatrix x) → Answers None (λ _. AreBlocksWith pivots columns v a b c x b c) result
+pivot_row_added pivots columns v a b c x result next appended formed =
+    answers_with result (λ _. x ≡ with_entries a pivots v) (λ _. IsMatrix x) (λ _. AreBlocksWith pivots columns v a b c x b c) appended formed
+    (λ _ is x_formed. inl (record { is_next = next; at_pivots = is; across = refl; at_columns = refl; formed = x_formed }))
+
+-- those of a row at another column to the other blocks
+pub other_row_added : {T : Type 0} (pivots columns v : List ℕ) (a b c y z : MatrixValue) (result : Result T Refusal) →
+    ¬ (IsNextPivot pivots (length a.rows) (length b.rows)) → y ≡ with_entries b pivots v → IsMatrix y → Answers None (λ _. z ≡ with_entries c columns v) result →
+    IfOk result (λ _. IsMatrix z) → Answers None (λ _. AreBlocksWith pivots columns v a b c a y z) result
+other_row_added pivots columns v a b c y z result other y_is y_formed appended formed =
+    answers_with result (λ _. z ≡ with_entries c columns v) (λ _. IsMatrix z) (λ _. AreBlocksWith pivots columns v a b c a y z) appended formed
+    (λ _ is z_formed. inr (record {
+      is_other = other;
+      at_pivots = refl;
+      across = y_is;
+      at_columns = is;
+      across_formed = y_formed;
+      columns_formed = z_formed;
+    }))
 
 -- the blocks of the first rows
 pub record AreBlocksSoFar (g : MatrixValue) (pivots columns : List ℕ) (i : ℕ) (a b c : MatrixValue) : Type 0 where
@@ -256,48 +280,65 @@ module _ (g : MatrixValue) (pivots columns : List ℕ) (both : AreComplementary 
   grown : length (done ++ row ∷ []) ≡ length done + 1
   grown = length-append done (row ∷ [])
 
-  pub so_far_pivot : (next : MatrixValue) (entries : RowValue) → IsNextPivot pivots (length a.rows) (length b.rows) →
-      entries.entries ≡ entries_at pivots row.entries → next ≡ record { order = a.order; cols = a.cols; rows = a.rows ++ entries.entries ∷ [] } → IsMatrix next →
-      AreBlocksSoFar g pivots columns (length (done ++ row ∷ [])) next b c
-  so_far_pivot next entries is_next entries_are is formed = record {
-    blocks = blocks_pivot g pivots columns both (length a.rows) (length b.rows) a b c so_far.blocks next entries is_next
-        (entries_are ∙ ap (entries_at pivots) (here ∙ at_count)) is;
+  so_far_pivot : (x : MatrixValue) → IsNextPivot pivots (length a.rows) (length b.rows) → x ≡ with_entries a pivots row.entries → IsMatrix x →
+      AreBlocksSoFar g pivots columns (length (done ++ row ∷ [])) x b c
+  so_far_pivot x is_next is formed = record {
+    blocks = blocks_pivot g pivots columns both (length a.rows) (length b.rows) a b c so_far.blocks x row.entries is_next (here ∙ at_count) is;
     count = omega (
       arith,
       so_far.count,
       grown,
-      ap (λ (x : MatrixValue). length x.rows) is,
-      length-append a.rows (entries.entries ∷ []),
+      ap (λ (m : MatrixValue). length m.rows) is,
+      length-append a.rows (entries_at pivots row.entries ∷ []),
     );
     a_formed = formed;
     b_formed = so_far.b_formed;
     c_formed = so_far.c_formed;
   }
 
-  pub so_far_column : (across at_columns : MatrixValue) (entries others : RowValue) → ¬ (IsNextPivot pivots (length a.rows) (length b.rows)) →
-      entries.entries ≡ entries_at pivots row.entries → others.entries ≡ entries_at columns row.entries →
-      across ≡ record { order = b.order; cols = b.cols; rows = b.rows ++ entries.entries ∷ [] } →
-      at_columns ≡ record { order = c.order; cols = c.cols; rows = c.rows ++ others.entries ∷ [] } → IsMatrix across → IsMatrix at_columns →
-      AreBlocksSoFar g pivots columns (length (done ++ row ∷ [])) a across at_columns
-  so_far_column across at_columns entries others other entries_are others_are is also across_formed columns_formed = record {
-    blocks = blocks_column g pivots columns both (length a.rows) (length b.rows) a b c so_far.blocks across at_columns entries others
-        (omega (arith, below, so_far.count, square)) other (entries_are ∙ ap (entries_at pivots) (here ∙ at_count))
-        (others_are ∙ ap (entries_at columns) (here ∙ at_count)) is also;
+  so_far_column : (y z : MatrixValue) → ¬ (IsNextPivot pivots (length a.rows) (length b.rows)) → y ≡ with_entries b pivots row.entries →
+      z ≡ with_entries c columns row.entries → IsMatrix y → IsMatrix z → AreBlocksSoFar g pivots columns (length (done ++ row ∷ [])) a y z
+  so_far_column y z other is also across_formed columns_formed = record {
+    blocks = blocks_column g pivots columns both (length a.rows) (length b.rows) a b c so_far.blocks y z row.entries
+        (omega (arith, below, so_far.count, square)) other (here ∙ at_count) is also;
     count = omega (
       arith,
       so_far.count,
       grown,
-      ap (λ (x : MatrixValue). length x.rows) is,
-      length-append b.rows (entries.entries ∷ []),
+      ap (λ (m : MatrixValue). length m.rows) is,
+      length-append b.rows (entries_at pivots row.entries ∷ []),
     );
     a_formed = so_far.a_formed;
     b_formed = across_formed;
     c_formed = columns_formed;
   }
 
-  pub room_for_columns : ¬ (IsNextPivot pivots (length a.rows) (length b.rows)) → (length b.rows < length columns) × (length c.rows < length columns)
-  room_for_columns other =
-      column_room g pivots columns both (length a.rows) (length b.rows) a b c so_far.blocks (omega (arith, below, so_far.count, square)) other
+  -- the blocks with the row
+  pub so_far_more : (x y z : MatrixValue) → AreBlocksWith pivots columns row.entries a b c x y z →
+      AreBlocksSoFar g pivots columns (length (done ++ row ∷ [])) x y z
+  so_far_more x y z (inl more) = rw (more.across, more.at_columns) (so_far_pivot x more.is_next more.at_pivots more.formed)
+  so_far_more x y z (inr more) =
+      rw more.at_pivots (so_far_column y z more.is_other more.across more.at_columns more.across_formed more.columns_formed)
+
+  -- its entries can stand in them
+  pub row_fits : row.order ≡ g.order → length row.entries ≡ g.cols → length pivots ≤ most_columns → length columns ≤ most_columns →
+      FitsBlocks pivots columns a b c row
+  row_fits field long pivots_fit columns_fit = record {
+    at_pivots = record { field = field ∙ sym so_far.blocks.at_pivots.field; width = sym so_far.blocks.at_pivots.width; within = at_pivots };
+    across = record { field = field ∙ sym so_far.blocks.across.field; width = sym so_far.blocks.across.width; within = at_pivots };
+    at_columns = record { field = field ∙ sym so_far.blocks.at_columns.field; width = sym so_far.blocks.at_columns.width; within = at_columns };
+    pivots_fit = pivots_fit;
+    room = λ other.
+        let room : (length b.rows < length columns) × (length c.rows < length columns) =
+        column_room g pivots columns both (length a.rows) (length b.rows) a b c so_far.blocks (omega (arith, below, so_far.count, square)) other in
+        (omega (arith, room.0, columns_fit), omega (arith, room.1, columns_fit));
+  }
+    where
+      at_pivots : All (λ column. column < length row.entries) pivots
+      at_pivots = subst (λ n. All (λ column. column < n) pivots) (sym long) (pivots_within g.cols pivots columns both)
+
+      at_columns : All (λ column. column < length row.entries) columns
+      at_columns = subst (λ n. All (λ column. column < n) columns) (sym long) (columns_within g.cols pivots columns both)
 
 pub blocks_are : (g : MatrixValue) (pivots columns : List ℕ) → AreComplementary g.cols pivots columns → length g.rows ≡ g.cols → (done left : List RowValue) →
     AreRowsOf g (done ++ left) → left ≡ [] → (a b c : MatrixValue) → AreBlocksSoFar g pivots columns (length done) a b c →

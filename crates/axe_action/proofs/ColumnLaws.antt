@@ -17,7 +17,6 @@ use Rattle.axe_algebra.proofs.ListEntries.{rows_length, row_over, same_vector, l
 use Rattle.axe_algebra.proofs.ListProducts.{vector_of_combination, combination_over}
 use Rattle.axe_field.specs.Order.{Order}
 use Rattle.axe_field.specs.NumberFields.{number_field, gf}
-use Rattle.axe_row.specs.Rows.{RowValue}
 use Rattle.axe_matrix.specs.Matrices.{MatrixValue, IsMatrix, matrix_product}
 use Rattle.axe_matrix.proofs.MatrixLaws.{same_matrix}
 use Rattle.axe_matrix.proofs.ProductLaws.{length-product, get_or-product}
@@ -27,6 +26,7 @@ use Rattle.axe_echelon.proofs.FormLaws.{below_or_at}
 use Rattle.axe_echelon.proofs.ReducedLaws.{pivot-below}
 use Rattle.axe_action.specs.Coordinates.{row_times, HasImagesIn, HasActionRows}
 use Rattle.axe_action.specs.Coordinates.{entries_at, matrix_at, ArePivotColumns, AreCoordinateColumns}
+use Rattle.axe_action.specs.Blocks.{with_entries}
 use Rattle.axe_action.proofs.ColumnLists.{AreColumnsBelow}
 use Rattle.axe_action.proofs.Images.{images_count}
 use mathlib.Core.Path.{refl, sym, ◌∙◌, ap, subst}
@@ -124,20 +124,19 @@ entries_none columns m o n entries field width is = record {
   each = λ t below. absurd (omega arith);
 }
 
-pub entries_more : (columns : List ℕ) (m : MatrixValue) (i : ℕ) (entries next : MatrixValue) (row : RowValue) → HasFirstEntries columns m i entries →
-    row.entries ≡ entries_at columns (get_or m.rows i []) →
-    next ≡ record { order = entries.order; cols = entries.cols; rows = entries.rows ++ row.entries ∷ [] } → HasFirstEntries columns m (i + 1) next
-entries_more columns m i entries next row so_far row_is is = record {
+pub entries_more : (columns : List ℕ) (m : MatrixValue) (i : ℕ) (entries next : MatrixValue) (v : List ℕ) → HasFirstEntries columns m i entries →
+    v ≡ get_or m.rows i [] → next ≡ with_entries entries columns v → HasFirstEntries columns m (i + 1) next
+entries_more columns m i entries next v so_far row_is is = record {
   field = ap (λ (x : MatrixValue). x.order) is ∙ so_far.field;
   width = ap (λ (x : MatrixValue). x.cols) is ∙ so_far.width;
   count = ap (λ (x : MatrixValue). length x.rows) is
-      ∙ (let grown : length (entries.rows ++ row.entries ∷ []) ≡ i + 1 = omega (arith, so_far.count, length-append entries.rows (row.entries ∷ [])) in grown);
+      ∙ (let grown : length (entries.rows ++ entries_at columns v ∷ []) ≡ i + 1 = omega (arith, so_far.count, length-append entries.rows (entries_at columns v ∷ [])) in grown);
   each = λ t inside. below_or_at (λ t. get_or next.rows t [] ≡ entries_at columns (get_or m.rows t [])) i
       (λ t before. ap (λ (x : MatrixValue). get_or x.rows t []) is
-      ∙ get_or_append_left entries.rows (row.entries ∷ []) [] t (omega (arith, so_far.count)) ∙ so_far.each t before)
+      ∙ get_or_append_left entries.rows (entries_at columns v ∷ []) [] t (omega (arith, so_far.count)) ∙ so_far.each t before)
       (ap (λ (x : MatrixValue). get_or x.rows i []) is
-      ∙ ap (λ k. get_or (entries.rows ++ row.entries ∷ []) k []) (let same : i ≡ length entries.rows + 0 = omega (arith, so_far.count) in same)
-      ∙ get_or-append-add entries.rows (row.entries ∷ []) 0 [] ∙ row_is)
+      ∙ ap (λ k. get_or (entries.rows ++ entries_at columns v ∷ []) k []) (let same : i ≡ length entries.rows + 0 = omega (arith, so_far.count) in same)
+      ∙ get_or-append-add entries.rows (entries_at columns v ∷ []) 0 [] ∙ ap (entries_at columns) row_is)
       t (omega arith);
 }
 

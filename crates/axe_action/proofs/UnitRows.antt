@@ -1,5 +1,5 @@
 -- The unit vectors of the columns that are no pivots, beside the rows that they extend to a basis.
-use Rattle.std.proofs.Common.{◌≡◌, ℕ, ◌+◌, List, ◌++◌, map, ap}
+use Rattle.std.proofs.Common.{◌≡◌, ℕ, List, ◌++◌, map, ap}
 use Rattle.axe_algebra.specs.Lists.{unit_row}
 use Rattle.axe_matrix.specs.Matrices.{MatrixValue}
 use Rattle.axe_action.specs.Actions.{IsExtendedMatrix}

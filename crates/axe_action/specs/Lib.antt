@@ -2,3 +2,4 @@ pub mod Actions
 pub mod Coordinates
 pub mod LeadingColumns
 pub mod FreeColumns
+pub mod Blocks

@@ -2,6 +2,7 @@
 #![tactic(auto)]
 
 mod bases;
+mod blocks;
 mod columns;
 mod conjugates;
 mod duals;

@@ -1,19 +1,20 @@
 //! The action of a module on a submodule and modulo it: a reduced basis that is known to be one of a submodule is not
 //! tested to be one.
 
-ghost use Rattle.std.specs.Prelude.{◌≡◌, ◌<◌, ◌≤◌, ◌+◌, ◌^◌, ◌↔◌, length, IsTrue, None, IfOk};
+ghost use Rattle.std.specs.Prelude.{◌≡◌, ◌<◌, ◌≤◌, ◌++◌, ◌⊎◌, [], ◌∷◌, length, None, Ok, Err, IfOk, IfErr};
 ghost use Rattle.axe_algebra.specs.SpansOfLists.{IsIndependent};
 ghost use Rattle.axe_field.specs.NumberFields.{number_field};
 ghost use Rattle.axe_row.specs.Refusals.{Answers};
 ghost use Rattle.axe_matrix.specs.Limits.{most_columns};
 ghost use Rattle.axe_matrix.specs.Matrices.{IsMatrix};
-ghost use Rattle.axe_spin.specs.Modules.{IsModule, IsInvariantIn};
+ghost use Rattle.axe_spin.specs.Limits.{most_generators};
+ghost use Rattle.axe_spin.specs.Modules.{IsModule, IsInvariantIn, module_of_matrices};
 ghost use Rattle.axe_action.specs.Actions.{IsBasisAction, IsActionModulo};
-ghost use Rattle.axe_action.specs.Coordinates.{matrix_at, rows_chosen};
-ghost use Rattle.axe_action.specs.FreeColumns.{AreFreeColumns, AreReducedAt, AreComplementary, IsNextPivot};
+ghost use Rattle.axe_action.specs.FreeColumns.{AreFreeColumns, AreReducedAt, AreComplementary};
 ghost use Rattle.axe_action.specs.FreeColumns.{rows_to_span};
 ghost use Rattle.axe_action.specs.FreeColumns.{matrix_within, matrix_modulo};
 
+use super::blocks::{Blocks, blocks_of};
 use super::columns::columns_of;
 use super::leading::{other_columns, reduced_pivots};
 use super::quotients::{free_columns, quotient_action};
@@ -140,14 +141,79 @@ fn actions_at_pivots(
     ensures well_formed { IfOk result (λ actions. IsModule actions.0 × IsModule actions.1) }
 {
     let entries = columns_of(alloc, rows, columns)?;
-    let mut subs = Vec::new(alloc);
-    let mut quotients = Vec::new(alloc);
+    let mut actions = Actions::new(alloc);
     for generator in module.into_generators() {
-        let (sub, quotient) = generator_parts(alloc, generator, pivots, columns, &entries)?;
-        subs.push(sub)?;
-        quotients.push(quotient)?;
+        actions.take(alloc, generator, pivots, columns, &entries)?;
     }
-    Ok((Module::new(subs)?, Module::new(quotients)?))
+    actions.into_modules()
+}
+
+/// The matrices by which those generators of a module act that were taken, in their order.
+#[derive(Drop)]
+struct Actions {
+    /// On the submodule.
+    subs: Vec<Matrix>,
+    /// Modulo the submodule.
+    quotients: Vec<Matrix>,
+}
+
+impl Actions {
+    /// Those of no generator.
+    fn new(alloc: Global) -> Actions
+        ensures subs { result.subs.items ≡ [] }
+        ensures quotients { result.quotients.items ≡ [] }
+    {
+        Actions {
+            subs: Vec::new(alloc),
+            quotients: Vec::new(alloc),
+        }
+    }
+
+    /// Takes the next generator, which becomes the two matrices of [`generator_parts`].
+    fn take(
+        &mut self,
+        alloc: Global,
+        generator: Matrix,
+        pivots: &[usize],
+        columns: &[usize],
+        entries: &Matrix,
+    ) -> Result<(), Refusal>
+        requires square { length generator.rows ≡ generator.cols }
+        requires field { entries.now.order ≡ generator.order }
+        requires some_pivot { 1 ≤ length pivots.now }
+        requires some_column { 1 ≤ length columns.now }
+        requires complementary { AreComplementary generator.cols pivots.now columns.now }
+        requires as_many { length entries.now.rows ≡ length pivots.now }
+        requires width { entries.now.cols ≡ length columns.now }
+        requires well_formed { IsMatrix entries.now }
+        ensures sub { Answers None (λ _. self.new.subs.items
+            ≡ self.old.subs.items ++ matrix_within pivots.now columns.now entries.now generator ∷ []) result }
+        ensures quotient { Answers None (λ _. self.new.quotients.items
+            ≡ self.old.quotients.items ++ matrix_modulo pivots.now columns.now entries.now generator ∷ []) result }
+        ensures well_formed { IfOk result (λ _. IsMatrix (matrix_within pivots.now columns.now entries.now generator)
+            × IsMatrix (matrix_modulo pivots.now columns.now entries.now generator)) }
+    {
+        let (sub, quotient) = generator_parts(alloc, generator, pivots, columns, entries)?;
+        self.subs.push(sub)?;
+        self.quotients.push(quotient)?;
+        Ok(())
+    }
+
+    /// The two modules with these matrices as their generators.
+    fn into_modules(self) -> Result<(Module, Module), Refusal>
+        requires some_sub { 1 ≤ length self.subs.items }
+        requires subs_fit { length self.subs.items ≤ most_generators }
+        requires some_quotient { 1 ≤ length self.quotients.items }
+        requires quotients_fit { length self.quotients.items ≤ most_generators }
+        ensures made { IfOk result (λ modules. (module_of_matrices self.subs.items ≡ Ok modules.0)
+            × (module_of_matrices self.quotients.items ≡ Ok modules.1)) }
+        ensures refused { IfErr result (λ refusal. (module_of_matrices self.subs.items ≡ Err refusal)
+            ⊎ (module_of_matrices self.quotients.items ≡ Err refusal)) }
+        ensures well_formed { IfOk result (λ modules. IsModule modules.0 × IsModule modules.1) }
+    {
+        let Actions { subs, quotients } = self;
+        Ok((Module::new(subs)?, Module::new(quotients)?))
+    }
 }
 
 /// The matrices by which a generator acts on a reduced basis with these pivots, whose entries at the other columns are
@@ -174,56 +240,13 @@ fn generator_parts(
         (λ parts. parts.1 ≡ matrix_modulo pivots.now columns.now entries.now generator) result }
     ensures well_formed { IfOk result (λ parts. IsMatrix parts.0 × IsMatrix parts.1) }
 {
-    let (mut sub, across, mut quotient) = blocks_of(alloc, generator, pivots, columns)?;
+    let Blocks {
+        at_pivots: mut sub,
+        across,
+        at_columns: mut quotient,
+    } = blocks_of(alloc, generator, pivots, columns)?;
     sub.add_product(alloc, 1, entries, &across)?;
     let minus_one = entries.field().neg(1);
     quotient.add_product(alloc, minus_one, &across, entries)?;
     Ok((sub, quotient))
-}
-
-/// Three of the four blocks of a generator: of its rows at the pivots the entries at the pivots, and of its rows at the
-/// other columns the entries at the pivots, and at the other columns. Each row is dropped when its entries are taken.
-fn blocks_of(
-    alloc: Global,
-    generator: Matrix,
-    pivots: &[usize],
-    columns: &[usize],
-) -> Result<(Matrix, Matrix, Matrix), Refusal>
-    requires square { length generator.rows ≡ generator.cols }
-    requires some_pivot { 1 ≤ length pivots.now }
-    requires some_column { 1 ≤ length columns.now }
-    requires pivots_fit { length pivots.now ≤ most_columns }
-    requires columns_fit { length columns.now ≤ most_columns }
-    requires complementary { AreComplementary generator.cols pivots.now columns.now }
-    ensures at_pivots { Answers None
-        (λ blocks. blocks.0 ≡ matrix_at pivots.now (rows_chosen pivots.now generator)) result }
-    ensures across { Answers None
-        (λ blocks. blocks.1 ≡ matrix_at pivots.now (rows_chosen columns.now generator)) result }
-    ensures at_columns { Answers None
-        (λ blocks. blocks.2 ≡ matrix_at columns.now (rows_chosen columns.now generator)) result }
-    ensures well_formed { IfOk result (λ blocks. IsMatrix blocks.0 × IsMatrix blocks.1 × IsMatrix blocks.2) }
-{
-    let field = *generator.field();
-    let mut at_pivots = Matrix::with_capacity(alloc, field, pivots.len(), pivots.len())?;
-    let mut across = Matrix::with_capacity(alloc, field, pivots.len(), columns.len())?;
-    let mut at_columns = Matrix::with_capacity(alloc, field, columns.len(), columns.len())?;
-    for row in generator.into_rows() {
-        let entries = row.select(alloc, pivots)?;
-        if is_next_pivot(pivots, at_pivots.rows(), across.rows()) {
-            at_pivots.append(entries)?;
-        } else {
-            across.append(entries)?;
-            let others = row.select(alloc, columns)?;
-            at_columns.append(others)?;
-        }
-    }
-    Ok((at_pivots, across, at_columns))
-}
-
-/// Whether the next column is a pivot, where so many pivots and so many other columns were before it.
-fn is_next_pivot(pivots: &[usize], taken: usize, passed: usize) -> bool
-    requires { taken + passed < 2 ^ 32 }
-    ensures { IsTrue result ↔ IsNextPivot pivots.now taken passed }
-{
-    taken < pivots.len() && pivots[taken] == taken + passed
 }

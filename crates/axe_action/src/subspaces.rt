@@ -49,6 +49,20 @@ pub fn basis_action(alloc: Global, module: &Module, rows: &Matrix) -> Result<Mod
     if rows.rows() == module.dim() {
         return action_on_everything(alloc, module, rows);
     }
+    action_on_proper(alloc, module, rows)
+}
+
+/// The action of a module on the span of independent rows, of which there is one at least, over these rows: by
+/// products, where they are the reduced basis of their span.
+fn action_on_proper(alloc: Global, module: &Module, rows: &Matrix) -> Result<Module, Refusal>
+    requires independent { IsIndependent (number_field rows.now.order) rows.now.rows }
+    requires some_row { 1 ≤ length rows.now.rows }
+    requires field { rows.now.order ≡ «module».now.order }
+    requires fits { rows.now.cols ≡ «module».now.dim }
+    ensures action { AnswersOr None (IsActionOverRows «module».now rows.now)
+        (action_late «module».now rows.now) result }
+    ensures well_formed { IfOk result IsModule }
+{
     let span = span_of(alloc, rows)?;
     let Some(columns) = coordinate_columns(alloc, rows, &span)? else {
         return action_over(alloc, module, rows, &span);

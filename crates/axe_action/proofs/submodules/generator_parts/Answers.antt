@@ -21,13 +21,13 @@ add_product-requires-clause-inner_fit c =
 pub returns-clause-sub : goal.returns-clause-sub
 returns-clause-sub c =
     c.in_ok-add_product.ensures.sum
-    ∙ ap (λ a. matrix_with_product a 1 c.args.entries.now c.in_ok-sub.across) c.in_ok-sub.ensures.at_pivots
+    ∙ ap (λ a. matrix_with_product a 1 c.args.entries.now c.in_ok-sub.field-0.across) c.in_ok-sub.ensures.at_pivots
     ∙ ap (λ b. matrix_with_product (matrix_at c.args.pivots.now (rows_chosen c.args.pivots.now c.args.generator)) 1 c.args.entries.now b) c.in_ok-sub.ensures.across
 
 pub returns-clause-quotient : goal.returns-clause-quotient
 returns-clause-quotient c =
     c.in_ok-add_product-2.ensures.sum
-    ∙ ap (λ q. matrix_with_product q c.neg-minus_one.result c.in_ok-sub.across c.args.entries.now) c.in_ok-sub.ensures.at_columns
+    ∙ ap (λ q. matrix_with_product q c.neg-minus_one.result c.in_ok-sub.field-0.across c.args.entries.now) c.in_ok-sub.ensures.at_columns
     ∙ ap (λ p. matrix_with_product (matrix_at c.args.columns.now (rows_chosen c.args.columns.now c.args.generator)) c.neg-minus_one.result p c.args.entries.now)
     c.in_ok-sub.ensures.across
     ∙ ap (λ k. matrix_with_product (matrix_at c.args.columns.now (rows_chosen c.args.columns.now c.args.generator)) k

@@ -44,38 +44,26 @@ action_on_everything-requires-clause-fits c =
     (space_rows c.args.module.now c.args.rows.now
     (not_refused (sub_action_refusal c.args.module.now c.args.rows.now) tt c.in_ok-check_space.field-0 c.in_ok-check_space.ensures.refusal)).columns
 
-pub action_over-requires-clause-independent : goal.action_over-requires-clause-independent
-action_over-requires-clause-independent c = c.requires.independent
-
-pub action_over-requires-clause-some_row : goal.action_over-requires-clause-some_row
-action_over-requires-clause-some_row c =
+pub action_on_proper-requires-clause-some_row : goal.action_on_proper-requires-clause-some_row
+action_on_proper-requires-clause-some_row c =
     some_row c.args.rows.now.rows (space_rows c.args.module.now c.args.rows.now
     (not_refused (sub_action_refusal c.args.module.now c.args.rows.now) tt c.in_ok-check_space.field-0 c.in_ok-check_space.ensures.refusal)).some
 
-pub action_over-requires-clause-field : goal.action_over-requires-clause-field
-action_over-requires-clause-field c =
+pub action_on_proper-requires-clause-field : goal.action_on_proper-requires-clause-field
+action_on_proper-requires-clause-field c =
     (space_rows c.args.module.now c.args.rows.now
     (not_refused (sub_action_refusal c.args.module.now c.args.rows.now) tt c.in_ok-check_space.field-0 c.in_ok-check_space.ensures.refusal)).field
 
-pub action_over-requires-clause-fits : goal.action_over-requires-clause-fits
-action_over-requires-clause-fits c =
+pub action_on_proper-requires-clause-fits : goal.action_on_proper-requires-clause-fits
+action_on_proper-requires-clause-fits c =
     (space_rows c.args.module.now c.args.rows.now
     (not_refused (sub_action_refusal c.args.module.now c.args.rows.now) tt c.in_ok-check_space.field-0 c.in_ok-check_space.ensures.refusal)).columns
-
-pub returns-in_default-clause-action : goal.returns-in_default-clause-action
-returns-in_default-clause-action c =
-    let none = not_refused (sub_action_refusal c.args.module.now c.args.rows.now) tt c.in_ok-check_space.field-0 c.in_ok-check_space.ensures.refusal in
-    answered_late (sub_action_refusal c.args.module.now c.args.rows.now) _ _ _ _ c.action_over.result none (λ action acts. acts) (λ refusal stands. stands)
-    c.action_over.ensures.action
-
-pub returns-in_default-clause-well_formed : goal.returns-in_default-clause-well_formed
-returns-in_default-clause-well_formed c = c.action_over.ensures.well_formed
 
 pub returns-clause-action : goal.returns-clause-action
 returns-clause-action c =
     let none = not_refused (sub_action_refusal c.args.module.now c.args.rows.now) tt c.in_ok-check_space.field-0 c.in_ok-check_space.ensures.refusal in
-    answered_late (sub_action_refusal c.args.module.now c.args.rows.now) _ _ _ _ c.action_on_basis.result none (λ action acts. acts) (λ refusal stands. stands)
-    c.action_on_basis.ensures.action
+    answered_late (sub_action_refusal c.args.module.now c.args.rows.now) _ _ _ _ c.action_on_proper.result none (λ action acts. acts) (λ refusal stands. stands)
+    c.action_on_proper.ensures.action
 
 pub returns-clause-well_formed : goal.returns-clause-well_formed
-returns-clause-well_formed c = c.action_on_basis.ensures.well_formed
+returns-clause-well_formed c = c.action_on_proper.ensures.well_formed

@@ -1,5 +1,5 @@
 use Rattle.std.proofs.Common.{rules}
-use Rattle.axe_action.proofs.submodules.is_next_pivot.Goals as goal
+use Rattle.axe_action.proofs.blocks.is_next_pivot.Goals as goal
 
 pub returns-then-taken-pivots : goal.returns-then-taken-pivots
 returns-then-taken-pivots c = search rules
