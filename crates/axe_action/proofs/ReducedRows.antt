@@ -1,5 +1,5 @@
 -- Rows that are the identity at the pivots of their span: they are its reduced basis.
-use Rattle.std.specs.Prelude.{◌≡◌, ◌≢◌, ℕ, ◌<◌, List, [], length, get_or, cond, eqb, All, IsTrue, true, false, ◌↔◌}
+use Rattle.std.specs.Prelude.{◌≡◌, ◌≢◌, ℕ, ◌<◌, List, [], length, get_or, cond, eqb, All, IsTrue, Bool, true, false, ◌↔◌}
 use Rattle.std.proofs.lemmas.List.{get_or-map}
 use Rattle.std.proofs.lemmas.List.Elements.{All-from_get_or}
 use Rattle.std.proofs.lemmas.Bool.{eq-eqb, ne_eqb}
@@ -27,19 +27,21 @@ use mathlib.Core.Path.{refl, sym, ◌∙◌, ap, subst}
 use native.Mathlib.Omega.{arith}
 
 -- a row has other entries at the columns than the unit vector of its number
-pub no_identity : (columns : List ℕ) (rows : List (List ℕ)) (t : ℕ) (entries unit : RowValue) → t < length rows →
-    entries.order ≡ unit.order → entries.entries ≡ entries_at columns (get_or rows t []) →
-    unit.entries ≡ unit_row (length columns) t → ¬ (entries ≡ unit) → IsTrue false ↔ IsIdentityAt columns rows
-no_identity columns rows t entries unit below orders entries_are unit_is other = (
-  λ is. absurd (different is),
-  λ identity. absurd (other (λ i. record {
-    order = orders i;
-    entries = (entries_are ∙ identity t below ∙ sym unit_is) i;
-  })),
-)
+pub no_identity : (columns : List ℕ) (rows : List (List ℕ)) (t : ℕ) → t < length rows →
+    ¬ (entries_at columns (get_or rows t []) ≡ unit_row (length columns) t) → IsTrue false ↔ IsIdentityAt columns rows
+no_identity columns rows t below other = (λ is. absurd (different is), λ identity. absurd (other (identity t below)))
   where
     different : false ≡ true → ⊥
     different is = cc
+
+-- whether two rows are equal tells whether the entries at the columns are a unit vector
+pub unit_exactly : (columns v : List ℕ) (index : ℕ) (entries unit : RowValue) (test : Bool) → entries.order ≡ unit.order →
+    entries.entries ≡ entries_at columns v → unit.entries ≡ unit_row (length columns) index → (IsTrue test ↔ (entries ≡ unit)) →
+    IsTrue test ↔ (entries_at columns v ≡ unit_row (length columns) index)
+unit_exactly columns v index entries unit test orders entries_are unit_is exactly = (
+  λ yes. sym entries_are ∙ ap (λ (r : RowValue). r.entries) (exactly.0 yes) ∙ unit_is,
+  λ are. exactly.1 (λ i. record { order = orders i; entries = (entries_are ∙ are ∙ sym unit_is) i }),
+)
 
 -- there are as many pivots as rows
 pub pivots_count : (e : EchelonValue) (columns : List ℕ) → IsEchelon e → ArePivotColumns e columns →

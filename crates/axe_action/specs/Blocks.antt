@@ -22,7 +22,8 @@ pub record FitsBlocks (pivots columns : List ℕ) (a b c : MatrixValue) (row : R
   pub across : FitsBlock pivots b row
   pub at_columns : FitsBlock columns c row
   pub pivots_fit : length pivots ≤ most_columns
-  pub room : ¬ (IsNextPivot pivots (length a.rows) (length b.rows)) → (length b.rows < most_rows) × (length c.rows < most_rows)
+  pub room : ¬ (IsNextPivot pivots (length a.rows) (length b.rows)) →
+      (length b.rows < most_rows) × (length c.rows < most_rows)
 
 -- a row at a pivot: its entries at the pivots come to a
 pub record AreWithPivotRow (pivots v : List ℕ) (a b c next_a next_b next_c : MatrixValue) : Type 0 where

@@ -1,13 +1,15 @@
 //! The pivots of a span, and coordinates by the entries there.
 
 ghost use Rattle.std.specs.Prelude.{◌≡◌, ◌<◌, ◌≤◌, ◌↔◌, length, All, IsTrue, None, IfOk, IfSome};
+ghost use Rattle.axe_algebra.specs.Lists.{unit_row};
 ghost use Rattle.axe_algebra.specs.SpansOfLists.{IsIndependent};
 ghost use Rattle.axe_field.specs.NumberFields.{number_field};
 ghost use Rattle.axe_row.specs.Refusals.{Answers};
 ghost use Rattle.axe_matrix.specs.Limits.{most_rows, most_columns};
 ghost use Rattle.axe_matrix.specs.Matrices.{IsMatrix, matrix_product};
 ghost use Rattle.axe_echelon.specs.Echelons.{IsEchelon, IsSpanOfRows};
-ghost use Rattle.axe_action.specs.Coordinates.{ArePivotColumns, AreCoordinateColumns, IsIdentityAt, matrix_at};
+ghost use Rattle.axe_action.specs.Coordinates.{ArePivotColumns, AreCoordinateColumns, IsIdentityAt};
+ghost use Rattle.axe_action.specs.Coordinates.{entries_at, matrix_at};
 ghost use Rattle.axe_action.specs.Blocks.{with_entries};
 
 use axe_echelon::Echelon;
@@ -44,13 +46,23 @@ pub(crate) fn is_identity_at(
     ensures well_formed { IsMatrix rows.now }
 {
     for index in 0..rows.rows() {
-        let entries = rows.row(index).select(alloc, columns)?;
-        let unit = Row::unit(alloc, *rows.field(), columns.len(), index)?;
-        if !entries.same(&unit) {
+        if !is_unit_at(alloc, rows.row(index), columns, index)? {
             return Ok(false);
         }
     }
     Ok(true)
+}
+
+/// Whether the entries of a row at some columns are the unit vector with its 1 at an index.
+fn is_unit_at(alloc: Global, row: &Row, columns: &[usize], index: usize) -> Result<bool, Refusal>
+    requires within { All (λ column. column < length row.now.entries) columns.now }
+    requires below { index < length columns.now }
+    ensures { Answers None (λ unit. IsTrue unit
+        ↔ (entries_at columns.now row.now.entries ≡ unit_row (length columns.now) index)) result }
+{
+    let entries = row.select(alloc, columns)?;
+    let unit = Row::unit(alloc, *row.field(), columns.len(), index)?;
+    Ok(entries.same(&unit))
 }
 
 /// The pivots of a span, ascending.

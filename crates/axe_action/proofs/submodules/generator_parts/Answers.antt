@@ -1,4 +1,5 @@
 use Rattle.std.proofs.Common.{length, ap, sym, ◌∙◌}
+use Rattle.axe_echelon.proofs.Exits.{no_memory}
 use Rattle.axe_field.specs.Arithmetic.{field_neg}
 use Rattle.axe_matrix.specs.Matrices.{MatrixValue}
 use Rattle.axe_matrix.specs.Products.{matrix_with_product}
@@ -18,6 +19,50 @@ add_product-requires-clause-inner_fit c =
     ∙ sym (ap (λ (m : MatrixValue). length m.rows) c.in_ok-sub.ensures.across
     ∙ lists_at_length c.args.pivots.now (chosen c.args.columns.now c.args.generator.rows) ∙ chosen_length c.args.columns.now c.args.generator.rows)
 
+pub add_product-requires-clause-a_field : goal.add_product-requires-clause-a_field
+add_product-requires-clause-a_field c = c.requires.field ∙ sym (ap (λ (m : MatrixValue). m.order) c.in_ok-sub.ensures.at_pivots)
+
+pub add_product-requires-clause-b_field : goal.add_product-requires-clause-b_field
+add_product-requires-clause-b_field c = (ap (λ (m : MatrixValue). m.order) c.in_ok-sub.ensures.across) ∙ sym (ap (λ (m : MatrixValue). m.order) c.in_ok-sub.ensures.at_pivots)
+
+pub add_product-requires-clause-columns_fit : goal.add_product-requires-clause-columns_fit
+add_product-requires-clause-columns_fit c = (ap (λ (m : MatrixValue). m.cols) c.in_ok-sub.ensures.across) ∙ sym (ap (λ (m : MatrixValue). m.cols) c.in_ok-sub.ensures.at_pivots)
+
+pub add_product-requires-2-clause-a_field : goal.add_product-requires-2-clause-a_field
+add_product-requires-2-clause-a_field c = (ap (λ (m : MatrixValue). m.order) c.in_ok-sub.ensures.across) ∙ sym (ap (λ (m : MatrixValue). m.order) c.in_ok-sub.ensures.at_columns)
+
+pub add_product-requires-2-clause-b_field : goal.add_product-requires-2-clause-b_field
+add_product-requires-2-clause-b_field c = c.requires.field ∙ sym (ap (λ (m : MatrixValue). m.order) c.in_ok-sub.ensures.at_columns)
+
+pub add_product-requires-2-clause-rows_fit : goal.add_product-requires-2-clause-rows_fit
+add_product-requires-2-clause-rows_fit c =
+    (ap (λ (m : MatrixValue). length m.rows) c.in_ok-sub.ensures.across ∙ lists_at_length c.args.pivots.now (chosen c.args.columns.now c.args.generator.rows))
+    ∙ sym (ap (λ (m : MatrixValue). length m.rows) c.in_ok-sub.ensures.at_columns ∙ lists_at_length c.args.columns.now (chosen c.args.columns.now c.args.generator.rows))
+
+pub add_product-requires-2-clause-inner_fit : goal.add_product-requires-2-clause-inner_fit
+add_product-requires-2-clause-inner_fit c = (ap (λ (m : MatrixValue). m.cols) c.in_ok-sub.ensures.across) ∙ sym c.requires.as_many
+
+pub add_product-requires-2-clause-columns_fit : goal.add_product-requires-2-clause-columns_fit
+add_product-requires-2-clause-columns_fit c = c.requires.width ∙ sym (ap (λ (m : MatrixValue). m.cols) c.in_ok-sub.ensures.at_columns)
+
+pub returns-in_err-sub-clause-sub : goal.returns-in_err-sub-clause-sub
+returns-in_err-sub-clause-sub c = no_memory _ c.from_residual.result _ c.from_residual.ensures.1 c.in_err-sub.ensures.at_pivots
+
+pub returns-in_err-sub-clause-quotient : goal.returns-in_err-sub-clause-quotient
+returns-in_err-sub-clause-quotient c = no_memory _ c.from_residual.result _ c.from_residual.ensures.1 c.in_err-sub.ensures.at_pivots
+
+pub returns-in_err-add_product-clause-sub : goal.returns-in_err-add_product-clause-sub
+returns-in_err-add_product-clause-sub c = no_memory _ c.from_residual-in_err-add_product.result _ c.from_residual-in_err-add_product.ensures.1 c.in_err-add_product.ensures.sum
+
+pub returns-in_err-add_product-clause-quotient : goal.returns-in_err-add_product-clause-quotient
+returns-in_err-add_product-clause-quotient c = no_memory _ c.from_residual-in_err-add_product.result _ c.from_residual-in_err-add_product.ensures.1 c.in_err-add_product.ensures.sum
+
+pub returns-in_err-add_product-2-clause-sub : goal.returns-in_err-add_product-2-clause-sub
+returns-in_err-add_product-2-clause-sub c = no_memory _ c.from_residual-in_err-add_product-2.result _ c.from_residual-in_err-add_product-2.ensures.1 c.in_err-add_product-2.ensures.sum
+
+pub returns-in_err-add_product-2-clause-quotient : goal.returns-in_err-add_product-2-clause-quotient
+returns-in_err-add_product-2-clause-quotient c = no_memory _ c.from_residual-in_err-add_product-2.result _ c.from_residual-in_err-add_product-2.ensures.1 c.in_err-add_product-2.ensures.sum
+
 pub returns-clause-sub : goal.returns-clause-sub
 returns-clause-sub c =
     c.in_ok-add_product.ensures.sum
@@ -33,3 +78,6 @@ returns-clause-quotient c =
     ∙ ap (λ k. matrix_with_product (matrix_at c.args.columns.now (rows_chosen c.args.columns.now c.args.generator)) k
     (matrix_at c.args.pivots.now (rows_chosen c.args.columns.now c.args.generator)) c.args.entries.now)
     (c.neg-minus_one.ensures.value ∙ ap (λ o. field_neg o 1) (c.field.ensures.order ∙ c.requires.field))
+
+pub returns-clause-well_formed : goal.returns-clause-well_formed
+returns-clause-well_formed c = (c.add_product.ensures.well_formed, c.add_product-2.ensures.well_formed)

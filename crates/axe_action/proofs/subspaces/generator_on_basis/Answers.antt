@@ -1,6 +1,7 @@
-use Rattle.std.proofs.Common.{length, refl, inr, arith}
-use Rattle.axe_matrix.specs.Matrices.{IsMatrix}
-use Rattle.axe_action.proofs.Images.{images_made, images_count}
+use Rattle.std.proofs.Common.{◌<◌, length, All, None, refl, ap, sym, ◌∙◌, subst, inr, arith}
+use Rattle.axe_matrix.specs.Matrices.{MatrixValue, IsMatrix}
+use Rattle.axe_echelon.proofs.Exits.{no_memory_late, memory_if_accepted}
+use Rattle.axe_action.proofs.Images.{images_accepted, images_made, images_count}
 use Rattle.axe_action.proofs.SubRows.{action_images, rows_over_field}
 use Rattle.axe_action.proofs.ColumnLaws.{AreImagesAt, action_if_combined, combined_if_within}
 use Rattle.axe_action.proofs.QuotientSpans.{test_failed}
@@ -46,3 +47,27 @@ returns c =
           (rows_over_field c.args.generator.now c.args.basis.now c.requires.well_formed c.requires.field c.requires.fits) (omega arith),
       all,
     )
+
+pub columns_of-requires-clause-within : goal.columns_of-requires-clause-within
+columns_of-requires-clause-within c =
+    let made = images_made c.args.basis.now c.args.generator.now c.in_ok-images.images c.requires.field c.requires.fits c.requires.square c.in_ok-images.ensures.product in
+    subst (λ n. All (λ column. column < n) c.args.columns.now) (c.requires.fits ∙ sym (ap (λ (m : MatrixValue). m.cols) made)) c.requires.coordinates.within
+
+pub combine_to-requires-clause-field : goal.combine_to-requires-clause-field
+combine_to-requires-clause-field c =
+    let made = images_made c.args.basis.now c.args.generator.now c.in_ok-images.images c.requires.field c.requires.fits c.requires.square c.in_ok-images.ensures.product in
+    ap (λ (m : MatrixValue). m.order) c.in_ok-action.ensures.entries ∙ ap (λ (m : MatrixValue). m.order) made
+
+pub combine_to-requires-clause-fits : goal.combine_to-requires-clause-fits
+combine_to-requires-clause-fits c = ap (λ (m : MatrixValue). m.cols) c.in_ok-action.ensures.entries ∙ c.requires.coordinates.count
+
+pub returns-in_err-images : goal.returns-in_err-images
+returns-in_err-images c =
+    let none = images_accepted c.args.basis.now c.args.generator.now c.requires.field c.requires.fits c.requires.square in
+    no_memory_late None _ _ c.from_residual.result _ refl (memory_if_accepted _ _ _ none c.in_err-images.ensures.product) c.from_residual.ensures.1
+
+pub returns-in_err-action : goal.returns-in_err-action
+returns-in_err-action c = no_memory_late None _ _ c.from_residual-in_err-action.result _ refl c.in_err-action.ensures.entries c.from_residual-in_err-action.ensures.1
+
+pub returns-in_err-combine_to : goal.returns-in_err-combine_to
+returns-in_err-combine_to c = no_memory_late None _ _ c.from_residual-in_err-combine_to.result _ refl c.in_err-combine_to.ensures c.from_residual-in_err-combine_to.ensures.1
