@@ -6,8 +6,8 @@ ghost use Rattle.axe_layer.specs.Supports.{restricted};
 ghost use Rattle.axe_lane.specs.Entries.{AreZerosFrom, IsNextNonzero};
 ghost use Rattle.axe_echelon.specs.PivotTables.{marks_of, FitsColumns, HasRoom, HasPivots};
 
-use axe_bits::BitPlane;
 use axe_matrix::Row;
+use axe_row::BitPlane;
 use std::alloc::{AllocError, Global};
 
 /// For each column whether it is the pivot of a row of an echelon form, and of which row. It takes no memory until it

@@ -28,9 +28,9 @@ mod scaling;
 mod sums;
 mod words;
 
-pub use axe_bits::BitPlane;
 use axe_field::Field;
 use axe_layer::earlier;
+pub use axe_plane::BitPlane;
 use axe_plane::Plane;
 pub use combos::{Combos, most_combined};
 use higher::Higher;

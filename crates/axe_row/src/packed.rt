@@ -7,9 +7,8 @@ ghost use Rattle.axe_row.specs.Refusals.{Answers};
 ghost use Rattle.axe_row.specs.Rows.{IsRow};
 
 use crate::{Refusal, Row};
-use axe_bits::BitPlane;
 use axe_field::Field;
-use axe_plane::Plane;
+use axe_plane::{BitPlane, Plane};
 use std::alloc::Global;
 
 impl Row {
