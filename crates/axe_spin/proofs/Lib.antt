@@ -9,3 +9,4 @@ pub mod StandardImages
 pub mod SubmoduleLaws
 pub mod OneSpun
 pub mod SomeSpun
+pub mod SquareGenerators
