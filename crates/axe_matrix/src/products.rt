@@ -31,14 +31,8 @@ impl Matrix {
             return Err(Refusal::ShapesDiffer);
         }
         let mut product = Matrix::zero(alloc, *self.field(), self.rows(), other.cols())?;
-        match product.add_product(alloc, 1, self, other) {
-            Ok(()) => Ok(product),
-            Err(refusal) => {
-                // By a call, so that the end of the matrix is proved apart from this function.
-                drop(product);
-                Err(refusal)
-            }
-        }
+        product.add_product(alloc, 1, self, other)?;
+        Ok(product)
     }
 
     /// Adds a multiple of the product of two matrices over the same field: each entry d becomes d + c s, where c is the
