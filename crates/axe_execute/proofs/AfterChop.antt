@@ -14,16 +14,16 @@ use Rattle.axe_report.proofs.Unique.{no_prefix}
 use Rattle.axe_chop.specs.Reported.{dims_of_factors, module_header, series_report}
 use Rattle.axe_chop.proofs.SeriesReports.{series_has_report}
 use Rattle.axe_file.specs.Packed.{packed}
-use Rattle.axe_folder.specs.declared.fault.FolderFault.TheVariants as folder
 use Rattle.axe_folder.specs.Files.{Files, file_at}
 use Rattle.axe_arguments.specs.Counts.{IsGeneratorCount, IsWordCount}
 use Rattle.axe_fault.specs.declared.fault.Fault.{Fault}
-use Rattle.axe_fault.specs.declared.fault.Fault.TheVariants.{File, Folder, Refused, Undecided, Usage, Memory}
+use Rattle.axe_fault.specs.Causes.{Cause, Stands, DeviceFailed, NoMemory, NoCommand, cause_of}
 use Rattle.axe_plan.specs.Plans.{Step, Put, Remove, Plan}
 use Rattle.axe_plan.specs.Outcome.{BrokeOff, Halted}
+use Rattle.axe_plan.specs.Inputs.{numbered_names}
 use Rattle.axe_plan.specs.Outputs.{put_generator, put_generators}
 use Rattle.axe_execute.specs.ChopCommand.{put_factors, series_plan, chop_answer, ChopPlan, FoundPlan, WritesSeries}
-use Rattle.axe_execute.specs.Execution.{HasPlan}
+use Rattle.axe_execute.specs.Execution.{HasPlan, StopsCommand}
 use Rattle.axe_execute.specs.AfterChop.{ChopFails, report_file, IsLeftByChop, IsBeforeOrAfterChop}
 use Rattle.axe_execute.proofs.ChopLaws.{plan_of_series, module_is_module}
 use Rattle.axe_execute.proofs.AfterChopSteps.{Spare, spare_append, Left, unchanged, absent, torn, left_by_broken, left_by_halted, all_if_whole}
@@ -153,19 +153,19 @@ left_by_halted_plan generators seed words name old new (plan, right, halted) =
     left_by_plan generators seed words name old new plan right
     (left_by_halted (report_file name) plan.shown shape.middle old shape.spared plan.steps new shape.steps_are halted)
 
+left_where_stopped : (generators seed words : ℕ) (name : List ℕ) (cause : Cause) (names : List (List ℕ)) (old new : Files) →
+    StopsCommand cause names (ChopPlan generators seed words name old) old new → IsLeftByChop generators seed words name old new
+left_where_stopped generators seed words name (Stands problem) names old new stops = inl stops.1
+left_where_stopped generators seed words name (DeviceFailed file) names old new (inl unread) = inl unread.1
+left_where_stopped generators seed words name (DeviceFailed file) names old new (inr broke) = left_by_broken_plan generators seed words name file old new broke
+left_where_stopped generators seed words name NoMemory names old new (inl same) = inl same
+left_where_stopped generators seed words name NoMemory names old new (inr halted) = left_by_halted_plan generators seed words name old new halted
+left_where_stopped generators seed words name NoCommand names old new stops = absurd stops
+
 pub left_by_chop : (generators seed words : ℕ) (name : List ℕ) (fault : Fault) (old new : Files) → ChopFails generators seed words name fault old new →
     IsLeftByChop generators seed words name old new
-left_by_chop generators seed words name (File file fault) old new fails = inl fails.1
-left_by_chop generators seed words name (Folder file folder.Missing) old new fails = inl fails.1
-left_by_chop generators seed words name (Folder file folder.TooLong) old new fails = inl fails.1
-left_by_chop generators seed words name (Folder file folder.Device) old new (inl unread) = inl unread.1
-left_by_chop generators seed words name (Folder file folder.Device) old new (inr broke) = left_by_broken_plan generators seed words name _ old new broke
-left_by_chop generators seed words name (Folder file folder.Memory) old new fails = absurd fails
-left_by_chop generators seed words name (Refused refusal) old new fails = inl fails.1
-left_by_chop generators seed words name (Undecided basis offset dim) old new fails = inl fails.1
-left_by_chop generators seed words name (Usage text) old new fails = absurd fails
-left_by_chop generators seed words name Memory old new (inl same) = inl same
-left_by_chop generators seed words name Memory old new (inr halted) = left_by_halted_plan generators seed words name old new halted
+left_by_chop generators seed words name fault old new fails =
+    left_where_stopped generators seed words name (cause_of fault) (numbered_names name generators) old new fails
 
 -- ---- what can be read as a report
 

@@ -17,7 +17,8 @@ use Rattle.axe_chop.specs.declared.chopped.Factor.{Factor}
 use Rattle.axe_chop.specs.declared.chopped.Chopped.{Chopped}
 use Rattle.axe_file.specs.Packed.{packed}
 use Rattle.axe_folder.specs.Files.{Files}
-use Rattle.axe_plan.specs.Plans.{Step, Put, Remove, Plan, Problem, StaysOpen}
+use Rattle.axe_fault.specs.Causes.{Problem, StaysOpen}
+use Rattle.axe_plan.specs.Plans.{Step, Put, Remove, Plan}
 use Rattle.axe_plan.specs.Meanings.{Meaning, Is, ◌>>=◌}
 use Rattle.axe_plan.specs.Inputs.{matrices_in, numbered_names, checked_module, module_in}
 use Rattle.axe_plan.specs.Outputs.{put_generators}

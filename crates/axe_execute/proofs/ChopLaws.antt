@@ -20,7 +20,8 @@ use Rattle.axe_folder.specs.declared.fault.FolderFault.{FolderFault}
 use Rattle.axe_folder.specs.Files.{Files, file_at}
 use Rattle.axe_folder.specs.Outcomes.{fetched}
 use Rattle.axe_arguments.specs.Counts.{IsGeneratorCount}
-use Rattle.axe_plan.specs.Plans.{Plan, Problem, StaysOpen}
+use Rattle.axe_fault.specs.Causes.{Problem, StaysOpen}
+use Rattle.axe_plan.specs.Plans.{Plan}
 use Rattle.axe_plan.specs.Meanings.{Answered, AtMostOne, Is, Has}
 use Rattle.axe_plan.specs.Inputs.{and_then, fetch_named, unless_faulty, or_refuses, bytes_in, matrix_in, matrices_in, numbered, numbered_names, checked_module, module_in}
 use Rattle.axe_execute.specs.ChopCommand.{series_plan, chop_answer, ChopPlan, FoundPlan, WritesSeries, FindsOpenSection}

@@ -20,7 +20,7 @@ use Rattle.axe_plan.proofs.SomeAnswer.{unless_refused_some}
 use Rattle.axe_echelon.proofs.SomeMatrix.{some_null_space, inverse_or_none}
 use Rattle.axe_row.specs.declared.refusals.Refusal.{Refusal}
 use Rattle.axe_row.specs.Refusals.{RefusedAs}
-use Rattle.axe_plan.specs.Plans.{Refuses}
+use Rattle.axe_fault.specs.Causes.{Refuses}
 use Rattle.axe_plan.specs.Meanings.{Meaning, Answered, AtMostOne, Is, Has, HasOr, UnlessRefused}
 use Rattle.axe_plan.specs.Inputs.{text_matrix_in}
 use Rattle.axe_plan.specs.Outputs.{put_or_show_text}

@@ -11,7 +11,7 @@ use Rattle.axe_spin.specs.Modules.{ModuleValue}
 use Rattle.axe_spin.specs.Spinning.{seed_refusal}
 use Rattle.axe_spin.specs.Modules.{rows_refusal}
 use Rattle.axe_folder.specs.Files.{Files}
-use Rattle.axe_plan.specs.Plans.{Problem}
+use Rattle.axe_fault.specs.Causes.{Problem}
 use Rattle.axe_plan.specs.Inputs.{matrices_in, numbered_names, checked_module, seeded_module}
 use Rattle.axe_plan.specs.Outputs.{put_packed}
 use Rattle.axe_plan.specs.Meanings.{AtMostOne, Is, Has, HasOr, UnlessRefused}

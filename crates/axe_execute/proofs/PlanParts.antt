@@ -3,7 +3,8 @@ use Rattle.std.proofs.Common.{refl, subst, ℕ, List, Result, Ok, Err, IfOk}
 use Rattle.std.specs.Prelude.{⊤}
 use Rattle.axe_matrix.specs.Matrices.{MatrixValue, IsMatrix}
 use Rattle.axe_folder.specs.Files.{Files}
-use Rattle.axe_plan.specs.Plans.{Problem, Plan}
+use Rattle.axe_fault.specs.Causes.{Problem}
+use Rattle.axe_plan.specs.Plans.{Plan}
 use Rattle.axe_plan.specs.Inputs.{matrix_in}
 use Rattle.axe_plan.specs.Outputs.{put_packed}
 use Rattle.axe_plan.specs.Meanings.{Meaning, Answered, AtMostOne, Is, ◌>>=◌}

@@ -28,7 +28,7 @@ use Rattle.axe_spin.specs.Modules.{HasSquareGenerators, IsInvariantIn, SpansModu
 use Rattle.axe_spin.proofs.SomeSpun.{some_spun_matrix}
 use Rattle.axe_action.specs.Actions.{IsProperActionModulo, quotient_late}
 use Rattle.axe_action.proofs.SomeAction.{some_basis_action, some_quotient}
-use Rattle.axe_plan.specs.Plans.{Refuses}
+use Rattle.axe_fault.specs.Causes.{Refuses}
 
 -- ---- spinning
 

@@ -10,7 +10,8 @@ use Rattle.axe_report.specs.declared.report.ReportHeader.{ReportHeader}
 use Rattle.axe_chop.specs.Reported.{dims_of_factors, module_header, series_report}
 use Rattle.axe_file.specs.Packed.{packed}
 use Rattle.axe_folder.specs.Files.{Files}
-use Rattle.axe_plan.specs.Plans.{Step, Put, Remove, Plan, Problem, StaysOpen}
+use Rattle.axe_fault.specs.Causes.{Problem, StaysOpen}
+use Rattle.axe_plan.specs.Plans.{Step, Put, Remove, Plan}
 use Rattle.axe_plan.specs.Meanings.{Meaning, Is, Has, ◌>>=◌}
 use Rattle.axe_plan.specs.Inputs.{module_in}
 use Rattle.axe_plan.specs.Outputs.{put_generators}

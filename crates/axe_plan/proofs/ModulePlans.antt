@@ -3,7 +3,7 @@ use Rattle.std.proofs.Common.{◌≡◌, sym, ◌∙◌, ap, ℕ, List, Result, 
 use Rattle.axe_matrix.specs.Matrices.{MatrixValue}
 use Rattle.axe_spin.specs.Modules.{ModuleValue}
 use Rattle.axe_folder.specs.Files.{Files}
-use Rattle.axe_plan.specs.Plans.{Problem}
+use Rattle.axe_fault.specs.Causes.{Problem}
 use Rattle.axe_plan.specs.Inputs.{and_then, matrix_in, matrices_in, numbered_names, checked_module, seeded_module}
 use Rattle.axe_plan.specs.Meanings.{Meaning, Is, ◌>>=◌}
 

@@ -5,7 +5,7 @@ use Rattle.std.proofs.lemmas.List.{length-append}
 use Rattle.std.proofs.lemmas.List.FromFn.{get_or-map-range_with_len, length-map-range_with_len}
 use Rattle.axe_matrix.specs.Matrices.{MatrixValue}
 use Rattle.axe_folder.specs.Files.{Files}
-use Rattle.axe_plan.specs.Plans.{Problem}
+use Rattle.axe_fault.specs.Causes.{Problem}
 use Rattle.axe_plan.specs.Inputs.{and_then, matrix_in, matrices_in, numbered, numbered_names}
 use Rattle.axe_plan.specs.Outcome.{IsOneOf}
 use Rattle.axe_fault.specs.declared.fault.Fault.{Fault}

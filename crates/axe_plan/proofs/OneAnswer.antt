@@ -1,7 +1,7 @@
 -- Meanings with at most one answer.
 use Rattle.std.proofs.Common.{◌≡◌, refl, sym, ◌∙◌, ap, subst, Option, Some, None, Result, Ok, Err, IfOk}
 use Rattle.axe_row.specs.declared.refusals.Refusal.{Refusal}
-use Rattle.axe_plan.specs.Plans.{Problem, Refuses}
+use Rattle.axe_fault.specs.Causes.{Problem, Refuses}
 use Rattle.axe_plan.specs.Meanings.{Meaning, AtMostOne, Is, Has, HasOr, UnlessRefused, After, ◌>>=◌}
 
 pub is_one : {A : Type 0} (right : Result A Problem) → AtMostOne (Is right)

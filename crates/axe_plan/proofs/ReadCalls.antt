@@ -1,12 +1,10 @@
 -- Calls that read files, one after the other, and what is computed of what they read.
 use Rattle.std.proofs.Common.{◌≡◌, refl, ◌∙◌, subst, ℕ, List, ◌++◌, [], Result, Ok, Err}
 use Rattle.axe_folder.specs.Files.{Files}
-use Rattle.axe_folder.specs.declared.fault.FolderFault.TheVariants as folder
 use Rattle.axe_fault.specs.declared.fault.Fault.{Fault}
-use Rattle.axe_fault.specs.declared.fault.Fault.TheVariants.{File, Folder, Refused, Undecided, Usage, Memory}
-use Rattle.axe_plan.specs.Plans.{Problem}
+use Rattle.axe_fault.specs.Causes.{Problem, Cause, Stands, DeviceFailed, NoMemory, NoCommand, cause_of}
 use Rattle.axe_plan.specs.Meanings.{Meaning, ◌>>=◌}
-use Rattle.axe_plan.specs.Outcome.{Agrees, Counted, CountsFault, Reads}
+use Rattle.axe_plan.specs.Outcome.{StopsReading, Agrees, CountsCause, Counted, Reads}
 use Rattle.axe_plan.proofs.Sequences.{AreAmong, among_same, among_none, among_after, fault_carries, answer_carries}
 
 -- ---- what is computed
@@ -30,18 +28,16 @@ fault_computes view other fault first next computes = record {
 }
 
 -- what reads no file has no fault of the device
+no_device : {V : Type 0} (cause : Cause) (meaning : Meaning V) (old new : ℕ) → new ≡ old → StopsReading [] cause meaning → CountsCause cause old new
+no_device (Stands problem) meaning old new same stops = same
+no_device (DeviceFailed name) meaning old new same stops = absurd stops
+no_device NoMemory meaning old new same stops = same
+no_device NoCommand meaning old new same stops = same
+
 counts_nothing : {T V : Type 0} (view : T → V) (result : Result T Fault) (meaning : Meaning V) (old new : ℕ) → new ≡ old →
     Agrees [] view result meaning → Counted result old new
 counts_nothing view (Ok value) meaning old new same answers = same
-counts_nothing view (Err (File name fault)) meaning old new same answers = same
-counts_nothing view (Err (Folder name folder.Missing)) meaning old new same answers = same
-counts_nothing view (Err (Folder name folder.TooLong)) meaning old new same answers = same
-counts_nothing view (Err (Folder name folder.Device)) meaning old new same answers = absurd answers
-counts_nothing view (Err (Folder name folder.Memory)) meaning old new same answers = same
-counts_nothing view (Err (Refused refusal)) meaning old new same answers = same
-counts_nothing view (Err (Undecided basis offset dim)) meaning old new same answers = same
-counts_nothing view (Err (Usage text)) meaning old new same answers = same
-counts_nothing view (Err Memory) meaning old new same answers = same
+counts_nothing view (Err fault) meaning old new same answers = no_device (cause_of fault) meaning old new same answers
 
 -- ---- what is read
 
@@ -76,7 +72,7 @@ module _ {S : Type 0} (files : S → Files) (failures : S → ℕ) where
   reads_after old mid new names more view other fault meaning whole same as_many agrees reads = record {
     agrees = agrees;
     kept = reads.kept ∙ same;
-    counted = subst (λ count. CountsFault fault count (failures new)) as_many reads.counted;
+    counted = subst (λ count. CountsCause (cause_of fault) count (failures new)) as_many reads.counted;
   }
 
   -- the first call has a value, and others read on

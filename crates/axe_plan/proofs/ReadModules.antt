@@ -10,7 +10,7 @@ use Rattle.axe_matrix.specs.Matrices.{MatrixValue, IsMatrix}
 use Rattle.axe_row.specs.Refusals.{unless_refused}
 use Rattle.axe_spin.specs.Modules.{ModuleValue, generators_refusal, rows_of_each}
 use Rattle.axe_folder.specs.Files.{Files}
-use Rattle.axe_plan.specs.Plans.{Problem}
+use Rattle.axe_fault.specs.Causes.{Problem}
 use Rattle.axe_plan.specs.Inputs.{and_then, or_refuses, matrix_in, matrices_in, numbered_names, checked_module, seeded_module}
 use Rattle.axe_plan.proofs.Readings.{matrix_in_is_matrix}
 use Rattle.axe_spin.proofs.SquareGenerators.{squares_if_not_refused}

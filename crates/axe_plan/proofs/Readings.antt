@@ -7,7 +7,7 @@ use Rattle.axe_file.specs.Packed.{packed_fault, unpacked}
 use Rattle.axe_file.proofs.Soundness.{sound_bytes}
 use Rattle.axe_file.proofs.Respelling.{unpacked_is_matrix}
 use Rattle.axe_folder.specs.Files.{Files}
-use Rattle.axe_plan.specs.Plans.{Problem}
+use Rattle.axe_fault.specs.Causes.{Problem}
 use Rattle.axe_plan.specs.Inputs.{and_then, unless_faulty, bytes_in, matrix_in}
 
 faultless_is_matrix : (name bytes : List ℕ) (fault : Option FileFault) → packed_fault bytes ≡ fault → IfOk (unless_faulty name fault (unpacked bytes)) IsMatrix

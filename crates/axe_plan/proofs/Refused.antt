@@ -6,7 +6,7 @@ use Rattle.axe_row.specs.Refusals.{Answers, AnswersOr}
 use Rattle.axe_echelon.proofs.Exits.{same_refusal}
 use Rattle.axe_fault.specs.declared.fault.Fault.TheVariants.{Refused}
 use Rattle.axe_fault.specs.Faults.{refusal_fault}
-use Rattle.axe_plan.specs.Plans.{Refuses}
+use Rattle.axe_fault.specs.Causes.{Refuses}
 use Rattle.axe_plan.specs.Meanings.{Meaning, Has, HasOr, UnlessRefused}
 use Rattle.axe_plan.specs.Outcome.{Agrees}
 

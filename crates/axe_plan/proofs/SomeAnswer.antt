@@ -1,7 +1,7 @@
 -- Meanings with an answer.
 use Rattle.std.proofs.Common.{◌≡◌, refl, Option, Some, None, Result, Ok, Err, IfOk}
 use Rattle.axe_row.specs.declared.refusals.Refusal.{Refusal}
-use Rattle.axe_plan.specs.Plans.{Problem, Refuses}
+use Rattle.axe_fault.specs.Causes.{Problem, Refuses}
 use Rattle.axe_plan.specs.Meanings.{Meaning, Answered, UnlessRefused, ◌>>=◌}
 
 pub unless_refused_some : {A : Type 0} (refusal : Option Refusal) (meaning : Meaning A) → (refusal ≡ None → Answered meaning) → Answered (UnlessRefused refusal meaning)

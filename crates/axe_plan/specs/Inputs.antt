@@ -11,7 +11,7 @@ use Rattle.axe_file.specs.TextReading.{text_fault, text_matrix}
 use Rattle.axe_folder.specs.declared.fault.FolderFault.{FolderFault}
 use Rattle.axe_folder.specs.Files.{Files, file_at}
 use Rattle.axe_folder.specs.Outcomes.{fetched}
-use Rattle.axe_plan.specs.Plans.{Problem, Unfetched, Unreadable, Refuses}
+use Rattle.axe_fault.specs.Causes.{Problem, Unfetched, Unreadable, Refuses}
 
 -- one reading after another: a value goes on, a problem ends it
 abbrev pub and_then : {A B : Type 0} → Result A Problem → (A → Result B Problem) → Result B Problem

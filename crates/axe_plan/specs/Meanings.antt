@@ -1,7 +1,7 @@
 -- Meanings: which answers are right.
 use Rattle.std.specs.Prelude.{◌≡◌, Option, Some, None, Result, Ok, Err}
 use Rattle.axe_row.specs.declared.refusals.Refusal.{Refusal}
-use Rattle.axe_plan.specs.Plans.{Problem, Refuses}
+use Rattle.axe_fault.specs.Causes.{Problem, Refuses}
 
 -- which answers are right, each a value or the first problem that stands
 abbrev pub Meaning : Type 0 → Type 1

@@ -1,12 +1,11 @@
 -- How a call may end that a command makes: what its answer says of a meaning, of the files, and of the folder's device.
-use Rattle.std.specs.Prelude.{◌≡◌, ◌⊎◌, ⊤, ℕ, ◌+◌, min, List, [], ◌∷◌, ◌++◌, Result, Ok, Err, string_bytes}
+use Rattle.std.specs.Prelude.{◌≡◌, ◌⊎◌, ⊤, ℕ, ◌+◌, min, List, [], ◌∷◌, ◌++◌, Result, Ok, Err}
 use Rattle.axe_folder.specs.declared.fault.FolderFault.TheVariants as folder
 use Rattle.axe_folder.specs.Files.{Files}
 use Rattle.axe_folder.specs.Outcomes.{Puts, Removes, most_failures}
 use Rattle.axe_fault.specs.declared.fault.Fault.{Fault}
-use Rattle.axe_fault.specs.declared.fault.Fault.TheVariants.{File, Folder, Refused, Undecided, Usage, Memory}
-use Rattle.axe_plan.specs.Plans.{Step, Put, Remove, step_name, step_applied, applied, Unfetched, Unreadable, Refuses}
-use Rattle.axe_plan.specs.Plans.{StaysOpen}
+use Rattle.axe_fault.specs.Causes.{Cause, Stands, DeviceFailed, NoMemory, NoCommand, cause_of}
+use Rattle.axe_plan.specs.Plans.{Step, Put, Remove, step_name, step_applied, applied}
 use Rattle.axe_plan.specs.Meanings.{Meaning}
 
 -- ---- reading
@@ -16,21 +15,19 @@ abbrev pub IsOneOf : List (List ℕ) → List ℕ → Type 0
 IsOneOf [] name = ⊥
 IsOneOf (first ∷ names) name = (name ≡ first) ⊎ IsOneOf names name
 
--- the answer of a call that reads the files of these names: one that is right, its value as `view` sees it or the
--- problem that stands. A device that fails at one of the files, and want of memory, stop it before it knows
+-- why a call that reads the files of these names may stop: a problem that stands, a device that fails at one of the
+-- files, or want of memory. The last two stop it before it knows
+abbrev pub StopsReading : {V : Type 0} → List (List ℕ) → Cause → Meaning V → Type 0
+StopsReading names (Stands problem) meaning = meaning (Err problem)
+StopsReading names (DeviceFailed name) meaning = IsOneOf names name
+StopsReading names NoMemory meaning = ⊤
+StopsReading names NoCommand meaning = ⊥
+
+-- the answer of a call that reads the files of these names: one that is right, its value as `view` sees it, or a cause
+-- for which it may stop
 abbrev pub Agrees : {T V : Type 0} → List (List ℕ) → (T → V) → Result T Fault → Meaning V → Type 0
 Agrees names view (Ok value) meaning = meaning (Ok (view value))
-Agrees names view (Err (File name fault)) meaning = meaning (Err (Unreadable (string_bytes name) fault))
-Agrees names view (Err (Folder name folder.Missing)) meaning =
-    meaning (Err (Unfetched (string_bytes name) folder.Missing))
-Agrees names view (Err (Folder name folder.TooLong)) meaning =
-    meaning (Err (Unfetched (string_bytes name) folder.TooLong))
-Agrees names view (Err (Folder name folder.Device)) meaning = IsOneOf names (string_bytes name)
-Agrees names view (Err (Folder name folder.Memory)) meaning = ⊥
-Agrees names view (Err (Refused refusal)) meaning = meaning (Err (Refuses refusal))
-Agrees names view (Err (Undecided basis offset dim)) meaning = meaning (Err (StaysOpen basis offset dim))
-Agrees names view (Err (Usage text)) meaning = ⊥
-Agrees names view (Err Memory) meaning = ⊤
+Agrees names view (Err fault) meaning = StopsReading names (cause_of fault) meaning
 
 -- ---- writing
 
@@ -39,18 +36,17 @@ abbrev pub Breaks : Step → Files → Files → Type 0
 Breaks (Put name bytes) old new = Puts (Err folder.Device) old name bytes new
 Breaks (Remove name) old new = Removes (Err folder.Device) old name new
 
--- how one step may end: it is made, or a device or want of memory stops it
+-- how a step may stop: a device or want of memory stops it
+abbrev pub StopsStep : Cause → Step → Files → Files → Type 0
+StopsStep (Stands problem) step old new = ⊥
+StopsStep (DeviceFailed name) step old new = (step_name step ≡ name) × Breaks step old new
+StopsStep NoMemory step old new = new ≡ old
+StopsStep NoCommand step old new = ⊥
+
+-- how one step may end: it is made, or it stops
 abbrev pub Makes : Result (Unit {0}) Fault → Step → Files → Files → Type 0
 Makes (Ok done) step old new = new ≡ step_applied step old
-Makes (Err (File name fault)) step old new = ⊥
-Makes (Err (Folder name folder.Missing)) step old new = ⊥
-Makes (Err (Folder name folder.TooLong)) step old new = ⊥
-Makes (Err (Folder name folder.Device)) step old new = (step_name step ≡ string_bytes name) × Breaks step old new
-Makes (Err (Folder name folder.Memory)) step old new = ⊥
-Makes (Err (Refused refusal)) step old new = ⊥
-Makes (Err (Undecided basis offset dim)) step old new = ⊥
-Makes (Err (Usage text)) step old new = ⊥
-Makes (Err Memory) step old new = new ≡ old
+Makes (Err fault) step old new = StopsStep (cause_of fault) step old new
 
 -- a device failed at one of the steps, which changes the file of this name: the steps before it stand, and it left what
 -- a failed step leaves
@@ -70,38 +66,32 @@ pub record Halted (steps : List Step) (old new : Files) : Type 0 where
   pub parts : steps ≡ before ++ step ∷ after
   pub left : new ≡ applied before old
 
--- how steps may end: all are made in order, or a device or want of memory stops them
+-- how steps may stop: a device or want of memory stops them
+abbrev pub StopsSteps : Cause → List Step → Files → Files → Type 0
+StopsSteps (Stands problem) steps old new = ⊥
+StopsSteps (DeviceFailed name) steps old new = BrokeOff steps name old new
+StopsSteps NoMemory steps old new = Halted steps old new
+StopsSteps NoCommand steps old new = ⊥
+
+-- how steps may end: all are made in order, or they stop
 abbrev pub Carries : Result (Unit {0}) Fault → List Step → Files → Files → Type 0
 Carries (Ok done) steps old new = new ≡ applied steps old
-Carries (Err (File name fault)) steps old new = ⊥
-Carries (Err (Folder name folder.Missing)) steps old new = ⊥
-Carries (Err (Folder name folder.TooLong)) steps old new = ⊥
-Carries (Err (Folder name folder.Device)) steps old new = BrokeOff steps (string_bytes name) old new
-Carries (Err (Folder name folder.Memory)) steps old new = ⊥
-Carries (Err (Refused refusal)) steps old new = ⊥
-Carries (Err (Undecided basis offset dim)) steps old new = ⊥
-Carries (Err (Usage text)) steps old new = ⊥
-Carries (Err Memory) steps old new = Halted steps old new
+Carries (Err fault) steps old new = StopsSteps (cause_of fault) steps old new
 
 -- ---- the device
 
--- the folder's count of device failures rises by one with a fault of the device, stays at its end, and is unchanged by
--- every other fault
-abbrev pub CountsFault : Fault → ℕ → ℕ → Type 0
-CountsFault (File name fault) old new = new ≡ old
-CountsFault (Folder name folder.Missing) old new = new ≡ old
-CountsFault (Folder name folder.TooLong) old new = new ≡ old
-CountsFault (Folder name folder.Device) old new = new ≡ min (old + 1) most_failures
-CountsFault (Folder name folder.Memory) old new = new ≡ old
-CountsFault (Refused refusal) old new = new ≡ old
-CountsFault (Undecided basis offset dim) old new = new ≡ old
-CountsFault (Usage text) old new = new ≡ old
-CountsFault Memory old new = new ≡ old
+-- the folder's count of failures rises by one where a device failed, or stays at its greatest value, and every other
+-- cause leaves it as it was
+abbrev pub CountsCause : Cause → ℕ → ℕ → Type 0
+CountsCause (Stands problem) old new = new ≡ old
+CountsCause (DeviceFailed name) old new = new ≡ min (old + 1) most_failures
+CountsCause NoMemory old new = new ≡ old
+CountsCause NoCommand old new = new ≡ old
 
--- the same of an answer, which is no fault of the device where it is a value
+-- the same of an answer; a value leaves the count as it was
 abbrev pub Counted : {T : Type 0} → Result T Fault → ℕ → ℕ → Type 0
 Counted (Ok value) old new = new ≡ old
-Counted (Err fault) old new = CountsFault fault old new
+Counted (Err fault) old new = CountsCause (cause_of fault) old new
 
 -- ---- reading, the files and the device with it
 

@@ -1,9 +1,5 @@
--- What a command does: its plan; and what can stand against it.
+-- What a command does: its plan.
 use Rattle.std.specs.Prelude.{ℕ, List, [], ◌∷◌}
-use Rattle.axe_row.specs.declared.refusals.Refusal.{Refusal}
-use Rattle.axe_matrix.specs.Matrices.{MatrixValue}
-use Rattle.axe_file.specs.declared.fault.FileFault.{FileFault}
-use Rattle.axe_folder.specs.declared.fault.FolderFault.{FolderFault}
 use Rattle.axe_folder.specs.Files.{Files, with_file, without_file}
 
 -- one change to the files of a folder: a name is given these bytes, or its file is taken away
@@ -30,12 +26,3 @@ applied (step ∷ steps) files = applied steps (step_applied step files)
 pub record Plan : Type 0 where
   pub steps : List Step
   pub shown : List ℕ
-
--- what can stand against a command: a file that is absent or too long, a file that is no spelling of what is asked
--- for, each with its name, a refusal of the operation, and a section that stays undecided, with a basis that shows it,
--- the number of rows before its own, and its dimension
-pub data Problem : Type 0 where
-  Unfetched : List ℕ → FolderFault → Problem
-  Unreadable : List ℕ → FileFault → Problem
-  Refuses : Refusal → Problem
-  StaysOpen : MatrixValue → ℕ → ℕ → Problem

@@ -1,10 +1,11 @@
 use Rattle.std.proofs.Common.{◌≡◌, Err, refl, subst, ap, ◌∙◌, map}
 use Rattle.std.proofs.lemmas.Result.{err_from_is_err_and}
 use Rattle.axe_folder.specs.Files.{Files}
+use Rattle.axe_fault.specs.Causes.{cause_of}
 use Rattle.axe_plan.specs.Drafts.{plan_in, step_in}
 use Rattle.axe_plan.specs.Plans.{applied}
-use Rattle.axe_plan.specs.Outcome.{Carries, CountsFault}
-use Rattle.axe_execute.proofs.Executing.{stopped, broken, blamed}
+use Rattle.axe_plan.specs.Outcome.{Carries, CountsCause}
+use Rattle.axe_execute.proofs.Executing.{stopped, broken}
 use Rattle.axe_execute.proofs.execution.execute.Goals as goal
 
 pub returns-in_err-changes-clause-outcome : goal.returns-in_err-changes-clause-outcome
@@ -12,11 +13,6 @@ returns-in_err-changes-clause-outcome g c = λ tells.
     let p = err_from_is_err_and c.from_residual.result c.from_residual.ensures.1 in
     let reads = c.in_err-changes.ensures tells in
     rw (p.1, p.2) (stopped _ _ _ _ _ reads.agrees reads.kept)
-
-pub returns-in_err-changes-clause-device : goal.returns-in_err-changes-clause-device
-returns-in_err-changes-clause-device g c = λ tells.
-    let p = err_from_is_err_and c.from_residual.result c.from_residual.ensures.1 in
-    rw (p.1, p.2) (blamed _ _ _ (c.in_err-changes.ensures tells).counted)
 
 pub returns-in_err-changes-clause-counted : goal.returns-in_err-changes-clause-counted
 returns-in_err-changes-clause-counted g c = λ tells.
@@ -31,25 +27,16 @@ returns-in_err-make_all-clause-outcome g c = λ tells.
     (subst (λ (files : Files). Carries (Err c.in_err-make_all.field-0.0) (map step_in c.in_ok-changes.field-0.changes.items) files
     (g.F.Folder.files c.make_all.new.folder)) reads.kept (c.in_err-make_all.ensures.carried tells)))
 
-pub returns-in_err-make_all-clause-device : goal.returns-in_err-make_all-clause-device
-returns-in_err-make_all-clause-device g c = λ tells.
-    let p = err_from_is_err_and c.from_residual-in_err-make_all.result c.from_residual-in_err-make_all.ensures.1 in
-    rw (p.1, p.2) (blamed _ _ _
-    (subst (λ count. CountsFault c.in_err-make_all.field-0.0 count (g.F.Folder.failures c.make_all.new.folder)) (c.in_ok-changes.ensures tells).counted (c.in_err-make_all.ensures.counted tells)))
-
 pub returns-in_err-make_all-clause-counted : goal.returns-in_err-make_all-clause-counted
 returns-in_err-make_all-clause-counted g c = λ tells.
     let p = err_from_is_err_and c.from_residual-in_err-make_all.result c.from_residual-in_err-make_all.ensures.1 in
     rw (p.1, p.2)
-    (subst (λ count. CountsFault c.in_err-make_all.field-0.0 count (g.F.Folder.failures c.make_all.new.folder)) (c.in_ok-changes.ensures tells).counted (c.in_err-make_all.ensures.counted tells))
+    (subst (λ count. CountsCause (cause_of c.in_err-make_all.field-0.0) count (g.F.Folder.failures c.make_all.new.folder)) (c.in_ok-changes.ensures tells).counted (c.in_err-make_all.ensures.counted tells))
 
 pub returns-clause-outcome : goal.returns-clause-outcome
 returns-clause-outcome g c = λ tells.
     let reads = c.in_ok-changes.ensures tells in
     (plan_in c.in_ok-changes.field-0, reads.agrees, (refl, c.in_ok-make_all.ensures.carried tells ∙ ap (applied (map step_in c.in_ok-changes.field-0.changes.items)) reads.kept))
-
-pub returns-clause-device : goal.returns-clause-device
-returns-clause-device g c = λ tells. tt
 
 pub returns-clause-counted : goal.returns-clause-counted
 returns-clause-counted g c = λ tells. c.in_ok-make_all.ensures.counted tells ∙ (c.in_ok-changes.ensures tells).counted
