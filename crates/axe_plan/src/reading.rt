@@ -46,8 +46,9 @@ pub fn read_text_matrix<F: Folder>(
     folder: &mut F,
     name: &Name,
 ) -> Result<Matrix, Fault>
-    ensures { IsTrue F.tells → Reads F.files F.failures folder.old folder.new (name.now ∷ [])
+    ensures reads { IsTrue F.tells → Reads F.files F.failures folder.old folder.new (name.now ∷ [])
         (λ matrix. matrix) result (λ files. Is (text_matrix_in files name.now)) }
+    ensures well_formed { IfOk result IsMatrix }
 {
     let bytes = fetch(alloc, folder, name.as_str(), TEXT_LIMIT)?;
     match read_text(alloc, &bytes) {

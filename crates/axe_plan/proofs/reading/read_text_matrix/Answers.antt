@@ -2,14 +2,14 @@ use Rattle.std.proofs.Common.{rules}
 use Rattle.axe_plan.specs.Inputs.{text_matrix_in}
 use Rattle.axe_plan.proofs.reading.read_text_matrix.Goals as goal
 
-pub returns-in_err-bytes : goal.returns-in_err-bytes
+pub returns-in_err-bytes-clause-reads : goal.returns-in_err-bytes-clause-reads
 unfolding text_matrix_in
-returns-in_err-bytes g c = search rules
+returns-in_err-bytes-clause-reads g c = search rules
 
-pub returns-in-Ok : goal.returns-in-Ok
+pub returns-in-Ok-clause-reads : goal.returns-in-Ok-clause-reads
 unfolding text_matrix_in
-returns-in-Ok g c = search rules
+returns-in-Ok-clause-reads g c = search rules
 
-pub returns : goal.returns
+pub returns-clause-reads : goal.returns-clause-reads
 unfolding text_matrix_in
-returns g c = search rules
+returns-clause-reads g c = search rules
