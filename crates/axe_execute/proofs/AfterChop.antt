@@ -25,8 +25,9 @@ use Rattle.axe_plan.specs.Outputs.{put_generator, put_generators}
 use Rattle.axe_execute.specs.ChopCommand.{put_factors, series_plan, chop_answer, ChopPlan, FoundPlan, WritesSeries}
 use Rattle.axe_execute.specs.Execution.{HasPlan, StopsCommand}
 use Rattle.axe_execute.specs.AfterChop.{ChopFails, report_file, IsLeftByChop, IsBeforeOrAfterChop}
-use Rattle.axe_execute.proofs.ChopLaws.{plan_of_series, module_is_module}
-use Rattle.axe_execute.proofs.AfterChopSteps.{Spare, spare_append, Left, unchanged, absent, torn, left_by_broken, left_by_halted, all_if_whole}
+use Rattle.axe_plan.proofs.ReadModules.{module_is_module}
+use Rattle.axe_execute.proofs.ChopLaws.{plan_of_series}
+use Rattle.axe_plan.proofs.BrokenSteps.{Spare, spare_append, Left, unchanged, absent, torn, left_by_broken, left_by_halted, all_if_whole}
 
 -- ---- the file of the report is no other file of a run
 

@@ -8,3 +8,5 @@ pub mod Refused
 pub mod ReadCalls
 pub mod OneAnswer
 pub mod SomeAnswer
+pub mod BrokenSteps
+pub mod ReadingEnds

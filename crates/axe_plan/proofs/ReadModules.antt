@@ -1,6 +1,8 @@
 -- Modules that are made of matrices that were read.
-use Rattle.std.specs.Prelude.{◌≡◌, ℕ, ◌≤◌, List, [], ◌∷◌, Option, Some, None, Result, Ok, Err, IfOk}
+use Rattle.std.proofs.Common.{◌≡◌, refl, ◌∙◌, subst, ℕ, ◌≤◌, List, [], ◌∷◌, length, Option, Some, None, Result, Ok, Err, IfOk, arith}
 use Rattle.std.specs.List.{All}
+use Rattle.std.proofs.lemmas.List.{length-map}
+use Rattle.std.proofs.lemmas.List.FromFn.{length-map-range_with_len}
 use Rattle.std.proofs.lemmas.List.Elements.{All-nil, All-cons, All-head}
 use Rattle.axe_algebra.specs.Lists.{IsModuleOver}
 use Rattle.axe_field.specs.NumberFields.{number_field}
@@ -8,13 +10,14 @@ use Rattle.axe_row.specs.declared.refusals.Refusal.{Refusal}
 use Rattle.axe_matrix.specs.Limits.{most_columns}
 use Rattle.axe_matrix.specs.Matrices.{MatrixValue, IsMatrix}
 use Rattle.axe_row.specs.Refusals.{unless_refused}
-use Rattle.axe_spin.specs.Modules.{ModuleValue, generators_refusal, rows_of_each}
+use Rattle.axe_spin.specs.Modules.{ModuleValue, IsModule, generators_refusal, rows_of_each}
+use Rattle.axe_arguments.specs.Counts.{IsGeneratorCount}
 use Rattle.axe_folder.specs.Files.{Files}
 use Rattle.axe_fault.specs.Causes.{Problem}
-use Rattle.axe_plan.specs.Inputs.{and_then, or_refuses, matrix_in, matrices_in, numbered_names, checked_module, seeded_module}
+use Rattle.axe_plan.specs.Inputs.{and_then, or_refuses, matrix_in, matrices_in, numbered, numbered_names, checked_module, module_in, seeded_module}
+use Rattle.axe_plan.specs.Meanings.{Is}
 use Rattle.axe_plan.proofs.Readings.{matrix_in_is_matrix}
 use Rattle.axe_spin.proofs.SquareGenerators.{squares_if_not_refused}
-use mathlib.Core.Path.{refl}
 
 -- a dimension within the limits, and square generators of that dimension
 pub record IsReadModule (m : ModuleValue) : Type 0 where
@@ -69,3 +72,64 @@ seeded_is_module count name seed files =
     cases (Ok matrices) (Ok vectors) wells well = module_then (checked_module matrices) vectors (made_is_module matrices wells) well
     cases (Ok matrices) (Err problem) wells well = tt
     cases (Err problem) vectors wells well = tt
+
+-- ---- how many generators are read
+
+-- as many matrices are read as there are names
+many_are_read : (files : Files) (names : List (List ℕ)) → IfOk (matrices_in files names) (λ matrices. length matrices ≡ length names)
+many_are_read files [] = refl
+many_are_read files (name ∷ names) = cases (matrix_in files name) (matrices_in files names) (many_are_read files names)
+  where
+    cases : (first : Result MatrixValue Problem) (rest : Result (List MatrixValue) Problem) →
+        IfOk rest (λ matrices. length matrices ≡ length names) →
+        IfOk (and_then first (λ first. and_then rest (λ rest. Ok (first ∷ rest)))) (λ matrices. length matrices ≡ length (name ∷ names))
+    cases (Ok first) (Ok rest) many = omega (arith, many)
+    cases (Ok first) (Err problem) many = tt
+    cases (Err problem) rest many = tt
+
+-- a module has as many generators as there are matrices
+many_are_made : (matrices : List MatrixValue) → IfOk (checked_module matrices) (λ m. length m.generators ≡ length matrices)
+unfolding checked_module
+many_are_made [] = tt
+many_are_made (first ∷ rest) = cases (generators_refusal first.order first.cols (first ∷ rest))
+  where
+    cases : (refusal : Option Refusal) →
+        IfOk (or_refuses (unless_refused refusal (record { order = first.order; dim = first.cols; generators = rows_of_each (first ∷ rest) })))
+        (λ (m : ModuleValue). length m.generators ≡ length (first ∷ rest))
+    cases None = length-map (first ∷ rest) (λ (m : MatrixValue). m.rows)
+    cases (Some refusal) = tt
+
+-- with a number of generators that a module may have, it is one
+whole_module : (m : ModuleValue) (count : ℕ) → IsGeneratorCount count → IsReadModule m → length m.generators ≡ count → IsModule m
+whole_module m count counted is many = record {
+  over = is.over;
+  dim_fits = is.dim_fits;
+  some_generator = omega (arith, counted.some, many);
+  generators_fit = omega (arith, counted.fits, many);
+}
+
+made_of_read : (count : ℕ) (matrices : List MatrixValue) → IsGeneratorCount count → All IsMatrix matrices → length matrices ≡ count →
+    IfOk (checked_module matrices) IsModule
+made_of_read count matrices counted wells many = cases (checked_module matrices) (made_is_module matrices wells) (many_are_made matrices)
+  where
+    cases : (made : Result ModuleValue Problem) → IfOk made IsReadModule → IfOk made (λ m. length m.generators ≡ length matrices) → IfOk made IsModule
+    cases (Ok m) is generators = whole_module m count counted is (generators ∙ many)
+    cases (Err problem) is generators = tt
+
+pub module_is_module : (count : ℕ) (name : List ℕ) (files : Files) → IsGeneratorCount count → IfOk (module_in count name files) IsModule
+unfolding module_in
+module_is_module count name files counted =
+    cases (matrices_in files names) (matrices_are_matrices files names) (many_are_read files names)
+  where
+    names : List (List ℕ)
+    names = numbered_names name count
+
+    cases : (matrices : Result (List MatrixValue) Problem) → IfOk matrices (All IsMatrix) → IfOk matrices (λ read. length read ≡ length names) →
+        IfOk (and_then matrices checked_module) IsModule
+    cases (Ok matrices) wells many =
+        made_of_read count matrices counted wells (many ∙ length-map-range_with_len (numbered name) 1 count)
+    cases (Err problem) wells many = tt
+
+pub module_if_read : (count : ℕ) (name : List ℕ) (files : Files) → IsGeneratorCount count → (before : Result ModuleValue Problem) →
+    Is (module_in count name files) before → IfOk before IsModule
+module_if_read count name files counted before e = subst (λ answer. IfOk answer IsModule) e (module_is_module count name files counted)
