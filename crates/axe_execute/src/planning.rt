@@ -8,7 +8,8 @@ ghost use Rattle.axe_plan.specs.Outcome.{Reads};
 ghost use Rattle.axe_plan.specs.Drafts.{plan_in};
 
 use crate::chopping::chop_draft;
-use crate::operations::{OfOne, OfTwo};
+use crate::operations::OfOne::{self, Inverse, NullSpace, Transpose};
+use crate::operations::OfTwo::{self, Product, Sum};
 use crate::quotients::quotient_draft;
 use crate::spinning::SeededModule;
 use axe_arguments::{Command, Name};
@@ -29,25 +30,11 @@ pub(crate) fn draft_of<F: Folder>(
     match command {
         Command::Zcv { input, out } => conversion_draft(alloc, input, out, folder),
         Command::Zpr { input, out } => printing_draft(alloc, input, out.as_ref(), folder),
-        Command::Zmu { left, right, out } => draft_of_two(
-            alloc,
-            OfTwo::Product,
-            left,
-            right,
-            out,
-            folder,
-        ),
-        Command::Zad { left, right, out } => draft_of_two(
-            alloc,
-            OfTwo::Sum,
-            left,
-            right,
-            out,
-            folder,
-        ),
-        Command::Ztr { input, out } => draft_of_one(alloc, OfOne::Transpose, input, out, folder),
-        Command::Ziv { input, out } => draft_of_one(alloc, OfOne::Inverse, input, out, folder),
-        Command::Znu { input, out } => draft_of_one(alloc, OfOne::NullSpace, input, out, folder),
+        Command::Zmu { left, right, out } => draft_of_two(alloc, Product, left, right, out, folder),
+        Command::Zad { left, right, out } => draft_of_two(alloc, Sum, left, right, out, folder),
+        Command::Ztr { input, out } => draft_of_one(alloc, Transpose, input, out, folder),
+        Command::Ziv { input, out } => draft_of_one(alloc, Inverse, input, out, folder),
+        Command::Znu { input, out } => draft_of_one(alloc, NullSpace, input, out, folder),
         Command::Zsp {
             generators,
             standard,
