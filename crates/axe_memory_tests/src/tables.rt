@@ -3,7 +3,7 @@
 
 use crate::{decisions, growing, matrices, modules, points};
 use axe_matrix::{Matrix, Refusal, Row};
-use axe_test_values::{TableFault, first_field, matrix_of, row_of};
+use axe_test_values::{TableFault, first_field, is_remark, matrix_of, row_of};
 use std::alloc::Global;
 use std::process::Abort;
 
@@ -29,16 +29,23 @@ fn answers(rt: &impl Abort, alloc: Global, topic: Topic, line: &str) -> Result<b
     }
 }
 
+/// Asserts that the call of a line answers what the line says, or Memory.
+fn assert_right(rt: &impl Abort, line: &str, answer: Result<bool, TableFault>) {
+    match answer {
+        Ok(is_right) => assert!(rt; is_right, "{line}"),
+        Err(TableFault::Refused(Refusal::Memory)) => {}
+        Err(_) => panic!(rt; "not written so: {line}"),
+    }
+}
+
 /// Asserts of each call of a table that it answers what its line says, or Memory.
 pub(crate) fn each_call(rt: &impl Abort, alloc: Global, topic: Topic, table: &str) {
     let mut is_empty = true;
     for line in table.lines() {
-        match answers(rt, alloc, topic, line) {
-            Ok(is_right) => assert!(rt; is_right, "{line}"),
-            Err(TableFault::Refused(Refusal::Memory)) => {}
-            Err(_) => panic!(rt; "not written so: {line}"),
+        if !is_remark(line) {
+            assert_right(rt, line, answers(rt, alloc, topic, line));
+            is_empty = false;
         }
-        is_empty = false;
     }
     assert!(rt; !is_empty, "a table without a call");
 }
