@@ -1,2 +1,1 @@
-pub mod NullSpaceAnswers
 pub mod ActedSpans

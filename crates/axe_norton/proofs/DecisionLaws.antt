@@ -18,7 +18,8 @@ use Rattle.axe_norton.specs.Spaces.{HasFewPoints, TriedGenerate, TransposeGenera
 use Rattle.axe_norton.specs.Searches.{IsReducedIn, IsSquareIn}
 use Rattle.axe_norton.specs.Verdicts.{Tells, Says, LeavesOpen, LeaveOpenBefore, word_of_seed, IsTrueOf}
 use Rattle.axe_norton.proofs.OpenLaws.{own_square, invertible_without_rows, no_rows_of_invertible}
-use Rattle.axe_norton.proofs.SearchLaws.{null_accepted, null_is_reduced, some_point_in}
+use Rattle.axe_word.proofs.ReducedNullSpaces.{null_is_reduced}
+use Rattle.axe_norton.proofs.SearchLaws.{null_accepted, some_point_in}
 use Rattle.axe_norton.proofs.TruthLaws.{said_is_true}
 use mathlib.Core.Logic.{inl, inr}
 use mathlib.Core.Path.{refl, sym, ◌∙◌, ap, subst}

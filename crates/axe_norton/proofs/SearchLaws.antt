@@ -35,8 +35,9 @@ use Rattle.axe_spin.specs.Spinning.{has_only_zeros, seed_refusal, IsGeneratedSpa
 use Rattle.axe_spin.proofs.GeneratedLaws.{some_nonzero, generated_matrix}
 use Rattle.axe_spin.proofs.SpaceLaws.{space_over}
 use Rattle.axe_action.specs.Actions.{dual_module, IsAnnihilatorMatrix}
-use Rattle.axe_word.specs.PointsOfMatrix.{points_of, IsReduced}
+use Rattle.axe_word.specs.PointsOfMatrix.{points_of}
 use Rattle.axe_word.proofs.PointSums.{last_row_is_first_point}
+use Rattle.axe_word.proofs.ReducedNullSpaces.{null_is_reduced}
 use Rattle.axe_norton.specs.Spaces.{IsIrreducibleModule, GeneratesModule, GeneratesProper, one_row, point_of, HasFewPoints, IsTried, TriedGenerate, TransposedPoint, TransposeGenerates, IsTransposedSpace}
 use Rattle.axe_norton.specs.Searches.{IsReducedIn, IsSquareIn, FindsProper, IsProperSpaceOf, FindsFirstOf, FindsFirst, IsTransposedPointRow}
 use Rattle.axe_norton.proofs.PointLaws.{point_is, some_point}
@@ -190,9 +191,6 @@ transposed_null_rows matrix null square singular is = by_size (dec_lt 0 (length 
         (matrix_of_transpose (number_field matrix.order) matrix.cols matrix.rows square.matrix)
         (invertible_without_null_rows (number_field matrix.order) matrix.cols (transpose matrix.cols matrix.rows) null.rows
         (transpose_square (number_field matrix.order) matrix.cols matrix.rows square) is.basis_of_null_space (omega arith))))))
-
-pub null_is_reduced : (matrix null : MatrixValue) → IsNullSpaceMatrix matrix null → IsReduced null
-null_is_reduced matrix null is = subst (λ o. IsReducedBasis (number_field o) null.rows null.rows) (sym is.field) is.basis_of_null_space.reduced
 
 pub transposed_point_is : (matrix null : MatrixValue) → IsSquareOver (number_field matrix.order) matrix.cols matrix.rows → ¬ (IsInvertibleMatrix matrix) →
     IsNullSpaceMatrix (transposed_matrix matrix) null → IsMatrix null → TransposedPoint matrix

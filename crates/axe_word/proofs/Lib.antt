@@ -5,3 +5,4 @@ pub mod PointPlaces
 pub mod PointSums
 pub mod ValueLaws
 pub mod MembershipLaws
+pub mod ReducedNullSpaces

@@ -1,4 +1,4 @@
-use Rattle.axe_memory_tests.proofs.NullSpaceAnswers.{reduced_if_answered}
+use Rattle.axe_word.proofs.ReducedNullSpaces.{reduced_if_answered}
 use Rattle.axe_memory_tests.proofs.points.basis_of.Goals as goal
 
 pub returns : goal.returns

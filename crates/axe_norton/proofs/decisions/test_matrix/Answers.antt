@@ -1,7 +1,8 @@
 use Rattle.std.proofs.Common.{◌<◌, length, sym, ◌∙◌, ap, arith, IsTrue, ◌↔◌}
 use Rattle.axe_field.specs.Order.{order_number}
 use Rattle.axe_norton.specs.Spaces.{HasFewPoints}
-use Rattle.axe_norton.proofs.SearchLaws.{not_both, null_is_reduced}
+use Rattle.axe_norton.proofs.SearchLaws.{not_both}
+use Rattle.axe_word.proofs.ReducedNullSpaces.{null_is_reduced}
 use Rattle.axe_norton.proofs.DecisionLaws.{null_in_module, left_without_rows, singular_with_rows, irreducible_told, left_told, few_is_few}
 use Rattle.axe_norton.proofs.decisions.test_matrix.Goals as goal
 
