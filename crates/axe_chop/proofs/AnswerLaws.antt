@@ -1,5 +1,6 @@
 -- What is true of the answer of `chop`, by the laws of composition series.
-use Rattle.std.proofs.Common.{◌≡◌, ℕ, ◌≤◌, map, sym, ap, subst, ◌∙◌}
+use Rattle.std.proofs.Common.{◌≡◌, ℕ, ◌≤◌, map, Result, Ok, Err, sym, ap, subst, ◌∙◌}
+use Rattle.std.specs.Result.{IsErrAnd}
 use mathlib.Core.List.{map-map}
 use Rattle.indexmap.specs.IndexMap.{values}
 use Rattle.axe_field.specs.Order.{order_number}
@@ -13,8 +14,10 @@ use Rattle.axe_series.proofs.RunLaws.{runs_are_true}
 use Rattle.axe_series.proofs.FewPoints.{small_has_a_series}
 use Rattle.axe_chop.specs.Chopped.{IsNamed}
 use Rattle.axe_chop.specs.Searches.{found_value, IsSearched}
-use Rattle.axe_chop.specs.Answers.{IsChopped, IsUndecided, factor_modules}
+use Rattle.axe_chop.specs.Answers.{IsChopped, IsUndecided, AnswersChop, IsTrueAnswer, IsNotUndecided, factor_modules}
 use Rattle.axe_chop.specs.declared.found.Found
+use Rattle.axe_chop.specs.declared.fault.ChopFault.{ChopFault}
+use Rattle.axe_chop.specs.declared.fault.ChopFault.TheVariants.{Undecided, Memory}
 use Rattle.axe_chop.specs.declared.search.Searched.TheVariants.{Complete, Open}
 use Rattle.axe_chop.specs.declared.chopped.Factor.{Factor}
 use Rattle.axe_chop.specs.declared.chopped.Chopped.{Chopped}
@@ -43,6 +46,24 @@ module _ (m : ModuleValue) (is : IsModule m) (seed words : ℕ) where
   pub small_is_decided : (basis : MatrixValue) (offset dim : ℕ) → point_count (order_number m.order) m.dim ≤ most_points →
       ¬ (IsUndecided m seed words basis offset dim)
   small_is_decided basis offset dim few answer = small_has_a_series m seed words basis.rows offset dim is few answer.run
+
+  -- so the answer is true, whatever it is
+  pub answer_is_true : (result : Result Chopped ChopFault) → AnswersChop m seed words result → IsTrueAnswer m seed words result
+  answer_is_true (Ok chopped) answer = chopped_is_series chopped answer
+  answer_is_true (Err (Undecided basis offset dim)) answer = undecided_is_open basis offset dim answer
+  answer_is_true (Err Memory) answer = tt
+
+  pub small_answer : point_count (order_number m.order) m.dim ≤ most_points → (result : Result Chopped ChopFault) →
+      AnswersChop m seed words result → IsNotUndecided result
+  small_answer few (Ok chopped) answer = tt
+  small_answer few (Err (Undecided basis offset dim)) answer = absurd (small_is_decided basis offset dim few answer)
+  small_answer few (Err Memory) answer = tt
+
+-- where memory was refused nothing is said
+pub no_memory_to_chop : (m : ModuleValue) (seed words : ℕ) (result : Result Chopped ChopFault) → IsErrAnd result (λ fault. fault ≡ Memory) →
+    AnswersChop m seed words result
+no_memory_to_chop m seed words (Ok chopped) memory = absurd memory
+no_memory_to_chop m seed words (Err fault) memory = subst (λ (f : ChopFault). AnswersChop m seed words (Err f)) (sym memory) tt
 
 -- what was searched and named is chopped
 pub searched_is_chopped : (m : ModuleValue) (seed words : ℕ) (found : Found.Found) (chopped : Chopped) → IsSearched m seed words (Complete found) →

@@ -3,7 +3,11 @@ use Rattle.std.specs.Prelude.{◌≡◌, ℕ, ◌+◌, ◌-◌, ◌<◌, ◌≤�
 use Rattle.std.specs.List.{All}
 use Rattle.std.proofs.lemmas.List.{append-nil}
 use Rattle.std.proofs.lemmas.List.Elements.{All-nil, All-cons, All-head, All-tail, All-append, All-weaker}
-use Rattle.std.proofs.Common.{length-append}
+use Rattle.std.proofs.Common.{length-append, append_assoc}
+use Rattle.axe_algebra.specs.Lists.{IsVectorOver}
+use Rattle.axe_field.specs.NumberFields.{number_field}
+use Rattle.axe_echelon.proofs.SomeMatrix.{matrix_of_rows_over}
+use Rattle.axe_norton.proofs.TruthLaws.{rows_over_field}
 use Rattle.axe_algebra.proofs.ListEntries.{table_length}
 use Rattle.axe_row.specs.declared.refusals.Refusal.{Refusal}
 use Rattle.axe_row.specs.Refusals.{Answers}
@@ -358,6 +362,40 @@ module _ (m : ModuleValue) (seed words : ℕ) (found : Found.Found) (sections : 
       }
 
 -- ---- the basis where a section stays undecided
+
+-- a matrix to which the rows of a section were appended
+module _ (basis more : MatrixValue) (section : SectionValue) (is : more ≡ record basis { rows = basis.rows ++ section.rows.rows })
+    (like : IsRowsLike basis section) where
+  pub more_formed : IsMatrix basis → IsSection section → length basis.rows + section.action.dim ≤ most_rows → IsMatrix more
+  more_formed formed is_section room =
+      subst IsMatrix (sym is)
+      (matrix_of_rows_over basis.order basis.cols (basis.rows ++ section.rows.rows) formed.some_column formed.columns_fit
+      (omega (arith, length-append basis.rows section.rows.rows, like.count, room))
+      (All-append (IsVectorOver (number_field basis.order) basis.cols) basis.rows section.rows.rows
+      (rows_over_field basis.order basis.cols basis refl refl formed)
+      (rows_over_field basis.order basis.cols section.rows like.field like.columns is_section.rows_formed)))
+
+  -- other sections are as like it as before, and there is room for them
+  pub more_like : (rest : List SectionValue) → All (IsRowsLike basis) rest → All (IsRowsLike more) rest
+  more_like rest all =
+      subst (λ (m : MatrixValue). All (IsRowsLike m) rest) (sym is)
+      (All-weaker (IsRowsLike basis) (IsRowsLike (record basis { rows = basis.rows ++ section.rows.rows }))
+      (λ other alike. record { field = alike.field; columns = alike.columns; count = alike.count }) rest all)
+
+  pub more_room : (rest : List SectionValue) → length basis.rows + sections_dim (section ∷ rest) ≤ most_rows →
+      length more.rows + sections_dim rest ≤ most_rows
+  more_room rest room =
+      omega (arith, ap (λ (m : MatrixValue). length m.rows) is, length-append basis.rows section.rows.rows, like.count, room)
+
+  -- their rows come after those of the section
+  pub more_sections : (rest : List SectionValue) → with_sections more rest ≡ with_sections basis (section ∷ rest)
+  more_sections rest =
+      ap (λ (m : MatrixValue). with_sections m rest) is
+      ∙ (λ i. record {
+        order = basis.order;
+        cols = basis.cols;
+        rows = append_assoc basis.rows section.rows.rows (rows_of_sections rest) i;
+      })
 
 -- the rows of the sections that are left are still to come
 pub record IsOpening (whole basis : MatrixValue) (left : List SectionValue) : Type 0 where

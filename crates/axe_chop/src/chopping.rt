@@ -1,10 +1,12 @@
 //! Composition series.
 
-ghost use Rattle.std.specs.Prelude.{◌≤◌};
+ghost use Rattle.std.specs.Prelude.{ℕ, ◌≤◌};
 ghost use Rattle.axe_field.specs.Order.{order_number};
+ghost use Rattle.axe_spin.specs.Modules.{ModuleValue};
 ghost use Rattle.axe_word.specs.PointsOfMatrix.{point_count, most_points};
 ghost use Rattle.axe_norton.specs.Verdicts.{last_word};
 ghost use Rattle.axe_chop.specs.Kept.{acting_module};
+ghost use Rattle.axe_chop.specs.Searches.{IsSearched};
 ghost use Rattle.axe_chop.specs.Answers.{AnswersChop, IsTrueAnswer, IsNotUndecided};
 
 use crate::chopped::{Chopped, named};
@@ -59,7 +61,16 @@ fn chop_action(
         ≤ most_points → IsNotUndecided result }
 {
     prove!(action.module().dim() >= 1);
-    match search(alloc, action, seed, words)? {
+    let searched = search(alloc, action, seed, words)?;
+    answer_of(alloc, searched)
+}
+
+/// What [`chop`] gives of a module where a search of it gives this: the factors have their names.
+fn answer_of(alloc: Global, searched: Searched) -> Result<Chopped, ChopFault>
+    ensures { (m : ModuleValue) (seed words : ℕ) → IsSearched m seed words searched →
+        AnswersChop m seed words result }
+{
+    match searched {
         Searched::Complete(found) => Ok(named(alloc, found)?),
         Searched::Open { basis, offset, dim } => Err(ChopFault::Undecided { basis, offset, dim }),
     }

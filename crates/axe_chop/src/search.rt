@@ -95,8 +95,25 @@ fn open_at(
     let offset = basis.rows();
     let dim = section.action().dim();
     section.append_rows_to(alloc, &mut basis)?;
-    for index in 0..after.len() {
-        after[index].append_rows_to(alloc, &mut basis)?;
-    }
+    append_sections(alloc, &mut basis, after)?;
     Ok(Searched::Open { basis, offset, dim })
+}
+
+/// Appends the lifted rows of sections to a matrix, in their order. For want of memory only some first of them are
+/// appended.
+fn append_sections(
+    alloc: Global,
+    basis: &mut Matrix,
+    sections: &VecDeque<Section>,
+) -> Result<(), Refusal>
+    requires like { All (IsRowsLike basis.old) sections.now.items }
+    requires room { length basis.old.rows + sections_dim sections.now.items ≤ most_rows }
+    requires well_formed { IsMatrix basis.old }
+    ensures appended { Answers None (λ _. basis.new ≡ with_sections basis.old sections.now.items) result }
+    ensures well_formed { Answers None (λ _. IsMatrix basis.new) result }
+{
+    for index in 0..sections.len() {
+        sections[index].append_rows_to(alloc, basis)?;
+    }
+    Ok(())
 }

@@ -1,4 +1,6 @@
-use Rattle.std.proofs.Common.{◌≡◌, ◌≤◌, ◌++◌, [], ◌∷◌, sym, ap, ◌∙◌, append_assoc, rules, arith}
+use Rattle.std.proofs.Common.{◌≡◌, ◌≤◌, ◌++◌, [], ◌∷◌, sym, ap, ◌∙◌, append_assoc, rules, arith, refl}
+use Rattle.axe_row.specs.declared.refusals.Refusal.TheVariants.{Memory}
+use Rattle.axe_echelon.proofs.Exits.{no_memory}
 use Rattle.std.specs.Vec.Iter.{into_iter_items}
 use Rattle.axe_spin.specs.Modules.{ModuleValue}
 use Rattle.axe_chop.proofs.Factors.{none_first, first_more}
@@ -25,3 +27,15 @@ loop-form-preserved c =
           (rw c.deref.ensures.value at c.in_ok-name.ensures.name) c.in_ok-name.ensures.form
           (rw c.deref.ensures.value at c.in_ok-name.ensures.multiplicity));
     }
+
+pub returns-in_err-name : goal.returns-in_err-name
+returns-in_err-name c =
+    no_memory _ c.from_residual.result Memory c.from_residual.ensures.1 refl
+
+pub returns-in_err-insert : goal.returns-in_err-insert
+returns-in_err-insert c =
+    no_memory _ c.from_residual-in_err-insert.result Memory c.from_residual-in_err-insert.ensures.1 refl
+
+pub returns-in_err-push : goal.returns-in_err-push
+returns-in_err-push c =
+    no_memory _ c.from_residual-in_err-push.result Memory c.from_residual-in_err-push.ensures.1 refl

@@ -1,36 +1,32 @@
 use Rattle.std.proofs.Common.{subst}
 use Rattle.axe_spin.specs.Modules.{IsModule}
 use Rattle.axe_chop.specs.Kept.{acting_module}
-use Rattle.axe_chop.specs.Searches.{IsSearched}
-use Rattle.axe_chop.proofs.AnswerLaws.{searched_is_undecided, searched_is_chopped, chopped_is_series, undecided_is_open, small_is_decided}
+use Rattle.axe_chop.proofs.AnswerLaws.{answer_is_true, small_answer, no_memory_to_chop}
 use Rattle.axe_chop.proofs.chopping.chop_action.Goals as goal
 
-pub returns-in_ok-named-in-Complete-clause-run : goal.returns-in_ok-named-in-Complete-clause-run
-returns-in_ok-named-in-Complete-clause-run c =
-    searched_is_chopped (acting_module c.args.action) c.args.seed c.args.words c.in-Complete.found c.in_ok-named-in-Complete.field-0
-    (subst (IsSearched (acting_module c.args.action) c.args.seed c.args.words) c.in-Complete.is c.in_ok-found.ensures)
-    c.in_ok-named-in-Complete.ensures.named c.in_ok-named-in-Complete.ensures.basis
+pub returns-clause-run : goal.returns-clause-run
+returns-clause-run c = c.answer_of.ensures (acting_module c.args.action) c.args.seed c.args.words c.in_ok-searched.ensures
 
-pub returns-in_ok-named-in-Complete-clause-holds : goal.returns-in_ok-named-in-Complete-clause-holds
-returns-in_ok-named-in-Complete-clause-holds c =
-    chopped_is_series (acting_module c.args.action) (subst IsModule c.module.ensures c.dim.ensures.well_formed) c.args.seed c.args.words c.in_ok-named-in-Complete.field-0
-    (searched_is_chopped (acting_module c.args.action) c.args.seed c.args.words c.in-Complete.found c.in_ok-named-in-Complete.field-0
-    (subst (IsSearched (acting_module c.args.action) c.args.seed c.args.words) c.in-Complete.is c.in_ok-found.ensures)
-    c.in_ok-named-in-Complete.ensures.named c.in_ok-named-in-Complete.ensures.basis)
+pub returns-clause-holds : goal.returns-clause-holds
+returns-clause-holds c =
+    answer_is_true (acting_module c.args.action) (subst IsModule c.module.ensures c.dim.ensures.well_formed) c.args.seed c.args.words c.answer_of.result
+    (c.answer_of.ensures (acting_module c.args.action) c.args.seed c.args.words c.in_ok-searched.ensures)
 
-pub returns-in-Open-clause-run : goal.returns-in-Open-clause-run
-returns-in-Open-clause-run c =
-    searched_is_undecided (acting_module c.args.action) c.args.seed c.args.words c.in-Open.basis c.in-Open.offset c.in-Open.dim
-    (subst (IsSearched (acting_module c.args.action) c.args.seed c.args.words) c.in-Open.is c.in_ok-found.ensures)
+pub returns-clause-small : goal.returns-clause-small
+returns-clause-small c few =
+    small_answer (acting_module c.args.action) (subst IsModule c.module.ensures c.dim.ensures.well_formed) c.args.seed c.args.words few c.answer_of.result
+    (c.answer_of.ensures (acting_module c.args.action) c.args.seed c.args.words c.in_ok-searched.ensures)
 
-pub returns-in-Open-clause-holds : goal.returns-in-Open-clause-holds
-returns-in-Open-clause-holds c =
-    undecided_is_open (acting_module c.args.action) (subst IsModule c.module.ensures c.dim.ensures.well_formed) c.args.seed c.args.words c.in-Open.basis c.in-Open.offset c.in-Open.dim
-    (searched_is_undecided (acting_module c.args.action) c.args.seed c.args.words c.in-Open.basis c.in-Open.offset c.in-Open.dim
-    (subst (IsSearched (acting_module c.args.action) c.args.seed c.args.words) c.in-Open.is c.in_ok-found.ensures))
+pub returns-in_err-searched-clause-run : goal.returns-in_err-searched-clause-run
+returns-in_err-searched-clause-run c =
+    no_memory_to_chop (acting_module c.args.action) c.args.seed c.args.words c.from_residual.result c.from_residual.ensures.1
 
-pub returns-in-Open-clause-small : goal.returns-in-Open-clause-small
-returns-in-Open-clause-small c few =
-    small_is_decided (acting_module c.args.action) (subst IsModule c.module.ensures c.dim.ensures.well_formed) c.args.seed c.args.words c.in-Open.basis c.in-Open.offset c.in-Open.dim few
-    (searched_is_undecided (acting_module c.args.action) c.args.seed c.args.words c.in-Open.basis c.in-Open.offset c.in-Open.dim
-    (subst (IsSearched (acting_module c.args.action) c.args.seed c.args.words) c.in-Open.is c.in_ok-found.ensures))
+pub returns-in_err-searched-clause-holds : goal.returns-in_err-searched-clause-holds
+returns-in_err-searched-clause-holds c =
+    answer_is_true (acting_module c.args.action) (subst IsModule c.module.ensures c.dim.ensures.well_formed) c.args.seed c.args.words c.from_residual.result
+    (no_memory_to_chop (acting_module c.args.action) c.args.seed c.args.words c.from_residual.result c.from_residual.ensures.1)
+
+pub returns-in_err-searched-clause-small : goal.returns-in_err-searched-clause-small
+returns-in_err-searched-clause-small c few =
+    small_answer (acting_module c.args.action) (subst IsModule c.module.ensures c.dim.ensures.well_formed) c.args.seed c.args.words few c.from_residual.result
+    (no_memory_to_chop (acting_module c.args.action) c.args.seed c.args.words c.from_residual.result c.from_residual.ensures.1)

@@ -1,4 +1,5 @@
 use Rattle.axe_chop.proofs.Knowing.{others_more, known_here, others_all}
+use Rattle.axe_echelon.proofs.Exits.{no_memory}
 use Rattle.std.proofs.Common.{rules, arith}
 use Rattle.axe_chop.proofs.found.known_form.Goals as goal
 
@@ -17,3 +18,7 @@ returns c = others_all c.args.forms.now c.args.action.now c.loop-number.number c
 
 pub loop-number-init : goal.loop-number-init
 loop-number-init c = search rules
+
+pub returns-in_err-isomorphism : goal.returns-in_err-isomorphism
+returns-in_err-isomorphism c =
+    no_memory _ c.from_residual.result _ c.from_residual.ensures.1 c.in_err-isomorphism.ensures.answer

@@ -1,4 +1,6 @@
-use Rattle.std.proofs.Common.{[], sym, subst, ap, ◌∙◌}
+use Rattle.std.proofs.Common.{[], sym, subst, ap, ◌∙◌, refl}
+use Rattle.axe_row.specs.declared.refusals.Refusal.TheVariants.{Memory}
+use Rattle.axe_echelon.proofs.Exits.{no_memory}
 use Rattle.axe_spin.specs.Modules.{ModuleValue}
 use Rattle.axe_series.specs.Series.{basis_of_rows}
 use Rattle.axe_chop.specs.Kept.{acting_module}
@@ -127,3 +129,19 @@ pub returns : goal.returns
 returns c =
     reached_end (acting_module c.args.action) c.args.seed c.args.words c.loop-section.found c.loop-section.sections.items c.loop-section.invariant
     (popped_none _ _ c.pop_front.result c.in_default.is c.pop_front.ensures.rest c.pop_front.ensures.items)
+
+pub returns-in_err-push_front : goal.returns-in_err-push_front
+returns-in_err-push_front c =
+    no_memory _ c.from_residual.result Memory c.from_residual.ensures.1 refl
+
+pub returns-in_err-word : goal.returns-in_err-word
+returns-in_err-word c =
+    no_memory _ c.from_residual-in_err-word.result _ c.from_residual-in_err-word.ensures.1 c.in_err-word.ensures.decides
+
+pub returns-in_err-place-in-Irreducible : goal.returns-in_err-place-in-Irreducible
+returns-in_err-place-in-Irreducible c =
+    no_memory _ c.from_residual-in_err-place-in-Irreducible.result _ c.from_residual-in_err-place-in-Irreducible.ensures.1 c.in_err-place-in-Irreducible.ensures.placed
+
+pub returns-in_err-put_parts-in-Reducible : goal.returns-in_err-put_parts-in-Reducible
+returns-in_err-put_parts-in-Reducible c =
+    no_memory _ c.from_residual-in_err-put_parts-in-Reducible.result _ c.from_residual-in_err-put_parts-in-Reducible.ensures.1 c.in_err-put_parts-in-Reducible.ensures

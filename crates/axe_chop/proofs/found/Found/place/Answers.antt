@@ -1,5 +1,5 @@
 use Rattle.std.proofs.Common.{sym, ◌∙◌, arith}
-use Rattle.axe_echelon.proofs.Exits.{answers_more}
+use Rattle.axe_echelon.proofs.Exits.{answers_more, no_memory}
 use Rattle.axe_series.specs.Runs.{IsKnownAs}
 use Rattle.axe_chop.specs.Searches.{found_value}
 use Rattle.axe_chop.proofs.Lifting.{IsLifted, lifted_by}
@@ -74,3 +74,27 @@ pub place_new-requires-clause-others : goal.place_new-requires-clause-others
 place_new-requires-clause-others c =
     others_in c.args.self.now.forms.items c.deref.result.now c.args.section.action c.action.result.now c.deref.ensures.value
     c.action.ensures.value (rw c.in_default.is at c.in_ok-number.ensures)
+
+pub returns-in_err-number-clause-placed : goal.returns-in_err-number-clause-placed
+returns-in_err-number-clause-placed c =
+    no_memory _ c.from_residual.result _ c.from_residual.ensures.1 c.in_err-number.ensures
+
+pub returns-in_err-number-clause-basis : goal.returns-in_err-number-clause-basis
+returns-in_err-number-clause-basis c =
+    no_memory _ c.from_residual.result _ c.from_residual.ensures.1 c.in_err-number.ensures
+
+pub returns-in_err-number-clause-well_formed : goal.returns-in_err-number-clause-well_formed
+returns-in_err-number-clause-well_formed c =
+    no_memory _ c.from_residual.result _ c.from_residual.ensures.1 c.in_err-number.ensures
+
+pub returns-in_err-rows-clause-placed : goal.returns-in_err-rows-clause-placed
+returns-in_err-rows-clause-placed c =
+    no_memory _ c.from_residual-in_err-rows.result _ c.from_residual-in_err-rows.ensures.1 c.in_err-rows.ensures.lifted
+
+pub returns-in_err-rows-clause-basis : goal.returns-in_err-rows-clause-basis
+returns-in_err-rows-clause-basis c =
+    no_memory _ c.from_residual-in_err-rows.result _ c.from_residual-in_err-rows.ensures.1 c.in_err-rows.ensures.lifted
+
+pub returns-in_err-rows-clause-well_formed : goal.returns-in_err-rows-clause-well_formed
+returns-in_err-rows-clause-well_formed c =
+    no_memory _ c.from_residual-in_err-rows.result _ c.from_residual-in_err-rows.ensures.1 c.in_err-rows.ensures.lifted

@@ -1,4 +1,6 @@
 use Rattle.std.proofs.Common.{refl, sym, ◌∙◌, arith}
+use Rattle.axe_row.specs.declared.refusals.Refusal.TheVariants.{Memory}
+use Rattle.axe_echelon.proofs.Exits.{no_memory}
 use Rattle.axe_chop.specs.Searches.{found_value}
 use Rattle.axe_chop.proofs.Lifting.{IsLifted, lifted_by}
 use Rattle.axe_chop.proofs.Placing.{form_lift, lifted_as_new}
@@ -32,3 +34,39 @@ returns-clause-placed c =
     c.args.vector.now c.in_ok-form.form c.push.new.self.items c.requires.others
     (record { is_form = c.in_ok-form.ensures.well_formed.0; from = c.in_ok-form.ensures.form }) refl
     (omega (arith, c.len-number.ensures)) c.in_ok-push.ensures.items
+
+pub returns-in_err-form-clause-placed : goal.returns-in_err-form-clause-placed
+returns-in_err-form-clause-placed c =
+    no_memory _ c.from_residual.result _ c.from_residual.ensures.1 c.in_err-form.ensures.form
+
+pub returns-in_err-form-clause-basis : goal.returns-in_err-form-clause-basis
+returns-in_err-form-clause-basis c =
+    no_memory _ c.from_residual.result _ c.from_residual.ensures.1 c.in_err-form.ensures.form
+
+pub returns-in_err-form-clause-well_formed : goal.returns-in_err-form-clause-well_formed
+returns-in_err-form-clause-well_formed c =
+    no_memory _ c.from_residual.result _ c.from_residual.ensures.1 c.in_err-form.ensures.form
+
+pub returns-in_err-append_place-clause-placed : goal.returns-in_err-append_place-clause-placed
+returns-in_err-append_place-clause-placed c =
+    no_memory _ c.from_residual-in_err-append_place.result _ c.from_residual-in_err-append_place.ensures.1 c.in_err-append_place.ensures.placed
+
+pub returns-in_err-append_place-clause-basis : goal.returns-in_err-append_place-clause-basis
+returns-in_err-append_place-clause-basis c =
+    no_memory _ c.from_residual-in_err-append_place.result _ c.from_residual-in_err-append_place.ensures.1 c.in_err-append_place.ensures.placed
+
+pub returns-in_err-append_place-clause-well_formed : goal.returns-in_err-append_place-clause-well_formed
+returns-in_err-append_place-clause-well_formed c =
+    no_memory _ c.from_residual-in_err-append_place.result _ c.from_residual-in_err-append_place.ensures.1 c.in_err-append_place.ensures.placed
+
+pub returns-in_err-push-clause-placed : goal.returns-in_err-push-clause-placed
+returns-in_err-push-clause-placed c =
+    no_memory _ c.from_residual-in_err-push.result Memory c.from_residual-in_err-push.ensures.1 refl
+
+pub returns-in_err-push-clause-basis : goal.returns-in_err-push-clause-basis
+returns-in_err-push-clause-basis c =
+    no_memory _ c.from_residual-in_err-push.result Memory c.from_residual-in_err-push.ensures.1 refl
+
+pub returns-in_err-push-clause-well_formed : goal.returns-in_err-push-clause-well_formed
+returns-in_err-push-clause-well_formed c =
+    no_memory _ c.from_residual-in_err-push.result Memory c.from_residual-in_err-push.ensures.1 refl

@@ -1,4 +1,5 @@
 use Rattle.std.proofs.Common.{sym, subst, ◌∙◌}
+use Rattle.axe_echelon.proofs.Exits.{no_memory}
 use Rattle.axe_matrix.specs.Matrices.{IsMatrix}
 use Rattle.axe_chop.specs.Kept.{kept_section}
 use Rattle.axe_chop.proofs.Cutting.{space_independent, columns_within, columns_fit}
@@ -115,3 +116,19 @@ returns c =
     c.in_ok-sub.field-0.sub c.in_ok-sub.field-0.quotient c.in_ok-sub.field-0.columns.items split c.of_matrix.result
     c.in_ok-quotient_rows.quotient_rows (c.of_matrix.ensures.same ∙ c.in_ok-sub_rows.ensures.lifted) c.in_ok-quotient_rows.ensures
     (subst IsMatrix (sym c.of_matrix.ensures.same) c.in_ok-sub_rows.ensures.well_formed)
+
+pub returns-in_err-module : goal.returns-in_err-module
+returns-in_err-module c =
+    no_memory _ c.from_residual.result _ c.from_residual.ensures.1 c.in_err-module.ensures
+
+pub returns-in_err-sub : goal.returns-in_err-sub
+returns-in_err-sub c =
+    no_memory _ c.from_residual-in_err-sub.result _ c.from_residual-in_err-sub.ensures.1 c.in_err-sub.ensures.sub
+
+pub returns-in_err-sub_rows : goal.returns-in_err-sub_rows
+returns-in_err-sub_rows c =
+    no_memory _ c.from_residual-in_err-sub_rows.result _ c.from_residual-in_err-sub_rows.ensures.1 c.in_err-sub_rows.ensures.lifted
+
+pub returns-in_err-quotient_rows : goal.returns-in_err-quotient_rows
+returns-in_err-quotient_rows c =
+    no_memory _ c.from_residual-in_err-quotient_rows.result _ c.from_residual-in_err-quotient_rows.ensures.1 c.in_err-quotient_rows.ensures

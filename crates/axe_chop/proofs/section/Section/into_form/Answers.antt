@@ -1,4 +1,6 @@
 use Rattle.std.proofs.Common.{◌≡◌, ℕ, sym, ap, subst, ◌∙◌}
+use Rattle.std.proofs.lemmas.Result.{IfOk-from_err}
+use Rattle.axe_echelon.proofs.Exits.{no_memory}
 use Rattle.axe_matrix.specs.Matrices.{matrix_product}
 use Rattle.axe_spin.specs.Modules.{ModuleValue}
 use Rattle.axe_norton.specs.Verdicts.{Decides}
@@ -41,3 +43,39 @@ returns-clause-lifted c =
 
 pub returns-clause-well_formed : goal.returns-clause-well_formed
 returns-clause-well_formed c = (c.in_ok-form.ensures.well_formed, c.in_ok-lifted.ensures.well_formed)
+
+pub returns-in_err-form-clause-form : goal.returns-in_err-form-clause-form
+returns-in_err-form-clause-form c =
+    no_memory _ c.from_residual.result _ c.from_residual.ensures.1 c.in_err-form.ensures.form
+
+pub returns-in_err-form-clause-lifted : goal.returns-in_err-form-clause-lifted
+returns-in_err-form-clause-lifted c =
+    no_memory _ c.from_residual.result _ c.from_residual.ensures.1 c.in_err-form.ensures.form
+
+pub returns-in_err-form-clause-well_formed : goal.returns-in_err-form-clause-well_formed
+returns-in_err-form-clause-well_formed c =
+    IfOk-from_err c.from_residual.result _ c.from_residual.ensures.0
+
+pub returns-in_err-copy-clause-form : goal.returns-in_err-copy-clause-form
+returns-in_err-copy-clause-form c =
+    no_memory _ c.from_residual-in_err-copy.result _ c.from_residual-in_err-copy.ensures.1 c.in_err-copy.ensures.copied
+
+pub returns-in_err-copy-clause-lifted : goal.returns-in_err-copy-clause-lifted
+returns-in_err-copy-clause-lifted c =
+    no_memory _ c.from_residual-in_err-copy.result _ c.from_residual-in_err-copy.ensures.1 c.in_err-copy.ensures.copied
+
+pub returns-in_err-copy-clause-well_formed : goal.returns-in_err-copy-clause-well_formed
+returns-in_err-copy-clause-well_formed c =
+    IfOk-from_err c.from_residual-in_err-copy.result _ c.from_residual-in_err-copy.ensures.0
+
+pub returns-in_err-lifted-clause-form : goal.returns-in_err-lifted-clause-form
+returns-in_err-lifted-clause-form c =
+    no_memory _ c.from_residual-in_err-lifted.result _ c.from_residual-in_err-lifted.ensures.1 c.in_err-lifted.ensures.lifted
+
+pub returns-in_err-lifted-clause-lifted : goal.returns-in_err-lifted-clause-lifted
+returns-in_err-lifted-clause-lifted c =
+    no_memory _ c.from_residual-in_err-lifted.result _ c.from_residual-in_err-lifted.ensures.1 c.in_err-lifted.ensures.lifted
+
+pub returns-in_err-lifted-clause-well_formed : goal.returns-in_err-lifted-clause-well_formed
+returns-in_err-lifted-clause-well_formed c =
+    IfOk-from_err c.from_residual-in_err-lifted.result _ c.from_residual-in_err-lifted.ensures.0

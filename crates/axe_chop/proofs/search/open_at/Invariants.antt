@@ -1,8 +1,0 @@
-use Rattle.std.proofs.Common.{◌∷◌, drop}
-use Rattle.axe_chop.specs.Stages.{with_sections}
-use Rattle.axe_chop.proofs.Stepping.{IsOpening}
-use Rattle.axe_chop.proofs.search.open_at.Given as goal
-
-abbrev pub invariant-loop-index : goal.invariant-loop-index
-invariant-loop-index l =
-    IsOpening (with_sections l.fn.found.basis (l.fn.section ∷ l.after.items)) l.basis (drop l.index l.after.items)
