@@ -240,12 +240,11 @@ module _ (section : SectionValue) (space : MatrixValue) (columns : List ℕ) (at
 
 -- ---- a section that is opened
 
--- a section is opened, to be cut by a submodule, and its action is given away
-pub record IsOpened (section self : SectionValue) (space : MatrixValue) (action : ModuleValue) : Type 0 where
+-- a section is opened, to be cut by a submodule
+pub record IsOpened (section self : SectionValue) (space : MatrixValue) : Type 0 where
   pub same : section ≡ self
   pub is_section : IsSection section
   pub proper : IsProperSubmodule self.action space
-  pub action_is : action ≡ section.action
 
 -- what the submodule makes of the action
 pub record IsSplit (action : ModuleValue) (space : MatrixValue) (sub quotient : ModuleValue) (columns : List ℕ) : Type 0 where
@@ -255,13 +254,14 @@ pub record IsSplit (action : ModuleValue) (space : MatrixValue) (sub quotient : 
   pub sub_module : IsModule sub
   pub quotient_module : IsModule quotient
 
-module _ (section self : SectionValue) (space : MatrixValue) (action : ModuleValue)
-    (opened : IsOpened section self space action) where
-  proper_here : IsProperSubmodule section.action space
-  proper_here = subst (λ (s : SectionValue). IsProperSubmodule s.action space) (sym opened.same) opened.proper
+-- a submodule of the action is one of the module that it is
+pub proper_in : (m action : ModuleValue) (space : MatrixValue) → m ≡ action → IsProperSubmodule action space →
+    IsProperSubmodule m space
+proper_in m action space same = subst (λ (x : ModuleValue). IsProperSubmodule x space) (sym same)
 
-  pub to_split : IsProperSubmodule action space
-  to_split = subst (λ (m : ModuleValue). IsProperSubmodule m space) (sym opened.action_is) proper_here
+module _ (section self : SectionValue) (space : MatrixValue) (opened : IsOpened section self space) where
+  pub proper_here : IsProperSubmodule section.action space
+  proper_here = subst (λ (s : SectionValue). IsProperSubmodule s.action space) (sym opened.same) opened.proper
 
   pub lift_field : space.order ≡ section.rows.order
   lift_field = proper_here.field ∙ sym opened.is_section.field
@@ -272,31 +272,25 @@ module _ (section self : SectionValue) (space : MatrixValue) (action : ModuleVal
   pub cut_at : (columns : List ℕ) → AreFreeColumns (rows_to_span space) columns → IsCutAt section space columns
   cut_at columns free = record { is_section = opened.is_section; proper = proper_here; free = free }
 
-  module _ (sub quotient : ModuleValue) (columns : List ℕ) (split_in : IsSplit action space sub quotient columns)
+  module _ (sub quotient : ModuleValue) (columns : List ℕ) (split_in : IsSplit section.action space sub quotient columns)
       (first after : MatrixValue) (first_is : first ≡ lifted_rows section space)
       (after_is : after ≡ rows_chosen columns section.rows) (first_formed : IsMatrix first) where
     lifted_parts : AreLifted section space (matrix_of_unit_vectors space.order space.cols columns) first after
     lifted_parts = are_lifted section space columns (cut_at columns split_in.free) first after first_is after_is first_formed
 
-    acts_here : IsBasisAction section.action space sub
-    acts_here = subst (λ (m : ModuleValue). IsBasisAction m space sub) opened.action_is split_in.acts
-
-    modulo_here : IsActionModulo section.action space quotient
-    modulo_here = subst (λ (m : ModuleValue). IsActionModulo m space quotient) opened.action_is split_in.modulo
-
     pub sub_kept : IsSection (record { action = sub; rows = first })
     sub_kept =
-        sub_section section space (matrix_of_unit_vectors space.order space.cols columns) first after lifted_parts sub acts_here
+        sub_section section space (matrix_of_unit_vectors space.order space.cols columns) first after lifted_parts sub split_in.acts
         split_in.sub_module
 
     pub quotient_kept : IsSection (record { action = quotient; rows = after })
     quotient_kept =
         quotient_section section space (matrix_of_unit_vectors space.order space.cols columns) first after lifted_parts quotient
-        modulo_here split_in.quotient_module
+        split_in.modulo split_in.quotient_module
 
     pub parts_kept : IsCut self space (record { action = sub; rows = first }) (record { action = quotient; rows = after })
     parts_kept =
         subst (λ (s : SectionValue). IsCut s space (record { action = sub; rows = first }) (record { action = quotient; rows = after }))
         opened.same
-        (is_cut section space (matrix_of_unit_vectors space.order space.cols columns) first after lifted_parts quotient modulo_here sub
-        acts_here split_in.sub_module split_in.quotient_module)
+        (is_cut section space (matrix_of_unit_vectors space.order space.cols columns) first after lifted_parts quotient split_in.modulo
+        sub split_in.acts split_in.sub_module split_in.quotient_module)

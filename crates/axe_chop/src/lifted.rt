@@ -118,8 +118,28 @@ impl LiftedRows {
         }
     }
 
+    /// The vectors that have the rows of a matrix as coordinates, and the rows at some places, in their order.
+    pub(crate) fn cut(
+        self,
+        alloc: Global,
+        coordinates: Matrix,
+        places: Vec<usize>,
+    ) -> Result<(LiftedRows, LiftedRows), Refusal>
+        requires field { coordinates.order ≡ self.order }
+        requires fits { coordinates.cols ≡ length self.rows }
+        requires within { All (λ place. place < length self.rows) places.items }
+        requires places_fit { length places.items ≤ most_rows }
+        ensures lifted { Answers None (λ parts. parts.0 ≡ matrix_product coordinates self) result }
+        ensures chosen { Answers None (λ parts. parts.1 ≡ rows_chosen places.items self) result }
+        ensures well_formed { IfOk result (λ parts. IsMatrix parts.0) }
+    {
+        let lifted = self.lift(alloc, coordinates)?;
+        let chosen = self.select(alloc, places)?;
+        Ok((LiftedRows::of_matrix(lifted), chosen))
+    }
+
     /// The rows at some places, in their order.
-    pub(crate) fn select(self, alloc: Global, places: Vec<usize>) -> Result<LiftedRows, Refusal>
+    fn select(self, alloc: Global, places: Vec<usize>) -> Result<LiftedRows, Refusal>
         requires within { All (λ place. place < length self.rows) places.items }
         requires places_fit { length places.items ≤ most_rows }
         ensures { Answers None (λ chosen. chosen ≡ rows_chosen places.items self) result }

@@ -4,6 +4,9 @@ ghost use Rattle.std.specs.Prelude.{◌≡◌, ℕ, ◌+◌, ◌≤◌, ◌++◌
 ghost use Rattle.axe_row.specs.Refusals.{Answers};
 ghost use Rattle.axe_matrix.specs.Limits.{most_rows};
 ghost use Rattle.axe_matrix.specs.Matrices.{IsMatrix};
+ghost use Rattle.axe_spin.specs.Modules.{IsModule};
+ghost use Rattle.axe_action.specs.Actions.{IsBasisAction, IsActionModulo};
+ghost use Rattle.axe_action.specs.FreeColumns.{AreFreeColumns, rows_to_span};
 ghost use Rattle.axe_norton.specs.Spaces.{IsProperSubmodule};
 ghost use Rattle.axe_norton.specs.Verdicts.{Decides};
 ghost use Rattle.axe_norton.specs.declared.verdicts.Verdict.TheVariants.{Irreducible};
@@ -126,20 +129,18 @@ impl<'a> Section<'a> {
         ensures { Answers None (λ parts. IsCut self.entry space parts.0 parts.1) result }
     {
         let Section { action, rows } = self;
-        let module = action.into_module(alloc)?;
         let Split {
             sub,
             quotient,
             columns,
-        } = split_by_submodule(alloc, module, &space)?;
+        } = action.split(alloc, &space)?;
         // The rows of the submodule are lifted, and the unit vectors that extend them to a basis: these lift to the
         // rows at their columns.
-        let sub_rows = rows.lift(alloc, space)?;
-        let quotient_rows = rows.select(alloc, columns)?;
+        let (sub_rows, quotient_rows) = rows.cut(alloc, space, columns)?;
         Ok((
             Section {
                 action: Action::Owned(sub),
-                rows: LiftedRows::of_matrix(sub_rows),
+                rows: sub_rows,
             },
             Section {
                 action: Action::Owned(quotient),
@@ -170,6 +171,19 @@ impl<'a> Action<'a> {
             Action::Lent(module) => form_of(alloc, module, seed, word, vector),
             Action::Owned(module) => form_of_owned(alloc, module, seed, word, vector),
         }
+    }
+
+    /// The actions on a submodule and on the quotient by it, and the columns that are no pivots of the submodule. The
+    /// rows of `space` are a basis of the submodule, which is neither zero nor everything. The module is taken apart.
+    fn split(self, alloc: Global, space: &Matrix) -> Result<Split, Refusal>
+        requires { IsProperSubmodule (acting_module self) space.now }
+        ensures sub { Answers None (λ split. IsBasisAction (acting_module self.entry) space.now split.sub) result }
+        ensures quotient { Answers None (λ split. IsActionModulo (acting_module self.entry) space.now split.quotient) result }
+        ensures columns { Answers None (λ split. AreFreeColumns (rows_to_span space.now) split.columns.items) result }
+        ensures well_formed { IfOk result (λ split. IsModule split.sub × IsModule split.quotient) }
+    {
+        let module = self.into_module(alloc)?;
+        split_by_submodule(alloc, module, space)
     }
 
     /// The module that it is, or a copy of one that is lent.
