@@ -178,7 +178,8 @@ impl<'a> Action<'a> {
     fn split(self, alloc: Global, space: &Matrix) -> Result<Split, Refusal>
         requires { IsProperSubmodule (acting_module self) space.now }
         ensures sub { Answers None (λ split. IsBasisAction (acting_module self.entry) space.now split.sub) result }
-        ensures quotient { Answers None (λ split. IsActionModulo (acting_module self.entry) space.now split.quotient) result }
+        ensures quotient { Answers None
+            (λ split. IsActionModulo (acting_module self.entry) space.now split.quotient) result }
         ensures columns { Answers None (λ split. AreFreeColumns (rows_to_span space.now) split.columns.items) result }
         ensures well_formed { IfOk result (λ split. IsModule split.sub × IsModule split.quotient) }
     {

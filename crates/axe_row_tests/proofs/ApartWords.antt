@@ -5,6 +5,7 @@ use Rattle.std.specs.Int.Bits.{and_zero_l}
 use Rattle.std.proofs.lemmas.Bool.{cases_lt}
 use Rattle.std.proofs.lemmas.List.{get_or_past}
 use Rattle.std.proofs.lemmas.Nat.Bits.{bit_at-lt, bit_at-zero, bit_at_and}
+use Rattle.axe_lane.specs.Words.{bit_of}
 use Rattle.axe_lane.specs.Trits.{AreTrits}
 
 -- the words before an index have no bit in common
@@ -17,6 +18,7 @@ apart_bits a b i none = omega (arith, bit_at_and a b i, ap (λ n. bit_at n i) no
 -- all words
 pub apart_trits : (ones twos : List ℕ) (n : ℕ) → length twos ≡ length ones → length ones ≤ n → AreApartBefore ones twos n →
     AreTrits ones twos
+unfolding bit_of
 apart_trits ones twos n fits end before = record {
   as_long = fits;
   apart = λ i. apart_bits (get_or ones (i / 64) 0) (get_or twos (i / 64) 0) (i % 64) (elim (cases_lt (i / 64) n) [
