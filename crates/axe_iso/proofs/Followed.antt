@@ -11,8 +11,8 @@ use Rattle.axe_algebra.proofs.ProductLaws.{unit_length, times_unit, times_same, 
 use Rattle.axe_algebra.proofs.SquareMatrices.{invertible_of_rows}
 use Rattle.axe_algebra.proofs.StandardImages.{isomorphism_keeps_standard_matrices}
 use Rattle.axe_iso.specs.Following.{BeginsWith, IsAsTold, AreOfUnitVector, AreFollowedUpTo}
-use Rattle.axe_algebra.proofs.PairOrder.{nothing_precedes_start, precedes_or_is}
-use Rattle.axe_iso.proofs.StillToCome.{all_to_come, next_within, next_unit, to_come_past_next, to_come_past_known, row_is_there, none_to_come}
+use Rattle.axe_algebra.proofs.PairOrder.{nothing_precedes_start}
+use Rattle.axe_iso.proofs.StillToCome.{before_or_same, all_to_come, next_within, next_unit, to_come_past_next, to_come_past_known, row_is_there, none_to_come}
 use mathlib.Core.Path.{fun_ext}
 use native.Mathlib.Decide.{dec_lt, ℕ_discrete}
 
@@ -72,7 +72,7 @@ module _ (F : Field) (M A : Module F) where
     -- the pair itself, or one before it
     told_more : (l : ℕ) (d : Matrix F) → BeginsWith F k b d → k ≤ l → IsAsTold F M A l d r i →
         (s j : ℕ) → Precedes s j r (i + 1) → j < M.count → IsAsTold F M A l d s j
-    told_more l d begins more here s j before within = cases (precedes_or_is s j r i before)
+    told_more l d begins more here s j before within = cases (before_or_same s j r i before)
       where
         cases : Precedes s j r i ⊎ ((s ≡ r) × (j ≡ i)) → IsAsTold F M A l d s j
         cases (inl earlier) = λ c onward. followed.told s j earlier within c (λ t small. onward t (omega (arith, small, more)) ∙ begins t small)

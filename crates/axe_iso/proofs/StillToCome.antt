@@ -1,15 +1,19 @@
 -- The pairs of the rows of a standard basis that are still to come, where the matrices are those of their own first unit vector.
-use Rattle.std.proofs.Common.{◌≡◌, ◌≢◌, ℕ, ◌+◌, ◌<◌, ◌≤◌, ◌⊎◌, inl, inr, sym, ap, subst, ◌∙◌, arith}
+use Rattle.std.proofs.Common.{◌≡◌, ◌≢◌, ℕ, ◌+◌, ◌<◌, ◌≤◌, ◌⊎◌, inl, inr, sym, ap, subst, ◌∙◌, add-one, arith}
 use Rattle.axe_algebra.specs.Field.{Field}
 use Rattle.axe_algebra.specs.Vectors.{Vector, times, unit_vector}
 use Rattle.axe_algebra.specs.Modules.{Module}
 use Rattle.axe_algebra.specs.Standard.{Precedes}
+use Rattle.axe_algebra.proofs.PairOrder.{precedes_or_same, nothing_precedes_start, precedes_or_is, nothing_between, precedes_pair, pair_precedes}
 use Rattle.axe_algebra.proofs.ProductLaws.{unit_at, unit_length, times_unit}
 use Rattle.axe_algebra.proofs.Spanning.{unique_coefficients}
-use Rattle.axe_algebra.proofs.PairOrder.{nothing_precedes_start}
 use Rattle.axe_iso.specs.Following.{AreOfUnitVector}
 use mathlib.Core.Path.{fun_ext}
-use native.Mathlib.Decide.{dec_lt, ℕ_discrete}
+use native.Mathlib.Decide.{dec_lt}
+
+-- what precedes the pair after (r, i) precedes (r, i), or is it
+pub before_or_same : (a b r i : ℕ) → Precedes a b r (i + 1) → Precedes a b r i ⊎ ((a ≡ r) × (b ≡ i))
+before_or_same a b r i before = precedes_or_is a b r i (subst (λ n. Precedes a b r n) (add-one i) before)
 
 module _ (F : Field) (A : Module F) (own : AreOfUnitVector F A) where
   abbrev pairs_row : ℕ → ℕ
@@ -100,7 +104,7 @@ module _ (F : Field) (A : Module F) (own : AreOfUnitVector F A) where
 
     -- where no coefficient past the rows is other than 0, this is the pair of no row
     pub to_come_past_known : ((t : ℕ) → k ≤ t → A.generator i r t ≡ F.zero) → ToCome k r (i + 1)
-    to_come_past_known zeros t from within before = cases (precedes_or_is (pairs_row t) (pairs_generator t) r i before)
+    to_come_past_known zeros t from within before = cases (before_or_same (pairs_row t) (pairs_generator t) r i before)
       where
         unit : (pairs_row t ≡ r) × (pairs_generator t ≡ i) → A.generator i r ≡ unit_vector F t
         unit same =
