@@ -1,0 +1,11 @@
+use Rattle.std.proofs.Common.{rules}
+use Rattle.axe_plane.proofs.Plane.is_zero.Goals as goal
+
+pub returns-in-Bits : goal.returns-in-Bits
+returns-in-Bits c = search rules
+
+pub returns-in-Trits : goal.returns-in-Trits
+returns-in-Trits c = search rules
+
+pub returns-in-Bytes : goal.returns-in-Bytes
+returns-in-Bytes c = search rules
