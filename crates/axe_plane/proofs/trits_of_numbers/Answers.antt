@@ -9,3 +9,6 @@ of_digits-requires c =
     let digits : c.match-place.digits.items ≡ digits_at 3 c.args.place c.args.numbers.now = search rules in
     subst (AreDigits 3) (sym c.deref.ensures.value)
     (AreDigits-numbers 3 c.args.place c.args.numbers.now c.match-place.digits.items (lit< tt) digits)
+
+pub returns : goal.returns
+returns c = search rules

@@ -1,3 +1,4 @@
+use Rattle.std.proofs.Common.{rules}
 use Rattle.axe_plane.proofs.PlaneLaws.{still_fits, fits_trits}
 use Rattle.axe_plane.proofs.Plane.add_four.Goals as goal
 
@@ -18,3 +19,12 @@ add_to_trits-requires-in-Trits-3-clause-fits c =
     let first = still_fits _ _ _ _ _ _ before c.add_to_trits.ensures in
     let second = still_fits _ _ _ _ _ _ first c.add_to_trits-in-Trits.ensures in
     still_fits _ _ _ _ _ _ second c.add_to_trits-in-Trits-2.ensures
+
+pub returns-in-Bits : goal.returns-in-Bits
+returns-in-Bits c = search rules
+
+pub returns-in-Trits : goal.returns-in-Trits
+returns-in-Trits c = search rules
+
+pub returns-in-Bytes : goal.returns-in-Bytes
+returns-in-Bytes c = search rules

@@ -17,3 +17,6 @@ returns-in-Bytes-clause-value c =
 pub returns-in-Bytes-clause-small : goal.returns-in-Bytes-clause-small
 returns-in-Bytes-clause-small c =
     four_small _ _ _ _ _ c.number_from.ensures.small c.number_from-in-Bytes.ensures.small c.number_from-in-Bytes-2.ensures.small c.number_from-in-Bytes-3.ensures.small
+
+pub returns-in-Trits-clause-value : goal.returns-in-Trits-clause-value
+returns-in-Trits-clause-value c = rw c.in-Trits.is c.numbers_from-in-Trits.ensures.value

@@ -1,4 +1,4 @@
-use Rattle.std.proofs.Common.{◌≡◌, ◌-◌, ◌%◌, List, ℕ, ap, subst, arith}
+use Rattle.std.proofs.Common.{◌≡◌, ◌-◌, ◌%◌, List, ℕ, ap, subst, arith, rules}
 use Rattle.axe_lane.specs.Bytes.{AreDigits}
 use Rattle.axe_layer.proofs.DigitLaws.{digits_with_multiple-none}
 use Rattle.axe_plane.specs.Primes.{byte_prime, ByteDigits}
@@ -11,3 +11,9 @@ returns-else-factor-ne0-clause-sum c =
     let digits = subst (λ (s : ByteDigits). AreDigits (byte_prime s.prime) s.digits) c.self.view_is c.self.invariant in
     ap (λ (x : List ℕ). record { prime = c.args.self.now.prime; digits = x })
     (digits_with_multiple-none _ _ _ _ (byte_prime-positive c.args.self.now.prime) none digits)
+
+pub returns-then-factor-ne0-clause-factor : goal.returns-then-factor-ne0-clause-factor
+returns-then-factor-ne0-clause-factor c = search rules
+
+pub returns-else-factor-ne0-clause-factor : goal.returns-else-factor-ne0-clause-factor
+returns-else-factor-ne0-clause-factor c = search rules

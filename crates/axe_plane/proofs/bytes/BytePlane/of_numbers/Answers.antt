@@ -9,3 +9,6 @@ pub invariant_of-result : goal.invariant_of-result
 invariant_of-result c =
     let digits : c.match-prime.bytes.items ≡ digits_at (byte_prime c.args.prime) c.args.place c.args.numbers.now = search rules in
     AreDigits-numbers (byte_prime c.args.prime) c.args.place c.args.numbers.now c.match-prime.bytes.items (byte_prime-positive c.args.prime) digits
+
+pub returns : goal.returns
+returns c = search rules

@@ -1,5 +1,6 @@
 use Rattle.std.proofs.Common.{◌≡◌, ◌<◌, length, map, get_or, arith, ℕ, ap, sym, ◌∙◌}
 use Rattle.std.proofs.lemmas.List.{ext_get_or, get_or-map, length-map}
+use Rattle.std.proofs.lemmas.Grind.{common_steps}
 use Rattle.axe_plane.proofs.bytes.BytePlane.select.Goals as goal
 
 pub returns : goal.returns
@@ -13,3 +14,6 @@ returns c =
     ∙ sym (get_or-map f indices e 0 0 here)) in
     let prime : c.self.inside.prime ≡ c.args.self.now.prime = ap (λ s. s.prime) c.self.view_is in
     λ i. record { prime = prime i; digits = is i }
+
+pub loop-at-preserved : goal.loop-at-preserved
+loop-at-preserved c = grind (arith, common_steps)

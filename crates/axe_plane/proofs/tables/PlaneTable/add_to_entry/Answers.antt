@@ -1,4 +1,4 @@
-use Rattle.std.proofs.Common.{◌≡◌, List, [], ℕ, set, refl, ap, sym, ◌∙◌, arith}
+use Rattle.std.proofs.Common.{◌≡◌, List, [], ℕ, set, refl, ap, sym, ◌∙◌, arith, rules}
 use Rattle.axe_plane.specs.Tables.{entries_of_table}
 use Rattle.axe_layer.proofs.DigitLaws.{digits_with_multiple-none}
 use Rattle.std.proofs.lemmas.List.{set-get_or}
@@ -14,3 +14,21 @@ returns-else-factor-ne0 c = record {
       ∙ ap (λ (l : List ℕ). set (entries_of_table c.args.self.now) c.args.to l)
       (digits_with_multiple-none _ _ _ _ (prime_of_table-positive c.args.self.now) none c.requires.digits);
 }
+
+pub add_to_entry-requires-clause-fits : goal.add_to_entry-requires-clause-fits
+add_to_entry-requires-clause-fits c = search rules
+
+pub add_to_entry-requires-in-Trits-Trits-clause-fits : goal.add_to_entry-requires-in-Trits-Trits-clause-fits
+add_to_entry-requires-in-Trits-Trits-clause-fits c = search rules
+
+pub add_to_entry-requires-in-Bytes-Bytes-clause-fits : goal.add_to_entry-requires-in-Bytes-Bytes-clause-fits
+add_to_entry-requires-in-Bytes-Bytes-clause-fits c = search rules
+
+pub returns-in-Bits-Bits : goal.returns-in-Bits-Bits
+returns-in-Bits-Bits c = search rules
+
+pub returns-in-Trits-Trits : goal.returns-in-Trits-Trits
+returns-in-Trits-Trits c = search rules
+
+pub returns-in-Bytes-Bytes : goal.returns-in-Bytes-Bytes
+returns-in-Bytes-Bytes c = search rules

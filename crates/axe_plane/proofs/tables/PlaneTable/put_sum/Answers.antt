@@ -1,4 +1,4 @@
-use Rattle.std.proofs.Common.{◌≡◌, ◌<◌, [], length, get_or, set, subst, sym, ◌∙◌}
+use Rattle.std.proofs.Common.{◌≡◌, ◌<◌, [], length, get_or, set, subst, sym, ◌∙◌, rules}
 use Rattle.axe_layer.specs.Digits.{digits_with_multiple}
 use Rattle.axe_plane.specs.Planes.{digits_of}
 use Rattle.axe_plane.specs.Tables.{entries_of_table, prime_of_table, IsTable}
@@ -23,3 +23,12 @@ returns-in_default c =
     subst sum same
     (written_more (prime_of_table table) c.args.to c.args.factor (entries_of_table table) (get_or (entries_of_table table) c.args.from [])
     (digits_of c.args.plane.now) _ _ within c.copy_entry.ensures c.add_to_entry.ensures)
+
+pub put_sum-requires-clause-fits : goal.put_sum-requires-clause-fits
+put_sum-requires-clause-fits c = search rules
+
+pub returns-in-Bits-Bits : goal.returns-in-Bits-Bits
+returns-in-Bits-Bits c = search rules
+
+pub add_to_entry-requires-clause-factor : goal.add_to_entry-requires-clause-factor
+add_to_entry-requires-clause-factor c = search rules
