@@ -14,3 +14,14 @@ returns-then-digit-ne0-clause-factor c =
 
 pub returns-else-digit-ne0-clause-factor : goal.returns-else-digit-ne0-clause-factor
 returns-else-digit-ne0-clause-factor c = search rules
+
+pub returns-then-digit-ne0-clause-digit : goal.returns-then-digit-ne0-clause-digit
+returns-then-digit-ne0-clause-digit c =
+    let below : get_or c.args.plane.now c.args.index 0 < 2 = digit-below _ _ c.args.index (lit< tt) c.requires.digits in
+    omega (arith, below, c.get-digit.ensures)
+
+pub returns-then-digit-ne0-clause-sum : goal.returns-then-digit-ne0-clause-sum
+returns-then-digit-ne0-clause-sum c =
+    let below : get_or c.args.plane.now c.args.index 0 < 2 = digit-below _ _ c.args.index (lit< tt) c.requires.digits in
+    let one : c.get-digit.result ≡ 1 = omega (arith, below, c.get-digit.ensures, c.if-digit-ne0.true) in
+    rw one c.add_from.ensures
