@@ -1,6 +1,6 @@
-use Rattle.std.proofs.Common.{◌≡◌, ◌-◌, ◌%◌, List, ℕ, ap, subst, arith, rules}
+use Rattle.std.proofs.Common.{◌≡◌, ◌-◌, ◌%◌, List, ℕ, ap, subst, arith, rules, get_or, ◌<◌}
 use Rattle.axe_lane.specs.Bytes.{AreDigits}
-use Rattle.axe_layer.proofs.DigitLaws.{digits_with_multiple-none}
+use Rattle.axe_layer.proofs.DigitLaws.{digits_with_multiple-none, digit-below}
 use Rattle.axe_plane.specs.Primes.{byte_prime, ByteDigits}
 use Rattle.axe_plane.proofs.PlaneLaws.{byte_prime-positive}
 use Rattle.axe_plane.proofs.bytes.BytePlane.cancel.Goals as goal
@@ -17,3 +17,9 @@ returns-then-factor-ne0-clause-factor c = search rules
 
 pub returns-else-factor-ne0-clause-factor : goal.returns-else-factor-ne0-clause-factor
 returns-else-factor-ne0-clause-factor c = search rules
+
+pub overflow_sub-factor : goal.overflow_sub-factor
+overflow_sub-factor c =
+    let below : get_or c.self.inside.bytes.items c.args.index 0 < byte_prime c.self.inside.prime =
+    digit-below _ _ c.args.index (byte_prime-positive c.self.inside.prime) c.self.invariant in
+    omega (arith, below, c.get.ensures, c.number-prime.ensures, ap (λ (s : ByteDigits). get_or s.digits c.args.index 0) c.self.view_is)

@@ -24,3 +24,6 @@ returns c =
     c.deref-2.ensures.value c.deref-3.ensures.value c.number-prime.ensures so_far c.dot_bytes-2.ensures
     ∙ ap (λ s. s % byte_prime c.self.inside.prime) (dot_all (length a) a b same (omega arith))
     ∙ ap₂ (λ (s : ByteDigits) (t : ByteDigits). sum_of_products s.digits t.digits % byte_prime s.prime) c.self.view_is c.other.view_is
+
+pub dot_bytes-requires-clause-fits : goal.dot_bytes-requires-clause-fits
+dot_bytes-requires-clause-fits c = omega arith

@@ -25,7 +25,8 @@ returns-in_default c =
     (digits_of c.args.plane.now) _ _ within c.copy_entry.ensures c.add_to_entry.ensures)
 
 pub put_sum-requires-clause-fits : goal.put_sum-requires-clause-fits
-put_sum-requires-clause-fits c = search rules
+put_sum-requires-clause-fits c =
+    rw (c.in-Bits-Bits.is-0, c.in-Bits-Bits.is-1) at (c.requires.fits c.if-factor-ne0.true)
 
 pub returns-in-Bits-Bits : goal.returns-in-Bits-Bits
 returns-in-Bits-Bits c = search rules
