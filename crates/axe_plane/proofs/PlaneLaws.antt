@@ -1,7 +1,8 @@
 -- Planes as their primes and digits.
 use Rattle.std.proofs.Common.{◌≡◌, ℕ, ◌<◌, List, length, set, replicate, refl, sym, ap, subst, ◌∙◌, arith, lit<}
 use Rattle.axe_lane.specs.Bytes.{AreDigits}
-use Rattle.axe_layer.specs.Digits.{digits_with_multiple}
+use Rattle.axe_layer.specs.Bits.{bits}
+use Rattle.axe_layer.specs.Digits.{digits_with_four, digits_with_multiple}
 use Rattle.axe_plane.specs.Primes.{byte_prime}
 use Rattle.axe_plane.specs.Planes.{prime_of_plane, digits_of, IsPlane, IsPlaneOf}
 use Rattle.axe_layer.proofs.DigitLaws.{AreDigits-zeros, AreDigits-set, length-digits_with_multiple}
@@ -69,3 +70,15 @@ still_fits p n m before more after long e = long ∙ sym (length-digits_with_mul
 -- a list as long as a plane modulo 3 is as long as its digits
 pub fits_trits : (n : ℕ) (plane : Plane) (digits : List ℕ) → plane ≡ Trits digits → n ≡ length (digits_of plane) → n ≡ length digits
 fits_trits n plane digits is long = long ∙ ap (λ (p : Plane). length (digits_of p)) is
+
+-- ---- planes modulo 2
+
+-- the sum with four planes, by the words that hold their digits
+pub four_words : (x wa wb wc wd a b c d new : List ℕ) → length a ≡ length x → length b ≡ length x → length c ≡ length x → length d ≡ length x →
+    bits (length a) wa ≡ a → bits (length b) wb ≡ b → bits (length c) wc ≡ c → bits (length d) wd ≡ d →
+    new ≡ digits_with_four 2 x (bits (length x) wa) (bits (length x) wb) (bits (length x) wc) (bits (length x) wd) → new ≡ digits_with_four 2 x a b c d
+four_words x wa wb wc wd a b c d new la lb lc ld ea eb ec ed e =
+    let held : (w l : List ℕ) → length l ≡ length x → bits (length l) w ≡ l → bits (length x) w ≡ l = λ w l long is. ap (λ n. bits n w) (sym long) ∙ is in
+    let same : digits_with_four 2 x (bits (length x) wa) (bits (length x) wb) (bits (length x) wc) (bits (length x) wd) ≡ digits_with_four 2 x a b c d =
+    λ i. digits_with_four 2 x (held wa a la ea i) (held wb b lb eb i) (held wc c lc ec i) (held wd d ld ed i) in
+    e ∙ same

@@ -1,5 +1,7 @@
-use Rattle.std.proofs.Common.{rules}
-use Rattle.axe_plane.proofs.PlaneLaws.{still_fits, fits_trits}
+use Rattle.std.proofs.Common.{rules, length, refl, ap, ◌∙◌}
+use Rattle.axe_plane.proofs.PlaneLaws.{still_fits, fits_trits, four_words}
+use Rattle.axe_plane.specs.Planes.{digits_of}
+use Rattle.axe_plane.specs.declared.Plane.{Plane}
 use Rattle.axe_plane.proofs.Plane.add_four_entries.Goals as goal
 
 pub add_to_trits-requires-in-Trits-clause-fits : goal.add_to_trits-requires-in-Trits-clause-fits
@@ -21,7 +23,14 @@ add_to_trits-requires-in-Trits-3-clause-fits c =
     still_fits _ _ _ _ _ _ second c.add_to_trits-in-Trits-2.ensures
 
 pub returns-in-Bits : goal.returns-in-Bits
-returns-in-Bits c = search rules
+returns-in-Bits c =
+    let own = ap (λ (plane : Plane). length (digits_of plane)) c.in-Bits.is in
+    rw c.in-Bits.is (record {
+      prime = refl;
+      digits_are =
+          four_words _ _ _ _ _ _ _ _ _ _ (c.requires.a.fits ∙ own) (c.requires.b.fits ∙ own) (c.requires.c.fits ∙ own) (c.requires.d.fits ∙ own)
+          c.words_of-a.ensures.digits c.words_of-b.ensures.digits c.words_of-c.ensures.digits c.words_of-d.ensures.digits c.add_four.ensures;
+    })
 
 pub returns-in-Trits : goal.returns-in-Trits
 returns-in-Trits c = search rules
