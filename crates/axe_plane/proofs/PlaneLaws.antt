@@ -82,3 +82,12 @@ four_words x wa wb wc wd a b c d new la lb lc ld ea eb ec ed e =
     let same : digits_with_four 2 x (bits (length x) wa) (bits (length x) wb) (bits (length x) wc) (bits (length x) wd) ≡ digits_with_four 2 x a b c d =
     λ i. digits_with_four 2 x (held wa a la ea i) (held wb b lb eb i) (held wc c lc ec i) (held wd d ld ed i) in
     e ∙ same
+
+-- ---- planes modulo 5 or 7
+
+-- the sum with four planes, by their bytes
+pub four_bytes : (p : ℕ) (x wa wb wc wd a b c d new : List ℕ) → wa ≡ a → wb ≡ b → wc ≡ c → wd ≡ d → new ≡ digits_with_four p x wa wb wc wd →
+    new ≡ digits_with_four p x a b c d
+four_bytes p x wa wb wc wd a b c d new ea eb ec ed e =
+    let same : digits_with_four p x wa wb wc wd ≡ digits_with_four p x a b c d = λ i. digits_with_four p x (ea i) (eb i) (ec i) (ed i) in
+    e ∙ same

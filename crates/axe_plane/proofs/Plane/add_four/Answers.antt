@@ -1,6 +1,7 @@
 use Rattle.std.proofs.Common.{rules, length, refl, ap, ◌∙◌}
-use Rattle.axe_plane.proofs.PlaneLaws.{still_fits, fits_trits, four_words}
+use Rattle.axe_plane.proofs.PlaneLaws.{still_fits, fits_trits, four_words, four_bytes}
 use Rattle.axe_plane.specs.Planes.{digits_of}
+use Rattle.axe_plane.specs.Primes.{byte_prime, ByteDigits}
 use Rattle.axe_plane.specs.declared.Plane.{Plane}
 use Rattle.axe_plane.proofs.Plane.add_four.Goals as goal
 
@@ -36,4 +37,10 @@ pub returns-in-Trits : goal.returns-in-Trits
 returns-in-Trits c = search rules
 
 pub returns-in-Bytes : goal.returns-in-Bytes
-returns-in-Bytes c = search rules
+returns-in-Bytes c =
+    rw c.in-Bytes.is (record {
+      prime = ap (λ (plane : ByteDigits). byte_prime plane.prime) c.add_four-in-Bytes.ensures;
+      digits_are =
+          four_bytes _ _ _ _ _ _ _ _ _ _ _ c.bytes.ensures.value c.bytes-in-Bytes.ensures.value c.bytes-in-Bytes-2.ensures.value c.bytes-in-Bytes-3.ensures.value
+          (ap (λ (plane : ByteDigits). plane.digits) c.add_four-in-Bytes.ensures);
+    })
