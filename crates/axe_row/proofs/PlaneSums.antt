@@ -15,6 +15,7 @@ use Rattle.axe_plane.specs.Planes.{prime_of_plane, digits_of, IsPlane, IsPlaneOf
 use Rattle.axe_plane.specs.declared.Plane.{Plane}
 use Rattle.axe_layer.proofs.DigitLaws.{AreDigits-sum, length-digits_with_multiple, get_or-digits_with_multiple}
 use Rattle.axe_plane.proofs.PlaneLaws.{prime_of_plane-positive}
+use Rattle.axe_row.specs.MadePlanes.{row_of_planes}
 use Rattle.axe_row.specs.Operations.{sum_with_multiple, row_with_multiple}
 use Rattle.axe_row.specs.Planes.{ArePlanes, IsAddable, AreAddable, ReachWhereNonzero, digits_with_multiples}
 use Rattle.axe_row.specs.Rows.{RowValue}
@@ -359,3 +360,35 @@ summands o r k c l q c' l' q' m self other h h' self_is other_is orders lengths 
     same_length =
         sym (length-entries r (digits_of c') (digits_of l') (digits_of q')) ∙ ap (λ (x : RowValue). length x.entries) other_is ∙ lengths
         ∙ sym (ap (λ (x : RowValue). length x.entries) self_is) ∙ length-entries o (digits_of c) (digits_of l) (digits_of q)
+
+-- the planes of a row and of another that are over one field and as long, and a matrix of multiplication
+pub planes_summands : (o : Order) (k : ℕ) (c l q c' l' q' : Plane) (m : List (List ℕ)) → ArePlanes o (length (digits_of c)) c l q →
+    ArePlanes o (length (digits_of c)) c' l' q' → IsElement o k → m ≡ matrix_of_multiplication o k →
+    AreSummands o (length (digits_of c)) k c l q c' l' q' (column m 0) (column m 1) (column m 2)
+planes_summands o k c l q c' l' q' m h h' element em = record {
+  planes = h;
+  others = h';
+  scalar = element;
+  to_constant = column_is o k 0 m em;
+  to_linear = column_is o k 1 m em;
+  to_quadratic = column_is o k 2 m em;
+}
+
+-- the row of the planes after
+pub summed_row_of_planes : (o : Order) (n k : ℕ) (c l q c' l' q' c2 l2 q2 : Plane) (f0 f1 f2 : List ℕ) → AreSummands o n k c l q c' l' q' f0 f1 f2 →
+    IsSummed c f0 c' l' q' c2 → IsSummed l f1 c' l' q' l2 → IsSummed q f2 c' l' q' q2 →
+    row_of_planes o c2 l2 q2 ≡ row_with_multiple (row_of_planes o c l q) k (row_of_planes o c' l' q')
+summed_row_of_planes o n k c l q c' l' q' c2 l2 q2 f0 f1 f2 h hc hl hq =
+    ap (λ (x : List ℕ). record { order = o; entries = x }) (summed_entries o n k c l q c' l' q' c2 l2 q2 f0 f1 f2 h hc hl hq)
+
+-- the same, where the other row is over the same field
+pub row_of_sum : (o r : Order) (k : ℕ) (c l q c' l' q' : Plane) (after self other : RowValue) →
+    after ≡ row_with_multiple (row_of_planes o c l q) k (row_of_planes o c' l' q') →
+    row_of_planes o c l q ≡ self → row_of_planes r c' l' q' ≡ other → other.order ≡ self.order →
+    after ≡ row_with_multiple self k other
+row_of_sum o r k c l q c' l' q' after self other e self_is other_is orders =
+    e ∙ ap (λ (s : RowValue). row_with_multiple s k (row_of_planes o c' l' q')) self_is
+    ∙ ap (λ (t : RowValue). row_with_multiple self k t) (ap (λ w. row_of_planes w c' l' q') (sym same) ∙ other_is)
+  where
+    same : r ≡ o
+    same = ap (λ (x : RowValue). x.order) other_is ∙ orders ∙ sym (ap (λ (x : RowValue). x.order) self_is)

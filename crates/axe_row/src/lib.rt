@@ -34,7 +34,7 @@ pub use axe_plane::BitPlane;
 use axe_plane::Plane;
 pub use combos::{Combos, most_combined};
 use higher::Higher;
-use planes::{add_multiples, digits_in_plane, element, plane_of, quadratic_at};
+use planes::{add_planes, digits_in_plane, element, plane_of, quadratic_at};
 pub use refusals::Refusal;
 use scaling::exponent;
 use std::alloc::{AllocError, Global};
@@ -372,25 +372,18 @@ impl Row {
                 .add_scaled_from(start, scalar, &other.constant);
             return;
         };
-        let (c, l, q) = (&other.constant, &others.linear, &others.quadratic);
-        let m = self.field.plane_matrix(scalar);
-        add_multiples(
-            &mut self.constant,
-            start,
-            [m[0][0], m[1][0], m[2][0]],
-            c,
-            l,
-            q,
-        );
         let Some(higher) = &mut self.higher else {
             return;
         };
-        let Higher { linear, quadratic } = &mut **higher;
-        add_multiples(linear, start, [m[0][1], m[1][1], m[2][1]], c, l, q);
-        // Over a field of degree 2 no coefficient of x^2 is left to be added to.
-        if self.field.degree() == 2 {
-            return;
-        }
-        add_multiples(quadratic, start, [m[0][2], m[1][2], m[2][2]], c, l, q);
+        let (field, constant) = (&self.field, &mut self.constant);
+        add_planes(
+            field,
+            start,
+            scalar,
+            constant,
+            higher,
+            &other.constant,
+            others,
+        );
     }
 }

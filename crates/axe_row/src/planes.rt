@@ -1,14 +1,17 @@
 //! The planes of a row: the coefficients of 1, of x and of x^2 of its entries.
 ghost use Rattle.std.specs.Prelude.{◌≡◌, ◌≢◌, ◌<◌, ◌≤◌, IfOk, cond, length, ltb, slice_index};
-ghost use Rattle.axe_field.specs.Order.{prime_of, degree_of};
+ghost use Rattle.axe_field.specs.Order.{prime_of, degree_of, IsElement};
 ghost use Rattle.axe_field.specs.Planes.{IsCoefficient, element_of};
 ghost use Rattle.axe_lane.specs.Entries.{AreZerosBefore};
 ghost use Rattle.axe_lane.specs.Bytes.{AreDigits};
 ghost use Rattle.axe_layer.specs.Digits.{digits_with_multiple};
 ghost use Rattle.axe_plane.specs.Planes.{prime_of_plane, digits_of, IsPlane};
 ghost use Rattle.axe_row.specs.Planes.{AreAddable, HaveZerosBefore, IsAddable, ReachWhereNonzero};
-ghost use Rattle.axe_row.specs.Planes.{coefficients_at, digits_with_multiples};
+ghost use Rattle.axe_row.specs.MadePlanes.{row_of_planes};
+ghost use Rattle.axe_row.specs.Operations.{row_with_multiple};
+ghost use Rattle.axe_row.specs.Planes.{coefficients_at, digits_with_multiples, ArePlanes};
 
+use crate::higher::Higher;
 use axe_field::Field;
 use axe_plane::Plane;
 use std::alloc::{AllocError, Global};
@@ -65,9 +68,59 @@ pub(crate) fn element(field: &Field, constant: u8, linear: u8, quadratic: u8) ->
     constant + prime * high
 }
 
+/// Adds a multiple of the planes of a row over a field that is not prime, whose digits before an index are 0, to the
+/// planes of another.
+pub(crate) fn add_planes(
+    field: &Field,
+    start: usize,
+    scalar: u8,
+    constant: &mut Plane,
+    higher: &mut Higher,
+    other: &Plane,
+    others: &Higher,
+)
+    requires planes { ArePlanes field.now (length (digits_of constant.old)) constant.old higher.old.linear
+        higher.old.quadratic }
+    requires others { ArePlanes field.now (length (digits_of constant.old)) other.now others.now.linear
+        others.now.quadratic }
+    requires within { start ≤ length (digits_of constant.old) }
+    requires element { IsElement field.now scalar }
+    requires zeros { HaveZerosBefore start other.now others.now.linear others.now.quadratic }
+    ensures planes { ArePlanes field.now (length (digits_of constant.old)) constant.new higher.new.linear
+        higher.new.quadratic }
+    ensures sum { row_of_planes field.now constant.new higher.new.linear higher.new.quadratic
+        ≡ row_with_multiple (row_of_planes field.now constant.old higher.old.linear higher.old.quadratic) scalar
+        (row_of_planes field.now other.now others.now.linear others.now.quadratic) }
+{
+    let m = field.plane_matrix(scalar);
+    let (l, q) = (&others.linear, &others.quadratic);
+    add_multiples(constant, start, [m[0][0], m[1][0], m[2][0]], other, l, q);
+    add_multiples(
+        &mut higher.linear,
+        start,
+        [m[0][1], m[1][1], m[2][1]],
+        other,
+        l,
+        q,
+    );
+    // Over a field of degree 2 no coefficient of x^2 is left to be added to.
+    let without_squares = field.degree() == 2;
+    if without_squares {
+        return;
+    }
+    add_multiples(
+        &mut higher.quadratic,
+        start,
+        [m[0][2], m[1][2], m[2][2]],
+        other,
+        l,
+        q,
+    );
+}
+
 /// Adds multiples of three planes, whose digits before an index are 0, to one.
 #[inline]
-pub(crate) fn add_multiples(
+fn add_multiples(
     plane: &mut Plane,
     start: usize,
     factors: [u8; 3],
