@@ -17,7 +17,7 @@ use Rattle.axe_layer.proofs.DigitLaws.{AreDigits-sum, length-digits_with_multipl
 use Rattle.axe_plane.proofs.PlaneLaws.{prime_of_plane-positive}
 use Rattle.axe_row.specs.MadePlanes.{row_of_planes}
 use Rattle.axe_row.specs.Operations.{sum_with_multiple, row_with_multiple}
-use Rattle.axe_row.specs.Planes.{ArePlanes, IsAddable, AreAddable, ReachWhereNonzero, digits_with_multiples}
+use Rattle.axe_row.specs.Planes.{column, ArePlanes, IsAddable, AreAddable, ReachWhereNonzero, digits_with_multiples}
 use Rattle.axe_row.specs.Rows.{RowValue}
 use Rattle.axe_row.proofs.OperationLaws.{length-sum_with_multiple, get_or-row_with_multiple}
 use Rattle.axe_row.proofs.RowPlanes.{entries_of, length-entries, entries-at, element_at, prime-positive, constant_is_there, along_order, element_along}
@@ -327,10 +327,6 @@ row_after o r k c l q c' l' q' after self other self_is other_is same e =
     ∙ ap (λ (s : RowValue). record { order = s.order; entries = sum_with_multiple (number_field s.order) s.entries k (entries_of o c' l' q') }) self_is
     ∙ ap (λ (x : List ℕ). record { order = self.order; entries = sum_with_multiple (number_field self.order) self.entries k x })
     (ap (λ w. entries_of w c' l' q') (sym same) ∙ ap (λ (t : RowValue). t.entries) other_is)
-
--- the column j of a matrix of three rows
-abbrev pub column : List (List ℕ) → ℕ → List ℕ
-column m j = entry m 0 j ∷ entry m 1 j ∷ entry m 2 j ∷ []
 
 column_is : (o : Order) (k j : ℕ) (m : List (List ℕ)) → m ≡ matrix_of_multiplication o k → IsColumn o k j (column m j)
 column_is o k j m em = record {

@@ -1,6 +1,6 @@
 -- What a row keeps: the planes of the coefficients of 1, x and x^2 of its entries.
-use Rattle.std.specs.Prelude.{◌≢◌, ◌≡◌, ℕ, ◌<◌, ◌≤◌, List, [], length, map, slice_index, cond, ltb}
-use Rattle.axe_algebra.specs.Lists.{listed}
+use Rattle.std.specs.Prelude.{◌≢◌, ◌≡◌, ℕ, ◌<◌, ◌≤◌, List, [], ◌∷◌, length, map, slice_index, cond, ltb}
+use Rattle.axe_algebra.specs.Lists.{entry, listed}
 use Rattle.axe_field.specs.Order.{Order, prime_of, degree_of}
 use Rattle.axe_field.specs.Planes.{coefficient, element_of}
 use Rattle.axe_lane.specs.Entries.{AreZerosBefore}
@@ -59,3 +59,7 @@ pub record AreRotated (degree : ℕ) (c l q c' l' q' : Plane) : Type 0 where
   pub linear : l' ≡ c
   pub by_three : degree ≡ 3 → (c' ≡ q) × (q' ≡ l)
   pub by_two : degree ≢ 3 → (c' ≡ l) × (q' ≡ q)
+
+-- the column j of a matrix of three rows
+abbrev pub column : List (List ℕ) → ℕ → List ℕ
+column m j = entry m 0 j ∷ entry m 1 j ∷ entry m 2 j ∷ []

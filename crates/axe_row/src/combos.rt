@@ -274,25 +274,7 @@ impl Row {
         let Some(higher) = &mut self.higher else {
             return;
         };
-        let Higher { linear, quadratic } = &mut **higher;
-        let to_linear = [m[0][1], m[1][1], m[2][1]];
-        add_entries(
-            linear,
-            to_linear,
-            index,
-            &table.constant,
-            &table.linear,
-            &table.quadratic,
-        );
-        let to_quadratic = [m[0][2], m[1][2], m[2][2]];
-        add_entries(
-            quadratic,
-            to_quadratic,
-            index,
-            &table.constant,
-            &table.linear,
-            &table.quadratic,
-        );
+        higher.add_entries(&m, index, &table.constant, &table.linear, &table.quadratic);
     }
 }
 
@@ -327,7 +309,7 @@ fn put_multiples(
 }
 
 /// Adds multiples of an entry of each of three tables of planes to a plane.
-fn add_entries(
+pub(crate) fn add_entries(
     plane: &mut Plane,
     factors: [u8; 3],
     index: usize,

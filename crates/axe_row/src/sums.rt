@@ -6,7 +6,6 @@ ghost use Rattle.axe_row.specs.Combinations.{row_with_four};
 ghost use Rattle.axe_row.specs.Rows.{IsRow};
 
 use crate::Row;
-use crate::higher::Higher;
 
 impl Row {
     /// Adds four other rows over the same field and of the same length: in one pass, except over the fields of order 3
@@ -29,8 +28,6 @@ impl Row {
         else {
             return;
         };
-        let Higher { linear, quadratic } = &mut **higher;
-        linear.add_four(&a.linear, &b.linear, &c.linear, &d.linear);
-        quadratic.add_four(&a.quadratic, &b.quadratic, &c.quadratic, &d.quadratic);
+        higher.add_four(a, b, c, d);
     }
 }

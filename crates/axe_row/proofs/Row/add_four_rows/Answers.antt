@@ -27,48 +27,48 @@ add_four-requires-clause-d c =
     constant_added_to (row_of c.self.invariant.planes c.self.view_is) (row_added_to (row_of c.self.invariant.planes c.self.view_is) c.d.invariant.planes c.d.view_is c.requires.d)
 
 pub add_four-requires-2-clause-a : goal.add_four-requires-2-clause-a
-add_four-requires-2-clause-a c =
-    linear_added_to (row_of (kept_planes _ _ _ _ c.self.invariant _ _ _ c.in-Some.is c.deref_mut.ensures.value c.deref_mut.ensures.value) (kept_view _ c.self.inside.constant _ _ _ _ _ c.self.view_is c.in-Some.is c.deref_mut.ensures.value c.deref_mut.ensures.value)) (row_added_to (row_of (kept_planes _ _ _ _ c.self.invariant _ _ _ c.in-Some.is c.deref_mut.ensures.value c.deref_mut.ensures.value) (kept_view _ c.self.inside.constant _ _ _ _ _ c.self.view_is c.in-Some.is c.deref_mut.ensures.value c.deref_mut.ensures.value)) (kept_planes _ _ _ _ c.a.invariant _ _ _ c.in-Some-Some-Some-Some.is-0 c.deref.ensures c.deref.ensures) (kept_view _ c.a.inside.constant _ _ _ _ _ c.a.view_is c.in-Some-Some-Some-Some.is-0 c.deref.ensures c.deref.ensures) c.requires.a)
+add_four-requires-2-clause-a c = record {
+  linear =
+      linear_added_to (row_of (kept_planes _ _ _ _ c.self.invariant _ _ _ c.in-Some.is c.deref_mut.ensures.value c.deref_mut.ensures.value) (kept_view _ c.self.inside.constant _ _ _ _ _ c.self.view_is c.in-Some.is c.deref_mut.ensures.value c.deref_mut.ensures.value)) (row_added_to (row_of (kept_planes _ _ _ _ c.self.invariant _ _ _ c.in-Some.is c.deref_mut.ensures.value c.deref_mut.ensures.value) (kept_view _ c.self.inside.constant _ _ _ _ _ c.self.view_is c.in-Some.is c.deref_mut.ensures.value c.deref_mut.ensures.value)) (kept_planes _ _ _ _ c.a.invariant _ _ _ c.in-Some-Some-Some-Some.is-0 c.deref.ensures c.deref.ensures) (kept_view _ c.a.inside.constant _ _ _ _ _ c.a.view_is c.in-Some-Some-Some-Some.is-0 c.deref.ensures c.deref.ensures) c.requires.a);
+  quadratic =
+      quadratic_added_to (row_of (kept_planes _ _ _ _ c.self.invariant _ _ _ c.in-Some.is c.deref_mut.ensures.value c.deref_mut.ensures.value) (kept_view _ c.self.inside.constant _ _ _ _ _ c.self.view_is c.in-Some.is c.deref_mut.ensures.value c.deref_mut.ensures.value)) (row_added_to (row_of (kept_planes _ _ _ _ c.self.invariant _ _ _ c.in-Some.is c.deref_mut.ensures.value c.deref_mut.ensures.value) (kept_view _ c.self.inside.constant _ _ _ _ _ c.self.view_is c.in-Some.is c.deref_mut.ensures.value c.deref_mut.ensures.value)) (kept_planes _ _ _ _ c.a.invariant _ _ _ c.in-Some-Some-Some-Some.is-0 c.deref.ensures c.deref.ensures) (kept_view _ c.a.inside.constant _ _ _ _ _ c.a.view_is c.in-Some-Some-Some-Some.is-0 c.deref.ensures c.deref.ensures) c.requires.a);
+}
 
 pub add_four-requires-2-clause-b : goal.add_four-requires-2-clause-b
-add_four-requires-2-clause-b c =
-    linear_added_to (row_of (kept_planes _ _ _ _ c.self.invariant _ _ _ c.in-Some.is c.deref_mut.ensures.value c.deref_mut.ensures.value) (kept_view _ c.self.inside.constant _ _ _ _ _ c.self.view_is c.in-Some.is c.deref_mut.ensures.value c.deref_mut.ensures.value)) (row_added_to (row_of (kept_planes _ _ _ _ c.self.invariant _ _ _ c.in-Some.is c.deref_mut.ensures.value c.deref_mut.ensures.value) (kept_view _ c.self.inside.constant _ _ _ _ _ c.self.view_is c.in-Some.is c.deref_mut.ensures.value c.deref_mut.ensures.value)) (kept_planes _ _ _ _ c.b.invariant _ _ _ c.in-Some-Some-Some-Some.is-1 c.deref-2.ensures c.deref-2.ensures) (kept_view _ c.b.inside.constant _ _ _ _ _ c.b.view_is c.in-Some-Some-Some-Some.is-1 c.deref-2.ensures c.deref-2.ensures) c.requires.b)
+add_four-requires-2-clause-b c = record {
+  linear =
+      linear_added_to (row_of (kept_planes _ _ _ _ c.self.invariant _ _ _ c.in-Some.is c.deref_mut.ensures.value c.deref_mut.ensures.value) (kept_view _ c.self.inside.constant _ _ _ _ _ c.self.view_is c.in-Some.is c.deref_mut.ensures.value c.deref_mut.ensures.value)) (row_added_to (row_of (kept_planes _ _ _ _ c.self.invariant _ _ _ c.in-Some.is c.deref_mut.ensures.value c.deref_mut.ensures.value) (kept_view _ c.self.inside.constant _ _ _ _ _ c.self.view_is c.in-Some.is c.deref_mut.ensures.value c.deref_mut.ensures.value)) (kept_planes _ _ _ _ c.b.invariant _ _ _ c.in-Some-Some-Some-Some.is-1 c.deref-2.ensures c.deref-2.ensures) (kept_view _ c.b.inside.constant _ _ _ _ _ c.b.view_is c.in-Some-Some-Some-Some.is-1 c.deref-2.ensures c.deref-2.ensures) c.requires.b);
+  quadratic =
+      quadratic_added_to (row_of (kept_planes _ _ _ _ c.self.invariant _ _ _ c.in-Some.is c.deref_mut.ensures.value c.deref_mut.ensures.value) (kept_view _ c.self.inside.constant _ _ _ _ _ c.self.view_is c.in-Some.is c.deref_mut.ensures.value c.deref_mut.ensures.value)) (row_added_to (row_of (kept_planes _ _ _ _ c.self.invariant _ _ _ c.in-Some.is c.deref_mut.ensures.value c.deref_mut.ensures.value) (kept_view _ c.self.inside.constant _ _ _ _ _ c.self.view_is c.in-Some.is c.deref_mut.ensures.value c.deref_mut.ensures.value)) (kept_planes _ _ _ _ c.b.invariant _ _ _ c.in-Some-Some-Some-Some.is-1 c.deref-2.ensures c.deref-2.ensures) (kept_view _ c.b.inside.constant _ _ _ _ _ c.b.view_is c.in-Some-Some-Some-Some.is-1 c.deref-2.ensures c.deref-2.ensures) c.requires.b);
+}
 
 pub add_four-requires-2-clause-c : goal.add_four-requires-2-clause-c
-add_four-requires-2-clause-c c =
-    linear_added_to (row_of (kept_planes _ _ _ _ c.self.invariant _ _ _ c.in-Some.is c.deref_mut.ensures.value c.deref_mut.ensures.value) (kept_view _ c.self.inside.constant _ _ _ _ _ c.self.view_is c.in-Some.is c.deref_mut.ensures.value c.deref_mut.ensures.value)) (row_added_to (row_of (kept_planes _ _ _ _ c.self.invariant _ _ _ c.in-Some.is c.deref_mut.ensures.value c.deref_mut.ensures.value) (kept_view _ c.self.inside.constant _ _ _ _ _ c.self.view_is c.in-Some.is c.deref_mut.ensures.value c.deref_mut.ensures.value)) (kept_planes _ _ _ _ c.c.invariant _ _ _ c.in-Some-Some-Some-Some.is-2 c.deref-3.ensures c.deref-3.ensures) (kept_view _ c.c.inside.constant _ _ _ _ _ c.c.view_is c.in-Some-Some-Some-Some.is-2 c.deref-3.ensures c.deref-3.ensures) c.requires.c)
+add_four-requires-2-clause-c c = record {
+  linear =
+      linear_added_to (row_of (kept_planes _ _ _ _ c.self.invariant _ _ _ c.in-Some.is c.deref_mut.ensures.value c.deref_mut.ensures.value) (kept_view _ c.self.inside.constant _ _ _ _ _ c.self.view_is c.in-Some.is c.deref_mut.ensures.value c.deref_mut.ensures.value)) (row_added_to (row_of (kept_planes _ _ _ _ c.self.invariant _ _ _ c.in-Some.is c.deref_mut.ensures.value c.deref_mut.ensures.value) (kept_view _ c.self.inside.constant _ _ _ _ _ c.self.view_is c.in-Some.is c.deref_mut.ensures.value c.deref_mut.ensures.value)) (kept_planes _ _ _ _ c.c.invariant _ _ _ c.in-Some-Some-Some-Some.is-2 c.deref-3.ensures c.deref-3.ensures) (kept_view _ c.c.inside.constant _ _ _ _ _ c.c.view_is c.in-Some-Some-Some-Some.is-2 c.deref-3.ensures c.deref-3.ensures) c.requires.c);
+  quadratic =
+      quadratic_added_to (row_of (kept_planes _ _ _ _ c.self.invariant _ _ _ c.in-Some.is c.deref_mut.ensures.value c.deref_mut.ensures.value) (kept_view _ c.self.inside.constant _ _ _ _ _ c.self.view_is c.in-Some.is c.deref_mut.ensures.value c.deref_mut.ensures.value)) (row_added_to (row_of (kept_planes _ _ _ _ c.self.invariant _ _ _ c.in-Some.is c.deref_mut.ensures.value c.deref_mut.ensures.value) (kept_view _ c.self.inside.constant _ _ _ _ _ c.self.view_is c.in-Some.is c.deref_mut.ensures.value c.deref_mut.ensures.value)) (kept_planes _ _ _ _ c.c.invariant _ _ _ c.in-Some-Some-Some-Some.is-2 c.deref-3.ensures c.deref-3.ensures) (kept_view _ c.c.inside.constant _ _ _ _ _ c.c.view_is c.in-Some-Some-Some-Some.is-2 c.deref-3.ensures c.deref-3.ensures) c.requires.c);
+}
 
 pub add_four-requires-2-clause-d : goal.add_four-requires-2-clause-d
-add_four-requires-2-clause-d c =
-    linear_added_to (row_of (kept_planes _ _ _ _ c.self.invariant _ _ _ c.in-Some.is c.deref_mut.ensures.value c.deref_mut.ensures.value) (kept_view _ c.self.inside.constant _ _ _ _ _ c.self.view_is c.in-Some.is c.deref_mut.ensures.value c.deref_mut.ensures.value)) (row_added_to (row_of (kept_planes _ _ _ _ c.self.invariant _ _ _ c.in-Some.is c.deref_mut.ensures.value c.deref_mut.ensures.value) (kept_view _ c.self.inside.constant _ _ _ _ _ c.self.view_is c.in-Some.is c.deref_mut.ensures.value c.deref_mut.ensures.value)) (kept_planes _ _ _ _ c.d.invariant _ _ _ c.in-Some-Some-Some-Some.is-3 c.deref-4.ensures c.deref-4.ensures) (kept_view _ c.d.inside.constant _ _ _ _ _ c.d.view_is c.in-Some-Some-Some-Some.is-3 c.deref-4.ensures c.deref-4.ensures) c.requires.d)
-
-pub add_four-requires-3-clause-a : goal.add_four-requires-3-clause-a
-add_four-requires-3-clause-a c =
-    quadratic_added_to (row_of (kept_planes _ _ _ _ c.self.invariant _ _ _ c.in-Some.is c.deref_mut.ensures.value c.deref_mut.ensures.value) (kept_view _ c.self.inside.constant _ _ _ _ _ c.self.view_is c.in-Some.is c.deref_mut.ensures.value c.deref_mut.ensures.value)) (row_added_to (row_of (kept_planes _ _ _ _ c.self.invariant _ _ _ c.in-Some.is c.deref_mut.ensures.value c.deref_mut.ensures.value) (kept_view _ c.self.inside.constant _ _ _ _ _ c.self.view_is c.in-Some.is c.deref_mut.ensures.value c.deref_mut.ensures.value)) (kept_planes _ _ _ _ c.a.invariant _ _ _ c.in-Some-Some-Some-Some.is-0 c.deref.ensures c.deref-5.ensures) (kept_view _ c.a.inside.constant _ _ _ _ _ c.a.view_is c.in-Some-Some-Some-Some.is-0 c.deref.ensures c.deref-5.ensures) c.requires.a)
-
-pub add_four-requires-3-clause-b : goal.add_four-requires-3-clause-b
-add_four-requires-3-clause-b c =
-    quadratic_added_to (row_of (kept_planes _ _ _ _ c.self.invariant _ _ _ c.in-Some.is c.deref_mut.ensures.value c.deref_mut.ensures.value) (kept_view _ c.self.inside.constant _ _ _ _ _ c.self.view_is c.in-Some.is c.deref_mut.ensures.value c.deref_mut.ensures.value)) (row_added_to (row_of (kept_planes _ _ _ _ c.self.invariant _ _ _ c.in-Some.is c.deref_mut.ensures.value c.deref_mut.ensures.value) (kept_view _ c.self.inside.constant _ _ _ _ _ c.self.view_is c.in-Some.is c.deref_mut.ensures.value c.deref_mut.ensures.value)) (kept_planes _ _ _ _ c.b.invariant _ _ _ c.in-Some-Some-Some-Some.is-1 c.deref-2.ensures c.deref-6.ensures) (kept_view _ c.b.inside.constant _ _ _ _ _ c.b.view_is c.in-Some-Some-Some-Some.is-1 c.deref-2.ensures c.deref-6.ensures) c.requires.b)
-
-pub add_four-requires-3-clause-c : goal.add_four-requires-3-clause-c
-add_four-requires-3-clause-c c =
-    quadratic_added_to (row_of (kept_planes _ _ _ _ c.self.invariant _ _ _ c.in-Some.is c.deref_mut.ensures.value c.deref_mut.ensures.value) (kept_view _ c.self.inside.constant _ _ _ _ _ c.self.view_is c.in-Some.is c.deref_mut.ensures.value c.deref_mut.ensures.value)) (row_added_to (row_of (kept_planes _ _ _ _ c.self.invariant _ _ _ c.in-Some.is c.deref_mut.ensures.value c.deref_mut.ensures.value) (kept_view _ c.self.inside.constant _ _ _ _ _ c.self.view_is c.in-Some.is c.deref_mut.ensures.value c.deref_mut.ensures.value)) (kept_planes _ _ _ _ c.c.invariant _ _ _ c.in-Some-Some-Some-Some.is-2 c.deref-3.ensures c.deref-7.ensures) (kept_view _ c.c.inside.constant _ _ _ _ _ c.c.view_is c.in-Some-Some-Some-Some.is-2 c.deref-3.ensures c.deref-7.ensures) c.requires.c)
-
-pub add_four-requires-3-clause-d : goal.add_four-requires-3-clause-d
-add_four-requires-3-clause-d c =
-    quadratic_added_to (row_of (kept_planes _ _ _ _ c.self.invariant _ _ _ c.in-Some.is c.deref_mut.ensures.value c.deref_mut.ensures.value) (kept_view _ c.self.inside.constant _ _ _ _ _ c.self.view_is c.in-Some.is c.deref_mut.ensures.value c.deref_mut.ensures.value)) (row_added_to (row_of (kept_planes _ _ _ _ c.self.invariant _ _ _ c.in-Some.is c.deref_mut.ensures.value c.deref_mut.ensures.value) (kept_view _ c.self.inside.constant _ _ _ _ _ c.self.view_is c.in-Some.is c.deref_mut.ensures.value c.deref_mut.ensures.value)) (kept_planes _ _ _ _ c.d.invariant _ _ _ c.in-Some-Some-Some-Some.is-3 c.deref-4.ensures c.deref-8.ensures) (kept_view _ c.d.inside.constant _ _ _ _ _ c.d.view_is c.in-Some-Some-Some-Some.is-3 c.deref-4.ensures c.deref-8.ensures) c.requires.d)
+add_four-requires-2-clause-d c = record {
+  linear =
+      linear_added_to (row_of (kept_planes _ _ _ _ c.self.invariant _ _ _ c.in-Some.is c.deref_mut.ensures.value c.deref_mut.ensures.value) (kept_view _ c.self.inside.constant _ _ _ _ _ c.self.view_is c.in-Some.is c.deref_mut.ensures.value c.deref_mut.ensures.value)) (row_added_to (row_of (kept_planes _ _ _ _ c.self.invariant _ _ _ c.in-Some.is c.deref_mut.ensures.value c.deref_mut.ensures.value) (kept_view _ c.self.inside.constant _ _ _ _ _ c.self.view_is c.in-Some.is c.deref_mut.ensures.value c.deref_mut.ensures.value)) (kept_planes _ _ _ _ c.d.invariant _ _ _ c.in-Some-Some-Some-Some.is-3 c.deref-4.ensures c.deref-4.ensures) (kept_view _ c.d.inside.constant _ _ _ _ _ c.d.view_is c.in-Some-Some-Some-Some.is-3 c.deref-4.ensures c.deref-4.ensures) c.requires.d);
+  quadratic =
+      quadratic_added_to (row_of (kept_planes _ _ _ _ c.self.invariant _ _ _ c.in-Some.is c.deref_mut.ensures.value c.deref_mut.ensures.value) (kept_view _ c.self.inside.constant _ _ _ _ _ c.self.view_is c.in-Some.is c.deref_mut.ensures.value c.deref_mut.ensures.value)) (row_added_to (row_of (kept_planes _ _ _ _ c.self.invariant _ _ _ c.in-Some.is c.deref_mut.ensures.value c.deref_mut.ensures.value) (kept_view _ c.self.inside.constant _ _ _ _ _ c.self.view_is c.in-Some.is c.deref_mut.ensures.value c.deref_mut.ensures.value)) (kept_planes _ _ _ _ c.d.invariant _ _ _ c.in-Some-Some-Some-Some.is-3 c.deref-4.ensures c.deref-4.ensures) (kept_view _ c.d.inside.constant _ _ _ _ _ c.d.view_is c.in-Some-Some-Some-Some.is-3 c.deref-4.ensures c.deref-4.ensures) c.requires.d);
+}
 
 -- the row after, by all its planes
 by_planes : (c : goal.After-self-2-1) → IsRowOf c.self.inside.field (length (digits_of c.self.inside.constant))
-    c.add_four.new.self c.add_four-2.new.self c.add_four-3.new.self
+    c.add_four.new.self c.add_four-2.new.self.linear c.add_four-2.new.self.quadratic
     (row_with_four c.args.self.now c.args.a.now c.args.b.now c.args.c.now c.args.d.now)
 by_planes c =
     plus_four (row_of (kept_planes _ _ _ _ c.self.invariant _ _ _ c.in-Some.is c.deref_mut.ensures.value c.deref_mut.ensures.value) (kept_view _ c.self.inside.constant _ _ _ _ _ c.self.view_is c.in-Some.is c.deref_mut.ensures.value c.deref_mut.ensures.value))
-    (row_added_to (row_of (kept_planes _ _ _ _ c.self.invariant _ _ _ c.in-Some.is c.deref_mut.ensures.value c.deref_mut.ensures.value) (kept_view _ c.self.inside.constant _ _ _ _ _ c.self.view_is c.in-Some.is c.deref_mut.ensures.value c.deref_mut.ensures.value)) (kept_planes _ _ _ _ c.a.invariant _ _ _ c.in-Some-Some-Some-Some.is-0 c.deref.ensures c.deref-5.ensures) (kept_view _ c.a.inside.constant _ _ _ _ _ c.a.view_is c.in-Some-Some-Some-Some.is-0 c.deref.ensures c.deref-5.ensures) c.requires.a)
-    (row_added_to (row_of (kept_planes _ _ _ _ c.self.invariant _ _ _ c.in-Some.is c.deref_mut.ensures.value c.deref_mut.ensures.value) (kept_view _ c.self.inside.constant _ _ _ _ _ c.self.view_is c.in-Some.is c.deref_mut.ensures.value c.deref_mut.ensures.value)) (kept_planes _ _ _ _ c.b.invariant _ _ _ c.in-Some-Some-Some-Some.is-1 c.deref-2.ensures c.deref-6.ensures) (kept_view _ c.b.inside.constant _ _ _ _ _ c.b.view_is c.in-Some-Some-Some-Some.is-1 c.deref-2.ensures c.deref-6.ensures) c.requires.b)
-    (row_added_to (row_of (kept_planes _ _ _ _ c.self.invariant _ _ _ c.in-Some.is c.deref_mut.ensures.value c.deref_mut.ensures.value) (kept_view _ c.self.inside.constant _ _ _ _ _ c.self.view_is c.in-Some.is c.deref_mut.ensures.value c.deref_mut.ensures.value)) (kept_planes _ _ _ _ c.c.invariant _ _ _ c.in-Some-Some-Some-Some.is-2 c.deref-3.ensures c.deref-7.ensures) (kept_view _ c.c.inside.constant _ _ _ _ _ c.c.view_is c.in-Some-Some-Some-Some.is-2 c.deref-3.ensures c.deref-7.ensures) c.requires.c)
-    (row_added_to (row_of (kept_planes _ _ _ _ c.self.invariant _ _ _ c.in-Some.is c.deref_mut.ensures.value c.deref_mut.ensures.value) (kept_view _ c.self.inside.constant _ _ _ _ _ c.self.view_is c.in-Some.is c.deref_mut.ensures.value c.deref_mut.ensures.value)) (kept_planes _ _ _ _ c.d.invariant _ _ _ c.in-Some-Some-Some-Some.is-3 c.deref-4.ensures c.deref-8.ensures) (kept_view _ c.d.inside.constant _ _ _ _ _ c.d.view_is c.in-Some-Some-Some-Some.is-3 c.deref-4.ensures c.deref-8.ensures) c.requires.d)
-    c.add_four.ensures c.add_four-2.ensures c.add_four-3.ensures
+    (row_added_to (row_of (kept_planes _ _ _ _ c.self.invariant _ _ _ c.in-Some.is c.deref_mut.ensures.value c.deref_mut.ensures.value) (kept_view _ c.self.inside.constant _ _ _ _ _ c.self.view_is c.in-Some.is c.deref_mut.ensures.value c.deref_mut.ensures.value)) (kept_planes _ _ _ _ c.a.invariant _ _ _ c.in-Some-Some-Some-Some.is-0 c.deref.ensures c.deref.ensures) (kept_view _ c.a.inside.constant _ _ _ _ _ c.a.view_is c.in-Some-Some-Some-Some.is-0 c.deref.ensures c.deref.ensures) c.requires.a)
+    (row_added_to (row_of (kept_planes _ _ _ _ c.self.invariant _ _ _ c.in-Some.is c.deref_mut.ensures.value c.deref_mut.ensures.value) (kept_view _ c.self.inside.constant _ _ _ _ _ c.self.view_is c.in-Some.is c.deref_mut.ensures.value c.deref_mut.ensures.value)) (kept_planes _ _ _ _ c.b.invariant _ _ _ c.in-Some-Some-Some-Some.is-1 c.deref-2.ensures c.deref-2.ensures) (kept_view _ c.b.inside.constant _ _ _ _ _ c.b.view_is c.in-Some-Some-Some-Some.is-1 c.deref-2.ensures c.deref-2.ensures) c.requires.b)
+    (row_added_to (row_of (kept_planes _ _ _ _ c.self.invariant _ _ _ c.in-Some.is c.deref_mut.ensures.value c.deref_mut.ensures.value) (kept_view _ c.self.inside.constant _ _ _ _ _ c.self.view_is c.in-Some.is c.deref_mut.ensures.value c.deref_mut.ensures.value)) (kept_planes _ _ _ _ c.c.invariant _ _ _ c.in-Some-Some-Some-Some.is-2 c.deref-3.ensures c.deref-3.ensures) (kept_view _ c.c.inside.constant _ _ _ _ _ c.c.view_is c.in-Some-Some-Some-Some.is-2 c.deref-3.ensures c.deref-3.ensures) c.requires.c)
+    (row_added_to (row_of (kept_planes _ _ _ _ c.self.invariant _ _ _ c.in-Some.is c.deref_mut.ensures.value c.deref_mut.ensures.value) (kept_view _ c.self.inside.constant _ _ _ _ _ c.self.view_is c.in-Some.is c.deref_mut.ensures.value c.deref_mut.ensures.value)) (kept_planes _ _ _ _ c.d.invariant _ _ _ c.in-Some-Some-Some-Some.is-3 c.deref-4.ensures c.deref-4.ensures) (kept_view _ c.d.inside.constant _ _ _ _ _ c.d.view_is c.in-Some-Some-Some-Some.is-3 c.deref-4.ensures c.deref-4.ensures) c.requires.d)
+    c.add_four.ensures c.add_four-2.ensures.linear c.add_four-2.ensures.quadratic
 
 pub invariant_of-self-2 : goal.invariant_of-self-2
 invariant_of-self-2 c = record { planes = with_length _ _ _ _ _ (by_planes c).planes; needed = kept_not_prime _ _ _ _ c.self.invariant _ c.in-Some.is }

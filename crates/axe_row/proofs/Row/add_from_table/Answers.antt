@@ -34,26 +34,14 @@ pub add_entries-requires-2-clause-quadratic : goal.add_entries-requires-2-clause
 add_entries-requires-2-clause-quadratic c =
     (entries_for (row_of (kept_planes _ _ _ _ c.self.invariant _ _ _ c.in-Some.is c.deref_mut.ensures.value c.deref_mut.ensures.value) (kept_view _ c.self.inside.constant _ _ _ _ _ c.self.view_is c.in-Some.is c.deref_mut.ensures.value c.deref_mut.ensures.value)) c.table.invariant c.table.view_is c.requires.fits).quadratic
 
-pub add_entries-requires-2-clause-addable : goal.add_entries-requires-2-clause-addable
-add_entries-requires-2-clause-addable c =
+pub add_entries-requires-2-clause-to_linear : goal.add_entries-requires-2-clause-to_linear
+add_entries-requires-2-clause-to_linear c =
     addable_linear _ _ _ _ _ _ _ _ _ _ _ _
     (row_summands (row_of (kept_planes _ _ _ _ c.self.invariant _ _ _ c.in-Some.is c.deref_mut.ensures.value c.deref_mut.ensures.value) (kept_view _ c.self.inside.constant _ _ _ _ _ c.self.view_is c.in-Some.is c.deref_mut.ensures.value c.deref_mut.ensures.value)) (entries_for (row_of (kept_planes _ _ _ _ c.self.invariant _ _ _ c.in-Some.is c.deref_mut.ensures.value c.deref_mut.ensures.value) (kept_view _ c.self.inside.constant _ _ _ _ _ c.self.view_is c.in-Some.is c.deref_mut.ensures.value c.deref_mut.ensures.value)) c.table.invariant c.table.view_is c.requires.fits).is_row
     c.requires.element c.plane_matrix-m.ensures.value)
 
-pub add_entries-requires-3-clause-constant : goal.add_entries-requires-3-clause-constant
-add_entries-requires-3-clause-constant c =
-    (entries_for (row_of (kept_planes _ _ _ _ c.self.invariant _ _ _ c.in-Some.is c.deref_mut.ensures.value c.deref_mut.ensures.value) (kept_view _ c.self.inside.constant _ _ _ _ _ c.self.view_is c.in-Some.is c.deref_mut.ensures.value c.deref_mut.ensures.value)) c.table.invariant c.table.view_is c.requires.fits).constant
-
-pub add_entries-requires-3-clause-linear : goal.add_entries-requires-3-clause-linear
-add_entries-requires-3-clause-linear c =
-    (entries_for (row_of (kept_planes _ _ _ _ c.self.invariant _ _ _ c.in-Some.is c.deref_mut.ensures.value c.deref_mut.ensures.value) (kept_view _ c.self.inside.constant _ _ _ _ _ c.self.view_is c.in-Some.is c.deref_mut.ensures.value c.deref_mut.ensures.value)) c.table.invariant c.table.view_is c.requires.fits).linear
-
-pub add_entries-requires-3-clause-quadratic : goal.add_entries-requires-3-clause-quadratic
-add_entries-requires-3-clause-quadratic c =
-    (entries_for (row_of (kept_planes _ _ _ _ c.self.invariant _ _ _ c.in-Some.is c.deref_mut.ensures.value c.deref_mut.ensures.value) (kept_view _ c.self.inside.constant _ _ _ _ _ c.self.view_is c.in-Some.is c.deref_mut.ensures.value c.deref_mut.ensures.value)) c.table.invariant c.table.view_is c.requires.fits).quadratic
-
-pub add_entries-requires-3-clause-addable : goal.add_entries-requires-3-clause-addable
-add_entries-requires-3-clause-addable c =
+pub add_entries-requires-2-clause-to_quadratic : goal.add_entries-requires-2-clause-to_quadratic
+add_entries-requires-2-clause-to_quadratic c =
     addable_quadratic _ _ _ _ _ _ _ _ _ _ _ _
     (row_summands (row_of (kept_planes _ _ _ _ c.self.invariant _ _ _ c.in-Some.is c.deref_mut.ensures.value c.deref_mut.ensures.value) (kept_view _ c.self.inside.constant _ _ _ _ _ c.self.view_is c.in-Some.is c.deref_mut.ensures.value c.deref_mut.ensures.value)) (entries_for (row_of (kept_planes _ _ _ _ c.self.invariant _ _ _ c.in-Some.is c.deref_mut.ensures.value c.deref_mut.ensures.value) (kept_view _ c.self.inside.constant _ _ _ _ _ c.self.view_is c.in-Some.is c.deref_mut.ensures.value c.deref_mut.ensures.value)) c.table.invariant c.table.view_is c.requires.fits).is_row
     c.requires.element c.plane_matrix-m.ensures.value)
@@ -74,7 +62,7 @@ invariant_of-self-2 c = record {
       with_length _ _ _ _ _ (summed_planes _ _ _ _ _ _ _ _ _ _ _ _ _ _ _
       (row_summands (row_of (kept_planes _ _ _ _ c.self.invariant _ _ _ c.in-Some.is c.deref_mut.ensures.value c.deref_mut.ensures.value) (kept_view _ c.self.inside.constant _ _ _ _ _ c.self.view_is c.in-Some.is c.deref_mut.ensures.value c.deref_mut.ensures.value)) (entries_for (row_of (kept_planes _ _ _ _ c.self.invariant _ _ _ c.in-Some.is c.deref_mut.ensures.value c.deref_mut.ensures.value) (kept_view _ c.self.inside.constant _ _ _ _ _ c.self.view_is c.in-Some.is c.deref_mut.ensures.value c.deref_mut.ensures.value)) c.table.invariant c.table.view_is c.requires.fits).is_row
       c.requires.element c.plane_matrix-m.ensures.value)
-      c.add_entries.ensures c.add_entries-2.ensures c.add_entries-3.ensures);
+      c.add_entries.ensures c.add_entries-2.ensures.linear c.add_entries-2.ensures.quadratic);
   needed = kept_not_prime _ _ _ _ c.self.invariant _ c.in-Some.is;
 }
 
@@ -92,7 +80,7 @@ returns-clause-sum c =
     (summed_entries _ _ _ _ _ _ _ _ _ _ _ _ _ _ _
     (row_summands (row_of (kept_planes _ _ _ _ c.self.invariant _ _ _ c.in-Some.is c.deref_mut.ensures.value c.deref_mut.ensures.value) (kept_view _ c.self.inside.constant _ _ _ _ _ c.self.view_is c.in-Some.is c.deref_mut.ensures.value c.deref_mut.ensures.value)) (entries_for (row_of (kept_planes _ _ _ _ c.self.invariant _ _ _ c.in-Some.is c.deref_mut.ensures.value c.deref_mut.ensures.value) (kept_view _ c.self.inside.constant _ _ _ _ _ c.self.view_is c.in-Some.is c.deref_mut.ensures.value c.deref_mut.ensures.value)) c.table.invariant c.table.view_is c.requires.fits).is_row
     c.requires.element c.plane_matrix-m.ensures.value)
-    c.add_entries.ensures c.add_entries-2.ensures c.add_entries-3.ensures)
+    c.add_entries.ensures c.add_entries-2.ensures.linear c.add_entries-2.ensures.quadratic)
 
 pub returns-in_default-clause-well_formed : goal.returns-in_default-clause-well_formed
 returns-in_default-clause-well_formed c = IsRow-of_planes _ _ _ _ _ (invariant_of-self c).planes

@@ -8,7 +8,8 @@ use Rattle.axe_row.specs.HigherPlanes.{linear_of, quadratic_of}
 use Rattle.axe_row.proofs.KeptPlanes.{row_alone, kept_planes, kept_view, linear_is_empty, quadratic_is_empty, no_linear, no_quadratic, first_factor}
 use Rattle.axe_row.proofs.PrimeRows.{element_is_digit}
 use Rattle.axe_row.proofs.RowPlanes.{prime-positive}
-use Rattle.axe_row.proofs.PlaneSums.{column, addable_constant, addable_linear, addable_quadratic}
+use Rattle.axe_row.specs.Planes.{column}
+use Rattle.axe_row.proofs.PlaneSums.{addable_constant, addable_linear, addable_quadratic}
 use Rattle.axe_row.proofs.TablePlanes.{IsTableOfRows-of_planes, entry_within, digits_of-plane_at, sum_with_entry, put_alone, empty_put, put_rows, put_tables, table_summands, table_with_sum}
 use Rattle.axe_row.proofs.combos.Combos.put_sum.Goals as goal
 
