@@ -48,7 +48,8 @@ pub(crate) fn quadratic_at(field: &Field, quadratic: &Plane, index: usize) -> u8
     requires { degree_of field.now ≢ 3 → length (digits_of quadratic.now) ≡ 0 }
     ensures { result ≡ slice_index (digits_of quadratic.now) index }
 {
-    if field.degree() == 3 {
+    let with_squares = field.degree() == 3;
+    if with_squares {
         quadratic.digit(index)
     } else {
         0
@@ -151,7 +152,8 @@ fn add_multiple(plane: &mut Plane, start: usize, factor: u8, other: &Plane)
     ensures { IsPlane (prime_of_plane plane.old)
         (digits_with_multiple (prime_of_plane plane.old) (digits_of plane.old) factor (digits_of other.now)) plane.new }
 {
-    if factor != 0 {
+    let counts = factor != 0;
+    if counts {
         plane.add_scaled_from(start, factor, other);
     }
 }

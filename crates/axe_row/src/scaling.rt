@@ -37,7 +37,8 @@ fn rotate(degree: u8, constant: &mut Plane, linear: &mut Plane, quadratic: &mut 
     ensures { AreRotated degree constant.old linear.old quadratic.old constant.new linear.new quadratic.new }
 {
     mem::swap(constant, linear);
-    if degree == 3 {
+    let with_squares = degree == 3;
+    if with_squares {
         mem::swap(constant, quadratic);
     }
 }

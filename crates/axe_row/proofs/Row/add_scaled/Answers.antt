@@ -1,4 +1,4 @@
-use Rattle.std.proofs.Common.{length, ap, sym, ◌∙◌}
+use Rattle.std.proofs.Common.{rules, length, ap, sym, ◌∙◌}
 use Rattle.axe_row.specs.HigherPlanes.{linear_of, quadratic_of}
 use Rattle.axe_row.specs.Rows.{RowValue}
 use Rattle.axe_row.proofs.OperationLaws.{length-sum_with_multiple}
@@ -36,3 +36,24 @@ returns-then-degree-eq1-clause-well_formed c = IsRow-of_planes _ _ _ _ _ (invari
 
 pub returns-else-degree-eq1-clause-as_long : goal.returns-else-degree-eq1-clause-as_long
 returns-else-degree-eq1-clause-as_long c = ap (λ (r : RowValue). length r.entries) c.add_by_planes.ensures.sum ∙ length-sum_with_multiple _ _ _ _
+
+pub add_by_planes-requires-clause-within : goal.add_by_planes-requires-clause-within
+add_by_planes-requires-clause-within c = search rules
+
+pub add_by_planes-requires-clause-field : goal.add_by_planes-requires-clause-field
+add_by_planes-requires-clause-field c = search rules
+
+pub add_by_planes-requires-clause-fits : goal.add_by_planes-requires-clause-fits
+add_by_planes-requires-clause-fits c = search rules
+
+pub add_by_planes-requires-clause-element : goal.add_by_planes-requires-clause-element
+add_by_planes-requires-clause-element c = search rules
+
+pub add_by_planes-requires-clause-zeros : goal.add_by_planes-requires-clause-zeros
+add_by_planes-requires-clause-zeros c = search rules
+
+pub returns-else-degree-eq1-clause-sum : goal.returns-else-degree-eq1-clause-sum
+returns-else-degree-eq1-clause-sum c = search rules
+
+pub returns-else-degree-eq1-clause-well_formed : goal.returns-else-degree-eq1-clause-well_formed
+returns-else-degree-eq1-clause-well_formed c = search rules

@@ -47,3 +47,18 @@ returns-else-degree-eq1-clause-as_long c = ap (λ (r : RowValue). length r.entri
 
 pub returns-else-degree-eq1-clause-factor : goal.returns-else-degree-eq1-clause-factor
 returns-else-degree-eq1-clause-factor c = search rules
+
+pub cancel_by_planes-requires-clause-index : goal.cancel_by_planes-requires-clause-index
+cancel_by_planes-requires-clause-index c = search rules
+
+pub returns-then-degree-eq1-clause-element : goal.returns-then-degree-eq1-clause-element
+returns-then-degree-eq1-clause-element c = search rules
+
+pub returns-else-degree-eq1-clause-element : goal.returns-else-degree-eq1-clause-element
+returns-else-degree-eq1-clause-element c = search rules
+
+pub returns-else-degree-eq1-clause-sum : goal.returns-else-degree-eq1-clause-sum
+returns-else-degree-eq1-clause-sum c = search rules
+
+pub returns-else-degree-eq1-clause-well_formed : goal.returns-else-degree-eq1-clause-well_formed
+returns-else-degree-eq1-clause-well_formed c = search rules

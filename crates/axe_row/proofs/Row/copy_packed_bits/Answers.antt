@@ -1,4 +1,4 @@
-use Rattle.std.proofs.Common.{◌+◌, ◌/◌, get_or, length, sym, ap, ◌∙◌}
+use Rattle.std.proofs.Common.{rules, ◌+◌, ◌/◌, get_or, length, sym, ap, ◌∙◌}
 use Rattle.axe_plane.specs.Planes.{digits_of}
 use Rattle.axe_plane.specs.declared.Plane.{Plane}
 use Rattle.axe_row.specs.HigherPlanes.{linear_of, quadratic_of}
@@ -15,3 +15,6 @@ pub returns-in-Bits-clause-entries : goal.returns-in-Bits-clause-entries
 returns-in-Bits-clause-entries c = λ e.
     c.copy_packed.ensures.digits e ∙ sym (ap (λ (p : Plane). get_or (digits_of p) e 0) c.in-Bits.is)
     ∙ bit_is_entry _ c.self.inside.constant (linear_of c.self.inside.field c.self.inside.higher) (quadratic_of c.self.inside.field c.self.inside.higher) _ e c.self.invariant.planes c.self.view_is c.requires.even
+
+pub returns-in-Bits-clause-long : goal.returns-in-Bits-clause-long
+returns-in-Bits-clause-long c = search rules

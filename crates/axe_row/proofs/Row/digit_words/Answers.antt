@@ -1,4 +1,4 @@
-use Rattle.std.proofs.Common.{List, ℕ, ◌+◌, ◌*◌, get_or, ap, ◌∙◌}
+use Rattle.std.proofs.Common.{rules, List, ℕ, ◌+◌, ◌*◌, get_or, ap, ◌∙◌}
 use Rattle.axe_row.specs.HigherPlanes.{linear_of, quadratic_of}
 use Rattle.axe_row.proofs.KeptPlanes.{kept_planes, kept_view}
 use Rattle.axe_row.proofs.RowWords.{digits_are_coefficients, third_power}
@@ -29,3 +29,15 @@ returns-else-power-eq1 c = λ i low.
     ∙ ap (λ (x : List ℕ). get_or x (c.args.at * 64 + i) 0)
     (digits_are_coefficients _ _ c.self.inside.constant _ _ planes 2 c.args.power _ view_is
     (third_power c.args.self.now.order c.args.power c.requires.power c.if-power-eq0.false c.if-power-eq1.false))
+
+pub digit_words-requires : goal.digit_words-requires
+digit_words-requires c = search rules
+
+pub digit_words-requires-then-power-eq1 : goal.digit_words-requires-then-power-eq1
+digit_words-requires-then-power-eq1 c = search rules
+
+pub digit_words-requires-else-power-eq1 : goal.digit_words-requires-else-power-eq1
+digit_words-requires-else-power-eq1 c = search rules
+
+pub returns-in_default : goal.returns-in_default
+returns-in_default c = search rules

@@ -1,4 +1,4 @@
-use Rattle.std.proofs.Common.{sym, ap, ◌∙◌}
+use Rattle.std.proofs.Common.{rules, sym, ap, ◌∙◌}
 use Rattle.axe_field.specs.Order.{prime_of}
 use Rattle.axe_row.specs.HigherPlanes.{linear_of, quadratic_of}
 use Rattle.axe_row.proofs.KeptPlanes.{kept_planes, kept_view}
@@ -25,3 +25,30 @@ returns-clause-value c =
     ∙ row_dot _ _ _ _ _ c.self.inside.constant c.deref.result.now.linear c.deref-2.result.now.quadratic _ _ (kept_planes _ _ _ _ c.self.invariant _ _ _ c.in-Some.is c.deref.ensures c.deref-2.ensures) (kept_view _ c.self.inside.constant _ _ _ _ _ c.self.view_is c.in-Some.is c.deref.ensures c.deref-2.ensures)
     c.requires.degree c.requires.field c.field-field.ensures.well_formed (c.prime-x.ensures ∙ ap prime_of orders)
     c.dot_with_digits-constant.ensures.value c.dot_with_digits-linear.ensures.value c.dot_with_digits-quadratic.ensures.value
+
+pub mul-requires-clause-left : goal.mul-requires-clause-left
+mul-requires-clause-left c = search rules
+
+pub mul-requires-clause-right : goal.mul-requires-clause-right
+mul-requires-clause-right c = search rules
+
+pub add-high-requires-clause-left : goal.add-high-requires-clause-left
+add-high-requires-clause-left c = search rules
+
+pub add-high-requires-clause-right : goal.add-high-requires-clause-right
+add-high-requires-clause-right c = search rules
+
+pub mul-requires-2-clause-left : goal.mul-requires-2-clause-left
+mul-requires-2-clause-left c = search rules
+
+pub mul-requires-2-clause-right : goal.mul-requires-2-clause-right
+mul-requires-2-clause-right c = search rules
+
+pub add-requires-clause-left : goal.add-requires-clause-left
+add-requires-clause-left c = search rules
+
+pub add-requires-clause-right : goal.add-requires-clause-right
+add-requires-clause-right c = search rules
+
+pub returns-clause-element : goal.returns-clause-element
+returns-clause-element c = search rules

@@ -1,4 +1,5 @@
 use Rattle.std.proofs.Common.{◌<◌, List, ℕ, length, get_or, subst, sym, ap, ◌∙◌, arith}
+use Rattle.std.proofs.lemmas.Grind.{common_steps}
 use Rattle.axe_field.specs.Order.{IsElement}
 use Rattle.axe_field.specs.Planes.{element_of}
 use Rattle.axe_plane.specs.Planes.{digits_of}
@@ -38,3 +39,12 @@ returns-clause-well_formed c = subst IsRow c.self.view_is (IsRow-of_planes _ _ _
 pub returns-clause-element : goal.returns-clause-element
 returns-clause-element c =
     subst (IsElement c.args.self.now.order) (sym (returns-clause-entry c)) ((returns-clause-well_formed c).elements c.args.index 0 c.requires)
+
+pub element-requires-clause-constant : goal.element-requires-clause-constant
+element-requires-clause-constant c = grind (arith, common_steps)
+
+pub element-requires-clause-linear : goal.element-requires-clause-linear
+element-requires-clause-linear c = grind (arith, common_steps)
+
+pub element-requires-clause-quadratic : goal.element-requires-clause-quadratic
+element-requires-clause-quadratic c = grind (arith, common_steps)

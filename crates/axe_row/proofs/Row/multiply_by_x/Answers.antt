@@ -1,4 +1,4 @@
-use Rattle.std.proofs.Common.{◌∙◌, arith}
+use Rattle.std.proofs.Common.{rules, ◌∙◌, arith}
 use Rattle.axe_row.proofs.KeptPlanes.{alone_order, kept_planes, kept_view, kept_not_prime}
 use Rattle.axe_row.proofs.RowPlanes.{IsRow-of_planes, with_length}
 use Rattle.axe_row.proofs.MultiplesByX.{degree_along, turned, factor_is, middle_addable, last_addable, top_factor_is_digit, times_x_planes, times_x_entries, row_times_x}
@@ -72,3 +72,42 @@ returns-in_default-clause-multiple c = absurd (not_alone c)
 
 pub returns-in_default-clause-well_formed : goal.returns-in_default-clause-well_formed
 returns-in_default-clause-well_formed c = absurd (not_alone c)
+
+pub plane_matrix-matrix-requires : goal.plane_matrix-matrix-requires
+plane_matrix-matrix-requires c = search rules
+
+pub overflow_sub-factors : goal.overflow_sub-factors
+overflow_sub-factors c = search rules
+
+pub offset_bounds-matrix-from : goal.offset_bounds-matrix-from
+offset_bounds-matrix-from c = search rules
+
+pub bounds-matrix-from : goal.bounds-matrix-from
+bounds-matrix-from c = search rules
+
+pub invariant_of-self : goal.invariant_of-self
+invariant_of-self c = search rules
+
+pub bounds-factors-1 : goal.bounds-factors-1
+bounds-factors-1 c = search rules
+
+pub add_scaled-requires-clause-prime : goal.add_scaled-requires-clause-prime
+add_scaled-requires-clause-prime c = search rules
+
+pub add_scaled-requires-clause-fits : goal.add_scaled-requires-clause-fits
+add_scaled-requires-clause-fits c = search rules
+
+pub add_scaled-requires-clause-digits : goal.add_scaled-requires-clause-digits
+add_scaled-requires-clause-digits c = search rules
+
+pub bounds-factors-2 : goal.bounds-factors-2
+bounds-factors-2 c = search rules
+
+pub add_scaled-requires-2-clause-prime : goal.add_scaled-requires-2-clause-prime
+add_scaled-requires-2-clause-prime c = search rules
+
+pub add_scaled-requires-2-clause-digits : goal.add_scaled-requires-2-clause-digits
+add_scaled-requires-2-clause-digits c = search rules
+
+pub bounds-factors-0 : goal.bounds-factors-0
+bounds-factors-0 c = search rules

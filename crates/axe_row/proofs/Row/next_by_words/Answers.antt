@@ -1,4 +1,4 @@
-use Rattle.std.proofs.Common.{◌≡◌, ◌*◌, max, subst, sym, arith}
+use Rattle.std.proofs.Common.{rules, ◌≡◌, ◌*◌, max, subst, sym, arith}
 use Rattle.axe_layer.specs.Supports.{IsSupportWord}
 use Rattle.axe_layer.proofs.SupportLaws.{found_in_word, none_in_all, none_in_word, stands_in_word}
 use Rattle.axe_row.proofs.Row.next_by_words.Goals as goal
@@ -29,3 +29,12 @@ pub returns : goal.returns
 returns c =
     none_in_all c.args.self.now.entries c.args.start c.loop-at.at c.loop-at.invariant.none
     (omega (arith, c.len.ensures.count, c.div_ceil-at-end.ensures, c.loop-at-test.false))
+
+pub loop-at-init : goal.loop-at-init
+loop-at-init c = search rules
+
+pub next_in_word-requires : goal.next_in_word-requires
+next_in_word-requires c = search rules
+
+pub overflow_mul-at : goal.overflow_mul-at
+overflow_mul-at c = search rules

@@ -1,3 +1,4 @@
+use Rattle.std.proofs.Common.{rules}
 use Rattle.axe_row.proofs.MadePlanes.{were_made, not_made}
 use Rattle.axe_row.proofs.RowPlanes.{IsRow-of_planes}
 use Rattle.axe_row.proofs.Row.of_planes.Goals as goal
@@ -13,3 +14,6 @@ returns-clause-well_formed c = IsRow-of_planes _ _ _ _ _ (invariant_of-result c)
 
 pub returns-in_default-clause-entries : goal.returns-in_default-clause-entries
 returns-in_default-clause-entries c = not_made c.args.linear c.args.quadratic _
+
+pub returns-clause-entries : goal.returns-clause-entries
+returns-clause-entries c = search rules

@@ -1,4 +1,4 @@
-use Rattle.std.proofs.Common.{◌≡◌, ◌+◌, ◌<◌, ◌≤◌, length, get_or, ap, ◌∙◌, arith}
+use Rattle.std.proofs.Common.{rules, ◌≡◌, ◌+◌, ◌<◌, ◌≤◌, length, get_or, ap, ◌∙◌, arith}
 use Rattle.std.proofs.lemmas.Nat.{mul-add-lt}
 use Rattle.axe_layer.specs.Digits.{number_bound}
 use Rattle.axe_field.specs.Order.{order_number}
@@ -37,3 +37,15 @@ loop-index-preserved c =
     let small : c.from.result < order_number c.args.self.now.order =
     omega (arith, c.from.ensures, c.mul.ensures.element, ap order_number c.field-field.ensures.order) in
     IsNumberBelow-more _ _ _ _ _ _ _ c.loop-index.invariant c.loop-index.auto.index inside base digit small
+
+pub overflow_add-at : goal.overflow_add-at
+overflow_add-at c = search rules
+
+pub get-requires : goal.get-requires
+get-requires c = search rules
+
+pub mul-requires-clause-left : goal.mul-requires-clause-left
+mul-requires-clause-left c = search rules
+
+pub mul-requires-clause-right : goal.mul-requires-clause-right
+mul-requires-clause-right c = search rules

@@ -1,4 +1,4 @@
-use Rattle.std.proofs.Common.{length, ap, subst, sym, ◌∙◌}
+use Rattle.std.proofs.Common.{rules, length, ap, subst, sym, ◌∙◌}
 use Rattle.axe_row.specs.Rows.{RowValue, IsRow}
 use Rattle.axe_row.proofs.OperationLaws.{length-multiple}
 use Rattle.axe_row.proofs.RowPlanes.{IsRow-of_planes, with_length}
@@ -36,3 +36,15 @@ multiply_by_power-requires-clause-well_formed c = subst IsRow c.self.view_is (Is
 pub returns-else-scalar-eq0-clause-as_long : goal.returns-else-scalar-eq0-clause-as_long
 returns-else-scalar-eq0-clause-as_long c =
     ap (λ (r : RowValue). length r.entries) c.multiply_by_power.ensures.multiple ∙ length-multiple _ _ _
+
+pub returns-then-scalar-eq0-clause-multiple : goal.returns-then-scalar-eq0-clause-multiple
+returns-then-scalar-eq0-clause-multiple c = search rules
+
+pub returns-then-scalar-eq0-clause-well_formed : goal.returns-then-scalar-eq0-clause-well_formed
+returns-then-scalar-eq0-clause-well_formed c = search rules
+
+pub returns-else-scalar-eq0-clause-multiple : goal.returns-else-scalar-eq0-clause-multiple
+returns-else-scalar-eq0-clause-multiple c = search rules
+
+pub returns-else-scalar-eq0-clause-well_formed : goal.returns-else-scalar-eq0-clause-well_formed
+returns-else-scalar-eq0-clause-well_formed c = search rules

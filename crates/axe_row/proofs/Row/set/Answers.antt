@@ -1,3 +1,4 @@
+use Rattle.std.proofs.Common.{rules}
 use Rattle.axe_row.proofs.RowPlanes.{IsRow-of_planes, with_length}
 use Rattle.axe_row.proofs.PrimeRows.{prime_planes_set, prime_row_set, scalar_is_digit}
 use Rattle.axe_row.proofs.Row.set.Goals as goal
@@ -24,3 +25,15 @@ returns-then-degree-eq1-clause-replaced c =
 
 pub returns-then-degree-eq1-clause-well_formed : goal.returns-then-degree-eq1-clause-well_formed
 returns-then-degree-eq1-clause-well_formed c = IsRow-of_planes _ _ _ _ _ (invariant_of-self c).planes
+
+pub set_by_planes-requires-clause-index : goal.set_by_planes-requires-clause-index
+set_by_planes-requires-clause-index c = search rules
+
+pub set_by_planes-requires-clause-element : goal.set_by_planes-requires-clause-element
+set_by_planes-requires-clause-element c = search rules
+
+pub returns-else-degree-eq1-clause-replaced : goal.returns-else-degree-eq1-clause-replaced
+returns-else-degree-eq1-clause-replaced c = search rules
+
+pub returns-else-degree-eq1-clause-well_formed : goal.returns-else-degree-eq1-clause-well_formed
+returns-else-degree-eq1-clause-well_formed c = search rules

@@ -1,4 +1,4 @@
-use Rattle.std.proofs.Common.{arith}
+use Rattle.std.proofs.Common.{rules, arith}
 use Rattle.axe_row.specs.HigherPlanes.{linear_of, quadratic_of}
 use Rattle.axe_row.proofs.KeptPlanes.{alone_order, kept_planes, kept_view, kept_not_prime}
 use Rattle.axe_row.proofs.RowPlanes.{IsRow-of_planes, with_length}
@@ -67,3 +67,12 @@ returns-in_default-clause-written c = absurd (not_alone c)
 
 pub returns-in_default-clause-well_formed : goal.returns-in_default-clause-well_formed
 returns-in_default-clause-well_formed c = absurd (not_alone c)
+
+pub set_digit_words-requires-clause-prime : goal.set_digit_words-requires-clause-prime
+set_digit_words-requires-clause-prime c = search rules
+
+pub set_digit_words-requires-clause-digits : goal.set_digit_words-requires-clause-digits
+set_digit_words-requires-clause-digits c = search rules
+
+pub invariant_of-self-in_default : goal.invariant_of-self-in_default
+invariant_of-self-in_default c = search rules

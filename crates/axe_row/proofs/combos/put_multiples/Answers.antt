@@ -1,4 +1,4 @@
-use Rattle.std.proofs.Common.{sym, ◌∙◌}
+use Rattle.std.proofs.Common.{rules, sym, ◌∙◌}
 use Rattle.axe_layer.proofs.DigitLaws.{length-digits_with_multiple, AreDigits-sum}
 use Rattle.axe_plane.proofs.TableLaws.{prime_of_table-positive, written_fits, written_digits, written_more}
 use Rattle.axe_row.specs.Planes.{digits_with_multiples}
@@ -34,3 +34,15 @@ returns c =
     let one = sum_with_entry _ _ _ _ _ _ c.put_sum.ensures in
     let two = written_more _ _ _ _ _ _ _ _ c.requires.to one c.add_to_entry.ensures in
     written_more _ _ _ _ _ _ _ _ c.requires.to two c.add_to_entry-2.ensures
+
+pub put_sum-requires-clause-factor : goal.put_sum-requires-clause-factor
+put_sum-requires-clause-factor c = search rules
+
+pub put_sum-requires-clause-fits : goal.put_sum-requires-clause-fits
+put_sum-requires-clause-fits c = search rules
+
+pub add_to_entry-requires-clause-factor : goal.add_to_entry-requires-clause-factor
+add_to_entry-requires-clause-factor c = search rules
+
+pub add_to_entry-requires-2-clause-factor : goal.add_to_entry-requires-2-clause-factor
+add_to_entry-requires-2-clause-factor c = search rules

@@ -8,3 +8,12 @@ returns-clause-as_long c = ap (λ (r : RowValue). length r.entries) c.add_from_t
 
 pub returns-clause-sum : goal.returns-clause-sum
 returns-clause-sum c = search rules
+
+pub add_from_table-requires-clause-fits : goal.add_from_table-requires-clause-fits
+add_from_table-requires-clause-fits c = search rules
+
+pub add_from_table-requires-clause-element : goal.add_from_table-requires-clause-element
+add_from_table-requires-clause-element c = search rules
+
+pub returns-clause-well_formed : goal.returns-clause-well_formed
+returns-clause-well_formed c = search rules

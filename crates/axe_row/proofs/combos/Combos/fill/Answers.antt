@@ -1,4 +1,4 @@
-use Rattle.std.proofs.Common.{◌≡◌, ℕ, ◌+◌, ◌-◌, ◌*◌, ◌^◌, ◌<◌, ◌≤◌, List, length, sym, ap, subst, ◌∙◌, arith, add-one}
+use Rattle.std.proofs.Common.{rules, ◌≡◌, ℕ, ◌+◌, ◌-◌, ◌*◌, ◌^◌, ◌<◌, ◌≤◌, List, length, sym, ap, subst, ◌∙◌, arith, add-one}
 use Rattle.std.specs.List.{All}
 use native.Mathlib.Nat.{pow-zero, pow-suc}
 use Rattle.axe_algebra.proofs.Digits.{pow-positive}
@@ -60,3 +60,15 @@ loop-at-preserved c =
 pub returns-clause-combines : goal.returns-clause-combines
 returns-clause-combines c =
     subst (λ (b : List (List ℕ)). Combines b c.loop-at.self) (last_entries-all c.loop-at.at c.args.rows.now c.loop-at-test.false) c.loop-at.invariant.rows.combines
+
+pub add_multiples_of-requires-clause-field : goal.add_multiples_of-requires-clause-field
+add_multiples_of-requires-clause-field c = search rules
+
+pub add_multiples_of-requires-clause-fits : goal.add_multiples_of-requires-clause-fits
+add_multiples_of-requires-clause-fits c = search rules
+
+pub returns-clause-kind : goal.returns-clause-kind
+returns-clause-kind c = search rules
+
+pub returns-clause-well_formed : goal.returns-clause-well_formed
+returns-clause-well_formed c = search rules
