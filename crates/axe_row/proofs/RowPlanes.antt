@@ -83,6 +83,10 @@ pub quadratic_within : (o : Order) (n : ℕ) (c l q : Plane) (e : ℕ) → ArePl
 quadratic_within o n c l q e h =
     coefficient_within (ltb 2 (degree_of o)) (prime_of o) n (digits_of q) e h.quadratic.long (prime-positive o) h.quadratic.digits
 
+-- the digits of a plane are below its prime
+pub own_digits : {p n : ℕ} {plane : Plane} → IsPlaneOf p n plane → AreDigits (prime_of_plane plane) (digits_of plane)
+own_digits {p} {n} {plane} h = subst (λ r. AreDigits r (digits_of plane)) (sym h.prime) h.digits
+
 -- such a row is well formed
 pub IsRow-of_planes : (o : Order) (n : ℕ) (c l q : Plane) → ArePlanes o n c l q → IsRow (record { order = o; entries = entries_of o c l q })
 IsRow-of_planes o n c l q h = record {

@@ -238,9 +238,10 @@ impl Row {
         ensures as_long { length self.new.entries ≡ length self.old.entries }
         ensures well_formed { IsRow self.new }
     {
+        let vanishes = scalar == 0;
         if self.field.degree() == 1 {
             self.constant.scale(scalar);
-        } else if scalar == 0 {
+        } else if vanishes {
             self.make_zero();
         } else {
             let exponent = exponent(&self.field, scalar);

@@ -1,11 +1,11 @@
 use Rattle.std.proofs.Common.{◌<◌, List, ℕ, length, get_or, subst, sym, ap, ◌∙◌, arith}
-use Rattle.std.proofs.lemmas.Grind.{common_steps}
-use Rattle.axe_field.specs.Order.{IsElement}
-use Rattle.axe_field.specs.Planes.{element_of}
+use Rattle.axe_field.specs.Order.{prime_of, IsElement}
+use Rattle.axe_field.specs.Planes.{IsCoefficient, element_of}
+use Rattle.axe_layer.proofs.DigitLaws.{digit-below}
 use Rattle.axe_plane.specs.Planes.{digits_of}
 use Rattle.axe_row.specs.Rows.{RowValue, IsRow}
 use Rattle.axe_row.proofs.KeptPlanes.{alone_entries, kept_planes, kept_view}
-use Rattle.axe_row.proofs.RowPlanes.{IsRow-of_planes, no_quadratic, length-entries, entries-at}
+use Rattle.axe_row.proofs.RowPlanes.{IsRow-of_planes, prime-positive, linear_within, quadratic_within, no_quadratic, length-entries, entries-at}
 use Rattle.axe_row.proofs.Row.get_by_planes.Goals as goal
 
 pub returns-in_default-clause-entry : goal.returns-in_default-clause-entry
@@ -41,10 +41,16 @@ returns-clause-element c =
     subst (IsElement c.args.self.now.order) (sym (returns-clause-entry c)) ((returns-clause-well_formed c).elements c.args.index 0 c.requires)
 
 pub element-requires-clause-constant : goal.element-requires-clause-constant
-element-requires-clause-constant c = grind (arith, common_steps)
+element-requires-clause-constant c =
+    subst (λ d. d < prime_of c.self.inside.field) (sym c.digit-constant.ensures)
+    (digit-below _ _ c.args.index (prime-positive c.self.inside.field) c.self.invariant.planes.constant.digits)
 
 pub element-requires-clause-linear : goal.element-requires-clause-linear
-element-requires-clause-linear c = grind (arith, common_steps)
+element-requires-clause-linear c =
+    subst (IsCoefficient c.self.inside.field 1) (sym c.digit-linear.ensures) (linear_within _ _ _ _ _ c.args.index
+    (kept_planes _ _ _ _ c.self.invariant _ _ _ c.in-Some.is c.deref.ensures c.deref-2.ensures))
 
 pub element-requires-clause-quadratic : goal.element-requires-clause-quadratic
-element-requires-clause-quadratic c = grind (arith, common_steps)
+element-requires-clause-quadratic c =
+    subst (IsCoefficient c.self.inside.field 2) (sym c.quadratic_at-quadratic.ensures) (quadratic_within _ _ _ _ _ c.args.index
+    (kept_planes _ _ _ _ c.self.invariant _ _ _ c.in-Some.is c.deref.ensures c.deref-2.ensures))

@@ -1,6 +1,6 @@
 use Rattle.std.proofs.Common.{rules, ◌∙◌, arith}
 use Rattle.axe_row.proofs.KeptPlanes.{alone_order, kept_planes, kept_view, kept_not_prime}
-use Rattle.axe_row.proofs.RowPlanes.{IsRow-of_planes, with_length}
+use Rattle.axe_row.proofs.RowPlanes.{IsRow-of_planes, own_digits, with_length}
 use Rattle.axe_row.proofs.MultiplesByX.{degree_along, turned, factor_is, middle_addable, last_addable, top_factor_is_digit, times_x_planes, times_x_entries, row_times_x}
 use Rattle.axe_row.proofs.Row.multiply_by_x.Goals as goal
 
@@ -86,28 +86,30 @@ pub bounds-matrix-from : goal.bounds-matrix-from
 bounds-matrix-from c = search rules
 
 pub invariant_of-self : goal.invariant_of-self
-invariant_of-self c = search rules
-
-pub bounds-factors-1 : goal.bounds-factors-1
-bounds-factors-1 c = search rules
+invariant_of-self c = c.self.invariant
 
 pub add_scaled-requires-clause-prime : goal.add_scaled-requires-clause-prime
-add_scaled-requires-clause-prime c = search rules
+add_scaled-requires-clause-prime c =
+    (middle_addable _ _ _ _ _ _ _ _ _
+    (turned _ _ _ _ _ _ _ _ _ c.degree-degree.ensures (degree_along _ _ _ c.self.view_is c.requires) (kept_planes _ _ _ _ c.self.invariant _ _ _ c.in-Some.is c.deref_mut.ensures.value c.deref_mut.ensures.value) c.rotate.ensures)
+    (factor_is _ _ _ 1 _ (c.from.ensures ∙ c.degree-degree.ensures) c.prime.ensures c.plane_matrix-matrix.ensures.value)).prime
 
 pub add_scaled-requires-clause-fits : goal.add_scaled-requires-clause-fits
-add_scaled-requires-clause-fits c = search rules
+add_scaled-requires-clause-fits c =
+    (middle_addable _ _ _ _ _ _ _ _ _
+    (turned _ _ _ _ _ _ _ _ _ c.degree-degree.ensures (degree_along _ _ _ c.self.view_is c.requires) (kept_planes _ _ _ _ c.self.invariant _ _ _ c.in-Some.is c.deref_mut.ensures.value c.deref_mut.ensures.value) c.rotate.ensures)
+    (factor_is _ _ _ 1 _ (c.from.ensures ∙ c.degree-degree.ensures) c.prime.ensures c.plane_matrix-matrix.ensures.value)).fits
 
 pub add_scaled-requires-clause-digits : goal.add_scaled-requires-clause-digits
-add_scaled-requires-clause-digits c = search rules
-
-pub bounds-factors-2 : goal.bounds-factors-2
-bounds-factors-2 c = search rules
+add_scaled-requires-clause-digits c =
+    own_digits (turned _ _ _ _ _ _ _ _ _ c.degree-degree.ensures (degree_along _ _ _ c.self.view_is c.requires) (kept_planes _ _ _ _ c.self.invariant _ _ _ c.in-Some.is c.deref_mut.ensures.value c.deref_mut.ensures.value) c.rotate.ensures).middle
 
 pub add_scaled-requires-2-clause-prime : goal.add_scaled-requires-2-clause-prime
-add_scaled-requires-2-clause-prime c = search rules
+add_scaled-requires-2-clause-prime c =
+    (last_addable _ _ _ _ _ _ _ _ _
+    (turned _ _ _ _ _ _ _ _ _ c.degree-degree.ensures (degree_along _ _ _ c.self.view_is c.requires) (kept_planes _ _ _ _ c.self.invariant _ _ _ c.in-Some.is c.deref_mut.ensures.value c.deref_mut.ensures.value) c.rotate.ensures)
+    (factor_is _ _ _ 2 _ (c.from.ensures ∙ c.degree-degree.ensures) c.prime.ensures c.plane_matrix-matrix.ensures.value)).prime
 
 pub add_scaled-requires-2-clause-digits : goal.add_scaled-requires-2-clause-digits
-add_scaled-requires-2-clause-digits c = search rules
-
-pub bounds-factors-0 : goal.bounds-factors-0
-bounds-factors-0 c = search rules
+add_scaled-requires-2-clause-digits c =
+    own_digits (turned _ _ _ _ _ _ _ _ _ c.degree-degree.ensures (degree_along _ _ _ c.self.view_is c.requires) (kept_planes _ _ _ _ c.self.invariant _ _ _ c.in-Some.is c.deref_mut.ensures.value c.deref_mut.ensures.value) c.rotate.ensures).last

@@ -27,24 +27,24 @@ returns-then-degree-eq1-clause-as_long c = ap (λ (r : RowValue). length r.entri
 pub returns-then-degree-eq1-clause-well_formed : goal.returns-then-degree-eq1-clause-well_formed
 returns-then-degree-eq1-clause-well_formed c = IsRow-of_planes _ _ _ _ _ (invariant_of-self c).planes
 
-pub returns-then-scalar-eq0-clause-as_long : goal.returns-then-scalar-eq0-clause-as_long
-returns-then-scalar-eq0-clause-as_long c = ap (λ (r : RowValue). length r.entries) c.make_zero.ensures.multiple ∙ length-multiple _ _ _
+pub returns-then-vanishes-clause-as_long : goal.returns-then-vanishes-clause-as_long
+returns-then-vanishes-clause-as_long c = ap (λ (r : RowValue). length r.entries) c.make_zero.ensures.multiple ∙ length-multiple _ _ _
 
 pub multiply_by_power-requires-clause-well_formed : goal.multiply_by_power-requires-clause-well_formed
 multiply_by_power-requires-clause-well_formed c = subst IsRow c.self.view_is (IsRow-of_planes _ _ _ _ _ c.self.invariant.planes)
 
-pub returns-else-scalar-eq0-clause-as_long : goal.returns-else-scalar-eq0-clause-as_long
-returns-else-scalar-eq0-clause-as_long c =
+pub returns-else-vanishes-clause-as_long : goal.returns-else-vanishes-clause-as_long
+returns-else-vanishes-clause-as_long c =
     ap (λ (r : RowValue). length r.entries) c.multiply_by_power.ensures.multiple ∙ length-multiple _ _ _
 
-pub returns-then-scalar-eq0-clause-multiple : goal.returns-then-scalar-eq0-clause-multiple
-returns-then-scalar-eq0-clause-multiple c = search rules
+pub returns-then-vanishes-clause-multiple : goal.returns-then-vanishes-clause-multiple
+returns-then-vanishes-clause-multiple c = search rules
 
-pub returns-then-scalar-eq0-clause-well_formed : goal.returns-then-scalar-eq0-clause-well_formed
-returns-then-scalar-eq0-clause-well_formed c = search rules
+pub returns-then-vanishes-clause-well_formed : goal.returns-then-vanishes-clause-well_formed
+returns-then-vanishes-clause-well_formed c = search rules
 
-pub returns-else-scalar-eq0-clause-multiple : goal.returns-else-scalar-eq0-clause-multiple
-returns-else-scalar-eq0-clause-multiple c = search rules
+pub returns-else-vanishes-clause-multiple : goal.returns-else-vanishes-clause-multiple
+returns-else-vanishes-clause-multiple c = search rules
 
-pub returns-else-scalar-eq0-clause-well_formed : goal.returns-else-scalar-eq0-clause-well_formed
-returns-else-scalar-eq0-clause-well_formed c = search rules
+pub returns-else-vanishes-clause-well_formed : goal.returns-else-vanishes-clause-well_formed
+returns-else-vanishes-clause-well_formed c = search rules

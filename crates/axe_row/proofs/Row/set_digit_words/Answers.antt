@@ -75,4 +75,4 @@ pub set_digit_words-requires-clause-digits : goal.set_digit_words-requires-claus
 set_digit_words-requires-clause-digits c = search rules
 
 pub invariant_of-self-in_default : goal.invariant_of-self-in_default
-invariant_of-self-in_default c = search rules
+invariant_of-self-in_default c = c.self.invariant

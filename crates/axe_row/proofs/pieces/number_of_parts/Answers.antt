@@ -8,9 +8,6 @@ overflow_mul-result c = search rules
 pub overflow_add-result : goal.overflow_add-result
 overflow_add-result c = search rules
 
-pub overflow_mul-result-2 : goal.overflow_mul-result-2
-overflow_mul-result-2 c = grind (arith, common_steps)
-
 pub overflow_add-result-2 : goal.overflow_add-result-2
 overflow_add-result-2 c = grind (arith, common_steps)
 
