@@ -1,11 +1,11 @@
 //! Sums and transposes of matrices.
 
-ghost use Rattle.std.specs.Prelude.{◌≡◌, ◌<◌, IfOk, length, slice_set};
+ghost use Rattle.std.specs.Prelude.{◌≡◌, ◌<◌, None, IfOk, length, slice_set};
 ghost use Rattle.axe_field.specs.Order.{IsElement};
 ghost use Rattle.axe_row.specs.Operations.{IsZeroVector};
 ghost use Rattle.axe_row.specs.Refusals.{Answers};
 ghost use Rattle.axe_matrix.specs.Columns.{matrix_with_column};
-ghost use Rattle.axe_matrix.specs.Matrices.{IsMatrix, row_of, column_of};
+ghost use Rattle.axe_matrix.specs.Matrices.{IsMatrix, row_of, column_of, zero_matrix};
 ghost use Rattle.axe_matrix.specs.Matrices.{sum_refusal, sum_of_matrices, transpose_refusal, transposed_matrix};
 
 use super::{Matrix, Refusal, Row};
@@ -25,6 +25,19 @@ impl Matrix {
         if self.rows() != other.rows() || self.cols() != other.cols() {
             return Err(Refusal::ShapesDiffer);
         }
+        self.plus(alloc, other)
+    }
+
+    /// The sum of this matrix and another over the same field and of the same shape, entry by entry.
+    fn plus(&self, alloc: Global, other: &Matrix) -> Result<Matrix, Refusal>
+        requires field { other.now.order ≡ self.now.order }
+        requires rows_fit { length other.now.rows ≡ length self.now.rows }
+        requires columns_fit { other.now.cols ≡ self.now.cols }
+        ensures sum { Answers None (λ sum. sum ≡ sum_of_matrices self.now other.now) result }
+        ensures well_formed { IfOk result IsMatrix }
+    {
+        // Called for what it ensures beside the number: that the other matrix is one.
+        prove!(self.cols() == other.cols());
         let mut sum = self.copy(alloc)?;
         sum.add_scaled(1, other);
         Ok(sum)
@@ -46,10 +59,21 @@ impl Matrix {
             transpose.put_transpose(self);
             return Ok(transpose);
         }
-        for index in 0..self.rows() {
-            transpose.put_column(index, self.row(index));
-        }
+        transpose.put_columns(self);
         Ok(transpose)
+    }
+
+    /// Makes a matrix of zeros the transpose of another, column by column. It takes no memory.
+    fn put_columns(&mut self, matrix: &Matrix)
+        requires zeros { self.old ≡ zero_matrix matrix.now.order matrix.now.cols (length matrix.now.rows) }
+        ensures transpose { self.new ≡ transposed_matrix matrix.now }
+        ensures well_formed { IsMatrix self.new }
+    {
+        // Called for what it ensures beside the number: that the matrix is one.
+        prove!(self.cols() == matrix.rows());
+        for index in 0..matrix.rows() {
+            self.put_column(index, matrix.row(index));
+        }
     }
 
     /// Makes a row vector the column at an index, which holds zeros so far; all other entries stay. The vector is over

@@ -30,6 +30,16 @@ impl Matrix {
         if self.cols() != other.rows() {
             return Err(Refusal::ShapesDiffer);
         }
+        self.times(alloc, other)
+    }
+
+    /// The product of this matrix and another over the same field, which has as many rows as this one has columns.
+    fn times(&self, alloc: Global, other: &Matrix) -> Result<Matrix, Refusal>
+        requires field { other.now.order ≡ self.now.order }
+        requires inner_fit { self.now.cols ≡ length other.now.rows }
+        ensures product { Answers None (λ product. product ≡ matrix_product self.now other.now) result }
+        ensures well_formed { IfOk result IsMatrix }
+    {
         let mut product = Matrix::zero(alloc, *self.field(), self.rows(), other.cols())?;
         product.add_product(alloc, 1, self, other)?;
         Ok(product)

@@ -1,4 +1,5 @@
-use Rattle.std.proofs.Common.{◌<◌, length, set, sym, ap, ◌∙◌}
+use Rattle.std.proofs.lemmas.Grind.{common_steps}
+use Rattle.std.proofs.Common.{arith, ◌<◌, length, set, sym, ap, ◌∙◌}
 use Rattle.axe_row.specs.Rows.{RowValue}
 use Rattle.axe_matrix.specs.Matrices.{MatrixValue, row_of}
 use Rattle.axe_matrix.specs.Products.{row_with_product}
@@ -30,3 +31,9 @@ returns-clause-sum c =
 
 pub returns-clause-well_formed : goal.returns-clause-well_formed
 returns-clause-well_formed c = (invariant_of-self c).matrix
+
+pub index_mut-requires : goal.index_mut-requires
+index_mut-requires c = grind (arith, common_steps)
+
+pub add_vec_mul-requires-clause-row_field : goal.add_vec_mul-requires-clause-row_field
+add_vec_mul-requires-clause-row_field c = grind (arith, common_steps)

@@ -1,4 +1,5 @@
-use Rattle.std.proofs.Common.{set, sym, ap, ◌∙◌}
+use Rattle.std.proofs.lemmas.Grind.{common_steps}
+use Rattle.std.proofs.Common.{arith, set, sym, ap, ◌∙◌}
 use Rattle.axe_row.specs.Operations.{row_with_multiple}
 use Rattle.axe_row.specs.Rows.{RowValue}
 use Rattle.axe_matrix.specs.Matrices.{MatrixValue, row_of}
@@ -29,3 +30,12 @@ returns-clause-sum c =
 
 pub returns-clause-well_formed : goal.returns-clause-well_formed
 returns-clause-well_formed c = (invariant_of-self c).matrix
+
+pub index_mut-requires : goal.index_mut-requires
+index_mut-requires c = grind (arith, common_steps)
+
+pub add_scaled-requires-clause-field : goal.add_scaled-requires-clause-field
+add_scaled-requires-clause-field c = grind (arith, common_steps)
+
+pub add_scaled-requires-clause-element : goal.add_scaled-requires-clause-element
+add_scaled-requires-clause-element c = grind (arith, common_steps)

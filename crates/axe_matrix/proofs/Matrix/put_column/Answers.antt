@@ -1,4 +1,4 @@
-use Rattle.std.proofs.Common.{◌<◌, ◌≤◌, [], length, get_or, set, ap, ◌∙◌, arith}
+use Rattle.std.proofs.Common.{rules, ◌<◌, ◌≤◌, [], length, get_or, set, ap, ◌∙◌, arith}
 use Rattle.axe_matrix.proofs.RewrittenRows.{IsRewrittenBelow-more, IsRewrittenBelow-all}
 use Rattle.axe_matrix.proofs.TransposeLaws.{matrix_with_column-rows, IsRewrittenBelow-zeros}
 use Rattle.axe_matrix.proofs.Matrix.put_column.Goals as goal
@@ -23,3 +23,6 @@ returns-clause-column c =
     let all = IsRewrittenBelow-zeros c.loop-index.at (length c.args.self.now.rows) c.args.self.now c.args.column c.args.entries.now.entries c.loop-index.self c.loop-index.invariant.rows
     c.requires.zeros fits (omega arith) (λ i past _. c.in_default.ensures i past) in
     IsRewrittenBelow-all _ _ _ _ all (omega arith) ∙ matrix_with_column-rows c.args.self.now c.args.column c.args.entries.now.entries
+
+pub loop-index-init : goal.loop-index-init
+loop-index-init c = search rules

@@ -1,3 +1,4 @@
+use Rattle.std.proofs.lemmas.Grind.{common_steps}
 use Rattle.std.proofs.Common.{◌<◌, length, set, ap, ◌∙◌, arith}
 use Rattle.std.proofs.lemmas.List.{length-set}
 use Rattle.axe_row.specs.Rows.{RowValue}
@@ -31,3 +32,9 @@ returns-clause-replaced c =
 
 pub returns-clause-well_formed : goal.returns-clause-well_formed
 returns-clause-well_formed c = (invariant_of-self c).matrix
+
+pub index_mut-requires : goal.index_mut-requires
+index_mut-requires c = grind (arith, common_steps)
+
+pub set-requires-clause-element : goal.set-requires-clause-element
+set-requires-clause-element c = grind (arith, common_steps)

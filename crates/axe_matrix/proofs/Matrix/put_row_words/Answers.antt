@@ -1,4 +1,5 @@
-use Rattle.std.proofs.Common.{◌<◌, length, ◌∙◌}
+use Rattle.std.proofs.lemmas.Grind.{common_steps}
+use Rattle.std.proofs.Common.{arith, ◌<◌, length, ◌∙◌}
 use Rattle.axe_matrix.proofs.CoefficientWrites.{HasRowWords-write}
 use Rattle.axe_matrix.proofs.RowListLaws.{length-at}
 use Rattle.axe_matrix.proofs.RowWrites.{below_rows, order-at, MakeMatrix-write}
@@ -22,3 +23,15 @@ returns-clause-replaced c =
 
 pub returns-clause-well_formed : goal.returns-clause-well_formed
 returns-clause-well_formed c = (invariant_of-self c).matrix
+
+pub index_mut-requires : goal.index_mut-requires
+index_mut-requires c = grind (arith, common_steps)
+
+pub set_digit_words-requires-clause-prime : goal.set_digit_words-requires-clause-prime
+set_digit_words-requires-clause-prime c = grind (arith, common_steps)
+
+pub set_digit_words-requires-clause-power : goal.set_digit_words-requires-clause-power
+set_digit_words-requires-clause-power c = grind (arith, common_steps)
+
+pub set_digit_words-requires-clause-digits : goal.set_digit_words-requires-clause-digits
+set_digit_words-requires-clause-digits c = grind (arith, common_steps)

@@ -1,3 +1,4 @@
+use Rattle.std.proofs.lemmas.Grind.{common_steps}
 use Rattle.std.proofs.Common.{◌≡◌, ◌<◌, length, sym, ap, ◌∙◌, arith}
 use Rattle.std.proofs.lemmas.List.{length-map}
 use Rattle.axe_row.specs.Rows.{RowValue}
@@ -17,3 +18,9 @@ returns-clause-as_long c =
 
 pub returns-clause-row_well_formed : goal.returns-clause-row_well_formed
 returns-clause-row_well_formed c = IsRow-at _ _ c.self.inside.rows.items c.args.index c.index.result.now c.self.invariant (within c) c.index.ensures
+
+pub index-requires : goal.index-requires
+index-requires c = grind (arith, common_steps)
+
+pub returns-clause-value : goal.returns-clause-value
+returns-clause-value c = grind (arith, common_steps)

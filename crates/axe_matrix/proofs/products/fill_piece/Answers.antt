@@ -1,4 +1,5 @@
-use Rattle.std.proofs.Common.{All, map, ◌≡◌, ◌-◌, length, drop, sym, ap, ◌∙◌, subst}
+use Rattle.std.proofs.lemmas.Grind.{common_steps}
+use Rattle.std.proofs.Common.{rules, arith, All, map, ◌≡◌, ◌-◌, length, drop, sym, ap, ◌∙◌, subst}
 use Rattle.std.specs.Simd.Lanes.{chunk}
 use Rattle.std.proofs.lemmas.List.{length-map}
 use Rattle.std.proofs.lemmas.List.Elements.{All-drop, All-take}
@@ -27,3 +28,15 @@ returns-then-at-rows-clause-combines c =
 pub returns-else-at-rows-clause-combines : goal.returns-else-at-rows-clause-combines
 returns-else-at-rows-clause-combines c =
     combines_past_the_end c.args.table.now c.args.at c.args.size c.args.b.now.rows c.requires.table.well_formed (rw (← c.rows.ensures.count) c.if-at-rows.false)
+
+pub fill-requires-clause-some : goal.fill-requires-clause-some
+fill-requires-clause-some c = search rules
+
+pub fill-requires-clause-room : goal.fill-requires-clause-room
+fill-requires-clause-room c = search rules
+
+pub slice_bounds-fill-end : goal.slice_bounds-fill-end
+slice_bounds-fill-end c = grind (arith, common_steps)
+
+pub fill-requires-clause-field : goal.fill-requires-clause-field
+fill-requires-clause-field c = grind (arith, common_steps)

@@ -14,3 +14,15 @@ returns-else-index-eq0-clause-word c =
 
 pub returns-clause-next : goal.returns-clause-next
 returns-clause-next c = search rules
+
+pub returns-then-index-eq0-clause-next : goal.returns-then-index-eq0-clause-next
+returns-then-index-eq0-clause-next c = search rules
+
+pub returns-then-index-eq0-clause-word : goal.returns-then-index-eq0-clause-word
+returns-then-index-eq0-clause-word c = search rules
+
+pub returns-else-index-eq0-clause-next : goal.returns-else-index-eq0-clause-next
+returns-else-index-eq0-clause-next c = search rules
+
+pub returns-clause-word : goal.returns-clause-word
+returns-clause-word c = search rules
