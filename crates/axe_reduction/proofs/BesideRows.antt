@@ -1,9 +1,11 @@
 -- Matrices beside one another that are made of rows.
 use Rattle.std.proofs.Common.{◌≡◌, ℕ, ◌+◌, ◌<◌, List, [], ◌∷◌, ◌++◌, length, get_or, map, sym, ap, ap₂, ◌∙◌, arith}
 use Rattle.std.proofs.lemmas.List.{ext_get_or, get_or-map, length-map, map-append}
+use Rattle.std.proofs.lemmas.List.Elements.{All-head, All-tail, All-same}
+use Rattle.std.specs.List.{All}
 use Rattle.axe_matrix.specs.Matrices.{MatrixValue, IsMatrix}
 use Rattle.axe_reduction.specs.Augmented.{AugmentedValue, AreBeside, augmented, rows_beside}
-use Rattle.axe_reduction.specs.AugmentedRows.{whole}
+use Rattle.axe_reduction.specs.AugmentedRows.{whole, IsRowOf}
 use Rattle.axe_reduction.specs.declared.augmented_row.AugmentedRow.{AugmentedRow}
 use Rattle.axe_reduction.proofs.BesideLaws.{length-rows_beside, row-rows_beside, same_augmented}
 
@@ -34,6 +36,17 @@ of_no_rows x y v a b view_is h a_is b_is left_fine right_fine = record {
   right_rows = ap (λ (m : MatrixValue). m.rows) b_is;
   right_fine = right_fine;
 }
+
+-- one of the rows of a list, after some first ones, is like all of them
+row_after : (v : AugmentedValue) (first : List AugmentedRow) (row : AugmentedRow) (rest : List AugmentedRow) →
+    All (IsRowOf v) (first ++ row ∷ rest) → IsRowOf v row
+row_after v [] row rest h = All-head (IsRowOf v) row rest h
+row_after v (other ∷ first) row rest h = row_after v first row rest (All-tail (IsRowOf v) other (first ++ row ∷ rest) h)
+
+pub next_row : (v : AugmentedValue) (rows first left : List AugmentedRow) (row : AugmentedRow) (rest : List AugmentedRow) →
+    All (IsRowOf v) rows → first ++ left ≡ rows → left ≡ row ∷ rest → IsRowOf v row
+next_row v rows first left row rest h all next =
+    row_after v first row rest (All-same (IsRowOf v) (first ++ row ∷ rest) rows (ap (λ l. first ++ l) (sym next) ∙ all) h)
 
 -- of one row more
 pub of_more_rows : (v : AugmentedValue) (rows : List AugmentedRow) (a b next_a next_b : MatrixValue) (row : AugmentedRow) → AreOfRows v rows a b →

@@ -1,4 +1,4 @@
-use Rattle.std.proofs.Common.{refl}
+use Rattle.std.proofs.Common.{rules, refl}
 use Rattle.axe_reduction.proofs.SolutionRows.{placed_more, placed_all}
 use Rattle.axe_reduction.proofs.solutions.places_of.Goals as goal
 
@@ -9,3 +9,6 @@ loop-place-preserved c =
 
 pub returns : goal.returns
 returns c = placed_all c.args.numbers.now c.loop-place.places.items c.loop-place.place c.loop-place-test.false c.loop-place.invariant
+
+pub index_mut-requires : goal.index_mut-requires
+index_mut-requires c = search rules

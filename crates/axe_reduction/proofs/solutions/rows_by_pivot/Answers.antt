@@ -1,5 +1,5 @@
 use Rattle.std.specs.List.{Contains}
-use Rattle.std.proofs.Common.{◌≡◌, ◌<◌, get_or, length, sym, ap, ◌∙◌, subst, arith}
+use Rattle.std.proofs.Common.{rules, ◌≡◌, ◌<◌, get_or, length, sym, ap, ◌∙◌, subst, arith}
 use Rattle.std.proofs.lemmas.List.{get_or_default}
 use Rattle.std.proofs.lemmas.List.Elements.{All-contains}
 use Rattle.axe_row.specs.Rows.{RowValue}
@@ -55,3 +55,20 @@ pub returns-clause-sorted : goal.returns-clause-sorted
 returns-clause-sorted c =
     subst (λ n. AreRowsByPivot c.args.pivots.now c.args.rows.now n c.loop-column.sorted)
     (omega (arith, c.cols-column-end.ensures.count, c.loop-column-test.false, c.loop-column.auto.column-end)) c.loop-column.invariant.so_far
+
+pub row-requires : goal.row-requires
+row-requires c =
+    let contained : Contains c.args.pivots.now c.loop-column.column =
+    c.requires.all c.loop-column.column (omega (arith, c.loop-column-test.true, c.loop-column.auto.column-end, c.cols-column-end.ensures.count)) in
+    let place : get_or c.in_ok-places.places.items c.loop-column.column 0 ≡ c.index.result.now =
+    get_or_default c.in_ok-places.places.items c.loop-column.column 0 c.index.result.now (omega (
+      arith,
+      All-contains (λ pivot. pivot < length c.args.pivots.now) c.args.pivots.now c.loop-column.column c.requires.small contained,
+      c.in_ok-places.ensures.count,
+    ))
+    ∙ sym c.index.ensures in
+    let within = subst (λ p. p < length c.args.pivots.now) place (c.in_ok-places.ensures.within c.loop-column.column contained) in
+    omega (arith, within, c.requires.count)
+
+pub index-requires : goal.index-requires
+index-requires c = search rules

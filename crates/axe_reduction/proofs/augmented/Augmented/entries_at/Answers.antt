@@ -1,3 +1,4 @@
+use Rattle.std.proofs.lemmas.Grind.{common_steps}
 use Rattle.std.proofs.Common.{ap, ◌∙◌, refl, arith}
 use Rattle.axe_matrix.specs.Matrices.{MatrixValue}
 use Rattle.axe_reduction.proofs.BesideLaws.{view-count}
@@ -24,3 +25,6 @@ pub returns-clause-entries : goal.returns-clause-entries
 returns-clause-entries c =
     chosen_are_entries c.self.inside.left c.self.inside.right _ _ _ _ _ _ c.self.view_is c.self.invariant c.requires.left refl refl
     (omega (arith, c.rows-index-end.ensures.count, c.loop-index-test.false, c.loop-index.auto.index-end)) c.loop-index.invariant
+
+pub append-requires-clause-fits : goal.append-requires-clause-fits
+append-requires-clause-fits c = grind (arith, common_steps)

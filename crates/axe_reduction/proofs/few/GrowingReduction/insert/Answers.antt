@@ -1,4 +1,4 @@
-use Rattle.std.proofs.Common.{refl, sym, subst}
+use Rattle.std.proofs.Common.{rules, refl, sym, subst}
 use Rattle.axe_reduction.specs.AugmentedRows.{AreReducedLike}
 use Rattle.axe_reduction.proofs.Exits.{answers_more}
 use Rattle.axe_reduction.proofs.GrowingLaws.{cleared_at, first_more_rest, first_more_reduced}
@@ -21,3 +21,6 @@ returns c =
     first_more_reduced a n c.in-Some.pivot c.args.self.now c.insert_at.new.self c.args.row c.clear.new.row fine before copied over
     (cleared_at c.args.self.now c.args.row c.clear.new.row _ _ c.deref.ensures.value c.deref-2.ensures.value c.clear.ensures.cleared)
     c.clear.ensures.alike c.in-Some.ensures inserted)
+
+pub insert_at-requires-clause-pivot : goal.insert_at-requires-clause-pivot
+insert_at-requires-clause-pivot c = search rules

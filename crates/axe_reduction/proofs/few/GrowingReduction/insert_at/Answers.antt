@@ -1,4 +1,5 @@
-use Rattle.std.proofs.Common.{◌≡◌, ◌≤◌, refl, arith, ap, ◌∙◌, List, length}
+use Rattle.std.proofs.lemmas.Grind.{common_steps}
+use Rattle.std.proofs.Common.{rules, ◌≡◌, ◌≤◌, refl, arith, ap, ◌∙◌, List, length}
 use Rattle.std.specs.Prelude.{ltb}
 use Rattle.std.specs.List.{insert}
 use Rattle.std.proofs.lemmas.List.Sums.{count_by-le-length}
@@ -32,3 +33,12 @@ returns c =
       alike = inserted_alike c.args.row c.scale_at.new.self c.place_among-place.result c.cancel_in_each.new.rows c.insert.new.self.items within
           c.scale_at.ensures.alike c.cancel_in_each.ensures.alike items;
     }
+
+pub insert-requires : goal.insert-requires
+insert-requires c = grind (arith, common_steps)
+
+pub insert-requires-2 : goal.insert-requires-2
+insert-requires-2 c = grind (arith, common_steps)
+
+pub cancel_in_each-requires-clause-column : goal.cancel_in_each-requires-clause-column
+cancel_in_each-requires-clause-column c = search rules

@@ -1,4 +1,4 @@
-use Rattle.std.proofs.Common.{◌≡◌, arith, ap, sym, ◌∙◌, length, vec_len}
+use Rattle.std.proofs.Common.{rules, ◌≡◌, arith, ap, sym, ◌∙◌, length, vec_len}
 use Rattle.std.proofs.lemmas.Bool.{eqb-true}
 use Rattle.axe_matrix.specs.Matrices.{MatrixValue}
 use Rattle.axe_reduction.proofs.ClearLaws.{cleared_of_none}
@@ -15,3 +15,9 @@ returns-then-is_empty-clause-cleared c =
 pub plus_product-requires-clause-rows_fit : goal.plus_product-requires-clause-rows_fit
 plus_product-requires-clause-rows_fit c =
     ap (λ (m : MatrixValue). length m.rows) c.in_ok-entries.ensures.entries ∙ table_length _ _ _
+
+pub plus_product-requires-clause-element : goal.plus_product-requires-clause-element
+plus_product-requires-clause-element c = search rules
+
+pub returns-clause-cleared : goal.returns-clause-cleared
+returns-clause-cleared c = search rules

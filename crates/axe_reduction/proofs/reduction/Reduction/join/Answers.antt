@@ -1,4 +1,4 @@
-use Rattle.std.proofs.Common.{arith, ap, ◌∙◌, length, List, ℕ, ◌++◌}
+use Rattle.std.proofs.Common.{rules, arith, ap, ◌∙◌, length, List, ℕ, ◌++◌}
 use Rattle.axe_reduction.specs.Augmented.{AugmentedValue, with_rows}
 use Rattle.axe_reduction.proofs.ClearLaws.{length-cleared}
 use Rattle.axe_reduction.proofs.reduction.Reduction.join.Goals as goal
@@ -24,3 +24,12 @@ returns c = record {
   reduced_well_formed = c.in_ok-reduced-2.ensures.well_formed;
   rest_well_formed = c.in_ok-rest.ensures.well_formed;
 }
+
+pub with_rows-requires-clause-alike : goal.with_rows-requires-clause-alike
+with_rows-requires-clause-alike c = search rules
+
+pub with_rows-requires-2-clause-alike : goal.with_rows-requires-2-clause-alike
+with_rows-requires-2-clause-alike c = search rules
+
+pub with_rows-requires-2-clause-room : goal.with_rows-requires-2-clause-room
+with_rows-requires-2-clause-room c = search rules
