@@ -1,5 +1,5 @@
 -- What an elimination shows: whether a row is in the span, its coordinates, and the step that a new row gives.
-use Rattle.std.specs.Prelude.{◌≡◌, ◌≢◌, ℕ, ◌<◌, ◌≤◌, List, length, get_or}
+use Rattle.std.specs.Prelude.{◌≡◌, ◌≢◌, ℕ, ◌<◌, ◌≤◌, List, length, get_or, Option, Some, None, MatchOption}
 use Rattle.std.proofs.lemmas.List.Elements.{All-from_get_or}
 use Rattle.axe_algebra.specs.NumberField.{NumberField}
 use Rattle.axe_algebra.specs.Field.{Field}
@@ -27,10 +27,10 @@ use Rattle.axe_lane.specs.Entries.{IsFirstNonzero}
 use Rattle.axe_row.specs.Operations.{multiple, IsZeroVector}
 use Rattle.axe_row.proofs.OperationLaws.{get_or-multiple, length-multiple}
 use Rattle.axe_echelon.specs.Echelons.{EchelonValue, IsEchelon, AreCoordinates}
-use Rattle.axe_echelon.specs.Steps.{inserted_rows, echelon_rows, multiplier_rows, scalars, pivots, echelon_of, AreSteps, IsCleared, IsSolved, IsScaledStep, IsNextStep}
+use Rattle.axe_echelon.specs.Steps.{inserted_rows, echelon_rows, multiplier_rows, scalars, pivots, echelon_of, AreSteps, AreSolvedCoordinates, IsCleared, IsSolved, IsScaledStep, IsStepOfRest, IsNextStep}
 use Rattle.axe_echelon.specs.declared.Step.{Step}
 use Rattle.axe_echelon.proofs.FormLaws.{rows_within}
-use Rattle.axe_echelon.proofs.StepLaws.{over_of_row, below_of_element, echelon_of_steps}
+use Rattle.axe_echelon.proofs.StepLaws.{over_of_row, below_of_element, length-inserted, echelon_of_steps}
 use mathlib.Core.Path.{refl, sym, ◌∙◌, ap, subst, fun_ext}
 use native.Mathlib.Omega.{arith}
 use native.Mathlib.Decide.{dec_lt}
@@ -222,7 +222,7 @@ module _ (o : Order) (n : ℕ) (steps : List Step) (are : AreSteps o n steps) (f
           ∙ ap (λ q. field_mul q (get_or row.entries column 0) step.scalar) (sym cleared.row_field) ∙ scaled.inverse
 
 -- the same for the echelon form that has these steps
-module _ (o : Order) (n : ℕ) (steps : List Step) (are : AreSteps o n steps) (e : EchelonValue) (view : echelon_of o n steps ≡ e)
+module _ (o : Order) (n : ℕ) (steps : List Step) (are_steps : AreSteps o n steps) (e : EchelonValue) (view : echelon_of o n steps ≡ e)
     (first row multipliers : RowValue) (well_formed : IsRow first) (field : first.order ≡ e.order) (fits : length first.entries ≡ e.cols)
     (of_row : IsCleared first.order (length first.entries) steps first row multipliers) where
   order_is : first.order ≡ o
@@ -243,20 +243,39 @@ module _ (o : Order) (n : ℕ) (steps : List Step) (are : AreSteps o n steps) (e
       IsSolved multipliers.order (length multipliers.entries) steps multipliers coefficients → Cancels e first coefficients
   row_cancels coefficients zeros solved =
       subst (λ (x : EchelonValue). Cancels x first coefficients) view
-      (cancels_if_solved o n steps are first row multipliers cleared coefficients over_first zeros
+      (cancels_if_solved o n steps are_steps first row multipliers cleared coefficients over_first zeros
       (subst (λ k. IsSolved o k steps multipliers coefficients) cleared.multipliers_over.length_is
       (subst (λ q. IsSolved q (length multipliers.entries) steps multipliers coefficients) cleared.multipliers_field solved)))
 
   pub row_spanned_leaves_none : IsSpanned (number_field e.order) e.rows first.entries → IsZeroVector row.entries
   row_spanned_leaves_none spanned =
-      nothing_left_if_spanned o n steps are first row multipliers cleared
+      nothing_left_if_spanned o n steps are_steps first row multipliers cleared
       (subst (λ (x : EchelonValue). IsSpanned (number_field x.order) x.rows first.entries) (sym view) spanned)
 
   pub row_is_spanned : IsZeroVector row.entries → IsSpanned (number_field e.order) e.rows first.entries
   row_is_spanned zeros =
       subst (λ (x : EchelonValue). IsSpanned (number_field x.order) x.rows first.entries) view
-      (spanned_if_nothing_left o n steps are first row multipliers cleared zeros)
+      (spanned_if_nothing_left o n steps are_steps first row multipliers cleared zeros)
 
   pub step_of_new_row : (step : Step) (column : ℕ) → IsFirstNonzero row.entries column → IsScaledStep first row column multipliers step →
       IsNextStep (echelon_of o n steps) (echelon_rows steps) first.entries step
-  step_of_new_row step column leads scaled = next_step_of o n steps are first row multipliers cleared step column over_first leads scaled
+  step_of_new_row step column leads scaled = next_step_of o n steps are_steps first row multipliers cleared step column over_first leads scaled
+
+  -- the step that what is left of the row gives
+  pub next_of_rest : (found : Option Step) → MatchOption found (IsZeroVector row.entries) (IsStepOfRest first row multipliers) →
+      MatchOption found (IsSpanned (number_field e.order) e.rows first.entries) (IsNextStep (echelon_of o n steps) (echelon_rows steps) first.entries)
+  next_of_rest None zeros = row_is_spanned zeros
+  next_of_rest (Some step) of_rest = step_of_new_row step step.pivot of_rest.leads of_rest.scaled
+
+  rank : length steps ≡ length e.rows
+  rank = sym (length-inserted steps) ∙ ap (λ (x : EchelonValue). length x.rows) view
+
+  -- the coordinates of the row, by what is left of it
+  pub coordinates_of_row : (solved : RowValue) (found : Option RowValue) →
+      MatchOption found (¬ (IsZeroVector row.entries)) (AreSolvedCoordinates steps row multipliers solved) →
+      MatchOption found (¬ (IsSpanned (number_field e.order) e.rows first.entries)) (AreCoordinates e first.entries)
+  coordinates_of_row solved None something = λ spanned. something (row_spanned_leaves_none spanned)
+  coordinates_of_row solved (Some coordinates) are =
+      coordinates_of_cancels e (subst IsEchelon view (echelon_of_steps o n steps are_steps)) first solved
+      (row_cancels solved are.nothing_left are.solution) coordinates
+      (are.negated ∙ (λ i. record { order = solved.order; entries = listed (rank i) (λ j. field_neg solved.order (get_or solved.entries j 0)) }))

@@ -31,8 +31,9 @@ use Rattle.axe_echelon.proofs.OrthogonalLaws.{IsOrthogonalUnit, IsOrthogonalFrom
 use Rattle.axe_echelon.proofs.MirroredLaws.{mirrored-unit}
 use Rattle.axe_echelon.proofs.MirroredLists.{reverse-set, vector_of_reverse, is_row_mirrored}
 use Rattle.axe_echelon.proofs.StepLaws.{over_of_row, below_of_element}
-use mathlib.Core.Path.{sym, ◌∙◌, ap, subst}
+use mathlib.Core.Path.{refl, sym, ◌∙◌, ap, subst}
 use native.Mathlib.Omega.{arith}
+use native.Mathlib.Decide.{dec_lt}
 
 -- the dot product of two lists is that of their vectors
 pub vector_of_dot : (K : NumberField) (n : ℕ) (a b : List ℕ) → IsVectorOver K n a → IsVectorOver K n b →
@@ -215,6 +216,21 @@ module _ (e : EchelonValue) (h : IsEchelon e) (column : ℕ) (inside : column < 
           (up_to.fits basis) below
           (ap (element K) (sym at_column ∙ none_there) ∙ element_zero K));
     }
+
+    -- either of the two
+    pub by_basis_entry : (i p number : ℕ) (v next : RowValue) → IsVectorUpTo e m column i (mirrored_row v) → i < length m.rows →
+        ((basis : IsReducedMatrix e m) → basis.basis.pivots i ≡ p) → p < e.cols → number ≡ entry m.rows i column →
+        (number ≢ 0 → next ≡ record { order = v.order; entries = set v.entries (e.cols - 1 - p) (field_neg v.order number) }) →
+        (number ≡ 0 → next ≡ v) → IsRow next → IsVectorUpTo e m column (i + 1) (mirrored_row next)
+    by_basis_entry i p number v next up_to below pivot place at_column is_set is_same is_row = at (dec_lt 0 number)
+      where
+        at : Dec (0 < number) → IsVectorUpTo e m column (i + 1) (mirrored_row next)
+        at (yes positive) = by_basis_more i p number (field_neg v.order number) v next v.order up_to below pivot place at_column up_to.field refl
+            (is_set (omega arith)) is_row
+        at (no none_there) =
+            let zero : number ≡ 0 = omega arith in
+            subst (λ (r : RowValue). IsVectorUpTo e m column (i + 1) (mirrored_row r)) (sym (is_same zero))
+            (by_basis_same i number (mirrored_row v) up_to below at_column zero)
 
     -- the rows with later pivots are 0 at the column
     pub by_basis_all : (i : ℕ) (v : RowValue) → IsVectorUpTo e m column i v → ArePlacesBefore (length m.rows) reduced.basis.pivots column i →

@@ -102,6 +102,12 @@ echelon_of_steps o n steps are = record {
   independent = are.form.independent;
 }
 
+-- the steps are over the field of a row that has an entry for each column
+pub steps_as_long : (o : Order) (n : ℕ) (steps : List Step) (row : RowValue) → AreSteps o n steps → row.order ≡ o → length row.entries ≡ n →
+    AreSteps row.order (length row.entries) steps
+steps_as_long o n steps row are field long =
+    subst (λ q. AreSteps q (length row.entries) steps) (sym field) (subst (λ k. AreSteps o k steps) (sym long) are)
+
 -- there are no more steps than columns
 pub steps_fit : (o : Order) (n : ℕ) (steps : List Step) → AreSteps o n steps → length steps ≤ n
 steps_fit o n steps are =

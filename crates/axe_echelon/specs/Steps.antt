@@ -3,12 +3,13 @@ use Rattle.std.specs.Prelude.{◌≡◌, ◌≢◌, ℕ, ◌<◌, ◌≤◌, Lis
 use Rattle.axe_algebra.specs.Vectors.{HasLength, add_vectors, scale, times}
 use Rattle.axe_algebra.specs.Reduced.{IsZeroAtPivots}
 use Rattle.axe_algebra.specs.Bridge.{element, vector_of, matrix_of}
-use Rattle.axe_algebra.specs.Lists.{IsVectorOver}
+use Rattle.axe_algebra.specs.Lists.{listed, IsVectorOver}
 use Rattle.axe_algebra.specs.SpansOfLists.{IsSpanned, IsPivot}
 use Rattle.axe_field.specs.Order.{Order, IsElement}
-use Rattle.axe_field.specs.Arithmetic.{field_mul}
+use Rattle.axe_field.specs.Arithmetic.{field_mul, field_neg}
 use Rattle.axe_field.specs.NumberFields.{number_field, gf}
-use Rattle.axe_row.specs.Operations.{multiple_row}
+use Rattle.axe_lane.specs.Entries.{IsFirstNonzero}
+use Rattle.axe_row.specs.Operations.{multiple_row, IsZeroVector}
 use Rattle.axe_row.specs.Rows.{RowValue, IsRow}
 use Rattle.axe_matrix.specs.Limits.{most_columns}
 use Rattle.axe_echelon.specs.Echelons.{EchelonValue}
@@ -90,6 +91,16 @@ pub record IsSolved (order : Order) (cols : ℕ) (steps : List Step) (multiplier
       times (gf order) (length (inserted_rows steps)) (vector_of (number_field order) coefficients.entries)
       (matrix_of (number_field order) (inserted_rows steps))
 
+-- the coordinates of a row of which nothing is left: the negatives of what the multipliers became, so far as there are
+-- steps
+pub record AreSolvedCoordinates (steps : List Step) (rest multipliers solved coordinates : RowValue) : Type 0 where
+  pub nothing_left : IsZeroVector rest.entries
+  pub solution : IsSolved multipliers.order (length multipliers.entries) steps multipliers solved
+  pub negated : coordinates ≡ record {
+    order = solved.order;
+    entries = listed (length steps) (λ j. field_neg solved.order (get_or solved.entries j 0));
+  }
+
 -- the step of a row with what is left of it, scaled to 1 at a column, and with what was added to it
 pub record IsScaledStep (v rest : RowValue) (column : ℕ) (added : RowValue) (step : Step) : Type 0 where
   pub inserted : step.inserted ≡ v
@@ -99,6 +110,11 @@ pub record IsScaledStep (v rest : RowValue) (column : ℕ) (added : RowValue) (s
   pub inverse : field_mul rest.order (get_or rest.entries column 0) step.scalar ≡ 1
   pub row : step.row ≡ multiple_row step.scalar rest
   pub row_well_formed : IsRow step.row
+
+-- the same, where the column is that of the first entry other than 0
+pub record IsStepOfRest (v rest added : RowValue) (step : Step) : Type 0 where
+  pub leads : IsFirstNonzero rest.entries step.pivot
+  pub scaled : IsScaledStep v rest step.pivot added step
 
 -- the step that one more row gives, beside the rows of the echelon form
 pub record IsNextStep (e : EchelonValue) (rows : List (List ℕ)) (v : List ℕ) (step : Step) : Type 0 where

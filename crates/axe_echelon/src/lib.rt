@@ -9,13 +9,15 @@ ghost use Rattle.axe_algebra.specs.SpansOfLists.{IsPivot, IsRepresentative, IsSp
 ghost use Rattle.axe_field.specs.Arithmetic.{field_neg};
 ghost use Rattle.axe_field.specs.NumberFields.{number_field};
 ghost use Rattle.axe_lane.specs.Entries.{IsFirstNonzero};
+ghost use Rattle.axe_row.specs.Operations.{IsZeroVector};
 ghost use Rattle.axe_row.specs.Refusals.{Answers};
 ghost use Rattle.axe_row.specs.Rows.{IsRow};
 ghost use Rattle.axe_matrix.specs.Limits.{most_columns};
 ghost use Rattle.axe_matrix.specs.Matrices.{IsMatrix};
 ghost use Rattle.axe_echelon.specs.Echelons.{IsEchelon, with_row_where, AreCoordinates, IsReducedMatrix};
-ghost use Rattle.axe_echelon.specs.Steps.{AreSteps, AreTabledSteps, IsCleared, IsSolved, IsScaledStep};
-ghost use Rattle.axe_echelon.specs.Steps.{IsNextStep, IsPivotRow, echelon_of, echelon_rows, inserted_rows, pivots};
+ghost use Rattle.axe_echelon.specs.Steps.{AreSteps, AreTabledSteps, AreSolvedCoordinates, IsCleared, IsSolved};
+ghost use Rattle.axe_echelon.specs.Steps.{IsScaledStep, IsStepOfRest, IsNextStep, IsPivotRow};
+ghost use Rattle.axe_echelon.specs.Steps.{echelon_of, echelon_rows, inserted_rows, pivots};
 ghost use Rattle.axe_echelon.specs.PivotTables.{HasPivots};
 
 mod inverses;
@@ -177,12 +179,7 @@ impl Echelon {
         ensures well_formed { IsEchelon self.now }
     {
         let mut left = left_of(alloc, &self.steps, &self.pivots, row)?;
-        if !left.rest.is_zero() {
-            return Ok(None);
-        }
-        solve(&self.steps, &mut left.multipliers);
-        // The row plus the combination with what they are now is zero, so their negatives combine to the row.
-        Ok(Some(negated_start(alloc, &left.multipliers, self.rank())?))
+        coordinates_of(alloc, &self.steps, &mut left)
     }
 
     /// The reduced basis of the span: for each pivot, in ascending order, the vector of the span that is 1 there and 0
@@ -266,6 +263,25 @@ fn eliminate(steps: &[Step], pivots: &PivotTable, row: &mut Row, multipliers: &m
     }
 }
 
+/// The coefficients of a row over the inserted rows, from what is left of it, or `None` where anything is. They are the
+/// negatives of what the multipliers are then.
+fn coordinates_of(
+    alloc: Global,
+    steps: &[Step],
+    left: &mut Elimination,
+) -> Result<Option<Row>, Refusal>
+    requires { AreSteps left.old.multipliers.order (length left.old.multipliers.entries) steps.now }
+    ensures { Answers None (λ coordinates. MatchOption coordinates (¬ (IsZeroVector left.old.rest.entries))
+        (AreSolvedCoordinates steps.now left.old.rest left.old.multipliers left.new.multipliers)) result }
+{
+    if !left.rest.is_zero() {
+        return Ok(None);
+    }
+    solve(steps, &mut left.multipliers);
+    // The row plus the combination with what they are now is zero, so their negatives combine to the row.
+    Ok(Some(negated_start(alloc, &left.multipliers, steps.len())?))
+}
+
 /// Makes the multipliers of the rows of the echelon form in a combination the coefficients of the inserted rows in it.
 fn solve(steps: &[Step], multipliers: &mut Row)
     requires steps { AreSteps multipliers.old.order (length multipliers.old.entries) steps.now }
@@ -299,9 +315,17 @@ fn next_step(
         result }
 {
     let left = left_of(alloc, steps, pivots, &row)?;
+    Ok(step_of(row, left))
+}
+
+/// The step of a row, from what is left of it, or `None` where nothing is.
+fn step_of(inserted: Row, left: Elimination) -> Option<Step>
+    ensures { MatchOption result (IsZeroVector left.rest.entries)
+        (IsStepOfRest inserted left.rest left.multipliers) }
+{
     match left.rest.first_nonzero() {
-        Some(pivot) => Ok(Some(scaled_step(row, left, pivot))),
-        None => Ok(None),
+        Some(pivot) => Some(scaled_step(inserted, left, pivot)),
+        None => None,
     }
 }
 

@@ -5,11 +5,14 @@
 //! pivot: so this vector is 0 after its column, and all of them, read from the last entry to the first, are a reduced
 //! basis. Therefore the rows that are given are read so in the first place.
 
-ghost use Rattle.std.specs.Prelude.{◌<◌, ◌↔◌, None, All, IsTrue, IfOk};
+ghost use Rattle.std.specs.Prelude.{◌≡◌, ◌≢◌, ◌<◌, ◌↔◌, None, All, IsTrue, IfOk, length, slice_set};
 ghost use Rattle.axe_algebra.specs.SpansOfLists.{IsAnnihilatorBasis, IsPivot};
+ghost use Rattle.axe_field.specs.Arithmetic.{field_neg};
 ghost use Rattle.axe_field.specs.NumberFields.{number_field};
+ghost use Rattle.axe_field.specs.Order.{IsElement};
 ghost use Rattle.axe_row.specs.Operations.{IsZeroVector};
 ghost use Rattle.axe_row.specs.Refusals.{Answers};
+ghost use Rattle.axe_row.specs.Rows.{IsRow};
 ghost use Rattle.axe_matrix.specs.Matrices.{IsMatrix, transposed_matrix};
 ghost use Rattle.axe_echelon.specs.Echelons.{null_space_refusal, IsNullSpaceMatrix, IsReducedMatrix};
 ghost use Rattle.axe_echelon.specs.Orthogonal.{IsOrthogonalToSpace, IsOrthogonalVector, IsMirroredVector};
@@ -160,20 +163,34 @@ fn vector_by_basis(
     requires no_pivot { ¬ (IsPivot (number_field space.now.order) space.now.rows column) }
     ensures { Answers None (IsMirroredVector space.now column) result }
 {
-    let field = *space.field();
     let last = basis.cols() - 1;
-    let mut vector = Row::unit(alloc, field, basis.cols(), last - column)?;
+    let mut vector = Row::unit(alloc, *space.field(), basis.cols(), last - column)?;
     let mut index = 0;
     // A row of the basis is 1 at its pivot, where all others are 0, and 0 before it: so rows with later pivots are 0 at
     // the column.
     for pivot in 0..column {
         if space.is_pivot(pivot) {
-            let entry = basis.get(index, column);
-            if entry != 0 {
-                vector.set(last - pivot, field.neg(entry));
-            }
+            set_negative(&mut vector, last - pivot, basis.get(index, column));
             index += 1;
         }
     }
     Ok(vector)
+}
+
+/// Makes the negative of an element the entry of a row at an index, where that element is not 0. Where it is 0, the row
+/// stays as it is.
+fn set_negative(row: &mut Row, index: usize, element: u8)
+    requires index { index < length row.old.entries }
+    requires element { IsElement row.old.order element }
+    ensures set { element ≢ 0 → row.new ≡ record {
+      order = row.old.order;
+      entries = slice_set row.old.entries index (field_neg row.old.order element);
+    } }
+    ensures same { element ≡ 0 → row.new ≡ row.old }
+    ensures well_formed { IsRow row.new }
+{
+    let negative = row.field().neg(element);
+    if element != 0 {
+        row.set(index, negative);
+    }
 }

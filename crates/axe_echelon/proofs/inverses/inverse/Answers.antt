@@ -1,4 +1,4 @@
-use Rattle.std.proofs.Common.{refl, sym, ◌∙◌, rules}
+use Rattle.std.proofs.Common.{refl, sym, ◌∙◌, rules, arith}
 use Rattle.axe_echelon.proofs.InverseLaws.{inverse_refusal-some}
 use Rattle.axe_echelon.proofs.inverses.inverse.Goals as goal
 
@@ -23,3 +23,9 @@ returns-in_err-inverse-clause-inverse c = search rules
 
 pub returns-in_err-inverse-clause-well_formed : goal.returns-in_err-inverse-clause-well_formed
 returns-in_err-inverse-clause-well_formed c = search rules
+
+pub returns-in-None-clause-well_formed : goal.returns-in-None-clause-well_formed
+returns-in-None-clause-well_formed c = tt
+
+pub inverse_of-requires : goal.inverse_of-requires
+inverse_of-requires c = omega (arith, c.rows.ensures.count, c.cols.ensures.count, c.if-rows-cols.false)

@@ -1,13 +1,13 @@
-use Rattle.std.proofs.Common.{◌≡◌, ◌-◌, ◌<◌, length, set, ◌∙◌, subst, Bool, true, false, arith}
+use Rattle.std.proofs.Common.{◌≡◌, ◌-◌, ◌<◌, length, ◌∙◌, subst, Bool, true, false, arith}
 use Rattle.axe_algebra.specs.Lists.{unit_row}
 use Rattle.axe_algebra.specs.SpansOfLists.{IsPivot}
 use Rattle.axe_field.specs.NumberFields.{number_field}
 use Rattle.axe_echelon.specs.Echelons.{IsReducedMatrix}
 use Rattle.axe_echelon.specs.Mirrored.{mirrored_row}
 use Rattle.axe_echelon.proofs.OrthogonalLaws.{ArePlacesBefore, no_places, place_of_pivot, places_more, places_same}
-use Rattle.axe_echelon.proofs.OrthogonalRows.{by_basis_start, by_basis_more, by_basis_same, by_basis_all}
+use Rattle.axe_echelon.proofs.OrthogonalRows.{by_basis_start, by_basis_entry, by_basis_all}
 use Rattle.axe_echelon.proofs.Exits.{no_memory}
-use Rattle.axe_echelon.proofs.null_spaces.vector_by_basis.Goals.{then-is_pivot, then-entry-ne0, else-entry-ne0, else-is_pivot}
+use Rattle.axe_echelon.proofs.null_spaces.vector_by_basis.Goals.{then-is_pivot, else-is_pivot}
 use Rattle.axe_echelon.proofs.null_spaces.vector_by_basis.Goals as goal
 
 not_both : (b : Bool) → b ≡ true → b ≡ false → ⊥
@@ -26,8 +26,8 @@ loop-pivot-init c = record {
       c.requires.basis c.requires.no_pivot c.in_ok-vector.vector unit c.in_ok-vector.ensures.well_formed;
 }
 
-pub get-entry-requires-clause-row : goal.get-entry-requires-clause-row
-get-entry-requires-clause-row c =
+pub get-requires-clause-row : goal.get-requires-clause-row
+get-requires-clause-row c =
     (place_of_pivot (IsPivot (number_field c.args.space.now.order) c.args.space.now.rows) (length c.args.basis.now.rows) c.requires.basis.basis.pivots
     c.requires.basis.basis.are_pivots c.loop-pivot.pivot c.loop-pivot.index (c.loop-pivot.invariant.places c.requires.basis)
     (c.is_pivot.ensures.0 c.if-is_pivot.true)).0
@@ -53,22 +53,13 @@ loop-pivot-preserved c =
           record {
             places = λ reduced. rw w.index-is (places_more (IsPivot (number_field c.args.space.now.order) c.args.space.now.rows) (length c.args.basis.now.rows)
                 reduced.basis.pivots reduced.basis.are_pivots c.loop-pivot.pivot c.loop-pivot.index (c.loop-pivot.invariant.places reduced) is_pivot);
-            vector = elim w.if-entry-ne0.branch [
-              | then-entry-ne0 w' ↦
-                  let last : c.cols-last.result ≡ c.args.space.now.cols = c.cols-last.ensures.count ∙ c.requires.basis.columns in
-                  let set_there : w'.set.new.self ≡
-                  record { order = c.loop-pivot.vector.order; entries = set c.loop-pivot.vector.entries (c.args.space.now.cols - 1 - c.loop-pivot.pivot) w'.neg.result } =
-                  rw (← last) w'.set.ensures.replaced in
-                  rw (w.vector-is, w'.vector-is, w.index-is) (by_basis_more c.args.space.now c.field.ensures.well_formed c.args.column c.requires.within
-                  c.args.basis.now c.cols-last.ensures.well_formed c.requires.basis c.requires.no_pivot c.loop-pivot.index c.loop-pivot.pivot
-                  w.get-entry.result w'.neg.result c.loop-pivot.vector w'.set.new.self c.field.result.now c.loop-pivot.invariant.vector
-                  (place c.requires.basis).0 (λ reduced. (place reduced).1) inside w.get-entry.ensures.value c.field.ensures.order w'.neg.ensures.value
-                  set_there w'.set.ensures.well_formed)
-              | else-entry-ne0 w' ↦
-                  rw (w.vector-is, w'.vector-is, w.index-is) (by_basis_same c.args.space.now c.field.ensures.well_formed c.args.column c.requires.within
-                  c.args.basis.now c.cols-last.ensures.well_formed c.requires.basis c.requires.no_pivot c.loop-pivot.index w.get-entry.result
-                  (mirrored_row c.loop-pivot.vector) c.loop-pivot.invariant.vector (place c.requires.basis).0 w.get-entry.ensures.value w'.if-entry-ne0.false)
-            ];
+            vector =
+                let last : c.cols-last.result ≡ c.args.space.now.cols = c.cols-last.ensures.count ∙ c.requires.basis.columns in
+                rw (w.vector-is, w.index-is) (by_basis_entry c.args.space.now c.field.ensures.well_formed c.args.column c.requires.within
+                c.args.basis.now c.cols-last.ensures.well_formed c.requires.basis c.requires.no_pivot c.loop-pivot.index c.loop-pivot.pivot
+                w.get.result c.loop-pivot.vector w.set_negative.new.row c.loop-pivot.invariant.vector (place c.requires.basis).0
+                (λ reduced. (place reduced).1) inside w.get.ensures.value
+                (rw last at w.set_negative.ensures.set) w.set_negative.ensures.same w.set_negative.ensures.well_formed);
           }
       | else-is_pivot w ↦ record {
         places = λ reduced. rw w.index-is (places_same (IsPivot (number_field c.args.space.now.order) c.args.space.now.rows) (length c.args.basis.now.rows)
@@ -86,8 +77,8 @@ returns c =
     (subst (λ k. ArePlacesBefore (length c.args.basis.now.rows) c.requires.basis.basis.pivots k c.loop-pivot.index) whole
     (c.loop-pivot.invariant.places c.requires.basis))
 
-pub get-entry-requires-clause-column : goal.get-entry-requires-clause-column
-get-entry-requires-clause-column c = omega (arith, c.requires.within, c.requires.basis.columns)
+pub get-requires-clause-column : goal.get-requires-clause-column
+get-requires-clause-column c = omega (arith, c.requires.within, c.requires.basis.columns)
 
 pub returns-in_err-vector : goal.returns-in_err-vector
 returns-in_err-vector c = no_memory _ c.from_residual.result _ c.from_residual.ensures.1 c.in_err-vector.ensures.unit
