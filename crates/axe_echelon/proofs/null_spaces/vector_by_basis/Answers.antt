@@ -1,7 +1,9 @@
-use Rattle.std.proofs.Common.{◌≡◌, ◌-◌, ◌<◌, length, ◌∙◌, subst, Bool, true, false, arith}
+use Rattle.std.proofs.Common.{◌≡◌, ◌-◌, ◌<◌, length, ◌∙◌, sym, subst, Bool, true, false, arith}
+use Rattle.std.proofs.lemmas.List.{length-reverse}
 use Rattle.axe_algebra.specs.Lists.{unit_row}
 use Rattle.axe_algebra.specs.SpansOfLists.{IsPivot}
 use Rattle.axe_field.specs.NumberFields.{number_field}
+use Rattle.axe_field.specs.Order.{IsElement}
 use Rattle.axe_echelon.specs.Echelons.{IsReducedMatrix}
 use Rattle.axe_echelon.specs.Mirrored.{mirrored_row}
 use Rattle.axe_echelon.proofs.OrthogonalLaws.{ArePlacesBefore, no_places, place_of_pivot, places_more, places_same}
@@ -82,3 +84,19 @@ get-requires-clause-column c = omega (arith, c.requires.within, c.requires.basis
 
 pub returns-in_err-vector : goal.returns-in_err-vector
 returns-in_err-vector c = no_memory _ c.from_residual.result _ c.from_residual.ensures.1 c.in_err-vector.ensures.unit
+
+pub set_negative-requires-clause-index : goal.set_negative-requires-clause-index
+set_negative-requires-clause-index c =
+    omega (
+      arith,
+      length-reverse c.loop-pivot.vector.entries,
+      c.loop-pivot.invariant.vector.over.length_is,
+      c.cols-last.ensures.count,
+      c.requires.basis.columns,
+      c.loop-pivot-test.true,
+      c.requires.within,
+    )
+
+pub set_negative-requires-clause-element : goal.set_negative-requires-clause-element
+set_negative-requires-clause-element c =
+    subst (λ o. IsElement o c.get.result) (c.requires.basis.field ∙ sym c.loop-pivot.invariant.vector.field) c.get.ensures.element
