@@ -1,13 +1,14 @@
 -- The rows of the actions on a span: the coefficients, over independent rows, of these rows times the generators.
-use Rattle.std.specs.Prelude.{◌≡◌, ℕ, ◌<◌, List, [], length, get_or, map, All}
+use Rattle.std.specs.Prelude.{◌≡◌, ℕ, ◌<◌, List, [], ◌∷◌, ◌++◌, length, get_or, map, All}
 use Rattle.axe_algebra.specs.NumberField.{NumberField}
 use Rattle.axe_algebra.specs.Lists.{IsVectorOver, listed, unit_row}
 use Rattle.axe_algebra.specs.Reduced.{IsAscendingListOf}
 use Rattle.axe_algebra.specs.ListArithmetic.{combination}
 use Rattle.axe_algebra.specs.SpansOfLists.{IsSpanned, IsPivot}
 use Rattle.axe_field.specs.NumberFields.{number_field}
+use Rattle.axe_row.specs.Rows.{RowValue}
 use Rattle.axe_matrix.specs.Matrices.{MatrixValue, IsMatrix}
-use Rattle.axe_echelon.specs.Echelons.{EchelonValue}
+use Rattle.axe_echelon.specs.Echelons.{EchelonValue, AreCoordinates}
 
 -- row t times the matrix g: its image
 abbrev pub row_times : MatrixValue → List (List ℕ) → ℕ → List ℕ
@@ -29,6 +30,13 @@ pub record HasActionRows (g : MatrixValue) (rows : List (List ℕ)) (i : ℕ) (a
   pub count : length action.rows ≡ i
   pub well_formed : IsMatrix action
   pub each : (t : ℕ) → t < i → IsActionRow g rows t (get_or action.rows t [])
+
+-- the matrix has one row more: the coefficients of the vector v over the rows of a span (Parker 1984)
+pub record HasCoefficientsToo (e : EchelonValue) (v : List ℕ) (m next : MatrixValue) : Type 0 where
+  pub coefficients : RowValue
+  pub are : AreCoordinates e v coefficients
+  pub appended : next ≡ record m { rows = m.rows ++ coefficients.entries ∷ [] }
+  pub well_formed : IsMatrix next
 
 -- the entries of a vector at these columns, in their order
 abbrev pub entries_at : List ℕ → List ℕ → List ℕ

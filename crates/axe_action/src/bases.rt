@@ -1,9 +1,11 @@
 //! Bases of the whole space.
 
-ghost use Rattle.std.specs.Prelude.{None, IfOk};
+ghost use Rattle.std.specs.Prelude.{◌≡◌, ◌<◌, ◌++◌, [], ◌∷◌, length, None, IfOk};
+ghost use Rattle.axe_algebra.specs.Lists.{unit_row};
 ghost use Rattle.axe_algebra.specs.SpansOfLists.{IsIndependent};
 ghost use Rattle.axe_field.specs.NumberFields.{number_field};
 ghost use Rattle.axe_row.specs.Refusals.{Answers};
+ghost use Rattle.axe_matrix.specs.Limits.{most_rows};
 ghost use Rattle.axe_matrix.specs.Matrices.{IsMatrix};
 ghost use Rattle.axe_action.specs.Actions.{IsExtendedMatrix};
 
@@ -22,9 +24,20 @@ pub fn extend_basis(alloc: Global, rows: &Matrix) -> Result<Matrix, Refusal>
     let mut extended = rows.copy(alloc)?;
     for column in 0..rows.cols() {
         if !span.is_pivot(column) {
-            let unit = Row::unit(alloc, *rows.field(), rows.cols(), column)?;
-            extended.append(unit)?;
+            append_unit(alloc, &mut extended, column)?;
         }
     }
     Ok(extended)
+}
+
+/// Appends the unit vector of a column.
+fn append_unit(alloc: Global, matrix: &mut Matrix, column: usize) -> Result<(), Refusal>
+    requires below { column < matrix.old.cols }
+    requires room { length matrix.old.rows < most_rows }
+    ensures appended { Answers None
+        (λ _. matrix.new ≡ record matrix.old { rows = matrix.old.rows ++ unit_row matrix.old.cols column ∷ [] }) result }
+    ensures well_formed { IsMatrix matrix.new }
+{
+    let unit = Row::unit(alloc, *matrix.field(), matrix.cols(), column)?;
+    matrix.append(unit)
 }

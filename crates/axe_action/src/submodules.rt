@@ -105,16 +105,36 @@ fn split_by_span(alloc: Global, module: &Module, rows: &Matrix) -> Result<Split,
     ensures columns { Answers None (λ split. AreFreeColumns (rows_to_span rows.now) split.columns.items) result }
     ensures well_formed { IfOk result (λ split. IsModule split.sub × IsModule split.quotient) }
 {
-    let span = span_of(alloc, rows)?;
-    let columns = free_columns(alloc, &span)?;
-    let sub = action_over(alloc, module, rows, &span)?;
-    drop(span);
+    let (sub, columns) = sub_by_span(alloc, module, rows)?;
     let quotient = quotient_action(alloc, module, rows)?;
     Ok(Split {
         sub,
         quotient,
         columns,
     })
+}
+
+/// The action of a module on a submodule, which has these independent rows as a basis, and the columns that are no
+/// pivots of their span, by an echelon form of it, whose memory is free again then.
+fn sub_by_span(
+    alloc: Global,
+    module: &Module,
+    rows: &Matrix,
+) -> Result<(Module, Vec<usize>), Refusal>
+    requires field { rows.now.order ≡ «module».now.order }
+    requires fits { rows.now.cols ≡ «module».now.dim }
+    requires some_row { 1 ≤ length rows.now.rows }
+    requires independent { IsIndependent (number_field rows.now.order) rows.now.rows }
+    requires invariant { IsInvariantIn «module».now rows.now }
+    ensures sub { Answers None (λ found. IsBasisAction «module».now rows.now found.0) result }
+    ensures columns { Answers None (λ found. AreFreeColumns (rows_to_span rows.now) found.1.items) result }
+    ensures well_formed { IfOk result (λ found. IsModule found.0) }
+    ensures rows_well_formed { IsMatrix rows.now }
+{
+    let span = span_of(alloc, rows)?;
+    let columns = free_columns(alloc, &span)?;
+    let sub = action_over(alloc, module, rows, &span)?;
+    Ok((sub, columns))
 }
 
 /// The action of a module on a submodule, over its reduced basis, and that modulo it. Its pivots are given too, and the

@@ -1,20 +1,21 @@
 //! The action of a module on an invariant space.
 
-ghost use Rattle.std.specs.Prelude.{◌≡◌, ◌≤◌, length, None, IfOk};
-ghost use Rattle.axe_algebra.specs.SpansOfLists.{IsIndependent};
+ghost use Rattle.std.specs.Prelude.{◌≡◌, ◌<◌, ◌≤◌, length, None, IfOk};
+ghost use Rattle.axe_algebra.specs.SpansOfLists.{IsIndependent, IsSpanned};
 ghost use Rattle.axe_field.specs.NumberFields.{number_field};
 ghost use Rattle.axe_row.specs.Refusals.{Answers, AnswersOr, RefusedAs, unless_refused};
 ghost use Rattle.axe_row.specs.declared.refusals.Refusal.TheVariants.{NotInvariant};
+ghost use Rattle.axe_matrix.specs.Limits.{most_rows};
 ghost use Rattle.axe_matrix.specs.Matrices.{IsMatrix};
 ghost use Rattle.axe_echelon.specs.Echelons.{IsSpanOfRows};
 ghost use Rattle.axe_spin.specs.Modules.{IsModule, IsInvariantIn};
 ghost use Rattle.axe_action.specs.Actions.{sub_action_refusal, action_late, IsActionOnSpan, IsActionOverRows};
-ghost use Rattle.axe_action.specs.Coordinates.{HasImagesIn, HasActionRows, AreCoordinateColumns};
+ghost use Rattle.axe_action.specs.Coordinates.{HasImagesIn, HasActionRows, AreCoordinateColumns, HasCoefficientsToo};
 
 use super::columns::{columns_of, combine_to, coordinate_columns, pivot_columns};
 use super::conjugates::conjugate;
 use axe_echelon::{Echelon, span_of};
-use axe_matrix::{Matrix, Refusal};
+use axe_matrix::{Matrix, Refusal, Row};
 use axe_spin::{Module, has_only_zeros};
 use std::alloc::Global;
 
@@ -202,10 +203,29 @@ fn generator_action(
     let images = rows.mul(alloc, generator)?;
     let mut action = Matrix::with_capacity(alloc, *span.field(), span.rank(), images.rows())?;
     for index in 0..images.rows() {
-        let Some(coefficients) = span.coordinates(alloc, images.row(index))? else {
-            return Err(Refusal::NotInvariant);
-        };
-        action.append(coefficients)?;
+        append_coefficients(alloc, &mut action, span, images.row(index))?;
     }
     Ok(action)
+}
+
+/// Appends the coefficients of an image over the rows of a span, as many as the matrix has columns. An image that is not
+/// in the span is refused as NotInvariant.
+fn append_coefficients(
+    alloc: Global,
+    action: &mut Matrix,
+    span: &Echelon,
+    image: &Row,
+) -> Result<(), Refusal>
+    requires field { action.old.order ≡ span.now.order }
+    requires width { action.old.cols ≡ length span.now.rows }
+    requires room { length action.old.rows < most_rows }
+    requires image_field { image.now.order ≡ span.now.order }
+    requires image_fits { length image.now.entries ≡ span.now.cols }
+    ensures { AnswersOr None (λ _. HasCoefficientsToo span.now image.now.entries action.old action.new)
+        (RefusedAs NotInvariant (¬ (IsSpanned (number_field span.now.order) span.now.rows image.now.entries))) result }
+{
+    let Some(coefficients) = span.coordinates(alloc, image)? else {
+        return Err(Refusal::NotInvariant);
+    };
+    action.append(coefficients)
 }
