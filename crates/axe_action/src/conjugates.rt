@@ -102,5 +102,6 @@ fn triple_product(
         (λ product. product ≡ matrix_product (matrix_product first.now second.now) third.now) result }
     ensures well_formed { IfOk result IsMatrix }
 {
-    first.mul(alloc, second)?.mul(alloc, third)
+    let images = first.mul(alloc, second)?;
+    images.mul(alloc, third)
 }
