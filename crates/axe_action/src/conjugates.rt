@@ -71,8 +71,9 @@ fn conjugate_of(
         (λ product. product ≡ matrix_product (matrix_product basis.now generator) inverse.now) result }
     ensures well_formed { IfOk result IsMatrix }
 {
-    let images = basis.mul(alloc, &generator)?;
+    let product = basis.mul(alloc, &generator);
     drop(generator);
+    let images = product?;
     images.mul(alloc, inverse)
 }
 

@@ -19,8 +19,8 @@ pub returns-clause-product : goal.returns-clause-product
 returns-clause-product c =
     let none : product_refusal c.args.basis.now c.args.generator ≡ None =
     product_refusal-none c.args.basis.now c.args.generator (sym (ap order_number c.requires.generator_field)) (sym c.requires.generator_fits) in
-    product_of_three c.args.basis.now c.args.generator c.args.inverse.now c.in_ok-images.images c.mul-2.result none c.in_ok-images.ensures.product
-    c.requires.inverse_field c.requires.inverse_fits c.mul-2.ensures.product
+    product_of_three c.args.basis.now c.args.generator c.args.inverse.now c.in_ok-images.images c.mul.result none c.in_ok-images.ensures.product
+    c.requires.inverse_field c.requires.inverse_fits c.mul.ensures.product
 
 pub returns-clause-well_formed : goal.returns-clause-well_formed
-returns-clause-well_formed c = c.mul-2.ensures.well_formed
+returns-clause-well_formed c = c.mul.ensures.well_formed
