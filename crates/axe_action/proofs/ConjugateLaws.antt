@@ -15,7 +15,7 @@ use Rattle.axe_field.proofs.Orders.{order_number-injective}
 use Rattle.axe_matrix.proofs.ProductLaws.{length-product, product_refusal-none}
 use Rattle.axe_reduction.specs.Solutions.{IsInverseMatrix, IsInvertibleMatrix}
 use Rattle.axe_echelon.specs.Echelons.{inverse_refusal}
-use Rattle.axe_echelon.proofs.Exits.{asked_late}
+use Rattle.axe_echelon.proofs.Exits.{asked_late, answered_or}
 use Rattle.axe_echelon.proofs.InverseLaws.{inverse_refusal-none}
 use Rattle.axe_spin.specs.Modules.{ModuleValue, generator_of, rows_of_each, rows_refusal}
 use Rattle.axe_spin.specs.Generators.{IsGeneratorMatrix}
@@ -107,11 +107,10 @@ module _ (m : ModuleValue) (p q : MatrixValue) (fits : IsBasisFor m p) (inverse 
   }
 
 -- the conjugates of all generators make the conjugate
-pub conjugate_is : (m : ModuleValue) (p : MatrixValue) (count : ℕ) (matrices : List MatrixValue) (result : Result ModuleValue Refusal) → count ≡ length m.generators →
-    IsBasisFor m p → AreNewGenerators m.order m.dim (λ i rows. IsConjugate (number_field m.order) m.dim p.rows (get_or m.generators i []) rows) count matrices →
-    result ≡ Ok (record { order = m.order; dim = m.dim; generators = rows_of_each matrices }) →
-    AnswersOr (conjugate_refusal m p) (IsConjugateModule m p) (RefusedAs Singular (¬ (IsInvertibleMatrix p))) result
-conjugate_is m p count matrices result all fits are is = rw (conjugate_accepted m p fits, is) made
+pub conjugates_made : (m : ModuleValue) (p : MatrixValue) (count : ℕ) (matrices : List MatrixValue) (result : Result ModuleValue Refusal) → count ≡ length m.generators →
+    AreNewGenerators m.order m.dim (λ i rows. IsConjugate (number_field m.order) m.dim p.rows (get_or m.generators i []) rows) count matrices →
+    result ≡ Ok (record { order = m.order; dim = m.dim; generators = rows_of_each matrices }) → Answers None (IsConjugateModule m p) result
+conjugates_made m p count matrices result all are is = rw is made
   where
     made : IsConjugateModule m p (record { order = m.order; dim = m.dim; generators = rows_of_each matrices })
     made = record {
@@ -120,6 +119,15 @@ conjugate_is m p count matrices result all fits are is = rw (conjugate_accepted 
       count = length-map matrices (λ (x : MatrixValue). x.rows) ∙ are.as_many ∙ all;
       each = λ i below. are.made i (omega arith);
     }
+
+-- the same as the answer of a call that may refuse
+pub conjugate_is : (m : ModuleValue) (p : MatrixValue) (count : ℕ) (matrices : List MatrixValue) (result : Result ModuleValue Refusal) → count ≡ length m.generators →
+    IsBasisFor m p → AreNewGenerators m.order m.dim (λ i rows. IsConjugate (number_field m.order) m.dim p.rows (get_or m.generators i []) rows) count matrices →
+    result ≡ Ok (record { order = m.order; dim = m.dim; generators = rows_of_each matrices }) →
+    AnswersOr (conjugate_refusal m p) (IsConjugateModule m p) (RefusedAs Singular (¬ (IsInvertibleMatrix p))) result
+conjugate_is m p count matrices result all fits are is =
+    answered_or (conjugate_refusal m p) (IsConjugateModule m p) (IsConjugateModule m p) (RefusedAs Singular (¬ (IsInvertibleMatrix p))) result
+    (conjugate_accepted m p fits) (λ conjugate made. made) (conjugates_made m p count matrices result all are is)
 
 -- the inverse, or why there is none, of a matrix that is accepted
 pub asked_inverse : (m : ModuleValue) (p : MatrixValue) (result : Result MatrixValue Refusal) → IsBasisFor m p →

@@ -7,9 +7,10 @@ ghost use Rattle.axe_field.specs.NumberFields.{number_field};
 ghost use Rattle.axe_row.specs.Refusals.{Answers};
 ghost use Rattle.axe_matrix.specs.Limits.{most_rows};
 ghost use Rattle.axe_matrix.specs.Matrices.{IsMatrix};
+ghost use Rattle.axe_echelon.specs.Echelons.{IsSpanOfRows};
 ghost use Rattle.axe_action.specs.Actions.{IsExtendedMatrix};
 
-use axe_echelon::span_of;
+use axe_echelon::{Echelon, span_of};
 use axe_matrix::{Matrix, Refusal, Row};
 use std::alloc::Global;
 
@@ -21,6 +22,16 @@ pub fn extend_basis(alloc: Global, rows: &Matrix) -> Result<Matrix, Refusal>
     ensures well_formed { IfOk result IsMatrix }
 {
     let span = span_of(alloc, rows)?;
+    extend_beside(alloc, rows, &span)
+}
+
+/// Independent rows, extended as [`extend_basis`] does it. Their span is given too.
+fn extend_beside(alloc: Global, rows: &Matrix, span: &Echelon) -> Result<Matrix, Refusal>
+    requires independent { IsIndependent (number_field rows.now.order) rows.now.rows }
+    requires span { IsSpanOfRows rows.now span.now }
+    ensures extended { Answers None (IsExtendedMatrix rows.now) result }
+    ensures well_formed { IfOk result IsMatrix }
+{
     let mut extended = rows.copy(alloc)?;
     for column in 0..rows.cols() {
         if !span.is_pivot(column) {

@@ -7,7 +7,7 @@ ghost use Rattle.axe_row.specs.Refusals.{Answers, unless_refused, AnswersOr, Ref
 ghost use Rattle.axe_row.specs.declared.refusals.Refusal.TheVariants.{Singular};
 ghost use Rattle.axe_matrix.specs.Matrices.{IsMatrix, matrix_product};
 ghost use Rattle.axe_spin.specs.Modules.{IsModule};
-ghost use Rattle.axe_reduction.specs.Solutions.{IsInvertibleMatrix};
+ghost use Rattle.axe_reduction.specs.Solutions.{IsInverseMatrix, IsInvertibleMatrix};
 ghost use Rattle.axe_action.specs.Actions.{conjugate_refusal, IsBasisAction, IsConjugateModule};
 
 use axe_echelon::inverse;
@@ -25,9 +25,26 @@ pub fn conjugate(alloc: Global, module: &Module, basis: &Matrix) -> Result<Modul
 {
     check_basis(module, basis)?;
     let inverse = inverse(alloc, basis)?;
+    conjugate_by(alloc, module, basis, &inverse)
+}
+
+/// The module over the rows of a matrix as its basis, by the inverse of that matrix.
+fn conjugate_by(
+    alloc: Global,
+    module: &Module,
+    basis: &Matrix,
+    inverse: &Matrix,
+) -> Result<Module, Refusal>
+    requires field { basis.now.order ≡ «module».now.order }
+    requires square { length basis.now.rows ≡ «module».now.dim }
+    requires fits { basis.now.cols ≡ «module».now.dim }
+    requires inverse { IsInverseMatrix basis.now inverse.now }
+    ensures conjugate { Answers None (IsConjugateModule «module».now basis.now) result }
+    ensures well_formed { IfOk result IsModule }
+{
     let mut conjugates = Vec::new(alloc);
     for index in 0..module.gens() {
-        let conjugate = triple_product(alloc, basis, module.generator(index), &inverse)?;
+        let conjugate = triple_product(alloc, basis, module.generator(index), inverse)?;
         conjugates.push(conjugate)?;
     }
     Module::new(conjugates)

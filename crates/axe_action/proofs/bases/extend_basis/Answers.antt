@@ -1,37 +1,7 @@
-use Rattle.std.proofs.Common.{◌≡◌, length, ap, sym, ◌∙◌, arith}
-use Rattle.axe_matrix.specs.Matrices.{IsMatrix}
 use Rattle.std.proofs.lemmas.Result.{IfOk-from_err}
+use Rattle.axe_matrix.specs.Matrices.{IsMatrix}
 use Rattle.axe_echelon.proofs.Exits.{no_memory}
-use Rattle.axe_algebra.specs.Lists.{unit_row}
-use Rattle.axe_action.proofs.BasisLaws.{extended_none, extended_at_pivot, extended_more, extended_has_room, all_rows, pivot_of_span, no_pivot_of_span}
-use Rattle.axe_action.proofs.bases.extend_basis.Goals.{then-not-is_pivot+in_ok-append_unit, else-not-is_pivot}
 use Rattle.axe_action.proofs.bases.extend_basis.Goals as goal
-
-pub loop-column-init : goal.loop-column-init
-loop-column-init c = extended_none c.args.rows.now c.in_ok-extended.extended c.in_ok-extended.ensures.copied c.in_ok-extended.ensures.well_formed
-
-pub append_unit-requires-clause-below : goal.append_unit-requires-clause-below
-append_unit-requires-clause-below c = omega (arith, c.loop-column-test.true, c.cols-column-end.ensures.count, c.loop-column.invariant.columns)
-
-pub append_unit-requires-clause-room : goal.append_unit-requires-clause-room
-append_unit-requires-clause-room c =
-    extended_has_room c.args.rows.now c.loop-column.column c.loop-column.extended c.cols-column-end.ensures.well_formed c.requires.independent c.loop-column.invariant
-    (no_pivot_of_span c.args.rows.now c.in_ok-span.span c.loop-column.column c.is_pivot.result (all_rows c.args.rows.now c.in_ok-span.span c.requires.independent c.in_ok-span.ensures.span) c.is_pivot.ensures c.if-not-is_pivot.true)
-    (omega (arith, c.loop-column-test.true, c.cols-column-end.ensures.count))
-
-pub loop-column-preserved : goal.loop-column-preserved
-loop-column-preserved c =
-    elim c.if-not-is_pivot.branch [
-      | then-not-is_pivot+in_ok-append_unit w ↦
-          rw w.extended-is (extended_more c.args.rows.now c.loop-column.column c.loop-column.extended w.append_unit.new.matrix
-          (unit_row c.loop-column.extended.cols c.loop-column.column) c.loop-column.invariant
-          (no_pivot_of_span c.args.rows.now c.in_ok-span.span c.loop-column.column c.is_pivot.result (all_rows c.args.rows.now c.in_ok-span.span c.requires.independent c.in_ok-span.ensures.span) c.is_pivot.ensures
-          w.if-not-is_pivot.true)
-          (ap (λ n. unit_row n c.loop-column.column) c.loop-column.invariant.columns) w.in_ok-append_unit.ensures.appended w.append_unit.ensures.well_formed)
-      | else-not-is_pivot w ↦
-          rw w.extended-is (extended_at_pivot c.args.rows.now c.loop-column.column c.loop-column.extended c.loop-column.invariant
-          (pivot_of_span c.args.rows.now c.in_ok-span.span c.loop-column.column (all_rows c.args.rows.now c.in_ok-span.span c.requires.independent c.in_ok-span.ensures.span) (c.is_pivot.ensures.0 w.if-not-is_pivot.false)))
-    ]
 
 pub returns-in_err-span-clause-extended : goal.returns-in_err-span-clause-extended
 returns-in_err-span-clause-extended c = no_memory _ c.from_residual.result _ c.from_residual.ensures.1 c.in_err-span.ensures.span
@@ -39,14 +9,14 @@ returns-in_err-span-clause-extended c = no_memory _ c.from_residual.result _ c.f
 pub returns-in_err-span-clause-well_formed : goal.returns-in_err-span-clause-well_formed
 returns-in_err-span-clause-well_formed c = IfOk-from_err c.from_residual.result IsMatrix c.from_residual.ensures.0
 
-pub returns-in_err-extended-clause-extended : goal.returns-in_err-extended-clause-extended
-returns-in_err-extended-clause-extended c = no_memory _ c.from_residual-in_err-extended.result _ c.from_residual-in_err-extended.ensures.1 c.in_err-extended.ensures.copied
+pub extend_beside-requires-clause-independent : goal.extend_beside-requires-clause-independent
+extend_beside-requires-clause-independent c = c.requires.independent
 
-pub returns-in_err-extended-clause-well_formed : goal.returns-in_err-extended-clause-well_formed
-returns-in_err-extended-clause-well_formed c = IfOk-from_err c.from_residual-in_err-extended.result IsMatrix c.from_residual-in_err-extended.ensures.0
+pub extend_beside-requires-clause-span : goal.extend_beside-requires-clause-span
+extend_beside-requires-clause-span c = c.in_ok-span.ensures.span
 
-pub returns-in_err-append_unit-clause-extended : goal.returns-in_err-append_unit-clause-extended
-returns-in_err-append_unit-clause-extended c = no_memory _ c.from_residual-in_err-append_unit.result _ c.from_residual-in_err-append_unit.ensures.1 c.in_err-append_unit.ensures.appended
+pub returns-clause-extended : goal.returns-clause-extended
+returns-clause-extended c = c.extend_beside.ensures.extended
 
-pub returns-in_err-append_unit-clause-well_formed : goal.returns-in_err-append_unit-clause-well_formed
-returns-in_err-append_unit-clause-well_formed c = IfOk-from_err c.from_residual-in_err-append_unit.result IsMatrix c.from_residual-in_err-append_unit.ensures.0
+pub returns-clause-well_formed : goal.returns-clause-well_formed
+returns-clause-well_formed c = c.extend_beside.ensures.well_formed

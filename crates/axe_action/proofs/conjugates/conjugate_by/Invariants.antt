@@ -2,7 +2,7 @@ use Rattle.std.proofs.Common.{[], get_or}
 use Rattle.axe_algebra.specs.ListArithmetic.{IsConjugate}
 use Rattle.axe_field.specs.NumberFields.{number_field}
 use Rattle.axe_action.proofs.GeneratorLists.{AreNewGenerators}
-use Rattle.axe_action.proofs.conjugates.conjugate.Given as goal
+use Rattle.axe_action.proofs.conjugates.conjugate_by.Given as goal
 
 abbrev pub invariant-loop-index : goal.invariant-loop-index
 invariant-loop-index l =
