@@ -46,3 +46,15 @@ pub record AreWithOtherRow (pivots columns v : List ℕ) (a b c next_a next_b ne
 abbrev pub AreBlocksWith : (pivots columns v : List ℕ) (a b c next_a next_b next_c : MatrixValue) → Type 0
 AreBlocksWith pivots columns v a b c next_a next_b next_c =
     AreWithPivotRow pivots v a b c next_a next_b next_c ⊎ AreWithOtherRow pivots columns v a b c next_a next_b next_c
+
+-- the products of the entries at the other columns and the block b, both ways, can be added to the blocks a and c
+pub record FitsProducts (entries a b c : MatrixValue) : Type 0 where
+  pub at_pivots_field : entries.order ≡ a.order
+  pub across_field : b.order ≡ a.order
+  pub at_columns_field : b.order ≡ c.order
+  pub at_pivots_rows : length entries.rows ≡ length a.rows
+  pub at_pivots_inner : entries.cols ≡ length b.rows
+  pub at_pivots_columns : b.cols ≡ a.cols
+  pub at_columns_rows : length b.rows ≡ length c.rows
+  pub at_columns_inner : b.cols ≡ length entries.rows
+  pub at_columns_columns : entries.cols ≡ c.cols

@@ -3,13 +3,16 @@
 
 ghost use Rattle.std.specs.Prelude.{◌≡◌, ◌<◌, ◌≤◌, ◌++◌, ◌⊎◌, [], ◌∷◌, length, None, Ok, Err, IfOk, IfErr};
 ghost use Rattle.axe_algebra.specs.SpansOfLists.{IsIndependent};
+ghost use Rattle.axe_field.specs.Arithmetic.{field_neg};
 ghost use Rattle.axe_field.specs.NumberFields.{number_field};
 ghost use Rattle.axe_row.specs.Refusals.{Answers};
 ghost use Rattle.axe_matrix.specs.Limits.{most_columns};
 ghost use Rattle.axe_matrix.specs.Matrices.{IsMatrix};
+ghost use Rattle.axe_matrix.specs.Products.{matrix_with_product};
 ghost use Rattle.axe_spin.specs.Limits.{most_generators};
 ghost use Rattle.axe_spin.specs.Modules.{IsModule, IsInvariantIn, module_of_matrices};
 ghost use Rattle.axe_action.specs.Actions.{IsBasisAction, IsActionModulo};
+ghost use Rattle.axe_action.specs.Blocks.{FitsProducts};
 ghost use Rattle.axe_action.specs.FreeColumns.{AreFreeColumns, AreReducedAt, AreComplementary};
 ghost use Rattle.axe_action.specs.FreeColumns.{rows_to_span};
 ghost use Rattle.axe_action.specs.FreeColumns.{matrix_within, matrix_modulo};
@@ -260,13 +263,27 @@ fn generator_parts(
         (λ parts. parts.1 ≡ matrix_modulo pivots.now columns.now entries.now generator) result }
     ensures well_formed { IfOk result (λ parts. IsMatrix parts.0 × IsMatrix parts.1) }
 {
-    let Blocks {
-        at_pivots: mut sub,
-        across,
-        at_columns: mut quotient,
-    } = blocks_of(alloc, generator, pivots, columns)?;
-    sub.add_product(alloc, 1, entries, &across)?;
+    let mut blocks = blocks_of(alloc, generator, pivots, columns)?;
+    add_products(alloc, &mut blocks, entries)?;
+    Ok((blocks.at_pivots, blocks.at_columns))
+}
+
+/// Adds the product of the entries and the block across to the block at the pivots, and takes that of the block across
+/// and the entries from the block at the other columns. For want of memory some of it may be missing.
+fn add_products(alloc: Global, blocks: &mut Blocks, entries: &Matrix) -> Result<(), Refusal>
+    requires { FitsProducts entries.now blocks.old.at_pivots blocks.old.across blocks.old.at_columns }
+    ensures at_pivots { Answers None (λ _. blocks.new.at_pivots
+        ≡ matrix_with_product blocks.old.at_pivots 1 entries.now blocks.old.across) result }
+    ensures at_columns { Answers None (λ _. blocks.new.at_columns
+        ≡ matrix_with_product blocks.old.at_columns (field_neg entries.now.order 1) blocks.old.across entries.now) result }
+    ensures well_formed { IfOk result (λ _. IsMatrix blocks.new.at_pivots × IsMatrix blocks.new.at_columns) }
+{
+    blocks
+        .at_pivots
+        .add_product(alloc, 1, entries, &blocks.across)?;
     let minus_one = entries.field().neg(1);
-    quotient.add_product(alloc, minus_one, &across, entries)?;
-    Ok((sub, quotient))
+    blocks
+        .at_columns
+        .add_product(alloc, minus_one, &blocks.across, entries)?;
+    Ok(())
 }
