@@ -1,4 +1,4 @@
-use Rattle.std.proofs.Common.{◌≡◌, length, ap, sym, ◌∙◌, arith}
+use Rattle.std.proofs.Common.{ap, arith}
 use Rattle.axe_matrix.specs.Matrices.{IsMatrix}
 use Rattle.std.proofs.lemmas.Result.{IfOk-from_err}
 use Rattle.axe_echelon.proofs.Exits.{no_memory}

@@ -1,4 +1,4 @@
-use Rattle.std.proofs.Common.{Ok, Err}
+use Rattle.std.proofs.Common.{Err}
 use Rattle.axe_echelon.proofs.Exits.{no_memory}
 use Rattle.axe_action.specs.Actions.{IsBasisAction}
 use Rattle.axe_action.proofs.SubmoduleLaws.{invariant_answers}
