@@ -1,16 +1,17 @@
 //! The action of a module on an invariant space.
 
-ghost use Rattle.std.specs.Prelude.{◌≡◌, ◌<◌, ◌≤◌, length, None, IfOk};
+ghost use Rattle.std.specs.Prelude.{◌≡◌, ◌<◌, ◌≤◌, length, All, None, IfOk};
 ghost use Rattle.axe_algebra.specs.SpansOfLists.{IsIndependent, IsSpanned};
 ghost use Rattle.axe_field.specs.NumberFields.{number_field};
 ghost use Rattle.axe_row.specs.Refusals.{Answers, AnswersOr, RefusedAs, unless_refused};
 ghost use Rattle.axe_row.specs.declared.refusals.Refusal.TheVariants.{NotInvariant};
-ghost use Rattle.axe_matrix.specs.Limits.{most_rows};
-ghost use Rattle.axe_matrix.specs.Matrices.{IsMatrix};
+ghost use Rattle.axe_matrix.specs.Limits.{most_rows, most_columns};
+ghost use Rattle.axe_matrix.specs.Matrices.{IsMatrix, matrix_product};
 ghost use Rattle.axe_echelon.specs.Echelons.{IsSpanOfRows};
 ghost use Rattle.axe_spin.specs.Modules.{IsModule, IsInvariantIn};
 ghost use Rattle.axe_action.specs.Actions.{sub_action_refusal, action_late, IsActionOnSpan, IsActionOverRows};
 ghost use Rattle.axe_action.specs.Coordinates.{HasImagesIn, HasActionRows, AreCoordinateColumns, HasCoefficientsToo};
+ghost use Rattle.axe_action.specs.Coordinates.{matrix_at};
 
 use super::columns::{columns_of, combine_to, coordinate_columns, pivot_columns};
 use super::conjugates::conjugate;
@@ -150,8 +151,30 @@ fn generator_on_basis(
         (RefusedAs NotInvariant (¬ (HasImagesIn generator.now basis.now.rows basis.now.rows))) result }
 {
     let images = basis.mul(alloc, generator)?;
-    let action = columns_of(alloc, &images, columns)?;
-    if !combine_to(alloc, &action, basis, &images)? {
+    coordinates_at(alloc, &images, basis, columns)
+}
+
+/// The entries of images at some columns, as many as the rows of a basis. Images to which the rows do not combine with
+/// these are refused as NotInvariant.
+fn coordinates_at(
+    alloc: Global,
+    images: &Matrix,
+    basis: &Matrix,
+    columns: &[usize],
+) -> Result<Matrix, Refusal>
+    requires field { images.now.order ≡ basis.now.order }
+    requires some_column { 1 ≤ length columns.now }
+    requires columns_fit { length columns.now ≤ most_columns }
+    requires within { All (λ column. column < images.now.cols) columns.now }
+    requires as_many { length columns.now ≡ length basis.now.rows }
+    ensures { AnswersOr None
+        (λ action. IsMatrix action × (action ≡ matrix_at columns.now images.now)
+        × (matrix_product action basis.now ≡ images.now))
+        (RefusedAs NotInvariant (IsMatrix (matrix_at columns.now images.now)
+        × (¬ (matrix_product (matrix_at columns.now images.now) basis.now ≡ images.now)))) result }
+{
+    let action = columns_of(alloc, images, columns)?;
+    if !combine_to(alloc, &action, basis, images)? {
         return Err(Refusal::NotInvariant);
     }
     Ok(action)
