@@ -45,8 +45,8 @@ fn extend_beside(alloc: Global, rows: &Matrix, span: &Echelon) -> Result<Matrix,
 fn append_unit(alloc: Global, matrix: &mut Matrix, column: usize) -> Result<(), Refusal>
     requires below { column < matrix.old.cols }
     requires room { length matrix.old.rows < most_rows }
-    ensures appended { Answers None
-        (λ _. matrix.new ≡ record matrix.old { rows = matrix.old.rows ++ unit_row matrix.old.cols column ∷ [] }) result }
+    ensures appended { Answers None (λ _. matrix.new
+        ≡ record matrix.old { rows = matrix.old.rows ++ unit_row matrix.old.cols column ∷ [] }) result }
     ensures well_formed { IsMatrix matrix.new }
 {
     let unit = Row::unit(alloc, *matrix.field(), matrix.cols(), column)?;

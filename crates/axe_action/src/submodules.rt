@@ -274,8 +274,8 @@ fn add_products(alloc: Global, blocks: &mut Blocks, entries: &Matrix) -> Result<
     requires { FitsProducts entries.now blocks.old.at_pivots blocks.old.across blocks.old.at_columns }
     ensures at_pivots { Answers None (λ _. blocks.new.at_pivots
         ≡ matrix_with_product blocks.old.at_pivots 1 entries.now blocks.old.across) result }
-    ensures at_columns { Answers None (λ _. blocks.new.at_columns
-        ≡ matrix_with_product blocks.old.at_columns (field_neg entries.now.order 1) blocks.old.across entries.now) result }
+    ensures at_columns { Answers None (λ _. blocks.new.at_columns ≡ matrix_with_product blocks.old.at_columns
+        (field_neg entries.now.order 1) blocks.old.across entries.now) result }
     ensures well_formed { IfOk result (λ _. IsMatrix blocks.new.at_pivots × IsMatrix blocks.new.at_columns) }
 {
     blocks

@@ -231,8 +231,8 @@ fn generator_action(
     Ok(action)
 }
 
-/// Appends the coefficients of an image over the rows of a span, as many as the matrix has columns. An image that is not
-/// in the span is refused as NotInvariant.
+/// Appends the coefficients of an image over the rows of a span, as many as the matrix has columns. An image that is
+/// not in the span is refused as NotInvariant.
 fn append_coefficients(
     alloc: Global,
     action: &mut Matrix,
