@@ -14,7 +14,7 @@ use Rattle.axe_iso.specs.Forms.{FormValue}
 use Rattle.axe_report.specs.Names.{constituent_name, count_of, names_of}
 use Rattle.axe_report.specs.Reports.{counts_in}
 use Rattle.axe_report.proofs.Plain.{no_names, names_of_push, name_is_new}
-use Rattle.axe_chop.specs.Chopped.{dims_of, AreFactorsOf}
+use Rattle.axe_chop.specs.Chopped.{dims_of, AreFactorsOf, AreFirst}
 use Rattle.axe_chop.specs.declared.chopped.Factor.{Factor}
 
 -- a key that is new goes last
@@ -37,12 +37,6 @@ multiplicities_push places n = map-range_with_len_more (λ (number : ℕ). count
 no_multiplicities : (places : List ℕ) → counts_in places 0 ≡ []
 unfolding counts_in
 no_multiplicities places = refl
-
--- entries are the first factors, of which the dimensions are known
-pub record AreFirst (forms : List FormValue) (places dims : List ℕ) (entries : List (String Global × Factor)) : Type 0 where
-  pub factors : AreFactorsOf forms places (keys_of entries) (values_of entries)
-  pub dims_are : dims ≡ dims_of forms
-  pub small : All (λ d. d ≤ 2048) dims
 
 pub none_first : (places : List ℕ) → AreFirst [] places [] []
 none_first places = record {

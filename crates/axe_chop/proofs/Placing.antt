@@ -39,7 +39,7 @@ known_in forms others m n number t same_forms same known =
     subst (λ (fs : List FormValue). IsKnownAs fs m number t) same_forms (subst (λ (x : ModuleValue). IsKnownAs others x number t) same known)
 
 -- the place of a known factor
-placed_as_known : (old next : FoundValue) (section : SectionValue) (seed word : ℕ) (v : RowValue) (number : ℕ) (t : MatrixValue) →
+pub placed_as_known : (old next : FoundValue) (section : SectionValue) (seed word : ℕ) (v : RowValue) (number : ℕ) (t : MatrixValue) →
     IsKnownAs old.forms section.action number t → next ≡ with_place old (lifted_rows section t).rows number →
     IsPlacedIn old section seed word v next
 placed_as_known old next section seed word v number t known next_is =
@@ -87,11 +87,6 @@ module _ (old next : FoundValue) (section : SectionValue) (t rows : MatrixValue)
     (rows_are : rows ≡ lifted_rows section t) (next_is : next ≡ with_place old rows.rows number) where
   next_by_lift : next ≡ with_place old (lifted_rows section t).rows number
   next_by_lift = next_is ∙ ap (λ (r : MatrixValue). with_place old r.rows number) rows_are
-
-  -- by an isomorphism to a known factor
-  pub lifted_as_known : (seed word : ℕ) (v : RowValue) → IsKnownAs old.forms section.action number t →
-      IsPlacedIn old section seed word v next
-  lifted_as_known seed word v known = placed_as_known old next section seed word v number t known next_by_lift
 
   -- by the basis of a new form
   pub lifted_as_new : (seed word : ℕ) (v : RowValue) (form : FormValue) (forms : List FormValue) →

@@ -27,6 +27,7 @@ use Rattle.axe_series.proofs.FewPoints.{dimensions_of_parts}
 use Rattle.axe_series.proofs.OneCut.{reducible_is_matrix}
 use Rattle.axe_chop.specs.Stages.{IsSection, IsActionLike, IsRowsLike, sections_dim, with_sections}
 use Rattle.axe_chop.specs.Searches.{IsPlacedIn, as_known, as_new, found_value, IsSearched}
+use Rattle.axe_chop.specs.Searches.{IsDecided, as_irreducible, as_reducible, as_undecided, IsLeftOpen}
 use Rattle.axe_chop.specs.declared.found.Found
 use Rattle.axe_chop.proofs.Lifting.{lifted_rows_count}
 use Rattle.axe_chop.specs.declared.search.Searched.{Searched}
@@ -242,27 +243,21 @@ module _ (m : ModuleValue) (seed words : ℕ) (found : Found.Found) (sections : 
     room_first = omega (arith, room_left)
 
     -- the first section stays undecided
-    pub reached_open : (searched : Searched) → Decides section.action seed words Undecided →
-        searched ≡ Open (with_sections found.basis (section ∷ rest)) (length found.basis.rows) section.action.dim →
-        IsMatrix (with_sections found.basis (section ∷ rest)) → IsSearched m seed words searched
-    reached_open searched decides is formed =
-        subst (IsSearched m seed words) (sym is) (
-          run_left _ (undecided decides),
-          (λ i. record {
-            order = reached.stage.field i;
-            cols = reached.stage.columns i;
-            rows = found.basis.rows ++ rows_of_sections (section ∷ rest);
-          }),
-          formed,
-        )
-
-    pub answered_open : (result : Result Searched Refusal) → Decides section.action seed words Undecided →
-        Answers None (λ searched. searched
-        ≡ Open (with_sections found.basis (section ∷ rest)) (length found.basis.rows) section.action.dim) result →
-        IfOk result (λ _. IsMatrix (with_sections found.basis (section ∷ rest))) →
-        Answers None (IsSearched m seed words) result
-    answered_open (Ok searched) decides opened formed = reached_open searched decides opened formed
-    answered_open (Err refusal) decides opened formed = opened
+    pub reached_open : Decides section.action seed words Undecided → IsLeftOpen m seed words found rest section
+    reached_open decides = record {
+      like = first_rows_like;
+      after_like = rest_rows_like;
+      room = room_left;
+      searched = λ formed. (
+        run_left _ (undecided decides),
+        (λ i. record {
+          order = reached.stage.field i;
+          cols = reached.stage.columns i;
+          rows = found.basis.rows ++ rows_of_sections (section ∷ rest);
+        }),
+        formed,
+      );
+    }
 
     -- it is cut in two
     module _ (space : MatrixValue) (decides : Decides section.action seed words (Reducible space))
@@ -360,6 +355,41 @@ module _ (m : ModuleValue) (seed words : ℕ) (found : Found.Found) (sections : 
         run = λ outcome run. run_left outcome
             (placed_run (found_value found) section seed word v words rest (found_value next) outcome placed decides run);
       }
+
+      less_after_place : most_left rest < most_left sections
+      less_after_place = omega (arith, ap most_left left, first_of_module.action_formed.over.positive)
+
+    -- it is decided, and not left: what is reached then
+    pub reached_next : (next : Found.Found) (all : List SectionValue) →
+        IsDecided seed words section found rest next all None → IsReached m seed words next all
+    reached_next next all (as_irreducible word v after decides placed basis_is formed) =
+        reached_placed word v decides next placed basis_is formed
+    reached_next next all (as_reducible space after decides proper parts) =
+        reached_cut space decides proper parts.sub parts.quotient parts.cut all parts.order
+
+    -- and less is left
+    pub less_next : (next : Found.Found) (all : List SectionValue) →
+        IsDecided seed words section found rest next all None → most_left all < most_left sections
+    less_next next all (as_irreducible word v after decides placed basis_is formed) =
+        less_after_place word v decides next placed basis_is formed
+    less_next next all (as_reducible space after decides proper parts) =
+        less_after_cut space decides proper parts.sub parts.quotient parts.cut all parts.order
+
+    -- it is left, and nothing is changed
+    pub left_open : (next : Found.Found) (all : List SectionValue) (first : SectionValue) →
+        IsDecided seed words section found rest next all (Some first) → IsLeftOpen m seed words next all first
+    left_open next all first (as_undecided decides) = reached_open decides
+
+-- what is answered where a section is left
+pub answered_open : (m : ModuleValue) (seed words : ℕ) (found : Found.Found) (section : SectionValue) (rest : List SectionValue)
+    (result : Result Searched Refusal) → IsLeftOpen m seed words found rest section →
+    Answers None (λ searched. searched
+    ≡ Open (with_sections found.basis (section ∷ rest)) (length found.basis.rows) section.action.dim) result →
+    IfOk result (λ _. IsMatrix (with_sections found.basis (section ∷ rest))) →
+    Answers None (IsSearched m seed words) result
+answered_open m seed words found section rest (Ok searched) is_left opened formed =
+    subst (IsSearched m seed words) (sym opened) (is_left.searched formed)
+answered_open m seed words found section rest (Err refusal) is_left opened formed = opened
 
 -- ---- the basis where a section stays undecided
 

@@ -1,5 +1,6 @@
 -- The answer: the factors of a composition series under their names.
-use Rattle.std.specs.Prelude.{◌≡◌, ℕ, List, map, length, string_bytes, String}
+use Rattle.std.specs.Prelude.{◌≡◌, ℕ, ◌≤◌, List, map, length, All, string_bytes, String}
+use Rattle.std.specs.Map.{keys_of, values_of}
 use Rattle.std.specs.declared.alloc.Global.{Global}
 use Rattle.indexmap.specs.IndexMap.{keys, values}
 use Rattle.axe_iso.specs.Forms.{FormValue}
@@ -22,6 +23,12 @@ pub record AreFactorsOf (forms : List FormValue) (places : List ℕ) (names : Li
   pub names_are : map string_bytes names ≡ names_of (dims_of forms)
   pub multiplicities_are :
       map (λ (factor : Factor). factor.multiplicity) factors ≡ counts_in places (length forms)
+
+-- entries are the first factors, of which the dimensions are known
+pub record AreFirst (forms : List FormValue) (places dims : List ℕ) (entries : List (String Global × Factor)) : Type 0 where
+  pub factors : AreFactorsOf forms places (keys_of entries) (values_of entries)
+  pub dims_are : dims ≡ dims_of forms
+  pub small : All (λ d. d ≤ 2048) dims
 
 -- the answer is what was found: its rows and places, and its factors in their order, under their names
 pub record IsNamed (found : FoundValue) (chopped : Chopped) : Type 0 where

@@ -1,13 +1,18 @@
 -- What the steps of the search find, and what it answers.
-use Rattle.std.specs.Prelude.{◌≡◌, ℕ, List, ◌∷◌, Option, Some, None}
+use Rattle.std.specs.Prelude.{◌≡◌, ℕ, ◌+◌, ◌≤◌, List, [], ◌∷◌, length, All, Option, Some, None}
 use Rattle.axe_row.specs.Rows.{RowValue}
+use Rattle.axe_matrix.specs.Limits.{most_rows}
 use Rattle.axe_matrix.specs.Matrices.{MatrixValue, IsMatrix}
 use Rattle.axe_spin.specs.Modules.{ModuleValue}
+use Rattle.axe_norton.specs.Spaces.{IsProperSubmodule}
+use Rattle.axe_norton.specs.Verdicts.{Decides}
+use Rattle.axe_norton.specs.declared.verdicts.Verdict.TheVariants.{Irreducible, Reducible, Undecided}
 use Rattle.axe_iso.specs.Forms.{FormValue}
 use Rattle.axe_series.specs.Sections.{SectionValue, IsCut, lifted_rows}
 use Rattle.axe_series.specs.Runs.{FoundValue, with_place, with_factor, complete, open_section, AreOfOthers, IsKnownAs}
 use Rattle.axe_series.specs.Runs.{IsNewForm, RunOf}
 use Rattle.axe_series.specs.Series.{basis_of_rows}
+use Rattle.axe_chop.specs.Stages.{IsRowsLike, sections_dim, with_sections}
 use Rattle.axe_chop.specs.declared.found.Found
 use Rattle.axe_chop.specs.declared.search.Searched.{Searched}
 use Rattle.axe_chop.specs.declared.search.Searched.TheVariants.{Complete, Open}
@@ -36,6 +41,29 @@ pub record ArePartsBefore (section : SectionValue) (space : MatrixValue) (others
   pub cut : IsCut section space sub quotient
   pub order : all ≡ sub ∷ quotient ∷ others
 
+-- what becomes of a section that is decided, of what is found and of the sections after it: an irreducible one has the
+-- next place, the parts of a reducible one stand before the others, and one that stays undecided is left
+pub data IsDecided (seed words : ℕ) (section : SectionValue) (found : Found.Found) (others : List SectionValue) :
+    Found.Found → List SectionValue → Option SectionValue → Type 0 where
+  as_irreducible : (word : ℕ) (v : RowValue) (next : Found.Found) →
+      Decides section.action seed words (Irreducible word v) →
+      IsPlacedIn (found_value found) section seed word v (found_value next) →
+      next.basis ≡ record found.basis { rows = next.basis.rows } → IsMatrix next.basis →
+      IsDecided seed words section found others next others None
+  as_reducible : (space : MatrixValue) (all : List SectionValue) →
+      Decides section.action seed words (Reducible space) → IsProperSubmodule section.action space →
+      ArePartsBefore section space others all →
+      IsDecided seed words section found others found all None
+  as_undecided : Decides section.action seed words Undecided →
+      IsDecided seed words section found others found others (Some section)
+
+-- nothing of m is found yet
+pub record IsNothingFound (m : ModuleValue) (found : Found.Found) : Type 0 where
+  pub basis : found.basis ≡ basis_of_rows m []
+  pub forms : found.forms.items ≡ []
+  pub places : found.places.items ≡ []
+  pub well_formed : IsMatrix found.basis
+
 -- what a search gives is what a run finds, the basis being over the module's field and of its columns
 abbrev pub IsSearched : ModuleValue → ℕ → ℕ → Searched → Type 0
 IsSearched m seed words (Complete found) =
@@ -43,3 +71,20 @@ IsSearched m seed words (Complete found) =
     × IsMatrix found.basis
 IsSearched m seed words (Open basis offset dim) =
     RunOf m seed words (open_section basis.rows offset dim) × (basis ≡ basis_of_rows m basis.rows) × IsMatrix basis
+
+-- a section stays undecided, with the sections after it: there is room for the rows of all, and where these make a
+-- matrix that is what a search gives
+pub record IsLeftOpen (m : ModuleValue) (seed words : ℕ) (found : Found.Found) (after : List SectionValue)
+    (section : SectionValue)
+    : Type 0 where
+  pub like : IsRowsLike found.basis section
+  pub after_like : All (IsRowsLike found.basis) after
+  pub room : length found.basis.rows + sections_dim (section ∷ after) ≤ most_rows
+  pub searched : IsMatrix (with_sections found.basis (section ∷ after)) →
+      IsSearched m seed words
+      (Open (with_sections found.basis (section ∷ after)) (length found.basis.rows) section.action.dim)
+
+-- the sections of m are decided, but for one that is left
+abbrev pub AreDecided : ModuleValue → ℕ → ℕ → Found.Found → List SectionValue → Option SectionValue → Type 0
+AreDecided m seed words found after None = IsSearched m seed words (Complete found)
+AreDecided m seed words found after (Some section) = IsLeftOpen m seed words found after section

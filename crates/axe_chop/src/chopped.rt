@@ -1,11 +1,12 @@
 //! Composition series, their factors under names.
 
-ghost use Rattle.std.specs.Prelude.{◌≡◌, length, string_bytes, None, IfOk};
+ghost use Rattle.std.specs.Prelude.{◌≡◌, List, [], ◌∷◌, ◌++◌, length, string_bytes, None, IfOk};
 ghost use Rattle.indexmap.specs.IndexMap.{keys, values};
 ghost use Rattle.axe_row.specs.Refusals.{Answers};
+ghost use Rattle.axe_iso.specs.Forms.{FormValue};
 ghost use Rattle.axe_report.specs.Names.{constituent_name, count_of};
 ghost use Rattle.axe_chop.specs.Searches.{found_value};
-ghost use Rattle.axe_chop.specs.Chopped.{AreFactorsOf, IsNamed};
+ghost use Rattle.axe_chop.specs.Chopped.{AreFactorsOf, AreFirst, IsNamed};
 
 use crate::found::Found;
 use axe_iso::Form;
@@ -60,12 +61,28 @@ fn factors(
     let mut factors = IndexMap::new(alloc);
     let mut dims = Vec::new(alloc);
     for form in forms {
-        let dim = form.matrices().dim();
-        let (name, factor) = named_factor(alloc, form, &dims, places)?;
-        factors.insert(name, factor)?;
-        dims.push(dim)?;
+        add_factor(alloc, &mut factors, &mut dims, form, places)?;
     }
     Ok(factors)
+}
+
+/// Adds the factor with this form under its name to the first factors, which have these dimensions.
+fn add_factor(
+    alloc: Global,
+    factors: &mut IndexMap<String, Factor>,
+    dims: &mut Vec<usize>,
+    form: Form,
+    places: &[u16],
+) -> Result<(), Refusal>
+    ensures { Answers None (λ _. (forms : List FormValue) →
+        AreFirst forms places.now dims.old.items factors.old.entries →
+        AreFirst (forms ++ form ∷ []) places.now dims.new.items factors.new.entries) result }
+{
+    let dim = form.matrices().dim();
+    let (name, factor) = named_factor(alloc, form, dims, places)?;
+    factors.insert(name, factor)?;
+    dims.push(dim)?;
+    Ok(())
 }
 
 /// The factor with this form under its name, after factors of these dimensions, in a series with these places.

@@ -7,7 +7,8 @@ ghost use Rattle.axe_matrix.specs.Matrices.{IsMatrix};
 ghost use Rattle.axe_norton.specs.Verdicts.{Decides};
 ghost use Rattle.axe_norton.specs.declared.verdicts.Verdict.TheVariants.{Irreducible};
 ghost use Rattle.axe_iso.specs.Forms.{FormValue};
-ghost use Rattle.axe_series.specs.Runs.{with_place, AreOfOthers};
+ghost use Rattle.axe_series.specs.Sections.{lifted_rows};
+ghost use Rattle.axe_series.specs.Runs.{with_place, AreOfOthers, IsKnownAs};
 ghost use Rattle.axe_chop.specs.Stages.{IsActionLike};
 ghost use Rattle.axe_chop.specs.Searches.{FindsKnown, IsPlacedIn, found_value};
 
@@ -41,9 +42,16 @@ impl Found {
         }
     }
 
+    /// The rows of the basis.
+    pub(crate) fn into_basis(self) -> Matrix
+        ensures { result ≡ self.basis }
+    {
+        self.basis
+    }
+
     /// One more place, for a section that a word of a seed showed to be irreducible, by a vector: that of the first
     /// known factor that the section's action is isomorphic to, or else of a new factor.
-    pub(crate) fn place(
+    fn place(
         &mut self,
         alloc: Global,
         section: Section,
@@ -63,11 +71,58 @@ impl Found {
             (λ _. self.new.basis ≡ record self.old.basis { rows = self.new.basis.rows }) result }
         ensures well_formed { Answers None (λ _. IsMatrix self.new.basis) result }
     {
-        if let Some((number, isomorphism)) = known_form(alloc, &self.forms, section.action())? {
-            let rows = section.lift(alloc, isomorphism)?;
-            return self.append_place(rows, number);
+        match known_form(alloc, &self.forms, section.action())? {
+            Some((number, isomorphism)) => self.place_known(alloc, section, number, isomorphism),
+            None => self.place_new(alloc, section, seed, word, vector),
         }
-        self.place_new(alloc, section, seed, word, vector)
+    }
+
+    /// What [`Found::place`] does for a vector that is given away.
+    pub(crate) fn place_owned(
+        &mut self,
+        alloc: Global,
+        section: Section,
+        seed: u64,
+        word: u32,
+        vector: Row,
+    ) -> Result<(), Refusal>
+        requires decided { (words : ℕ) × Decides section.action seed words (Irreducible word vector) }
+        requires like { All (λ (form : FormValue). IsActionLike section.action form.matrices) self.old.forms.items }
+        requires field { self.old.basis.order ≡ section.rows.order }
+        requires fits { self.old.basis.cols ≡ section.rows.cols }
+        requires room { length self.old.basis.rows + section.action.dim ≤ most_rows }
+        requires few_forms { length self.old.forms.items ≤ length self.old.basis.rows }
+        ensures placed { Answers None
+            (λ _. IsPlacedIn (found_value self.old) section.entry seed word vector (found_value self.new)) result }
+        ensures basis { Answers None
+            (λ _. self.new.basis ≡ record self.old.basis { rows = self.new.basis.rows }) result }
+        ensures well_formed { Answers None (λ _. IsMatrix self.new.basis) result }
+    {
+        self.place(alloc, section, seed, word, &vector)
+    }
+
+    /// One more place as [`Found::place`] tells it, for a section whose action is isomorphic to a known factor: that of
+    /// the factor with this number, by the isomorphism to it.
+    fn place_known(
+        &mut self,
+        alloc: Global,
+        section: Section,
+        number: usize,
+        isomorphism: Matrix,
+    ) -> Result<(), Refusal>
+        requires known { IsKnownAs self.old.forms.items section.action number isomorphism }
+        requires field { self.old.basis.order ≡ section.rows.order }
+        requires fits { self.old.basis.cols ≡ section.rows.cols }
+        requires room { length self.old.basis.rows + section.action.dim ≤ most_rows }
+        requires few_forms { length self.old.forms.items ≤ length self.old.basis.rows }
+        ensures placed { Answers None (λ _. found_value self.new
+            ≡ with_place (found_value self.old) (lifted_rows section.entry isomorphism).rows number) result }
+        ensures basis { Answers None
+            (λ _. self.new.basis ≡ record self.old.basis { rows = self.new.basis.rows }) result }
+        ensures well_formed { Answers None (λ _. IsMatrix self.new.basis) result }
+    {
+        let rows = section.lift(alloc, isomorphism)?;
+        self.append_place(rows, number)
     }
 
     /// One more place as [`Found::place`] tells it, for a section whose action is isomorphic to no known factor: that

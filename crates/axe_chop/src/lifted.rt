@@ -118,6 +118,17 @@ impl LiftedRows {
         }
     }
 
+    /// What [`LiftedRows::lift`] gives of a matrix that is lent.
+    pub(crate) fn lift_copy(&self, alloc: Global, coordinates: &Matrix) -> Result<Matrix, Refusal>
+        requires field { coordinates.now.order ≡ self.now.order }
+        requires fits { coordinates.now.cols ≡ length self.now.rows }
+        ensures lifted { Answers None (λ lifted. lifted ≡ matrix_product coordinates.now self.now) result }
+        ensures well_formed { IfOk result IsMatrix }
+    {
+        let copy = coordinates.copy(alloc)?;
+        self.lift(alloc, copy)
+    }
+
     /// The vectors that have the rows of a matrix as coordinates, and the rows at some places, in their order.
     pub(crate) fn cut(
         self,

@@ -11,7 +11,7 @@ ghost use Rattle.axe_report.specs.declared.fault.ReportFault.TheVariants.{Memory
 ghost use Rattle.axe_chop.specs.Answers.{IsChopped, factor_modules};
 ghost use Rattle.axe_chop.specs.Reported.{entry_factor, module_header, series_report, IsFoundUnder};
 
-use crate::chopped::Chopped;
+use crate::chopped::{Chopped, Factor};
 use axe_report::{Report, ReportFactor, ReportFault, ReportHeader};
 use axe_spin::Module;
 use std::alloc::{AllocError, Global};
@@ -74,10 +74,17 @@ fn report_factors(alloc: Global, chopped: &Chopped) -> Result<Vec<ReportFactor>,
 {
     let mut factors = Vec::new(alloc);
     for (name, factor) in &chopped.factors {
-        let dim = factor.form.matrices().dim();
-        factors.push(ReportFactor::new(name.clone()?, dim, factor.multiplicity))?;
+        factors.push(report_factor(name, factor)?)?;
     }
     Ok(factors)
+}
+
+/// What a report says of a factor under its name.
+fn report_factor(name: &String, factor: &Factor) -> Result<ReportFactor, AllocError>
+    ensures { IfOk result (λ reported. reported ≡ entry_factor (name.now, factor.now)) }
+{
+    let dim = factor.form.matrices().dim();
+    Ok(ReportFactor::new(name.clone()?, dim, factor.multiplicity))
 }
 
 /// Each composition series of a module has a report, whatever the seed and the number of the last word.

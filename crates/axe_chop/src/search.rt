@@ -1,14 +1,16 @@
 //! The search for a composition series.
 
-ghost use Rattle.std.specs.Prelude.{◌≡◌, ◌≤◌, ◌+◌, ◌∷◌, length, All, None, IfOk};
+ghost use Rattle.std.specs.Prelude.{◌≡◌, ℕ, ◌≤◌, ◌+◌, [], ◌∷◌, length, All, None, IfOk};
 ghost use Rattle.axe_row.specs.Refusals.{Answers};
 ghost use Rattle.axe_matrix.specs.Limits.{most_rows};
 ghost use Rattle.axe_matrix.specs.Matrices.{IsMatrix};
+ghost use Rattle.axe_spin.specs.Modules.{ModuleValue};
 ghost use Rattle.axe_norton.specs.Spaces.{IsProperSubmodule};
 ghost use Rattle.axe_norton.specs.Verdicts.{last_word};
+ghost use Rattle.axe_iso.specs.Forms.{FormValue};
 ghost use Rattle.axe_chop.specs.Kept.{acting_module};
-ghost use Rattle.axe_chop.specs.Stages.{IsRowsLike, sections_dim, with_sections};
-ghost use Rattle.axe_chop.specs.Searches.{ArePartsBefore, IsSearched};
+ghost use Rattle.axe_chop.specs.Stages.{IsActionLike, IsRowsLike, sections_dim, with_sections};
+ghost use Rattle.axe_chop.specs.Searches.{ArePartsBefore, AreDecided, IsDecided, IsNothingFound, IsSearched};
 ghost use Rattle.axe_chop.specs.declared.search.Searched.TheVariants.{Open};
 
 use crate::found::Found;
@@ -43,19 +45,84 @@ pub(crate) fn search(
     ensures { Answers None (IsSearched (acting_module action.entry) seed words) result }
 {
     let mut found = Found::nothing(alloc, action.module());
-    // Sections still to be decided, the lowest one first.
     let mut sections = VecDeque::new(alloc);
+    let left = decide_all(alloc, &mut found, &mut sections, action, seed, words)?;
+    outcome_of(alloc, found, left, &sections)
+}
+
+/// Decides a module, lent or not, and the sections into which it is cut, in turn, until none is left or one stays
+/// undecided, which is given back. Those still to be decided stand among the sections, the lowest one first.
+fn decide_all<'a>(
+    alloc: Global,
+    found: &mut Found,
+    sections: &mut VecDeque<Section<'a>>,
+    action: Action<'a>,
+    seed: u64,
+    words: u32,
+) -> Result<Option<Section<'a>>, Refusal>
+    requires words { words ≤ last_word }
+    requires nothing { IsNothingFound (acting_module action) found.old }
+    requires no_section { sections.old.items ≡ [] }
+    ensures { Answers None
+        (AreDecided (acting_module action.entry) seed words found.new sections.new.items) result }
+{
     sections.push_front(Section::whole(action))?;
     while let Some(section) = sections.pop_front() {
-        match decide(alloc, section.action(), seed, words)? {
-            Verdict::Irreducible { word, vector } => {
-                found.place(alloc, section, seed, word, &vector)?;
-            }
-            Verdict::Reducible(space) => put_parts(alloc, &mut sections, section, space)?,
-            Verdict::Undecided => return open_at(alloc, found, section, &sections),
+        let left = decide_section(alloc, found, sections, section, seed, words)?;
+        if let Some(undecided) = left {
+            return Ok(Some(undecided));
         }
     }
-    Ok(Searched::Complete(found))
+    Ok(None)
+}
+
+/// The outcome where all sections are decided, or one is left with those after it.
+fn outcome_of(
+    alloc: Global,
+    found: Found,
+    left: Option<Section>,
+    after: &VecDeque<Section>,
+) -> Result<Searched, Refusal>
+    requires { (m : ModuleValue) × (seed words : ℕ) × AreDecided m seed words found after.now.items left }
+    ensures { (m : ModuleValue) (seed words : ℕ) → AreDecided m seed words found after.now.items left.entry →
+        Answers None (IsSearched m seed words) result }
+{
+    match left {
+        Some(section) => open_at(alloc, found, &section, after),
+        None => Ok(Searched::Complete(found)),
+    }
+}
+
+/// Decides a section: an irreducible one has the next place, and the two parts of a reducible one come before the other
+/// sections. One that the words leave undecided is given back.
+fn decide_section<'a>(
+    alloc: Global,
+    found: &mut Found,
+    sections: &mut VecDeque<Section<'a>>,
+    section: Section<'a>,
+    seed: u64,
+    words: u32,
+) -> Result<Option<Section<'a>>, Refusal>
+    requires words { words ≤ last_word }
+    requires like { All (λ (form : FormValue). IsActionLike section.action form.matrices) found.old.forms.items }
+    requires field { found.old.basis.order ≡ section.rows.order }
+    requires fits { found.old.basis.cols ≡ section.rows.cols }
+    requires room { length found.old.basis.rows + section.action.dim ≤ most_rows }
+    requires few_forms { length found.old.forms.items ≤ length found.old.basis.rows }
+    ensures { Answers None
+        (IsDecided seed words section.entry found.old sections.old.items found.new sections.new.items) result }
+{
+    match decide(alloc, section.action(), seed, words)? {
+        Verdict::Irreducible { word, vector } => {
+            found.place_owned(alloc, section, seed, word, vector)?;
+            Ok(None)
+        }
+        Verdict::Reducible(space) => {
+            put_parts(alloc, sections, section, space)?;
+            Ok(None)
+        }
+        Verdict::Undecided => Ok(Some(section)),
+    }
 }
 
 /// Puts the two sections into which a submodule cuts a section before the others: first the submodule's, then the
@@ -80,23 +147,41 @@ fn put_parts<'a>(
 fn open_at(
     alloc: Global,
     found: Found,
-    section: Section,
+    section: &Section,
     after: &VecDeque<Section>,
 ) -> Result<Searched, Refusal>
-    requires like { IsRowsLike found.basis section }
+    requires like { IsRowsLike found.basis section.now }
     requires after_like { All (IsRowsLike found.basis) after.now.items }
-    requires room { length found.basis.rows + sections_dim (section ∷ after.now.items) ≤ most_rows }
+    requires room { length found.basis.rows + sections_dim (section.now ∷ after.now.items) ≤ most_rows }
     ensures opened { Answers None (λ searched. searched ≡ Open
-        (with_sections found.basis (section.entry ∷ after.now.items)) (length found.basis.rows)
-        section.entry.action.dim) result }
-    ensures well_formed { IfOk result (λ _. IsMatrix (with_sections found.basis (section.entry ∷ after.now.items))) }
+        (with_sections found.basis (section.now ∷ after.now.items)) (length found.basis.rows)
+        section.now.action.dim) result }
+    ensures well_formed { IfOk result (λ _. IsMatrix (with_sections found.basis (section.now ∷ after.now.items))) }
 {
-    let mut basis = found.basis;
+    let mut basis = found.into_basis();
     let offset = basis.rows();
     let dim = section.action().dim();
-    section.append_rows_to(alloc, &mut basis)?;
-    append_sections(alloc, &mut basis, after)?;
+    append_open(alloc, &mut basis, section, after)?;
     Ok(Searched::Open { basis, offset, dim })
+}
+
+/// Appends the lifted rows of a section to a matrix, and then those of the sections after it, in their order. For want
+/// of memory only some first of them are appended.
+fn append_open(
+    alloc: Global,
+    basis: &mut Matrix,
+    section: &Section,
+    after: &VecDeque<Section>,
+) -> Result<(), Refusal>
+    requires like { IsRowsLike basis.old section.now }
+    requires after_like { All (IsRowsLike basis.old) after.now.items }
+    requires room { length basis.old.rows + sections_dim (section.now ∷ after.now.items) ≤ most_rows }
+    requires well_formed { IsMatrix basis.old }
+    ensures appended { Answers None (λ _. basis.new ≡ with_sections basis.old (section.now ∷ after.now.items)) result }
+    ensures well_formed { Answers None (λ _. IsMatrix basis.new) result }
+{
+    section.append_rows_to(alloc, basis)?;
+    append_sections(alloc, basis, after)
 }
 
 /// Appends the lifted rows of sections to a matrix, in their order. For want of memory only some first of them are

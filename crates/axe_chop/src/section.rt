@@ -113,7 +113,7 @@ impl<'a> Section<'a> {
     {
         let Section { action, rows } = self;
         let form = action.into_form(alloc, seed, word, vector)?;
-        let lifted = rows.lift(alloc, form.basis().copy(alloc)?)?;
+        let lifted = rows.lift_copy(alloc, form.basis())?;
         Ok((form, lifted))
     }
 

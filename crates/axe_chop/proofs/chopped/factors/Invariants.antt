@@ -1,6 +1,6 @@
 use Rattle.std.proofs.Common.{◌≡◌, ◌++◌}
 use Rattle.std.specs.Vec.Iter.{into_iter_items}
-use Rattle.axe_chop.proofs.Factors.{AreFirst}
+use Rattle.axe_chop.specs.Chopped.{AreFirst}
 use Rattle.axe_chop.proofs.chopped.factors.Given as goal
 
 abbrev pub invariant-loop-form : goal.invariant-loop-form

@@ -17,17 +17,17 @@ into_form-requires c =
     let same : acting_module c.self.inside.action ≡ c.args.self.action = ap (λ (s : SectionValue). s.action) c.self.view_is in
     subst (λ (m : ModuleValue). (words : ℕ) × Decides m c.args.seed words (Irreducible c.args.word c.args.vector.now)) (sym same) c.requires.decided
 
-pub lift-requires-clause-field : goal.lift-requires-clause-field
-lift-requires-clause-field c =
-    let lift : IsLift (acting_module c.self.inside.action) c.in_ok-copy.field-0 =
-    subst (IsLift (acting_module c.self.inside.action)) (sym (c.in_ok-copy.ensures.copied ∙ c.basis.ensures.value))
+pub lift_copy-requires-clause-field : goal.lift_copy-requires-clause-field
+lift_copy-requires-clause-field c =
+    let lift : IsLift (acting_module c.self.inside.action) c.basis.result.now =
+    subst (IsLift (acting_module c.self.inside.action)) (sym c.basis.ensures.value)
     (form_lift (acting_module c.self.inside.action) c.args.seed c.args.word c.args.vector.now c.in_ok-form.form c.in_ok-form.ensures.form) in
     lift.field ∙ sym c.self.invariant.field
 
-pub lift-requires-clause-fits : goal.lift-requires-clause-fits
-lift-requires-clause-fits c =
-    let lift : IsLift (acting_module c.self.inside.action) c.in_ok-copy.field-0 =
-    subst (IsLift (acting_module c.self.inside.action)) (sym (c.in_ok-copy.ensures.copied ∙ c.basis.ensures.value))
+pub lift_copy-requires-clause-fits : goal.lift_copy-requires-clause-fits
+lift_copy-requires-clause-fits c =
+    let lift : IsLift (acting_module c.self.inside.action) c.basis.result.now =
+    subst (IsLift (acting_module c.self.inside.action)) (sym c.basis.ensures.value)
     (form_lift (acting_module c.self.inside.action) c.args.seed c.args.word c.args.vector.now c.in_ok-form.form c.in_ok-form.ensures.form) in
     lift.columns ∙ sym c.self.invariant.count
 
@@ -39,7 +39,7 @@ returns-clause-form c =
 pub returns-clause-lifted : goal.returns-clause-lifted
 returns-clause-lifted c =
     c.in_ok-lifted.ensures.lifted
-    ∙ (λ i. matrix_product ((c.in_ok-copy.ensures.copied ∙ c.basis.ensures.value) i) (c.self.view_is i).rows)
+    ∙ (λ i. matrix_product (c.basis.ensures.value i) (c.self.view_is i).rows)
 
 pub returns-clause-well_formed : goal.returns-clause-well_formed
 returns-clause-well_formed c = (c.in_ok-form.ensures.well_formed, c.in_ok-lifted.ensures.well_formed)
@@ -55,18 +55,6 @@ returns-in_err-form-clause-lifted c =
 pub returns-in_err-form-clause-well_formed : goal.returns-in_err-form-clause-well_formed
 returns-in_err-form-clause-well_formed c =
     IfOk-from_err c.from_residual.result _ c.from_residual.ensures.0
-
-pub returns-in_err-copy-clause-form : goal.returns-in_err-copy-clause-form
-returns-in_err-copy-clause-form c =
-    no_memory _ c.from_residual-in_err-copy.result _ c.from_residual-in_err-copy.ensures.1 c.in_err-copy.ensures.copied
-
-pub returns-in_err-copy-clause-lifted : goal.returns-in_err-copy-clause-lifted
-returns-in_err-copy-clause-lifted c =
-    no_memory _ c.from_residual-in_err-copy.result _ c.from_residual-in_err-copy.ensures.1 c.in_err-copy.ensures.copied
-
-pub returns-in_err-copy-clause-well_formed : goal.returns-in_err-copy-clause-well_formed
-returns-in_err-copy-clause-well_formed c =
-    IfOk-from_err c.from_residual-in_err-copy.result _ c.from_residual-in_err-copy.ensures.0
 
 pub returns-in_err-lifted-clause-form : goal.returns-in_err-lifted-clause-form
 returns-in_err-lifted-clause-form c =

@@ -1,6 +1,6 @@
 use Rattle.axe_chop.specs.Kept.{acting_module}
 use Rattle.axe_chop.proofs.Stepping.{IsReached, most_left}
-use Rattle.axe_chop.proofs.search.search.Given as goal
+use Rattle.axe_chop.proofs.search.decide_all.Given as goal
 
 abbrev pub decreases-loop-section : goal.decreases-loop-section
 decreases-loop-section l = most_left l.sections.items

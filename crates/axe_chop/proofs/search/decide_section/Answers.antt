@@ -1,0 +1,62 @@
+use Rattle.std.proofs.Common.{refl}
+use Rattle.axe_echelon.proofs.Exits.{no_memory}
+use Rattle.axe_chop.specs.Searches.{as_irreducible, as_reducible, as_undecided}
+use Rattle.axe_chop.proofs.Stepping.{decided_as, true_as}
+use Rattle.axe_chop.proofs.search.decide_section.Goals as goal
+
+pub place_owned-requires-clause-decided : goal.place_owned-requires-clause-decided
+place_owned-requires-clause-decided c = (
+  c.args.words,
+  decided_as c.action.result.now _ c.args.seed c.args.words _ _ c.action.ensures.value c.in-Irreducible.is c.in_ok-word.ensures.decides,
+)
+
+pub place_owned-requires-clause-like : goal.place_owned-requires-clause-like
+place_owned-requires-clause-like c = c.requires.like
+
+pub place_owned-requires-clause-field : goal.place_owned-requires-clause-field
+place_owned-requires-clause-field c = c.requires.field
+
+pub place_owned-requires-clause-fits : goal.place_owned-requires-clause-fits
+place_owned-requires-clause-fits c = c.requires.fits
+
+pub place_owned-requires-clause-room : goal.place_owned-requires-clause-room
+place_owned-requires-clause-room c = c.requires.room
+
+pub place_owned-requires-clause-few_forms : goal.place_owned-requires-clause-few_forms
+place_owned-requires-clause-few_forms c = c.requires.few_forms
+
+pub put_parts-requires : goal.put_parts-requires
+put_parts-requires c = record {
+  space = true_as c.action.result.now _ _ _ c.action.ensures.value c.in-Reducible.is c.in_ok-word.ensures.holds;
+}
+
+pub returns-in_ok-place_owned-in-Irreducible : goal.returns-in_ok-place_owned-in-Irreducible
+returns-in_ok-place_owned-in-Irreducible c =
+    as_irreducible _ _ _
+    (decided_as c.action.result.now _ c.args.seed c.args.words _ _ c.action.ensures.value c.in-Irreducible.is c.in_ok-word.ensures.decides)
+    c.in_ok-place_owned-in-Irreducible.ensures.placed c.in_ok-place_owned-in-Irreducible.ensures.basis c.in_ok-place_owned-in-Irreducible.ensures.well_formed
+
+pub returns-in_ok-put_parts-in-Reducible : goal.returns-in_ok-put_parts-in-Reducible
+returns-in_ok-put_parts-in-Reducible c =
+    as_reducible _ _
+    (decided_as c.action.result.now _ c.args.seed c.args.words _ _ c.action.ensures.value c.in-Reducible.is c.in_ok-word.ensures.decides)
+    (true_as c.action.result.now _ _ _ c.action.ensures.value c.in-Reducible.is c.in_ok-word.ensures.holds)
+    c.in_ok-put_parts-in-Reducible.ensures
+
+pub returns-in-Undecided : goal.returns-in-Undecided
+returns-in-Undecided c =
+    as_undecided (decided_as c.action.result.now _ c.args.seed c.args.words _ _ c.action.ensures.value c.in-Undecided.is c.in_ok-word.ensures.decides)
+
+pub returns-in_err-word : goal.returns-in_err-word
+returns-in_err-word c =
+    no_memory _ c.from_residual.result _ c.from_residual.ensures.1 c.in_err-word.ensures.decides
+
+pub returns-in_err-place_owned-in-Irreducible : goal.returns-in_err-place_owned-in-Irreducible
+returns-in_err-place_owned-in-Irreducible c =
+    no_memory _ c.from_residual-in_err-place_owned-in-Irreducible.result _ c.from_residual-in_err-place_owned-in-Irreducible.ensures.1
+    c.in_err-place_owned-in-Irreducible.ensures.placed
+
+pub returns-in_err-put_parts-in-Reducible : goal.returns-in_err-put_parts-in-Reducible
+returns-in_err-put_parts-in-Reducible c =
+    no_memory _ c.from_residual-in_err-put_parts-in-Reducible.result _ c.from_residual-in_err-put_parts-in-Reducible.ensures.1
+    c.in_err-put_parts-in-Reducible.ensures
