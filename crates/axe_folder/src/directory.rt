@@ -153,6 +153,17 @@ impl<R: Files + AllocGlobal + Drop> DirFolder<R> {
         Err(FolderFault::Device)
     }
 
+    /// Puts a file with these bytes at the path of a name, or hands them to what stands there.
+    fn put_at(&self, name: &str, path: &PathBuf, bytes: &[u8]) -> Result<(), FolderFault>
+        ensures { IfErr result IsWriteFault }
+    {
+        match self.place_at(path)? {
+            Place::Free => self.replace(name, path, bytes, None),
+            Place::Taken(permissions) => self.replace(name, path, bytes, Some(permissions)),
+            Place::Stream(mut file) => file.write_all(bytes).map_err(|_| FolderFault::Device),
+        }
+    }
+
     /// Puts a file with these bytes, and these permissions if any, at the path of a name. Where this fails what stood
     /// there stands, and nothing is left beside it.
     fn replace(
@@ -208,11 +219,7 @@ impl<R: Files + AllocGlobal + Drop> Folder for DirFolder<R> {
         let Some(path) = self.path_of(name)? else {
             return Err(FolderFault::Device);
         };
-        match self.place_at(&path)? {
-            Place::Free => self.replace(name, &path, bytes, None),
-            Place::Taken(permissions) => self.replace(name, &path, bytes, Some(permissions)),
-            Place::Stream(mut file) => file.write_all(bytes).map_err(|_| FolderFault::Device),
-        }
+        self.put_at(name, &path, bytes)
     }
 
     fn remove(&mut self, name: &str) -> Result<(), FolderFault>
