@@ -1,11 +1,9 @@
 -- Steps that take a file away, go on with steps that spare it, and put it last: what is left where they end early.
-use Rattle.std.proofs.Common.{◌≡◌, ◌≢◌, refl, sym, ◌∙◌, ap, ap₂, subst, ℕ, true, false, List, [], ◌∷◌, ◌++◌, take, Some, None, ◌⊎◌, inl, inr}
-use Rattle.std.proofs.lemmas.Bool.{cases_Bool, true≢false}
-use Rattle.std.specs.Str.{bytes_eq}
-use Rattle.std.proofs.lemmas.Slice.Eq.{bytes_eq-Decides}
+use Rattle.std.proofs.Common.{◌≡◌, ◌≢◌, refl, sym, ◌∙◌, ap, ap₂, subst, ℕ, List, [], ◌∷◌, ◌++◌, take, Some, None, ◌⊎◌, inl, inr}
 use Rattle.axe_folder.specs.Files.{Files, file_at, without_file}
 use Rattle.axe_folder.specs.Outcomes.{KeepsOthers}
-use Rattle.axe_folder.proofs.FileLaws.{file_at-with_file, file_at-with_file-other, file_at-without_file, file_at-without_file-other, same_files}
+use Rattle.axe_folder.proofs.FileLaws.{file_at-with_file, file_at-with_file-other, file_at-without_file, file_at-without_file-other}
+use Rattle.axe_folder.proofs.SameFiles.{same_with_name}
 use Rattle.axe_plan.specs.Plans.{Step, Put, Remove, step_name, step_applied, applied}
 use Rattle.axe_plan.specs.Outcome.{Breaks, BrokeOff, Halted}
 
@@ -17,19 +15,6 @@ Spare file (step ∷ steps) = (step_name step ≢ file) × Spare file steps
 pub spare_append : (file : List ℕ) (first second : List Step) → Spare file first → Spare file second → Spare file (first ++ second)
 spare_append file [] second none rest = rest
 spare_append file (step ∷ first) second spared rest = (spared.0, spare_append file first second spared.1 rest)
-
--- what stands at a name, by a test of it
-same_or_other : {P : Type 0} (other name : List ℕ) → (other ≡ name → P) → (other ≢ name → P) → P
-same_or_other {P} other name same differs = cases (cases_Bool (bytes_eq other name))
-  where
-    cases : (bytes_eq other name ≡ true) ⊎ (bytes_eq other name ≡ false) → P
-    cases (inl is) = same ((bytes_eq-Decides other name).0 is)
-    cases (inr not) = differs (λ e. true≢false (sym ((bytes_eq-Decides other name).1 e) ∙ not))
-
--- files that agree at a name and at all others are one
-pub same_with_name : (a b : Files) (name : List ℕ) → file_at a name ≡ file_at b name → KeepsOthers b name a → a ≡ b
-same_with_name a b name here others =
-    same_files a b (λ other. same_or_other other name (λ e. ap (file_at a) e ∙ here ∙ ap (file_at b) (sym e)) (others other))
 
 -- ---- what steps leave of a file that they spare
 

@@ -1,5 +1,6 @@
 -- Changes made one after the other.
 use Rattle.std.proofs.Common.{◌≡◌, ℕ, ◌+◌, List, [], ◌∷◌, ◌++◌, append_assoc, map, refl, sym, ◌∙◌, ap, arith}
+use Rattle.std.proofs.lemmas.List.{map-append}
 use Rattle.std.proofs.lemmas.List.FromFn.{map-range_with_len_more}
 use Rattle.axe_algebra.specs.Lists.{listed}
 use Rattle.axe_matrix.specs.Matrices.{MatrixValue}
@@ -16,6 +17,12 @@ use Rattle.axe_plan.specs.Outputs.{put_generator}
 pub applied_more : (changes : List Change) (change : Change) (files : Files) → applied (map step_in (changes ++ change ∷ [])) files ≡ step_applied (step_in change) (applied (map step_in changes) files)
 applied_more [] change files = refl
 applied_more (first ∷ changes) change files = applied_more changes change (step_applied (step_in first) files)
+
+-- one more change is planned after the others
+pub change_added : (before after : List Change) (change : Change) (shown : List ℕ) → after ≡ before ++ change ∷ [] →
+    record { steps = map step_in after; shown = shown } ≡ with_step (record { steps = map step_in before; shown = shown }) (step_in change)
+change_added before after change shown added =
+    ap (λ (steps : List Step). record { steps = steps; shown = shown }) (ap (map step_in) added ∙ map-append step_in before (change ∷ []))
 
 -- one more generator is put after the others
 pub generators_put_more : (before between after : Plan) (name file : List ℕ) (m : ModuleValue) (i : ℕ) (generator : MatrixValue) →
