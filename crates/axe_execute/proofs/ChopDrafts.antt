@@ -24,7 +24,7 @@ use Rattle.axe_plan.specs.Inputs.{matrices_in, numbered_names, checked_module, m
 use Rattle.axe_plan.specs.Outputs.{put_generators}
 use Rattle.axe_plan.specs.Drafts.{with_step, with_steps, with_text}
 use Rattle.axe_plan.proofs.ModulePlans.{read_after}
-use Rattle.axe_execute.specs.ChopCommand.{put_factors, series_report_bytes, series_plan, chop_answer, FoundPlan}
+use Rattle.axe_execute.specs.ChopCommand.{put_factors, series_steps, series_report_bytes, series_plan, chop_answer, FoundPlan}
 
 -- ---- the module
 
@@ -98,20 +98,22 @@ found_open_section name m seed words basis b offset o dim d is_basis is_offset i
 
 -- ---- the draft of a series
 
-pub series_drafted : (name : List ℕ) (header : ReportHeader) (basis : MatrixValue) (factors : List ModuleValue) (places : List ℕ)
-    (names : List (List ℕ)) (removed based stem reported text copy : List ℕ) (a b c d e : Plan) → a ≡ record { steps = []; shown = [] } →
-    b ≡ with_step a (Remove removed) → c ≡ with_step b (Put based (packed basis)) → d ≡ with_steps c (put_factors stem names factors) →
-    e ≡ with_step d (Put reported copy) → removed ≡ name ++ codes ".rep" → based ≡ name ++ codes ".bas" → stem ≡ name → reported ≡ name ++ codes ".rep" →
-    names ≡ names_of (dims_of_factors factors) → copy ≡ text → text ≡ series_report_bytes header factors places →
-    with_text e text ≡ series_plan name header basis factors places
+-- the steps of a series, added one after the other
+pub steps_put : (name : List ℕ) (basis : MatrixValue) (names : List (List ℕ)) (factors : List ModuleValue) (report : List ℕ) (a b c d e : Plan) →
+    b ≡ with_step a (Remove (name ++ codes ".rep")) → c ≡ with_step b (Put (name ++ codes ".bas") (packed basis)) →
+    d ≡ with_steps c (put_factors name names factors) → e ≡ with_step d (Put (name ++ codes ".rep") report) →
+    e ≡ with_steps a (series_steps name basis names factors report)
+steps_put name basis names factors report a b c d e of_b of_c of_d of_e =
+    of_e ∙ ap (λ plan. with_step plan (Put (name ++ codes ".rep") report))
+    (of_d ∙ ap (λ plan. with_steps plan (put_factors name names factors))
+    (of_c ∙ ap (λ plan. with_step plan (Put (name ++ codes ".bas") (packed basis))) of_b))
+    ∙ ap (λ (steps : List Step). record { steps = steps; shown = a.shown }) (simp append_assoc)
+
+pub series_drafted : (name stem : List ℕ) (header : ReportHeader) (basis : MatrixValue) (factors : List ModuleValue) (places : List ℕ)
+    (names : List (List ℕ)) (copy text : List ℕ) (before after : Plan) → before ≡ record { steps = []; shown = [] } →
+    after ≡ with_steps before (series_steps stem basis names factors copy) → stem ≡ name → names ≡ names_of (dims_of_factors factors) →
+    copy ≡ text → text ≡ series_report_bytes header factors places → with_text after text ≡ series_plan name header basis factors places
 unfolding series_plan
-series_drafted name header basis factors places names removed based stem reported text copy a b c d e of_a of_b of_c of_d of_e is_removed is_based
-    is_stem is_reported are_names is_copy is_text =
-    ap (λ plan. with_text plan text) (of_e ∙ ap (λ plan. with_step plan (Put reported copy))
-    (of_d ∙ ap (λ plan. with_steps plan (put_factors stem names factors))
-    (of_c ∙ ap (λ plan. with_step plan (Put based (packed basis))) (of_b ∙ ap (λ plan. with_step plan (Remove removed)) of_a))))
-    ∙ (λ j. record {
-      steps = Remove (is_removed j) ∷ Put (is_based j) (packed basis) ∷ put_factors (is_stem j) (are_names j) factors
-          ++ Put (is_reported j) ((is_copy ∙ is_text) j) ∷ [];
-      shown = is_text j;
-    })
+series_drafted name stem header basis factors places names copy text before after is_new is_put is_stem are_names is_copy is_text =
+    ap (λ plan. with_text plan text) (is_put ∙ ap (λ plan. with_steps plan (series_steps stem basis names factors copy)) is_new)
+    ∙ (λ j. record { steps = series_steps (is_stem j) basis (are_names j) factors ((is_copy ∙ is_text) j); shown = is_text j })

@@ -27,13 +27,19 @@ put_factors name (constituent ∷ constituents) (factor ∷ factors) =
 abbrev pub series_report_bytes : ReportHeader → List ModuleValue → List ℕ → List ℕ
 series_report_bytes header factors places = report_bytes (series_report header factors places)
 
--- the plan that a composition series gives: an earlier report is taken away, the basis is put, then each factor under
--- its name, and last the report with its header, which is shown, too
+-- what a composition series changes under a name: an earlier report is taken away, the basis is put, then each factor
+-- under its name, and last the report
+abbrev pub series_steps : List ℕ → MatrixValue → List (List ℕ) → List ModuleValue → List ℕ → List Step
+series_steps name basis constituents factors report =
+    Remove (name ++ codes ".rep") ∷ Put (name ++ codes ".bas") (packed basis) ∷ put_factors name constituents factors
+    ++ Put (name ++ codes ".rep") report ∷ []
+
+-- the plan that a composition series gives: what it changes, where the factors have their names by the rule, with its
+-- report, which is shown, too
 unfoldable pub series_plan : List ℕ → ReportHeader → MatrixValue → List ModuleValue → List ℕ → Plan
 series_plan name header basis factors places = record {
-  steps = Remove (name ++ codes ".rep") ∷ Put (name ++ codes ".bas") (packed basis)
-      ∷ put_factors name (names_of (dims_of_factors factors)) factors
-      ++ Put (name ++ codes ".rep") (series_report_bytes header factors places) ∷ [];
+  steps = series_steps name basis (names_of (dims_of_factors factors)) factors
+      (series_report_bytes header factors places);
   shown = series_report_bytes header factors places;
 }
 

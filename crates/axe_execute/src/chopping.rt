@@ -6,17 +6,21 @@ ghost use Rattle.axe_chop.specs.Answers.{factor_modules};
 ghost use Rattle.axe_chop.specs.Reported.{IsFoundUnder};
 ghost use Rattle.axe_chop.specs.declared.chopped.Factor.{Factor};
 ghost use Rattle.axe_fault.specs.declared.fault.Fault.TheVariants.{Memory};
+ghost use Rattle.axe_file.specs.Packed.{packed};
 ghost use Rattle.axe_report.specs.Reports.{IsReportHeader};
 ghost use Rattle.axe_plan.specs.Meanings.{Is};
 ghost use Rattle.axe_plan.specs.Inputs.{numbered_names, module_in};
 ghost use Rattle.axe_plan.specs.Outcome.{Agrees, Reads};
-ghost use Rattle.axe_plan.specs.Drafts.{plan_in, with_steps};
-ghost use Rattle.axe_execute.specs.ChopCommand.{put_factors, series_report_bytes, series_plan, FoundPlan, ChopPlan};
+ghost use Rattle.axe_plan.specs.Plans.{Put, Remove};
+ghost use Rattle.axe_plan.specs.Drafts.{plan_in, with_step, with_steps};
+ghost use Rattle.axe_execute.specs.ChopCommand.{put_factors, series_steps, series_report_bytes, series_plan};
+ghost use Rattle.axe_execute.specs.ChopCommand.{FoundPlan, ChopPlan};
 
 use axe_arguments::{GeneratorCount, Name, WordCount};
 use axe_chop::{ChopFault, Chopped, Factor, chop_owned, header_of, report_under};
 use axe_fault::Fault;
 use axe_folder::Folder;
+use axe_matrix::Matrix;
 use axe_plan::{Draft, module_of, read_generators};
 use axe_report::{ReportFault, ReportHeader, write_report};
 use axe_spin::Module;
@@ -92,14 +96,75 @@ fn series_draft(
     let Ok(report) = report_text(alloc, header, chopped) else {
         return Err(Fault::Memory);
     };
-    let copy = Vec::from_slice(alloc, report.as_slice())?;
     let mut draft = Draft::new(alloc);
-    draft.remove(joined(alloc, name.as_str(), ".rep")?)?;
-    draft.put_packed_file(alloc, joined(alloc, name.as_str(), ".bas")?, &chopped.basis)?;
-    put_factors(alloc, &mut draft, name.as_str(), &chopped.factors)?;
-    draft.put(joined(alloc, name.as_str(), ".rep")?, copy)?;
+    put_series(alloc, &mut draft, name.as_str(), chopped, &report)?;
     draft.text = report;
     Ok(draft)
+}
+
+/// Adds what a composition series changes under a name, with this text for its report.
+fn put_series(
+    alloc: Global,
+    draft: &mut Draft,
+    name: &str,
+    chopped: &Chopped,
+    report: &[u8],
+) -> Result<(), Fault>
+    ensures put { OnOk result (plan_in draft.new ≡ with_steps (plan_in draft.old) (series_steps name.now
+        chopped.now.basis (map string_bytes (keys chopped.now.factors)) (factor_modules chopped.now) report.now)) }
+    ensures memory { IfErr result (λ fault. fault ≡ Memory) }
+{
+    remove_under(alloc, draft, name, ".rep")?;
+    put_matrix_under(alloc, draft, name, ".bas", &chopped.basis)?;
+    put_factors(alloc, draft, name, &chopped.factors)?;
+    put_copy_under(alloc, draft, name, ".rep", report)?;
+    Ok(())
+}
+
+/// Adds that the file of a name with more after it is taken away.
+fn remove_under(alloc: Global, draft: &mut Draft, name: &str, more: &str) -> Result<(), Fault>
+    ensures removed { OnOk result
+        (plan_in draft.new ≡ with_step (plan_in draft.old) (Remove (name.now ++ more.now))) }
+    ensures memory { IfErr result (λ fault. fault ≡ Memory) }
+{
+    let file = joined(alloc, name, more)?;
+    draft.remove(file)?;
+    Ok(())
+}
+
+/// Adds that the file of a name with more after it is given the packed spelling of a matrix.
+fn put_matrix_under(
+    alloc: Global,
+    draft: &mut Draft,
+    name: &str,
+    more: &str,
+    matrix: &Matrix,
+) -> Result<(), Fault>
+    ensures put { OnOk result
+        (plan_in draft.new ≡ with_step (plan_in draft.old) (Put (name.now ++ more.now) (packed matrix.now))) }
+    ensures memory { IfErr result (λ fault. fault ≡ Memory) }
+{
+    let file = joined(alloc, name, more)?;
+    draft.put_packed_file(alloc, file, matrix)?;
+    Ok(())
+}
+
+/// Adds that the file of a name with more after it is given a copy of these bytes.
+fn put_copy_under(
+    alloc: Global,
+    draft: &mut Draft,
+    name: &str,
+    more: &str,
+    bytes: &[u8],
+) -> Result<(), Fault>
+    ensures put { OnOk result
+        (plan_in draft.new ≡ with_step (plan_in draft.old) (Put (name.now ++ more.now) bytes.now)) }
+    ensures memory { IfErr result (λ fault. fault ≡ Memory) }
+{
+    let file = joined(alloc, name, more)?;
+    let copy = Vec::from_slice(alloc, bytes)?;
+    draft.put(file, copy)?;
+    Ok(())
 }
 
 /// The text of the report of a composition series.

@@ -1,0 +1,11 @@
+use Rattle.std.proofs.Common.{map, string_bytes}
+use Rattle.indexmap.specs.IndexMap.{keys}
+use Rattle.axe_chop.specs.Answers.{factor_modules}
+use Rattle.axe_execute.proofs.ChopDrafts.{steps_put}
+use Rattle.axe_execute.proofs.chopping.put_series.Goals as goal
+
+pub returns-clause-put : goal.returns-clause-put
+returns-clause-put c =
+    steps_put c.args.name.now c.args.chopped.now.basis (map string_bytes (keys c.args.chopped.now.factors)) (factor_modules c.args.chopped.now)
+    c.args.report.now _ _ _ _ _ c.in_ok-remove_under.ensures.removed c.in_ok-put_matrix_under.ensures.put c.in_ok-put_factors.ensures.put
+    c.in_ok-put_copy_under.ensures.put
