@@ -5,7 +5,8 @@ use Rattle.axe_algebra.specs.Field.{Field}
 use Rattle.axe_algebra.specs.Vectors.{Vector, Matrix, HasLength, HasRowsOfLength, HasShape, zero_vector, scale}
 use Rattle.axe_algebra.specs.Vectors.{transposed, times, dot}
 use Rattle.axe_algebra.specs.Spans.{InSpan, IsNullVector, SpansZero, SpansAll}
-use Rattle.axe_algebra.specs.Modules.{Module, HasSquareMatrices, transposed_module, IsInvariant, InGenerated, VectorGeneratesAll}
+use Rattle.axe_algebra.specs.Modules.{Module, HasSquareMatrices, transposed_module, IsInvariant, InGenerated}
+use Rattle.axe_algebra.specs.Modules.{VectorGeneratesAll}
 use Rattle.axe_algebra.specs.Words.{Word, IsWordOf, word_value}
 use Rattle.axe_algebra.specs.Irreducible.{InAnnihilator, IsIrreducible}
 
@@ -108,4 +109,5 @@ module _ (F : Field) where
 
   -- the transposes of an irreducible module are an irreducible module
   abbrev pub TransposesAreIrreducible : Type 0
-  TransposesAreIrreducible = (M : Module F) → HasSquareMatrices F M → IsIrreducible F M → IsIrreducible F (transposed_module F M)
+  TransposesAreIrreducible = (M : Module F) → HasSquareMatrices F M → IsIrreducible F M →
+      IsIrreducible F (transposed_module F M)

@@ -14,7 +14,8 @@ use Rattle.axe_algebra.specs.Words.{Word, IsWordOf, word_value}
 module _ (F : Field) where
   -- a nonzero vector has a standard basis
   abbrev pub StandardBasisExists : Type 0
-  StandardBasisExists = (M : Module F) (v : Vector F) → HasSquareMatrices F M → HasLength F M.dimension v → v ≢ zero_vector F →
+  StandardBasisExists = (M : Module F) (v : Vector F) → HasSquareMatrices F M → HasLength F M.dimension v →
+      v ≢ zero_vector F →
       (m : ℕ) × (b : Matrix F) × HasRowsOfLength F M.dimension b × IsStandardBasis F M v m b
 
   -- two standard bases of one vector have equally many rows
@@ -41,7 +42,8 @@ module _ (F : Field) where
 
   -- a standard basis spans the space that its vector generates
   abbrev pub StandardBasisSpansGeneratedSpace : Type 0
-  StandardBasisSpansGeneratedSpace = (M : Module F) → HasSquareMatrices F M → (v : Vector F) → HasLength F M.dimension v →
+  StandardBasisSpansGeneratedSpace = (M : Module F) → HasSquareMatrices F M → (v : Vector F) →
+      HasLength F M.dimension v →
       (m : ℕ) (b : Matrix F) → IsStandardBasis F M v m b → SpansGenerated F M 1 (λ t. v) m b
 
   -- so that of a vector that generates everything has as many rows as the dimension
@@ -76,7 +78,8 @@ module _ (F : Field) where
 
   -- modules whose vectors v and w, each generating everything, have the same standard matrices are isomorphic
   abbrev pub SameStandardMatricesAreIsomorphic : Type 0
-  SameStandardMatricesAreIsomorphic = (M N : Module F) (v w : Vector F) → HasSquareMatrices F M → HasSquareMatrices F N →
+  SameStandardMatricesAreIsomorphic = (M N : Module F) (v w : Vector F) → HasSquareMatrices F M →
+      HasSquareMatrices F N →
       HasLength F M.dimension v → HasLength F N.dimension w → VectorGeneratesAll F M v → VectorGeneratesAll F N w →
       (A : Module F) → AreStandardMatrices F M v A → AreStandardMatrices F N w A → AreIsomorphic F M N
 
@@ -93,7 +96,8 @@ module _ (F : Field) where
   -- module
   abbrev pub StandardBasisIsIsomorphism : Type 0
   StandardBasisIsIsomorphism =
-      (M : Module F) (v : Vector F) → HasSquareMatrices F M → HasLength F M.dimension v → (b : Matrix F) (A : Module F) →
+      (M : Module F) (v : Vector F) → HasSquareMatrices F M → HasLength F M.dimension v →
+      (b : Matrix F) (A : Module F) →
       HasShape F M.dimension M.dimension b → IsStandardBasis F M v M.dimension b → IsSubAction F M M.dimension b A →
       IsIsomorphism F A M b
 
@@ -115,7 +119,8 @@ module _ (F : Field) where
 
   -- isomorphism goes both ways
   abbrev pub IsomorphismIsSymmetric : Type 0
-  IsomorphismIsSymmetric = (M N : Module F) → HasSquareMatrices F M → HasSquareMatrices F N → AreIsomorphic F M N → AreIsomorphic F N M
+  IsomorphismIsSymmetric = (M N : Module F) → HasSquareMatrices F M → HasSquareMatrices F N → AreIsomorphic F M N →
+      AreIsomorphic F N M
 
   -- and through other modules
   abbrev pub IsomorphismIsTransitive : Type 0
@@ -130,7 +135,8 @@ module _ (F : Field) where
   -- the null spaces of a word's values in isomorphic modules have bases of one size
   abbrev pub IsomorphismKeepsNullity : Type 0
   IsomorphismKeepsNullity =
-      (M N : Module F) → HasSquareMatrices F M → HasSquareMatrices F N → AreIsomorphic F M N → (word : Word F) → IsWordOf F M word →
+      (M N : Module F) → HasSquareMatrices F M → HasSquareMatrices F N → AreIsomorphic F M N → (word : Word F) →
+      IsWordOf F M word →
       (r : ℕ) (b : Matrix F) (s : ℕ) (d : Matrix F) → SpansNullSpace F M.dimension (word_value F M word) r b →
       IsIndependent F r b →
       SpansNullSpace F N.dimension (word_value F N word) s d → IsIndependent F s d → r ≡ s
@@ -139,7 +145,8 @@ module _ (F : Field) where
   -- isomorphic
   abbrev pub NoMatchIsNotIsomorphic : Type 0
   NoMatchIsNotIsomorphic =
-      (M N : Module F) → HasSquareMatrices F M → (word : Word F) → IsWordOf F M word → (v : Vector F) → v ≢ zero_vector F →
+      (M N : Module F) → HasSquareMatrices F M → (word : Word F) → IsWordOf F M word → (v : Vector F) →
+      v ≢ zero_vector F →
       IsNullVector F M.dimension (word_value F M word) v → (A : Module F) → AreStandardMatrices F M v A →
       ((y : Vector F) → y ≢ zero_vector F → IsNullVector F N.dimension (word_value F N word) y →
       ¬ (AreStandardMatrices F N y A)) →
@@ -148,14 +155,16 @@ module _ (F : Field) where
   -- standard matrices of a basis with as many rows as the dimension are those of their own first unit vector
   abbrev pub StandardMatricesOfUnitVector : Type 0
   StandardMatricesOfUnitVector =
-      (M : Module F) (v : Vector F) → HasSquareMatrices F M → HasLength F M.dimension v → (b : Matrix F) (A : Module F) →
+      (M : Module F) (v : Vector F) → HasSquareMatrices F M → HasLength F M.dimension v →
+      (b : Matrix F) (A : Module F) →
       HasShape F M.dimension M.dimension b → IsStandardBasis F M v M.dimension b → IsSubAction F M M.dimension b A →
       AreStandardMatrices F A (unit_vector F 0) A
 
   -- which is a null vector of a word's value where v is
   abbrev pub UnitVectorIsNullVector : Type 0
   UnitVectorIsNullVector =
-      (M : Module F) (v : Vector F) → HasSquareMatrices F M → HasLength F M.dimension v → (b : Matrix F) (A : Module F) →
+      (M : Module F) (v : Vector F) → HasSquareMatrices F M → HasLength F M.dimension v →
+      (b : Matrix F) (A : Module F) →
       HasShape F M.dimension M.dimension b → IsStandardBasis F M v M.dimension b → IsSubAction F M M.dimension b A →
       (word : Word F) → IsWordOf F M word → IsNullVector F M.dimension (word_value F M word) v →
       IsNullVector F A.dimension (word_value F A word) (unit_vector F 0)

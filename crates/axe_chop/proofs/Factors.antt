@@ -1,5 +1,5 @@
 -- One more factor of an answer.
-use Rattle.std.proofs.Common.{◌≡◌, ℕ, ◌+◌, ◌≤◌, Bool, false, if◌then◌else◌, List, [], ◌∷◌, ◌++◌, map, length, All, refl, sym, ap, ap₂, subst, ◌∙◌, string_bytes, String, length-append, arith}
+use Rattle.std.proofs.Common.{◌≡◌, ℕ, ◌+◌, ◌≤◌, Bool, false, if◌then◌else◌, List, [], ◌∷◌, ◌++◌, map, length, refl, sym, ap, ap₂, subst, ◌∙◌, string_bytes, String, length-append, arith}
 use Rattle.std.specs.List.{AllByRecursion}
 use Rattle.std.specs.String.{string_eq}
 use Rattle.std.specs.Map.{keys_of, values_of}
@@ -14,7 +14,7 @@ use Rattle.axe_iso.specs.Forms.{FormValue}
 use Rattle.axe_report.specs.Names.{constituent_name, count_of, names_of}
 use Rattle.axe_report.specs.Reports.{counts_in}
 use Rattle.axe_report.proofs.Plain.{no_names, names_of_push, name_is_new}
-use Rattle.axe_chop.specs.Chopped.{dims_of, AreFactorsOf, AreFirst}
+use Rattle.axe_chop.specs.Chopped.{dims_of, AreFirst}
 use Rattle.axe_chop.specs.declared.chopped.Factor.{Factor}
 
 -- a key that is new goes last

@@ -5,6 +5,7 @@ use Rattle.std.specs.declared.alloc.Global.{Global}
 use Rattle.indexmap.specs.IndexMap.{keys, values}
 use Rattle.axe_iso.specs.Forms.{FormValue}
 use Rattle.axe_series.specs.Runs.{FoundValue}
+use Rattle.axe_report.specs.Limits.{most_dimension}
 use Rattle.axe_report.specs.Names.{names_of}
 use Rattle.axe_report.specs.Reports.{counts_in}
 use Rattle.axe_chop.specs.declared.chopped.Factor.{Factor}
@@ -25,10 +26,11 @@ pub record AreFactorsOf (forms : List FormValue) (places : List ℕ) (names : Li
       map (λ (factor : Factor). factor.multiplicity) factors ≡ counts_in places (length forms)
 
 -- entries are the first factors, of which the dimensions are known
-pub record AreFirst (forms : List FormValue) (places dims : List ℕ) (entries : List (String Global × Factor)) : Type 0 where
+pub record AreFirst (forms : List FormValue) (places dims : List ℕ) (entries : List (String Global × Factor))
+    : Type 0 where
   pub factors : AreFactorsOf forms places (keys_of entries) (values_of entries)
   pub dims_are : dims ≡ dims_of forms
-  pub small : All (λ d. d ≤ 2048) dims
+  pub small : All (λ d. d ≤ most_dimension) dims
 
 -- the answer is what was found: its rows and places, and its factors in their order, under their names
 pub record IsNamed (found : FoundValue) (chopped : Chopped) : Type 0 where

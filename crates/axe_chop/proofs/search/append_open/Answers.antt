@@ -1,4 +1,4 @@
-use Rattle.std.proofs.Common.{◌≡◌, ◌∷◌, None, subst, arith}
+use Rattle.std.proofs.Common.{◌≡◌, None, subst, arith}
 use Rattle.axe_row.specs.Refusals.{Answers}
 use Rattle.axe_matrix.specs.Matrices.{MatrixValue}
 use Rattle.axe_echelon.proofs.Exits.{no_memory}

@@ -1,4 +1,3 @@
-use Rattle.std.proofs.Common.{refl}
 use Rattle.axe_echelon.proofs.Exits.{no_memory}
 use Rattle.axe_chop.specs.Searches.{as_irreducible, as_reducible, as_undecided}
 use Rattle.axe_chop.proofs.Stepping.{decided_as, true_as}

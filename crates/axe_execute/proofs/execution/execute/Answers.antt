@@ -1,4 +1,4 @@
-use Rattle.std.proofs.Common.{◌≡◌, Err, refl, subst, ap, ◌∙◌, map}
+use Rattle.std.proofs.Common.{Err, refl, subst, ap, ◌∙◌, map}
 use Rattle.std.proofs.lemmas.Result.{err_from_is_err_and}
 use Rattle.axe_folder.specs.Files.{Files}
 use Rattle.axe_fault.specs.Causes.{cause_of}

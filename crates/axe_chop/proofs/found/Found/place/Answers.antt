@@ -1,4 +1,3 @@
-use Rattle.std.proofs.Common.{◌≡◌}
 use Rattle.axe_echelon.proofs.Exits.{answers_more, no_memory}
 use Rattle.axe_chop.specs.Searches.{found_value}
 use Rattle.axe_chop.proofs.Placing.{known_in, others_in, placed_as_known}
