@@ -1,6 +1,7 @@
 # make try       a minute: builds axe without a proof, and finds a composition series with it
-# make demo      proves and builds axe, some 25 minutes on four processors, and runs its commands on examples/
+# make demo      proves and builds axe, some 32 minutes on four processors, and runs its commands on examples/
 # make test      everything that CI runs: proofs from nothing, the wrong bodies, the tests and the runs of the program
+# make planted   tries the wrong bodies that the gate leaves out (`tests/planted NAME..`: those of some crates alone)
 # make build     proves and builds crates/axe/out/axe; CPU=x86-64-v3 builds it for processors with AVX2
 # make cases     the runs of the built program alone: cases, disks, transcripts of the documents, what is installed
 # make bench     times the built program, beside GAP, M4RI and FLINT where those are installed: inverses and null spaces
@@ -15,7 +16,7 @@ AXE = crates/axe/out/axe
 EXAMPLE = m24two
 SHOWN = chop $(EXAMPLE)
 
-.PHONY: try build demo test cases bench install
+.PHONY: try build demo test planted cases bench install
 
 try:
 	@command -v rt >/dev/null || \
@@ -41,6 +42,9 @@ demo: build
 
 test:
 	.ci/run
+
+planted:
+	tests/planted
 
 cases: build
 	tests/run
