@@ -71,7 +71,7 @@ impl FusedFolder {
 }
 
 impl Folder for FusedFolder {
-    ghost use Rattle.std.specs.Prelude.{◌≡◌, true};
+    ghost use Rattle.std.specs.Prelude.{◌≡◌, ◌<◌, true};
     ghost use Rattle.axe_folder.specs.Files.{file_at};
     ghost use Rattle.axe_folder.specs.Outcomes.{Gets, Puts, Removes, Counts};
     ghost use Rattle.axe_folder.specs.Fused.{Burns, Tears};
@@ -117,6 +117,7 @@ impl Folder for FusedFolder {
         ensures counted { Counts result self.old.failures self.new.failures }
         ensures burns { Burns result self.old self.new }
         ensures kept { self.old.calls ≡ 0 → self.new.files ≡ self.old.files }
+        ensures passed { 0 < self.old.calls → result ≡ Ok tt }
     {
         if self.passes() {
             self.inside.remove(name)

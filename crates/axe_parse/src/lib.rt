@@ -1,12 +1,14 @@
 //! From the words of a command line to a command.
 //!
 //! `clap` takes the words apart. Which words give which command is tested and not proved. It is proved that `parse`
-//! returns whatever the words are, and that each name in the command that it answers keeps the rule of names.
+//! returns whatever the words are, that each name in the command that it answers keeps the rule of names, and that each
+//! number of generators or of words there is in its range.
 #![tactic(auto)]
 
 ghost use Rattle.std.specs.Prelude.{◌≡◌, true, IfOk, IfSome};
 ghost use Rattle.axe_arguments.specs.Names.{is_name};
-ghost use Rattle.axe_arguments.specs.Commands.{HasNames};
+ghost use Rattle.axe_arguments.specs.Commands.{HasNames, HasCounts};
+ghost use Rattle.axe_arguments.specs.Counts.{IsGeneratorCount, IsWordCount};
 
 mod help;
 mod lines;
@@ -48,7 +50,8 @@ impl From<AllocError> for ParseFault {
 /// Where `clap` takes the words, but one that stands for a file is no name, the answer is Usage with the text
 /// `axe: bad file name` and a newline. All other texts are those of `clap`.
 pub fn parse(alloc: Global, words: &[String]) -> Result<Command, ParseFault>
-    ensures { IfOk result HasNames }
+    ensures names { IfOk result HasNames }
+    ensures counts { IfOk result HasCounts }
 {
     match program::program(alloc)?.try_get_matches_from(words) {
         Ok(matches) => command_in(alloc, &matches),
@@ -58,7 +61,8 @@ pub fn parse(alloc: Global, words: &[String]) -> Result<Command, ParseFault>
 
 /// The command that `clap` found.
 fn command_in(alloc: Global, matches: &ArgMatches<'_>) -> Result<Command, ParseFault>
-    ensures { IfOk result HasNames }
+    ensures names { IfOk result HasNames }
+    ensures counts { IfOk result HasCounts }
 {
     match matches.subcommand() {
         Some((command, found)) => command_of(alloc, command, found),
@@ -68,7 +72,8 @@ fn command_in(alloc: Global, matches: &ArgMatches<'_>) -> Result<Command, ParseF
 
 /// The command with this name and these files.
 fn command_of(alloc: Global, command: &str, found: &ArgMatches<'_>) -> Result<Command, ParseFault>
-    ensures { IfOk result HasNames }
+    ensures names { IfOk result HasNames }
+    ensures counts { IfOk result HasCounts }
 {
     match command {
         lines::ZCV => zcv_of(alloc, found),
@@ -87,7 +92,8 @@ fn command_of(alloc: Global, command: &str, found: &ArgMatches<'_>) -> Result<Co
 
 /// The command `zcv IN OUT`.
 fn zcv_of(alloc: Global, found: &ArgMatches<'_>) -> Result<Command, ParseFault>
-    ensures { IfOk result HasNames }
+    ensures names { IfOk result HasNames }
+    ensures counts { IfOk result HasCounts }
 {
     let (input, out) = two_names_of(alloc, found, lines::IN, lines::OUT)?;
     Ok(Command::Zcv { input, out })
@@ -95,7 +101,8 @@ fn zcv_of(alloc: Global, found: &ArgMatches<'_>) -> Result<Command, ParseFault>
 
 /// The command `zpr IN [OUT]`.
 fn zpr_of(alloc: Global, found: &ArgMatches<'_>) -> Result<Command, ParseFault>
-    ensures { IfOk result HasNames }
+    ensures names { IfOk result HasNames }
+    ensures counts { IfOk result HasCounts }
 {
     Ok(Command::Zpr {
         input: name_of(alloc, found, lines::IN)?,
@@ -105,7 +112,8 @@ fn zpr_of(alloc: Global, found: &ArgMatches<'_>) -> Result<Command, ParseFault>
 
 /// The command `zmu A B OUT`.
 fn zmu_of(alloc: Global, found: &ArgMatches<'_>) -> Result<Command, ParseFault>
-    ensures { IfOk result HasNames }
+    ensures names { IfOk result HasNames }
+    ensures counts { IfOk result HasCounts }
 {
     let (left, right, out) = three_names_of(alloc, found, lines::LEFT, lines::RIGHT, lines::OUT)?;
     Ok(Command::Zmu { left, right, out })
@@ -113,7 +121,8 @@ fn zmu_of(alloc: Global, found: &ArgMatches<'_>) -> Result<Command, ParseFault>
 
 /// The command `zad A B OUT`.
 fn zad_of(alloc: Global, found: &ArgMatches<'_>) -> Result<Command, ParseFault>
-    ensures { IfOk result HasNames }
+    ensures names { IfOk result HasNames }
+    ensures counts { IfOk result HasCounts }
 {
     let (left, right, out) = three_names_of(alloc, found, lines::LEFT, lines::RIGHT, lines::OUT)?;
     Ok(Command::Zad { left, right, out })
@@ -121,7 +130,8 @@ fn zad_of(alloc: Global, found: &ArgMatches<'_>) -> Result<Command, ParseFault>
 
 /// The command `ztr A OUT`.
 fn ztr_of(alloc: Global, found: &ArgMatches<'_>) -> Result<Command, ParseFault>
-    ensures { IfOk result HasNames }
+    ensures names { IfOk result HasNames }
+    ensures counts { IfOk result HasCounts }
 {
     let (input, out) = two_names_of(alloc, found, lines::LEFT, lines::OUT)?;
     Ok(Command::Ztr { input, out })
@@ -129,7 +139,8 @@ fn ztr_of(alloc: Global, found: &ArgMatches<'_>) -> Result<Command, ParseFault>
 
 /// The command `ziv A OUT`.
 fn ziv_of(alloc: Global, found: &ArgMatches<'_>) -> Result<Command, ParseFault>
-    ensures { IfOk result HasNames }
+    ensures names { IfOk result HasNames }
+    ensures counts { IfOk result HasCounts }
 {
     let (input, out) = two_names_of(alloc, found, lines::LEFT, lines::OUT)?;
     Ok(Command::Ziv { input, out })
@@ -137,7 +148,8 @@ fn ziv_of(alloc: Global, found: &ArgMatches<'_>) -> Result<Command, ParseFault>
 
 /// The command `znu A OUT`.
 fn znu_of(alloc: Global, found: &ArgMatches<'_>) -> Result<Command, ParseFault>
-    ensures { IfOk result HasNames }
+    ensures names { IfOk result HasNames }
+    ensures counts { IfOk result HasCounts }
 {
     let (input, out) = two_names_of(alloc, found, lines::LEFT, lines::OUT)?;
     Ok(Command::Znu { input, out })
@@ -145,7 +157,8 @@ fn znu_of(alloc: Global, found: &ArgMatches<'_>) -> Result<Command, ParseFault>
 
 /// The command `zsp [-g N] [-b] [-a ACT] NAME SEED OUT`.
 fn zsp_of(alloc: Global, found: &ArgMatches<'_>) -> Result<Command, ParseFault>
-    ensures { IfOk result HasNames }
+    ensures names { IfOk result HasNames }
+    ensures counts { IfOk result HasCounts }
 {
     let generators = generators_of(alloc, found)?;
     let action = optional_name_of(alloc, found, lines::ACTION)?;
@@ -162,7 +175,8 @@ fn zsp_of(alloc: Global, found: &ArgMatches<'_>) -> Result<Command, ParseFault>
 
 /// The command `zqt [-g N] SUB NAME OUTNAME`.
 fn zqt_of(alloc: Global, found: &ArgMatches<'_>) -> Result<Command, ParseFault>
-    ensures { IfOk result HasNames }
+    ensures names { IfOk result HasNames }
+    ensures counts { IfOk result HasCounts }
 {
     let generators = generators_of(alloc, found)?;
     let (subspace, name, out) = three_names_of(
@@ -182,7 +196,8 @@ fn zqt_of(alloc: Global, found: &ArgMatches<'_>) -> Result<Command, ParseFault>
 
 /// The command `chop [-g N] [--seed S] [--words W] NAME`.
 fn chop_of(alloc: Global, found: &ArgMatches<'_>) -> Result<Command, ParseFault>
-    ensures { IfOk result HasNames }
+    ensures names { IfOk result HasNames }
+    ensures counts { IfOk result HasCounts }
 {
     let generators = generators_of(alloc, found)?;
     let words = words_of(alloc, found)?;
@@ -196,7 +211,9 @@ fn chop_of(alloc: Global, found: &ArgMatches<'_>) -> Result<Command, ParseFault>
 
 /// The number of a module's generators. A number that is missing, or is not 1 to 16, has been refused by `clap`
 /// already.
-fn generators_of(alloc: Global, found: &ArgMatches<'_>) -> Result<GeneratorCount, ParseFault> {
+fn generators_of(alloc: Global, found: &ArgMatches<'_>) -> Result<GeneratorCount, ParseFault>
+    ensures { IfOk result IsGeneratorCount }
+{
     let number = found.get_one::<u8>(lines::GENERATORS).unwrap_or(0);
     match GeneratorCount::new(number) {
         Some(count) => Ok(count),
@@ -206,7 +223,9 @@ fn generators_of(alloc: Global, found: &ArgMatches<'_>) -> Result<GeneratorCount
 
 /// The number of words that are tried. A number that is missing, or is more than 10,000, has been refused by `clap`
 /// already.
-fn words_of(alloc: Global, found: &ArgMatches<'_>) -> Result<WordCount, ParseFault> {
+fn words_of(alloc: Global, found: &ArgMatches<'_>) -> Result<WordCount, ParseFault>
+    ensures { IfOk result IsWordCount }
+{
     match found.get_one::<u32>(lines::WORDS).and_then(WordCount::new) {
         Some(words) => Ok(words),
         None => Err(usage(alloc, "axe: bad number of words\n")?),

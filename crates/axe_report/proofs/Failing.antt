@@ -8,7 +8,7 @@ use Rattle.axe_report.specs.Spelling.{header_line, factor_line, series_line, ope
 use Rattle.axe_report.specs.Passing.{LinesPass, FailsFirstAt}
 use Rattle.axe_report.specs.declared.report.ReportHeader.{ReportHeader}
 use Rattle.axe_report.proofs.Members.{places_in_range}
-use Rattle.axe_report.proofs.Plain.{all_plain, all_distinct, factors_front, factor_after}
+use Rattle.axe_report.proofs.Plain.{all_plain, all_distinct, factors_front, factor_after, no_factors}
 use Rattle.axe_report.proofs.Unique.{InRange, header_unique, lines_front, none_between, series_unique, opening_open, report_open, report_unique}
 
 -- ---- the first line
@@ -24,6 +24,11 @@ fails_header bytes none = record {
     | inr (inr r) ↦ none r.report.header _ r.is_report.header (r.spelled ∙ report_open r.report r.rest)
   ];
 }
+
+-- where the line of a header stands at the front, the first line does not fail
+pub header_passes : (bytes : List ℕ) (h : ReportHeader) (x : List ℕ) → IsReportHeader h → bytes ≡ header_line h ++ x → FailsFirstAt bytes 1 → ⊥
+header_passes bytes h x is e bad =
+    bad.fails (inr (inl (record { header = h; factors = []; rest = x; is_header = is; are_factors = no_factors h.dim; count = refl; spelled = e ∙ sym (opening_open h [] x) })))
 
 -- ---- the lines of the constituents are read
 

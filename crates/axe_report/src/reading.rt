@@ -3,7 +3,7 @@
 ghost use Rattle.std.specs.Prelude.{◌≡◌, IfOk, IfErr};
 ghost use Rattle.axe_report.specs.Reports.{IsReport};
 ghost use Rattle.axe_report.specs.Spelling.{report_bytes};
-ghost use Rattle.axe_report.specs.Passing.{RefusesReport};
+ghost use Rattle.axe_report.specs.Passing.{FailsFirstAt, RefusesReport};
 
 use crate::checks::is_series_of;
 use crate::constituents::factors;
@@ -13,11 +13,12 @@ use crate::last_line::series;
 use crate::report::Report;
 use std::alloc::Global;
 
-/// The report of which these are the bytes. `BadReport` names the first line that fails, counted from 1; where there is
-/// one it is answered, or `Memory`.
+/// The report of which these are the bytes. `BadReport` names the first line that fails, counted from 1. Where that is
+/// line 1 it is answered whatever the memory, and where it is a later one it is answered, or `Memory`.
 pub fn read_report(alloc: Global, bytes: &[u8]) -> Result<Report, ReportFault>
     ensures report { IfOk result (λ report. IsReport report × (bytes.now ≡ report_bytes report)) }
     ensures fault { IfErr result (λ fault. RefusesReport bytes.now fault) }
+    ensures first_line { FailsFirstAt bytes.now 1 → result ≡ Err (ReportFault.BadReport 1) }
 {
     let Some((header, text)) = header(bytes) else {
         return Err(ReportFault::BadReport(1));

@@ -1,7 +1,7 @@
 use Rattle.std.proofs.Common.{◌≡◌, ◌≢◌, ◌+◌, ◌++◌, List, ℕ, ap, ◌∙◌, arith}
 use Rattle.axe_report.specs.Reports.{ReportValue, total_dim, IsSeriesOf, IsReport}
 use Rattle.axe_report.specs.Spelling.{header_line, series_line}
-use Rattle.axe_report.proofs.Failing.{fails_header, fails_series, fails_rest, Opened, whole_report, other_series, no_series, empty, not_empty}
+use Rattle.axe_report.proofs.Failing.{fails_header, header_passes, fails_series, fails_rest, Opened, whole_report, other_series, no_series, empty, not_empty}
 use Rattle.axe_report.proofs.reading.read_report.Goals as goal
 use Rattle.axe_report.proofs.reading.read_report.Goals.{then-room-gt0-via-then-room-gt0, then-room-gt0-via-else-room-gt0+then-not-is_series_of}
 
@@ -80,3 +80,22 @@ returns-clause-report c =
     let none = empty c.in-Some-2.rest.now c.is_empty.result c.is_empty.ensures c.if-not-is_empty.false in
     rw c.new.ensures
     (is, whole_report c.args.bytes.now report c.in_ok-factors.text.now opened (found.1 ∙ ap (λ (l : List ℕ). series_line c.in_ok-factors.factors.items c.in-Some-2.series.items ++ l) none))
+
+-- a header was read, so the first line does not fail
+pub returns-in_err-factors-clause-first_line : goal.returns-in_err-factors-clause-first_line
+returns-in_err-factors-clause-first_line c bad = absurd (header_passes c.args.bytes.now c.in-Some.header c.in-Some.text.now c.in-Some.ensures.0 c.in-Some.ensures.1 bad)
+
+pub returns-in_err-series-clause-first_line : goal.returns-in_err-series-clause-first_line
+returns-in_err-series-clause-first_line c bad = absurd (header_passes c.args.bytes.now c.in-Some.header c.in-Some.text.now c.in-Some.ensures.0 c.in-Some.ensures.1 bad)
+
+pub returns-in_default-2-clause-first_line : goal.returns-in_default-2-clause-first_line
+returns-in_default-2-clause-first_line c bad = absurd (header_passes c.args.bytes.now c.in-Some.header c.in-Some.text.now c.in-Some.ensures.0 c.in-Some.ensures.1 bad)
+
+pub returns-then-room-gt0-clause-first_line : goal.returns-then-room-gt0-clause-first_line
+returns-then-room-gt0-clause-first_line c bad = absurd (header_passes c.args.bytes.now c.in-Some.header c.in-Some.text.now c.in-Some.ensures.0 c.in-Some.ensures.1 bad)
+
+pub returns-then-not-is_empty-clause-first_line : goal.returns-then-not-is_empty-clause-first_line
+returns-then-not-is_empty-clause-first_line c bad = absurd (header_passes c.args.bytes.now c.in-Some.header c.in-Some.text.now c.in-Some.ensures.0 c.in-Some.ensures.1 bad)
+
+pub returns-clause-first_line : goal.returns-clause-first_line
+returns-clause-first_line c bad = absurd (header_passes c.args.bytes.now c.in-Some.header c.in-Some.text.now c.in-Some.ensures.0 c.in-Some.ensures.1 bad)
