@@ -1,0 +1,9 @@
+pub mod PolyLaws
+pub mod RemainderLaws
+pub mod NumberLaws
+pub mod IrreducibleLists
+pub mod TrialLaws
+pub mod FoundLaws
+pub mod FactorLaws
+pub mod PowerLaws
+pub mod HornerLaws

@@ -1,0 +1,31 @@
+-- The rows v, v x, v x^2 and so on, up to the first that is in the span of those before it.
+use Rattle.std.specs.Prelude.{◌≡◌, ℕ, suc, ◌<◌, List, [], ◌∷◌, ◌++◌, length, get_or, map}
+use Rattle.axe_algebra.specs.ListArithmetic.{combination}
+use Rattle.axe_algebra.specs.SpansOfLists.{IsSpanned}
+use Rattle.axe_field.specs.Arithmetic.{field_neg}
+use Rattle.axe_field.specs.NumberFields.{number_field}
+use Rattle.axe_row.specs.Rows.{RowValue}
+use Rattle.axe_matrix.specs.Matrices.{MatrixValue}
+use Rattle.axe_echelon.specs.Echelons.{EchelonValue, IsEchelon}
+use Rattle.axe_poly.specs.Polys.{PolyValue, poly_with}
+
+-- the rows are v, v x, v x^2 and so on: the first is v, and each further one is the one before it times the matrix
+pub record ArePowers (m : MatrixValue) (v : List ℕ) (rows : List (List ℕ)) : Type 0 where
+  pub first : 0 < length rows → get_or rows 0 [] ≡ v
+  pub next : (t : ℕ) → suc t < length rows →
+      get_or rows (suc t) [] ≡ combination (number_field m.order) m.cols (get_or rows t []) m.rows
+
+-- the echelon form has the first of these rows, and the next of them is in their span
+pub record IsNextPower (m : MatrixValue) (v : List ℕ) (e : EchelonValue) (next : RowValue) : Type 0 where
+  pub field : e.order ≡ m.order
+  pub columns : e.cols ≡ m.cols
+  pub some : 0 < length e.rows
+  pub next_field : next.order ≡ m.order
+  pub long : length next.entries ≡ m.cols
+  pub powers : ArePowers m v (e.rows ++ next.entries ∷ [])
+  pub spanned : IsSpanned (number_field m.order) e.rows next.entries
+  pub well_formed : IsEchelon e
+
+-- the power of x with as many coefficients before it as are given, less the polynomial with these coefficients
+abbrev pub power_less : RowValue → PolyValue
+power_less c = poly_with c.order (map (field_neg c.order) c.entries ++ 1 ∷ [])
