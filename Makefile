@@ -7,7 +7,8 @@
 # make bench     times the built program, beside GAP, M4RI and FLINT where those are installed: inverses and null spaces
 #                (bench/inverses), products (bench/products), texts (bench/texts), submodules and quotients
 #                (bench/modules), composition series (bench/chop); and shows its peak memory (bench/memory)
-# make install   puts the program into PREFIX/bin (PREFIX=/usr/local), man page and completions where such files go
+# make install   puts the program into PREFIX/bin (PREFIX=/usr/local), man page, completions and the GAP package where such
+#                files go
 PREFIX ?= /usr/local
 # the processors that `make build` builds for, as `rt run --cpu` names them; none: every 64-bit one
 CPU ?=
@@ -67,3 +68,8 @@ install: build
 	share/manual $(AXE) >$(DESTDIR)$(PREFIX)/share/man/man1/axe.1
 	install -D -m 644 share/axe.bash $(DESTDIR)$(PREFIX)/share/bash-completion/completions/axe
 	install -D -m 644 share/_axe $(DESTDIR)$(PREFIX)/share/zsh/site-functions/_axe
+	install -d $(addprefix $(DESTDIR)$(PREFIX)/share/gap/pkg/axe/,lib tst doc)
+	install -m 644 gap/*.g gap/README.md $(DESTDIR)$(PREFIX)/share/gap/pkg/axe
+	install -m 644 gap/lib/* $(DESTDIR)$(PREFIX)/share/gap/pkg/axe/lib
+	install -m 644 gap/tst/* $(DESTDIR)$(PREFIX)/share/gap/pkg/axe/tst
+	install -m 644 docs/GAP.md $(DESTDIR)$(PREFIX)/share/gap/pkg/axe/doc

@@ -1,0 +1,115 @@
+#############################################################################
+##
+##  files.gi: matrices, modules and reports in files
+##
+
+# the bytes of a file; an error where there is none
+BindGlobal( "AXE_BytesOfFile", function( file )
+  local bytes;
+  bytes := fail;
+  if IsReadableFile( file ) = true and not IsDirectoryPath( file ) = true then bytes := StringFile( file ); fi;
+  if bytes = fail then ErrorNoReturn( "there is no file ", file, " to be read" ); fi;
+  return bytes;
+end );
+
+# the field and the matrix of a packed file
+BindGlobal( "AXE_ReadPair", function( file )
+  local found;
+  found := AXE_Unpacked( AXE_BytesOfFile( file ) );
+  if found = fail then ErrorNoReturn( file, " is no packed file of axe: `axe zcv` makes one of a text" ); fi;
+  return found;
+end );
+
+# The file of a generator of a module
+BindGlobal( "AXE_GeneratorFile", { name, number } -> Concatenation( name, ".", String( number ) ) );
+
+InstallGlobalFunction( AxeWriteMatrix, function( file, matrix, field, columns... )
+  if Length( matrix ) > 0 then columns := [ Length( matrix[ 1 ] ) ]; fi;
+  if columns = [] then ErrorNoReturn( "of a matrix without rows the number of columns has to be told" ); fi;
+  if FileString( file, AXE_Packed( matrix, field, columns[ 1 ] ) ) = fail then
+    ErrorNoReturn( file, " can't be written" );
+  fi;
+end );
+
+InstallGlobalFunction( AxeReadMatrix, file -> AXE_ReadPair( file )[ 2 ] );
+
+InstallGlobalFunction( AxeWriteModule, function( name, module )
+  local number;
+  for number in [ 1 .. Length( module.generators ) ] do
+    AxeWriteMatrix( AXE_GeneratorFile( name, number ), module.generators[ number ], module.field );
+  od;
+end );
+
+InstallGlobalFunction( AxeReadModule, function( name, number... )
+  local found;
+  if number = [] then
+    number := [ 1 ];
+    while IsExistingFile( AXE_GeneratorFile( name, number[ 1 ] + 1 ) ) do number[ 1 ] := number[ 1 ] + 1; od;
+  fi;
+  found := List( [ 1 .. number[ 1 ] ], i -> AXE_ReadPair( AXE_GeneratorFile( name, i ) ) );
+  if Length( Set( found, pair -> Size( pair[ 1 ] ) ) ) > 1 then
+    ErrorNoReturn( "the generators of ", name, " are over different fields" );
+  fi;
+  return GModuleByMats( List( found, pair -> pair[ 2 ] ), found[ 1 ][ 1 ] );
+end );
+
+# the number after a word such as dim=, or `fail`
+BindGlobal( "AXE_NumberAfter", function( word, text )
+  if not StartsWith( text, word ) then return fail; fi;
+  return Int( text{ [ Length( word ) + 1 .. Length( text ) ] } );
+end );
+
+# the text of a report, from what AxeReadReport answers
+BindGlobal( "AXE_TextOfReport", function( report )
+  local text, i;
+  text := StringFormatted( "chop 1 field={} dim={} gens={} seed={} words={}\n", Size( report.field ), report.dimension,
+    report.generators, report.seed, report.words );
+  for i in [ 1 .. Length( report.names ) ] do
+    Append( text, StringFormatted( "factor {} dim={} mult={}\n", report.names[ i ], report.dimensions[ i ],
+      report.multiplicities[ i ] ) );
+  od;
+  Append( text, "series" );
+  for i in report.series do Append( text, Concatenation( " ", report.names[ i ] ) ); od;
+  Append( text, "\n" );
+  return text;
+end );
+
+# The report that the lines of a text name, or `fail` where a number or a name is missing. Whether they are just those
+# of a report shows by writing it anew.
+BindGlobal( "AXE_ReportOfLines", function( lines )
+  local head, labels, numbers, factors, series, q, place;
+  head := SplitString( lines[ 1 ], " " );
+  factors := List( lines{ [ 2 .. Length( lines ) - 1 ] }, line -> SplitString( line, " " ) );
+  series := SplitString( lines[ Length( lines ) ], " " );
+  if Length( head ) <> 7 or ForAny( factors, words -> Length( words ) <> 4 ) then return fail; fi;
+  labels := [ "field=", "dim=", "gens=", "seed=", "words=" ];
+  numbers := List( [ 1 .. 5 ], i -> AXE_NumberAfter( labels[ i ], head[ i + 2 ] ) );
+  place := name -> PositionProperty( factors, words -> words[ 2 ] = name );
+  q := numbers[ 1 ];
+  if fail in numbers or not q in [ 2, 3, 4, 5, 7, 8, 9 ] then return fail; fi;
+  return rec( field := GF( q ), dimension := numbers[ 2 ], generators := numbers[ 3 ], seed := numbers[ 4 ],
+    words := numbers[ 5 ], names := List( factors, words -> words[ 2 ] ),
+    dimensions := List( factors, words -> AXE_NumberAfter( "dim=", words[ 3 ] ) ),
+    multiplicities := List( factors, words -> AXE_NumberAfter( "mult=", words[ 4 ] ) ),
+    series := List( series{ [ 2 .. Length( series ) ] }, place ) );
+end );
+
+# what the text of a report says, or `fail` where it is none: each report has one spelling
+BindGlobal( "AXE_ReportOfText", function( text )
+  local lines, report;
+  lines := SplitString( text, "\n" );
+  if Length( lines ) < 3 then return fail; fi;
+  report := AXE_ReportOfLines( lines );
+  if report = fail or fail in Concatenation( report.dimensions, report.multiplicities, report.series )
+    or AXE_TextOfReport( report ) <> text or report.multiplicities * report.dimensions <> report.dimension
+    or ForAny( [ 1 .. Length( report.names ) ], i -> Number( report.series, j -> j = i ) <> report.multiplicities[ i ] )
+    then return fail; fi;
+  return report;
+end );
+
+InstallGlobalFunction( AxeReadReport, function( file )
+  local report;
+  report := AXE_ReportOfText( AXE_BytesOfFile( file ) );
+  if report = fail then ErrorNoReturn( file, " is no report of axe chop" ); fi;
+  return report;
+end );
