@@ -24,6 +24,8 @@ mod modules;
 #[cfg(test)]
 mod points;
 #[cfg(test)]
+mod polynomials;
+#[cfg(test)]
 mod tables;
 #[cfg(test)]
 mod values;

@@ -1,7 +1,7 @@
 //! Tables of calls, the topics that they are about, and answers that may be Memory. A table without a call fails its
 //! test.
 
-use crate::{decisions, growing, matrices, modules, points};
+use crate::{decisions, growing, matrices, modules, points, polynomials};
 use axe_matrix::{Matrix, Refusal, Row};
 use axe_test_values::{TableFault, first_field, is_remark, matrix_of, row_of};
 use std::alloc::Global;
@@ -15,6 +15,7 @@ pub(crate) enum Topic {
     Matrices,
     Modules,
     Points,
+    Polynomials,
 }
 
 /// Whether a call answers what its line says, or Memory.
@@ -26,6 +27,7 @@ fn answers(rt: &impl Abort, alloc: Global, topic: Topic, line: &str) -> Result<b
         Topic::Matrices => matrices::answers(alloc, call, line),
         Topic::Modules => modules::answers(rt, alloc, call, line),
         Topic::Points => points::answers(rt, alloc, call, line),
+        Topic::Polynomials => polynomials::answers(rt, alloc, call, line),
     }
 }
 
