@@ -333,15 +333,13 @@ fn are_written(factors: &[Poly], text: &str) -> bool {
 /// Whether the coefficients of a polynomial have these digits.
 fn has_digits(poly: &Poly, digits: &str) -> bool {
     let digits = digits.as_bytes();
-    if digits.len() != poly.degree() + 1 {
-        return false;
-    }
     for exponent in 0..digits.len() {
-        if digits[exponent].wrapping_sub(b'0') != poly.coefficient(exponent) {
+        let is_coefficient = exponent <= poly.degree();
+        if !is_coefficient || digits[exponent].wrapping_sub(b'0') != poly.coefficient(exponent) {
             return false;
         }
     }
-    true
+    digits.len() > poly.degree()
 }
 
 fn factors(rt: &impl Abort, alloc: Global, line: &str) -> Result<bool, TableFault> {
