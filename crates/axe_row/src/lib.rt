@@ -309,7 +309,7 @@ impl Row {
             return true;
         };
         let Some(others) = &other.higher else {
-            return true;
+            unreachable!();
         };
         if !higher.linear.same(&others.linear) {
             return false;
@@ -374,7 +374,7 @@ impl Row {
             return;
         };
         let Some(higher) = &mut self.higher else {
-            return;
+            unreachable!();
         };
         let (field, constant) = (&self.field, &mut self.constant);
         add_planes(
