@@ -32,7 +32,7 @@ use axe_field::Field;
 use axe_layer::earlier;
 pub use axe_plane::BitPlane;
 use axe_plane::Plane;
-pub use combos::{Combos, most_combined};
+pub use combos::{Combos, digits_per_byte};
 use higher::Higher;
 use planes::{add_planes, digits_in_plane, element, plane_of, quadratic_at};
 pub use refusals::Refusal;
