@@ -8,13 +8,14 @@ use Rattle.std.proofs.lemmas.List.{get_or-take, get_or-drop}
 use Rattle.axe_algebra.specs.Lists.{listed}
 use Rattle.axe_field.specs.Order.{Order, order_number}
 use Rattle.axe_matrix.specs.Matrices.{MatrixValue}
+use Rattle.axe_matrix.specs.Limits.{most_rows, most_columns}
 use Rattle.axe_file.specs.Marks.{marks_per_byte, byte_limit, mark_of, has_unused_mark, bytes_per_row, row_marks}
 use Rattle.axe_file.specs.Packed.{header_order, header_rows, header_columns, row_width, data_length, has_padding, mark_at, unpacked}
 use Rattle.axe_file.specs.Headers.{SaysShape}
 use Rattle.axe_algebra.proofs.ListEntries.{listed_length, listed_at}
 use Rattle.axe_file.proofs.Lists.{listed_same}
 use Rattle.axe_file.proofs.Bytes.{mark_below, byte_of_column}
-use Rattle.axe_file.proofs.Layouts.{width_fits}
+use Rattle.axe_file.proofs.Layouts.{most_width, width_fits}
 use Rattle.axe_file.specs.declared.layout.Layout.{Layout}
 
 -- what the layout of a header tells of its bytes
@@ -50,8 +51,12 @@ padding_by_layout bytes layout p says =
 
 -- ---- sizes
 
-pub data_fits : (o : Order) (r c : ℕ) → r ≤ 2048 → c ≤ 2048 → r * bytes_per_row o c ≤ 2097152
-data_fits o r c rows columns = mul-le r (bytes_per_row o c) 2048 1024 rows (width_fits o c columns)
+-- what the rows of no matrix take more bytes than
+abbrev pub most_data : ℕ
+most_data = most_rows * most_width
+
+pub data_fits : (o : Order) (r c : ℕ) → r ≤ most_rows → c ≤ most_columns → r * bytes_per_row o c ≤ most_data
+data_fits o r c rows columns = mul-le r (bytes_per_row o c) most_rows most_width rows (width_fits o c columns)
 
 pub rows_before : (i r w : ℕ) → i < r → i * w + w ≤ r * w
 rows_before i r w lt = let le = mul-le (i + 1) w r w (omega arith) (omega arith) in omega arith

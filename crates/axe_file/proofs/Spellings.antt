@@ -5,16 +5,17 @@ use Rattle.std.specs.List.{flat_map}
 use Rattle.std.proofs.Math.Nat.{mod-lt}
 use Rattle.std.proofs.lemmas.Bool.{leb-true, le-leb, eqb-true, not-false}
 use Rattle.std.proofs.lemmas.List.{get_or_past}
-use Rattle.std.proofs.lemmas.Nat.{div-add-mod', div_below, mul-le}
+use Rattle.std.proofs.lemmas.Nat.{div-add-mod', div_below}
 use Rattle.axe_field.specs.Order.{Order, order_number}
 use Rattle.axe_matrix.specs.Matrices.{MatrixValue, IsMatrix}
 use Rattle.axe_file.specs.Limits.{most_packed_bytes}
 use Rattle.axe_file.specs.Marks.{marks_per_byte, byte_limit, byte_with_marks, mark_of, has_unused_mark, bytes_per_row}
 use Rattle.axe_file.specs.Packed.{packed, packed_row, unpacked, order_with_number, header_order, header_columns, row_width, data_length, has_padding, packed_fault}
-use Rattle.axe_file.proofs.Bytes.{byte_below, mark_of_byte, row_is_short, element_at}
+use Rattle.axe_file.proofs.Bytes.{byte_below, mark_of_byte, element_at}
 use Rattle.axe_file.proofs.Headers.{order_of_number, number_in_header, header_has_magic, header_has_zeros}
 use Rattle.axe_file.proofs.Unpacking.{packed_says, width_said, data_said, packed_byte, length-packed, unpacked_packed}
 use Rattle.axe_file.proofs.Ranges.{none_found, none_found_at, and_of_false, and_false}
+use Rattle.axe_file.proofs.Scans.{data_fits}
 use Rattle.axe_file.proofs.Soundness.{IsHeader, IsSoundAt, no_packed_fault}
 
 -- ---- a spelling has no fault
@@ -103,13 +104,7 @@ packed_faultless m h =
 
 pub packed_within : (m : MatrixValue) → IsMatrix m → length (packed m) ≤ most_packed_bytes
 packed_within m h =
-    let w = bytes_per_row m.order m.cols in
-    let short = row_is_short m.order m.cols in
-    let rows_fit = h.rows_fit in
-    let columns_fit = h.columns_fit in
-    let narrow : w ≤ 1024 = omega arith in
-    let most : length m.rows * w ≤ 2048 * 1024 = mul-le (length m.rows) w 2048 1024 rows_fit narrow in
-    omega (arith, length-packed m)
+    omega (arith, length-packed m, data_fits m.order (length m.rows) m.cols h.rows_fit h.columns_fit)
 
 pub packed_apart : (a b : MatrixValue) → IsMatrix a → IsMatrix b → packed a ≡ packed b → a ≡ b
 packed_apart a b ha hb e = sym (unpacked_packed a ha) ∙ ap (λ (bytes : List ℕ). unpacked bytes) e ∙ unpacked_packed b hb

@@ -2,7 +2,7 @@ use Rattle.std.proofs.Common.{rules, ◌+◌, ◌*◌, ◌≤◌, length, ap, �
 use Rattle.axe_algebra.specs.Lists.{listed}
 use Rattle.axe_row.specs.Rows.{RowValue}
 use Rattle.axe_file.specs.Packed.{mark_at}
-use Rattle.axe_file.proofs.Scans.{data_fits, rows_before, data_by_layout, marks_at, length-row_marks, pushed, unpacked_is, when_ok}
+use Rattle.axe_file.proofs.Scans.{most_data, data_fits, rows_before, data_by_layout, marks_at, length-row_marks, pushed, unpacked_is, when_ok}
 use Rattle.axe_algebra.proofs.ListEntries.{listed_length}
 use Rattle.axe_file.proofs.reading.take_rows.Goals as goal
 
@@ -10,21 +10,21 @@ pub overflow_mul-start : goal.overflow_mul-start
 overflow_mul-start c =
     let h = c.args.header.now in
     let before = rows_before c.loop-index.index h.rows h.layout.width c.loop-index-test.true in
-    let fits : h.rows * h.layout.width ≤ 2097152 = rw h.layout.width_is (data_fits h.layout.field h.rows h.layout.columns h.rows_fit h.layout.columns_fit) in
+    let fits : h.rows * h.layout.width ≤ most_data = rw h.layout.width_is (data_fits h.layout.field h.rows h.layout.columns h.rows_fit h.layout.columns_fit) in
     omega arith
 
 pub overflow_add-start : goal.overflow_add-start
 overflow_add-start c =
     let h = c.args.header.now in
     let before = rows_before c.loop-index.index h.rows h.layout.width c.loop-index-test.true in
-    let fits : h.rows * h.layout.width ≤ 2097152 = rw h.layout.width_is (data_fits h.layout.field h.rows h.layout.columns h.rows_fit h.layout.columns_fit) in
+    let fits : h.rows * h.layout.width ≤ most_data = rw h.layout.width_is (data_fits h.layout.field h.rows h.layout.columns h.rows_fit h.layout.columns_fit) in
     omega arith
 
 pub overflow_add-start-in-loop-index : goal.overflow_add-start-in-loop-index
 overflow_add-start-in-loop-index c =
     let h = c.args.header.now in
     let before = rows_before c.loop-index.index h.rows h.layout.width c.loop-index-test.true in
-    let fits : h.rows * h.layout.width ≤ 2097152 = rw h.layout.width_is (data_fits h.layout.field h.rows h.layout.columns h.rows_fit h.layout.columns_fit) in
+    let fits : h.rows * h.layout.width ≤ most_data = rw h.layout.width_is (data_fits h.layout.field h.rows h.layout.columns h.rows_fit h.layout.columns_fit) in
     omega arith
 
 pub slice_bounds-row_of-end : goal.slice_bounds-row_of-end
