@@ -1,6 +1,6 @@
 use Rattle.std.proofs.Common.{◌≡◌, ◌≤◌, true, get_or, refl, sym, ◌∙◌, arith}
 use Rattle.axe_matrix.specs.Limits.{most_rows}
-use Rattle.axe_file.specs.Packed.{header_rows, header_columns, has_reserved}
+use Rattle.axe_file.specs.Packed.{order_offset, header_rows, header_columns, has_reserved}
 use Rattle.axe_file.proofs.Checks.{short_header, bad_magic, bad_field, bad_reserved, bad_rows, bad_columns, no_columns, many_columns, order_named, no_order, reserved_5, reserved_6, reserved_7, none_reserved, named_order}
 use Rattle.axe_file.proofs.Soundness.{header_is_sound}
 use Rattle.axe_file.proofs.Magic.{magic_found, magic_missed}
@@ -19,7 +19,7 @@ returns-then-not-starts_with-clause-fault c =
 pub returns-in_default-clause-fault : goal.returns-in_default-clause-fault
 returns-in_default-clause-fault c =
     let found = magic_found c.args.bytes.now (omega arith) (sym c.starts_with.ensures.value ∙ c.if-not-starts_with.false) in
-    bad_field c.args.bytes.now c.if-bytes-lt-HEADER_LENGTH.false found (no_order (get_or c.args.bytes.now 4 0) c.in_default.ensures.err)
+    bad_field c.args.bytes.now c.if-bytes-lt-HEADER_LENGTH.false found (no_order (get_or c.args.bytes.now order_offset 0) c.in_default.ensures.err)
 
 pub returns-then-bytes-ne0-clause-fault : goal.returns-then-bytes-ne0-clause-fault
 returns-then-bytes-ne0-clause-fault c =
