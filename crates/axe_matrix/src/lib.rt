@@ -22,10 +22,10 @@ use std::alloc::Global;
 use std::marker::Model;
 
 /// The most rows that a matrix has.
-pub const MAX_ROWS: usize = 2_048;
+pub const MAX_ROWS: usize = 4_096;
 
 /// The most columns that a matrix has. It has at least one.
-pub const MAX_COLUMNS: usize = 2_048;
+pub const MAX_COLUMNS: usize = 4_096;
 
 /// The limits of the code are those of the definitions.
 pub fn limits_are_named()

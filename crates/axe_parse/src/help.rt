@@ -31,8 +31,8 @@ This is one matrix over the field of order 3, twice:
 White space (spaces, tabs, ends of lines) ends the header. There may be more of
 it between and after the digits, as much and as little as you like, and nothing
 else. So a text of mode 1 with one matrix, as the ATLAS of Group
-Representations has it, goes in as it is. IN has at most 16777216 bytes
-(16 MiB).
+Representations has it, goes in as it is. IN has at most 67108864 bytes
+(64 MiB).
 
 Each digit is the number of an element. Over the fields of order 2, 3, 5 and 7
 the elements are the integers modulo the order. Over those of order 4, 8 and 9
