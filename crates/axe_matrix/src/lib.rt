@@ -7,7 +7,7 @@ ghost use Rattle.axe_field.specs.Order.{IsElement};
 ghost use Rattle.axe_row.specs.Rows.{IsRow};
 ghost use Rattle.axe_row.specs.Refusals.{Answers};
 ghost use Rattle.axe_matrix.specs.Limits.{most_rows, most_columns};
-ghost use Rattle.axe_matrix.specs.Matrices.{IsMatrix, row_of, vector_product};
+ghost use Rattle.axe_matrix.specs.Matrices.{IsMatrix, row_of, vector_product, has_only_zeros};
 
 mod arithmetic;
 mod multiples;
@@ -177,6 +177,19 @@ impl Matrix {
         ensures well_formed { IsMatrix self.now }
     {
         self.row(row).get(column)
+    }
+
+    /// Whether every entry is 0: whether the rows span the zero space. A matrix without rows has only zeros. It takes no
+    /// memory.
+    pub fn has_only_zeros(&self) -> bool
+        ensures { result ≡ has_only_zeros self.now.rows }
+    {
+        for index in 0..self.rows() {
+            if !self.row(index).is_zero() {
+                return false;
+            }
+        }
+        true
     }
 
     /// Whether two matrices are equal: one field, one shape, and the same entries.
