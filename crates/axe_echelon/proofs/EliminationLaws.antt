@@ -117,7 +117,7 @@ module _ (e : EchelonValue) (h : IsEchelon e) (first coefficients : RowValue) (c
 -- where r is the sum of a and t, a less r and t sum to zero
 less_sum : (F : Field) (a t r : F.Element) → r ≡ F.add a t → F.zero ≡ F.add (F.add a (F.neg r)) t
 less_sum F a t r sum = sym (
-  ap (λ (x : F.Element). F.add x t) (F.add_comm a (F.neg r)) ∙ F.add_assoc (F.neg r) a t ∙ ap (F.add (F.neg r)) (sym sum) ∙ neg-add F r)
+    ap (λ (x : F.Element). F.add x t) (F.add_comm a (F.neg r)) ∙ F.add_assoc (F.neg r) a t ∙ ap (F.add (F.neg r)) (sym sum) ∙ neg-add F r)
 
 -- what is left of a row represents it
 pub cleared_represents : (e : EchelonValue) (first row multipliers : RowValue) → IsCleared e first row multipliers →

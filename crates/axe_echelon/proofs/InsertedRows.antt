@@ -1,6 +1,6 @@
 -- The rows that were inserted into an echelon form: they span the space of its rows, have its representatives, pivots and
 -- reduced basis, and give coordinates.
-use Rattle.std.specs.Prelude.{◌≡◌, ℕ, suc, ◌+◌, ◌<◌, ◌↔◌, List, [], ◌∷◌, ◌++◌, All, map, length, get_or, Option, Some, None, MatchOption}
+use Rattle.std.specs.Prelude.{◌≡◌, ℕ, suc, ◌+◌, ◌<◌, ◌↔◌, List, [], ◌∷◌, ◌++◌, map, length, get_or, Option, Some, None, MatchOption}
 use Rattle.std.proofs.lemmas.List.{length-map, map-append, length-append, get_or_append_left, get_or-append-add}
 use Rattle.std.proofs.lemmas.List.Elements.{All-push}
 use Rattle.axe_algebra.specs.NumberField.{NumberField}
@@ -29,7 +29,7 @@ use Rattle.axe_echelon.proofs.EliminationLaws.{Cancels, coordinates_of_cancels, 
 use Rattle.axe_echelon.proofs.FormLaws.{combined_none, combined_spans, combined_more}
 use Rattle.axe_echelon.proofs.StepLaws.{below_of_element, length-inserted, inserted_are_over, echelon_of_steps}
 use Rattle.axe_echelon.proofs.SubspaceLaws.{zero_if_spanned, scaled_vector}
-use mathlib.Core.Path.{refl, sym, ◌∙◌, ap, ap₂, subst}
+use mathlib.Core.Path.{sym, ◌∙◌, ap, ap₂, subst}
 use native.Mathlib.Omega.{arith}
 
 module _ (space : EchelonValue) (steps : List Step) (has : HasSteps space steps) where

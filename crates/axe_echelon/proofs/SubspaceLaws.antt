@@ -15,7 +15,6 @@ use Rattle.axe_algebra.proofs.ElementNumbers.{element_mul, element_one, element_
 use Rattle.axe_algebra.proofs.ListEntries.{rows_length}
 use Rattle.axe_algebra.proofs.ListSpans.{appended_length, appended_before, appended_last, appended_spans, appended_row_spanned, row_spanned}
 use Rattle.axe_algebra.proofs.ListVectors.{vector_of_scaled, same_span_refl}
-use Rattle.axe_field.specs.Order.{Order}
 use Rattle.axe_field.specs.Arithmetic.{field_mul}
 use Rattle.axe_field.specs.NumberFields.{number_field, gf}
 use Rattle.axe_field.proofs.NumberFields.{number_field-mul}

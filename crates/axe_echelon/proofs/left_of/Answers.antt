@@ -1,4 +1,4 @@
-use Rattle.std.proofs.Common.{◌≡◌, length, ◌∙◌, ap, subst}
+use Rattle.std.proofs.Common.{length, ◌∙◌, ap, subst}
 use Rattle.axe_row.specs.Rows.{RowValue}
 use Rattle.axe_echelon.specs.Subspaces.{IsCleared}
 use Rattle.axe_echelon.proofs.Exits.{no_memory}

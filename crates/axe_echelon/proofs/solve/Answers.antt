@@ -1,4 +1,4 @@
-use Rattle.std.proofs.Common.{◌≡◌, ◌<◌, ◌-◌, suc, length, sym, ◌∙◌, arith}
+use Rattle.std.proofs.Common.{◌≡◌, ◌<◌, ◌-◌, suc, length, ◌∙◌, arith}
 use Rattle.axe_echelon.proofs.StepLaws.{over_of_row, element_of_below, step_at, steps_fit}
 use Rattle.axe_echelon.proofs.SolvingLaws.{solved_from_end, solve_step, solve_step_none, solved_from_start}
 use Rattle.axe_echelon.proofs.solve.Goals as goal

@@ -1,8 +1,8 @@
 use Rattle.std.proofs.Common.{◌<◌, ap, arith, refl, sym, subst, ◌∙◌}
 use Rattle.axe_row.specs.declared.refusals.Refusal.TheVariants.{Memory}
 use Rattle.axe_echelon.specs.Echelons.{EchelonValue}
-use Rattle.axe_echelon.specs.PivotTables.{HasRoom, HasPivots}
-use Rattle.axe_echelon.specs.Subspaces.{space_of, pivots_of}
+use Rattle.axe_echelon.specs.PivotTables.{HasRoom}
+use Rattle.axe_echelon.specs.Subspaces.{space_of}
 use Rattle.axe_echelon.proofs.Exits.{no_memory, in_any_case}
 use Rattle.axe_echelon.proofs.PivotLaws.{pivots_by_row, tabled_as}
 use Rattle.axe_echelon.proofs.PivotRowLaws.{echelon_of_rows, space_of_more, tabled_more}

@@ -1,6 +1,6 @@
-use Rattle.std.proofs.Common.{◌≡◌, ◌<◌, replicate, sym, ◌∙◌, ap, arith}
+use Rattle.std.proofs.Common.{◌<◌, replicate, sym, ◌∙◌, ap, arith}
 use Rattle.axe_echelon.specs.Echelons.{EchelonValue}
-use Rattle.axe_echelon.specs.Subspaces.{IsCleared, IsRowOfForm}
+use Rattle.axe_echelon.specs.Subspaces.{IsRowOfForm}
 use Rattle.axe_echelon.proofs.PivotRowLaws.{form_row_at, pivot_at, rows_fit, echelon_of_rows}
 use Rattle.axe_echelon.proofs.StepLaws.{over_of_row}
 use Rattle.axe_echelon.proofs.ClearingLaws.{IsFoundRow, IsClearing, cleared_by_none, found_row, room_of_found, place_of_found, clearing_of, zeros_before_pivot, clear_next, cleared_by_all}
@@ -84,7 +84,7 @@ loop-pivot-preserved c =
 
 pub returns-clause-cleared : goal.returns-clause-cleared
 returns-clause-cleared c = rw (← c.self.view_is) (
-  cleared_by_all _ _ c.self.inside.rows.items c.self.inside.pivots c.loop-pivot.column _ _ _ c.self.invariant c.loop-pivot.invariant.so_far c.in_default.ensures)
+    cleared_by_all _ _ c.self.inside.rows.items c.self.inside.pivots c.loop-pivot.column _ _ _ c.self.invariant c.loop-pivot.invariant.so_far c.in_default.ensures)
 
 pub returns-clause-well_formed : goal.returns-clause-well_formed
 returns-clause-well_formed c = rw (← c.self.view_is) (echelon_of_rows _ _ _ c.self.invariant.are_rows)
