@@ -6,3 +6,4 @@ pub mod SearchLaws
 pub mod DecisionLaws
 pub mod PointRuns
 pub mod UniqueLaws
+pub mod OneVectorLaws

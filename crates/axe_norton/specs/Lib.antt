@@ -1,3 +1,4 @@
 pub mod Spaces
 pub mod Verdicts
 pub mod Searches
+pub mod OneVector

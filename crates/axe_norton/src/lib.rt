@@ -3,11 +3,13 @@
 
 mod decisions;
 pub mod laws;
+mod one_vector;
 mod others;
 mod spaces;
 mod verdicts;
 
 pub use decisions::{decide, decide_at};
+pub use one_vector::decide_poly;
 pub use verdicts::{At, Verdict};
 
 /// The most points of a null space that are all tried. Of a null space with more points the first alone is.

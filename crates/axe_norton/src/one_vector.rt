@@ -1,0 +1,75 @@
+//! What a polynomial at the value of a word says of a module, by one vector.
+
+ghost use Rattle.std.specs.Prelude.{◌<◌, length, None};
+ghost use Rattle.axe_row.specs.Refusals.{Answers};
+ghost use Rattle.axe_spin.specs.Modules.{IsModule};
+ghost use Rattle.axe_word.specs.Words.{IsWordIn};
+ghost use Rattle.axe_word.specs.Tested.{IsTested};
+ghost use Rattle.axe_norton.specs.Searches.{IsSquareIn};
+ghost use Rattle.axe_norton.specs.Verdicts.{IsTrueOf};
+ghost use Rattle.axe_norton.specs.OneVector.{FitsWord, IsTestedByPoly, TellsByOne, SaysByPoly};
+
+use crate::spaces::{proper_space, transposed_space};
+use crate::verdicts::At;
+use axe_echelon::null_space;
+use axe_matrix::Refusal;
+use axe_poly::Poly;
+use axe_spin::Module;
+use axe_word::{Tested, Word, first_point};
+use std::alloc::Global;
+
+/// What an irreducible polynomial p says of a module by a word of it, at whose value x it fits: the degree of p is the
+/// dimension of the null space of p(x). This is Holt and Rees's one-vector rule. Where the first point of that null
+/// space generates a proper space, the module is reducible, by the reduced basis of that space. Else so it is where the
+/// first point of the null space of the transpose of p(x) generates a proper space in the transposed module, by the
+/// annihilator of that space. Else the module is irreducible. It is never left open.
+pub fn decide_poly(alloc: Global, module: &Module, word: &Word, poly: &Poly) -> Result<At, Refusal>
+    requires word { IsWordIn «module».now word.now }
+    requires poly { FitsWord «module».now word.now poly.now }
+    ensures says { Answers None (SaysByPoly «module».now word.now poly.now) result }
+    ensures holds { Answers None (IsTrueOf «module».now) result }
+{
+    let tested = tested_by_poly(alloc, module, word, poly)?;
+    test_by_one(alloc, module, tested)
+}
+
+/// The value of a polynomial at the value of a word in a module, with its null space.
+fn tested_by_poly(
+    alloc: Global,
+    module: &Module,
+    word: &Word,
+    poly: &Poly,
+) -> Result<Tested, Refusal>
+    requires word { IsWordIn «module».now word.now }
+    requires poly { FitsWord «module».now word.now poly.now }
+    ensures { Answers None (IsTestedByPoly «module».now word.now poly.now) result }
+{
+    let value = word.value(alloc, module)?;
+    let matrix = poly.value_at(alloc, &value)?;
+    let null_space = null_space(alloc, &matrix)?;
+    Ok(Tested { matrix, null_space })
+}
+
+/// What a singular square matrix and its null space tell of a module by their first points.
+fn test_by_one(alloc: Global, module: &Module, tested: Tested) -> Result<At, Refusal>
+    requires square { IsSquareIn «module».now tested.matrix }
+    requires tested { IsTested tested }
+    requires some_row { 0 < length tested.null_space.rows }
+    ensures tells { Answers None (TellsByOne «module».now tested.matrix tested.null_space) result }
+    ensures well_formed { IsModule «module».now }
+{
+    let Tested { matrix, null_space } = tested;
+    // `dim` is called for what it ensures beside the number: that the module is one.
+    prove!(matrix.cols() == module.dim());
+    let point = first_point(alloc, &null_space)?;
+    // Its memory is free again before the point is spun.
+    drop(null_space);
+    let vector = point.copy(alloc)?;
+    if let Some(space) = proper_space(alloc, module, point)? {
+        return Ok(At::Reducible(space));
+    }
+    if let Some(space) = transposed_space(alloc, module, matrix)? {
+        return Ok(At::Reducible(space));
+    }
+    Ok(At::Irreducible(vector))
+}
