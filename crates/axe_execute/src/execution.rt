@@ -29,7 +29,8 @@ pub struct Shown {
 pub fn execute<F: Folder>(alloc: Global, command: &Command, folder: &mut F) -> Result<Shown, Fault>
     ensures outcome { IsTrue F.tells →
         (let meaning = Means command.now (F.files folder.old) in
-        Executes result (names_read command.now) meaning (F.files folder.old) (F.files folder.new)) }
+        Executes result (names_read command.now (F.files folder.old)) meaning (F.files folder.old)
+        (F.files folder.new)) }
     ensures counted { IsTrue F.tells → Counted result (F.failures folder.old) (F.failures folder.new) }
 {
     let Draft { changes, text } = draft_of(alloc, command, folder)?;
