@@ -3,7 +3,7 @@
 ##  axe.gd: what the package axe offers
 ##
 ##  Modules are those of GAP's own MeatAxe, as GModuleByMats makes them, over the fields of order 2, 3, 4, 5, 7, 8 and
-##  9, with 1 to 16 generators and dimension at most 2048. Matrices come back immutable and compressed, and one without
+##  9, with 1 to 16 generators and dimension at most 4096. Matrices come back immutable and compressed, and one without
 ##  rows as the empty list. Where `axe` can't decide, the answer is `fail`; any other fault of it is an error, whose
 ##  text is the line that it printed.
 ##

@@ -25,7 +25,7 @@ gap> there_and_back := function( q, rows, columns )
 >   return AxeReadMatrix( file ) = matrix;
 > end;;
 gap> shapes := [ [ 1, 1 ], [ 3, 5 ], [ 5, 3 ], [ 2, 79 ], [ 2, 80 ], [ 2, 81 ], [ 7, 300 ], [ 300, 7 ],
->   [ 1, 2048 ], [ 40, 56 ], [ 40, 57 ] ];;
+>   [ 1, 2048 ], [ 1, 4096 ], [ 40, 56 ], [ 40, 57 ] ];;
 gap> ForAll( orders, q -> ForAll( shapes, shape -> there_and_back( q, shape[ 1 ], shape[ 2 ] ) ) );
 true
 gap> size := SizeScreen();; SizeScreen( [ 40 ] );;

@@ -6,8 +6,7 @@ ghost use Rattle.axe_bits.specs.Trits.{trits, trit_entries, HoldLayers, HoldTrit
 
 use crate::BitPlane;
 use crate::pieces::start_of;
-use axe_lane::{add_trits, put_xor, xor_into};
-use axe_layer::WORD;
+use axe_lane::{WORD, add_trits, put_xor, xor_into};
 use std::alloc::{AllocError, Global};
 use std::marker::Model;
 

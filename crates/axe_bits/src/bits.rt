@@ -10,9 +10,9 @@ ghost use Rattle.axe_layer.specs.Digits.{AreSmallSums, numbers_with_multiple};
 ghost use Rattle.axe_layer.specs.Digits.{number_from, numbers_from, number_bound};
 ghost use Rattle.axe_layer.specs.Packed.{packed_bit};
 
-use axe_lane::{any_nonzero, first_set, parity_and, xor_into, xor4_into};
+use axe_lane::{WORD, any_nonzero, first_set, parity_and, xor_into, xor4_into};
 use axe_layer::{
-    WORD, WORD_BYTES, add_digits, bit_in, copy_digits, fill_with_bits, fill_with_part,
+    WORD_BYTES, add_digits, bit_in, copy_digits, fill_with_bits, fill_with_part,
     fill_with_selected, lowest, next_in, number_in, numbers_in, packed_word, set_bit,
     word_of_packed,
 };

@@ -10,9 +10,9 @@ ghost use Rattle.axe_bits.specs.Trits.{trits, first_half, second_half, HoldLayer
 ghost use Rattle.axe_layer.specs.Digits.{digits_with_multiple};
 ghost use Rattle.axe_layer.specs.Digits.{AreSmallSums, numbers_with_multiple, numbers_from, number_bound};
 
-use axe_lane::{add_trits, any_nonzero, dot_trits};
+use axe_lane::{WORD, add_trits, any_nonzero, dot_trits};
 use axe_layer::{
-    WORD, add_digits, bit_in, copy_digits, fill_with_bits, fill_with_part, fill_with_selected,
+    add_digits, bit_in, copy_digits, fill_with_bits, fill_with_part, fill_with_selected,
     next_in_word, numbers_by_digits, set_bit,
 };
 use std::alloc::{AllocError, Global};

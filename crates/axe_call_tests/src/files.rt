@@ -15,7 +15,11 @@ read_packed | 41 58 50 31 02 00 00 00 01 00 00 00 01 00 00 | ShortHeader
 read_packed | 41 58 50 32 00 00 00 00 00 00 00 00 00 00 00 00 | BadMagic
 read_packed | 41 58 50 31 06 01 00 00 00 00 00 00 00 00 00 00 | BadField
 read_packed | 41 58 50 31 02 01 00 00 00 00 00 00 00 00 00 00 | BadReserved
-read_packed | 41 58 50 31 02 00 00 00 01 08 00 00 00 00 00 00 | BadRows
+read_packed | 41 58 50 31 02 00 00 00 01 10 00 00 00 00 00 00 | BadRows
+read_packed | 41 58 50 31 02 00 00 00 00 10 00 00 01 00 00 00 | Truncated
+read_packed | 41 58 50 31 02 00 00 00 01 08 00 00 00 00 00 00 | BadCols
+read_packed | 41 58 50 31 02 00 00 00 00 00 00 00 01 10 00 00 | BadCols
+read_packed | 41 58 50 31 02 00 00 00 00 00 00 00 00 10 00 00 | 2: 0x4096
 read_packed | 41 58 50 31 02 00 00 00 01 00 00 00 00 00 00 00 | BadCols
 read_packed | 41 58 50 31 05 00 00 00 01 00 00 00 01 00 00 00 7D | BadByte at 16
 read_packed | 41 58 50 31 05 00 00 00 01 00 00 00 01 00 00 00 65 | BadPadding at 16
@@ -42,14 +46,17 @@ read_text | 1 2 1 | BadHeader at 5
 read_text | matrix field=2 rows=1 col=1 | BadHeader at 25
 read_text | 2 3 2 2\n12\n01 | BadMode
 read_text | 1 6 1 1\n0 | BadField
-read_text | 1 2 2049 1 | BadRows
+read_text | 1 2 4097 1 | BadRows
+read_text | 1 2 4096 1 | TooFewDigits
+read_text | 1 2 2049 1 | TooFewDigits
 read_text | 1 2 1 0 | BadCols
 read_text | 1 3 2 2\n12\n0 | TooFewDigits
 read_text | 1 3 2 2\n12\n01\nx | TrailingText at 14
 read_text | 1 2 0 5 | 2: 0x5
 read_text | 1 2 0000000001 1 | BadHeader at 13
 read_text | 1 2 0 2048 | 2: 0x2048
-read_text | 1 2 0 2049 | BadCols
+read_text | 1 2 0 4096 | 2: 0x4096
+read_text | 1 2 0 4097 | BadCols
 read_text | matrix field=2 rows=0 cols=12 | 2: 0x12
 read_text | matrix field=2 rows=0 cols=1 | 2: 0x1
 ";

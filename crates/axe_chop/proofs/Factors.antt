@@ -12,6 +12,7 @@ use Rattle.std.proofs.lemmas.Slice.Eq.{bytes_eq-Decides}
 use Rattle.indexmap.specs.IndexMap.{insert_entry}
 use Rattle.axe_iso.specs.Forms.{FormValue}
 use Rattle.axe_report.specs.Names.{constituent_name, count_of, names_of}
+use Rattle.axe_report.specs.Limits.{most_dimension}
 use Rattle.axe_report.specs.Reports.{counts_in}
 use Rattle.axe_report.proofs.Plain.{no_names, names_of_push, name_is_new}
 use Rattle.axe_chop.specs.Chopped.{dims_of, AreFirst}
@@ -46,13 +47,13 @@ none_first places = record {
     multiplicities_are = sym (no_multiplicities places);
   };
   dims_are = refl;
-  small = All-nil (λ d. d ≤ 2048);
+  small = All-nil (λ d. d ≤ most_dimension);
 }
 
 -- one more factor stands last
 first_push : (forms : List FormValue) (places dims : List ℕ) (entries : List (String Global × Factor))
     (form : FormValue) (name : String Global) (factor : Factor)
-    → AreFirst forms places dims entries → form.matrices.dim ≤ 2048
+    → AreFirst forms places dims entries → form.matrices.dim ≤ most_dimension
     → string_bytes name ≡ constituent_name form.matrices.dim (count_of form.matrices.dim dims)
     → factor.form ≡ form → factor.multiplicity ≡ count_of (length dims) places
     → AreFirst (forms ++ form ∷ []) places (dims ++ form.matrices.dim ∷ []) (entries ++ (name, factor) ∷ [])
@@ -86,7 +87,7 @@ first_push forms places dims entries form name factor h fits named is counted =
             ∙ ap (λ (n : ℕ). counts_in places n) (sym more);
       };
       dims_are = ap (λ (l : List ℕ). l ++ form.matrices.dim ∷ []) h.dims_are ∙ sym more_dims;
-      small = All-push (λ d. d ≤ 2048) dims form.matrices.dim h.small fits;
+      small = All-push (λ d. d ≤ most_dimension) dims form.matrices.dim h.small fits;
     }
 
 -- the bytes are none of those of the keys
@@ -96,7 +97,7 @@ IsNewName bytes names = AllByRecursion (λ name. name ≡ bytes → ⊥) names
 -- one more factor is inserted: its name is new, so it goes last
 pub first_more : (forms : List FormValue) (places dims : List ℕ) (entries : List (String Global × Factor))
     (form : FormValue) (name : String Global) (factor : Factor) (d : ℕ)
-    → AreFirst forms places dims entries → d ≡ form.matrices.dim → form.matrices.dim ≤ 2048
+    → AreFirst forms places dims entries → d ≡ form.matrices.dim → form.matrices.dim ≤ most_dimension
     → string_bytes name ≡ constituent_name form.matrices.dim (count_of form.matrices.dim dims)
     → factor.form ≡ form → factor.multiplicity ≡ count_of (length dims) places
     → AreFirst (forms ++ form ∷ []) places (dims ++ d ∷ []) (insert_entry string_eq entries name factor)

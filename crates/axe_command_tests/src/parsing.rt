@@ -191,6 +191,8 @@ const SHOWN: &str = r"
 --help -> help: ..fields of order 2, 3, 4, 5, 7, 8 and 9
 --help -> help: ..  zmu   Multiply two matrices\n
 help -> help: ..  zmu   Multiply two matrices\n
+help -h -> help: ..  zmu   Multiply two matrices\n
+help --help -> help: ..  zmu   Multiply two matrices\n
 zcv -h -> help: ..Usage: axe zcv <IN> <OUT>\n
 zcv --help -> help: ..  1 3 2 4            matrix field=3 rows=2 cols=4\n
 help zpr -> help: ..Usage: axe zpr <IN> [OUT]\n

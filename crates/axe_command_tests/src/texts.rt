@@ -35,6 +35,12 @@ const FAULTS: &str = r"
 $ zcv in.txt OUT -> 3 axe: in.txt: BadHeader at 5\n
 + in.txt text 2 3 2 2\n12\n01
 $ zcv in.txt OUT -> 3 axe: in.txt: BadMode\n
++ in.txt text 1 2 4097 1
+$ zcv in.txt OUT -> 3 axe: in.txt: BadRows\n
++ in.txt text 1 2 1 4097
+$ zcv in.txt OUT -> 3 axe: in.txt: BadCols\n
++ in.txt text 1 2 4096 1
+$ zcv in.txt OUT -> 3 axe: in.txt: TooFewDigits\n
 + in.txt text 1 3 2 2\n13\n01\n
 $ zcv in.txt OUT -> 3 axe: in.txt: BadDigit at 9\n
 + in.txt text 1 3 2 2\n12\n0

@@ -7,9 +7,10 @@ use Rattle.axe_field.specs.Order.{Order, Two, Three, Four, Five, Seven, Eight, N
 use Rattle.axe_matrix.specs.Limits.{most_rows, most_columns}
 use Rattle.axe_matrix.specs.Matrices.{MatrixValue, IsMatrix}
 use Rattle.axe_file.specs.Marks.{byte_limit}
-use Rattle.axe_file.specs.Packed.{order_with_number, header_order, header_rows, header_columns, data_length, has_other_magic, has_reserved, has_padding, byte_faults, header_faults, data_faults, packed_fault, packed, unpacked}
+use Rattle.axe_file.specs.Packed.{header_length, order_offset, order_with_number, header_order, header_rows, header_columns, data_length, has_other_magic, has_reserved, has_padding, byte_faults, header_faults, data_faults, packed_fault, packed, unpacked}
 use Rattle.axe_file.specs.declared.fault.FileFault.{FileFault}
 use Rattle.axe_file.specs.declared.fault.FileFault.TheVariants.{ShortHeader, BadMagic, BadField, BadReserved, BadRows, BadCols, Truncated, BadByte, BadPadding, TrailingBytes, Memory}
+use Rattle.axe_file.specs.Headers.{SaysShape}
 use Rattle.axe_file.specs.Answers.{AnswersFile}
 use Rattle.axe_file.proofs.Headers.{order_of_number}
 use Rattle.axe_file.proofs.Unpacking.{unpacked_packed}
@@ -21,52 +22,52 @@ use Rattle.axe_file.proofs.Ranges.{both_nil}
 abbrev First : List FileFault → FileFault → Type 0
 First faults fault = slice_get faults 0 ≡ Some fault
 
-pub short_header : (bytes : List ℕ) → length bytes < 16 → First (header_faults bytes) ShortHeader
+pub short_header : (bytes : List ℕ) → length bytes < header_length → First (header_faults bytes) ShortHeader
 unfolding header_faults
 short_header bytes h =
-    let short : ltb (length bytes) 16 ≡ true = lt-ltb _ _ h in
+    let short : ltb (length bytes) header_length ≡ true = lt-ltb _ _ h in
     rw short refl
 
-pub bad_magic : (bytes : List ℕ) → 16 ≤ length bytes → has_other_magic bytes ≡ true → First (header_faults bytes) BadMagic
+pub bad_magic : (bytes : List ℕ) → header_length ≤ length bytes → has_other_magic bytes ≡ true → First (header_faults bytes) BadMagic
 unfolding header_faults
 bad_magic bytes h magic =
-    let long : ltb (length bytes) 16 ≡ false = le-ltb _ _ h in
+    let long : ltb (length bytes) header_length ≡ false = le-ltb _ _ h in
     rw (long, magic) refl
 
-pub bad_field : (bytes : List ℕ) → 16 ≤ length bytes → has_other_magic bytes ≡ false → order_with_number (get_or bytes 4 0) ≡ None → First (header_faults bytes) BadField
+pub bad_field : (bytes : List ℕ) → header_length ≤ length bytes → has_other_magic bytes ≡ false → order_with_number (get_or bytes order_offset 0) ≡ None → First (header_faults bytes) BadField
 unfolding header_faults
 bad_field bytes h magic field =
-    let long : ltb (length bytes) 16 ≡ false = le-ltb _ _ h in
+    let long : ltb (length bytes) header_length ≡ false = le-ltb _ _ h in
     rw (long, magic, field) refl
 
 -- the order that a header names
-pub named_order : (bytes : List ℕ) (o : Order) → order_number o ≡ get_or bytes 4 0 → order_with_number (get_or bytes 4 0) ≡ Some o
+pub named_order : (bytes : List ℕ) (o : Order) → order_number o ≡ get_or bytes order_offset 0 → order_with_number (get_or bytes order_offset 0) ≡ Some o
 named_order bytes o e = ap (λ (n : ℕ). order_with_number n) (sym e) ∙ order_of_number o
 
-pub order_named : (bytes : List ℕ) (o : Order) → order_number o ≡ get_or bytes 4 0 → header_order bytes ≡ o
+pub order_named : (bytes : List ℕ) (o : Order) → order_number o ≡ get_or bytes order_offset 0 → header_order bytes ≡ o
 unfolding header_order
 order_named bytes o e = rw (named_order bytes o e) refl
 
-pub bad_reserved : (bytes : List ℕ) (o : Order) → 16 ≤ length bytes → has_other_magic bytes ≡ false → order_number o ≡ get_or bytes 4 0 → has_reserved bytes ≡ true
+pub bad_reserved : (bytes : List ℕ) (o : Order) → header_length ≤ length bytes → has_other_magic bytes ≡ false → order_number o ≡ get_or bytes order_offset 0 → has_reserved bytes ≡ true
     → First (header_faults bytes) BadReserved
 unfolding header_faults
 bad_reserved bytes o h magic number reserved =
-    let long : ltb (length bytes) 16 ≡ false = le-ltb _ _ h in
+    let long : ltb (length bytes) header_length ≡ false = le-ltb _ _ h in
     rw (long, magic, named_order bytes o number, reserved) refl
 
-pub bad_rows : (bytes : List ℕ) (o : Order) → 16 ≤ length bytes → has_other_magic bytes ≡ false → order_number o ≡ get_or bytes 4 0 → has_reserved bytes ≡ false
+pub bad_rows : (bytes : List ℕ) (o : Order) → header_length ≤ length bytes → has_other_magic bytes ≡ false → order_number o ≡ get_or bytes order_offset 0 → has_reserved bytes ≡ false
     → most_rows < header_rows bytes → First (header_faults bytes) BadRows
 unfolding header_faults
 bad_rows bytes o h magic number reserved rows =
-    let long : ltb (length bytes) 16 ≡ false = le-ltb _ _ h in
+    let long : ltb (length bytes) header_length ≡ false = le-ltb _ _ h in
     let many : ltb most_rows (header_rows bytes) ≡ true = lt-ltb _ _ rows in
     rw (long, magic, named_order bytes o number, reserved, many) refl
 
-pub bad_columns : (bytes : List ℕ) (o : Order) → 16 ≤ length bytes → has_other_magic bytes ≡ false → order_number o ≡ get_or bytes 4 0 → has_reserved bytes ≡ false
+pub bad_columns : (bytes : List ℕ) (o : Order) → header_length ≤ length bytes → has_other_magic bytes ≡ false → order_number o ≡ get_or bytes order_offset 0 → has_reserved bytes ≡ false
     → header_rows bytes ≤ most_rows → (eqb (header_columns bytes) 0 || ltb most_columns (header_columns bytes)) ≡ true → First (header_faults bytes) BadCols
 unfolding header_faults
 bad_columns bytes o h magic number reserved rows columns =
-    let long : ltb (length bytes) 16 ≡ false = le-ltb _ _ h in
+    let long : ltb (length bytes) header_length ≡ false = le-ltb _ _ h in
     let few : ltb most_rows (header_rows bytes) ≡ false = le-ltb _ _ rows in
     rw (long, magic, named_order bytes o number, reserved, few, columns) refl
 
@@ -107,63 +108,69 @@ no_order n h = not_found_among n (Two ∷ Three ∷ Four ∷ Five ∷ Seven ∷ 
 
 -- ---- the data
 
-pub bad_byte : (bytes : List ℕ) (p : ℕ) → byte_limit (header_order bytes) ≤ get_or bytes (16 + p) 0 → First (byte_faults bytes p) (BadByte (16 + p))
+pub bad_byte : (o : Order) (c : ℕ) (bytes : List ℕ) (offset p : ℕ) → byte_limit o ≤ get_or bytes (offset + p) 0
+    → First (byte_faults o c bytes offset p) (BadByte (offset + p))
 unfolding byte_faults
-bad_byte bytes p h =
-    let high : leb (byte_limit (header_order bytes)) (get_or bytes (16 + p) 0) ≡ true = le-leb _ _ h in
+bad_byte o c bytes offset p h =
+    let high : leb (byte_limit o) (get_or bytes (offset + p) 0) ≡ true = le-leb _ _ h in
     rw high refl
 
-pub bad_padding : (bytes : List ℕ) (p : ℕ) → get_or bytes (16 + p) 0 < byte_limit (header_order bytes) → has_padding bytes p ≡ true → First (byte_faults bytes p) (BadPadding (16 + p))
+pub bad_padding : (o : Order) (c : ℕ) (bytes : List ℕ) (offset p : ℕ) → get_or bytes (offset + p) 0 < byte_limit o → has_padding o c bytes offset p ≡ true
+    → First (byte_faults o c bytes offset p) (BadPadding (offset + p))
 unfolding byte_faults
-bad_padding bytes p h padding =
-    let low : leb (byte_limit (header_order bytes)) (get_or bytes (16 + p) 0) ≡ false = lt-leb _ _ h in
+bad_padding o c bytes offset p h padding =
+    let low : leb (byte_limit o) (get_or bytes (offset + p) 0) ≡ false = lt-leb _ _ h in
     rw (low, padding) refl
-
-pub truncated : (bytes : List ℕ) → length bytes < 16 + data_length bytes → First (data_faults bytes) Truncated
-unfolding data_faults
-truncated bytes h =
-    let short : ltb (length bytes) (16 + data_length bytes) ≡ true = lt-ltb _ _ h in
-    rw short refl
 
 pub first_stays : (xs ys : List FileFault) (fault : FileFault) → First xs fault → First (xs ++ ys) fault
 first_stays [] ys fault e = absurd cc
 first_stays (x ∷ xs) ys fault e = e
 
-pub fault_inside : (bytes : List ℕ) (fault : FileFault) → 16 + data_length bytes ≤ length bytes
-    → First (flat_map (byte_faults bytes) (range_with_len 0 (data_length bytes))) fault → First (data_faults bytes) fault
-unfolding data_faults
-fault_inside bytes fault h e =
-    let long : ltb (length bytes) (16 + data_length bytes) ≡ false = le-ltb _ _ h in
-    rw long (first_stays (flat_map (byte_faults bytes) (range_with_len 0 (data_length bytes))) _ fault e)
+-- the size is that of so many rows from an offset on
+module _ (o : Order) (r c : ℕ) (bytes : List ℕ) (offset size : ℕ) (is : size ≡ data_length o r c) where
+  pub truncated : length bytes < offset + size → First (data_faults o r c bytes offset) Truncated
+  unfolding data_faults
+  truncated h =
+      let short : ltb (length bytes) (offset + data_length o r c) ≡ true = lt-ltb _ _ (omega (arith, h, is)) in
+      rw short refl
 
-pub trailing : (bytes : List ℕ) → flat_map (byte_faults bytes) (range_with_len 0 (data_length bytes)) ≡ [] → 16 + data_length bytes < length bytes
-    → First (data_faults bytes) TrailingBytes
-unfolding data_faults
-trailing bytes inside h =
-    let long : ltb (length bytes) (16 + data_length bytes) ≡ false = le-ltb _ _ (omega arith) in
-    let more : ltb (16 + data_length bytes) (length bytes) ≡ true = lt-ltb _ _ h in
-    rw (long, inside, more) refl
+  pub fault_inside : (fault : FileFault) → offset + size ≤ length bytes
+      → First (flat_map (byte_faults o c bytes offset) (range_with_len 0 size)) fault → First (data_faults o r c bytes offset) fault
+  unfolding data_faults
+  fault_inside fault h e =
+      let long : ltb (length bytes) (offset + data_length o r c) ≡ false = le-ltb _ _ (omega (arith, h, is)) in
+      rw long (first_stays (flat_map (byte_faults o c bytes offset) (range_with_len 0 (data_length o r c))) _ fault (rw (← is) e))
 
-pub no_data_fault : (bytes : List ℕ) → flat_map (byte_faults bytes) (range_with_len 0 (data_length bytes)) ≡ [] → length bytes ≡ 16 + data_length bytes → data_faults bytes ≡ []
-unfolding data_faults
-no_data_fault bytes inside h =
-    let long : ltb (length bytes) (16 + data_length bytes) ≡ false = le-ltb _ _ (omega arith) in
-    let less : ltb (16 + data_length bytes) (length bytes) ≡ false = le-ltb _ _ (omega arith) in
-    rw (long, inside, less) refl
+  pub trailing : flat_map (byte_faults o c bytes offset) (range_with_len 0 size) ≡ [] → offset + size < length bytes → First (data_faults o r c bytes offset) TrailingBytes
+  unfolding data_faults
+  trailing inside h =
+      let long : ltb (length bytes) (offset + data_length o r c) ≡ false = le-ltb _ _ (omega (arith, h, is)) in
+      let more : ltb (offset + data_length o r c) (length bytes) ≡ true = lt-ltb _ _ (omega (arith, h, is)) in
+      let inside' : flat_map (byte_faults o c bytes offset) (range_with_len 0 (data_length o r c)) ≡ [] = rw (← is) inside in
+      rw (long, inside', more) refl
+
+  pub no_data_fault : flat_map (byte_faults o c bytes offset) (range_with_len 0 size) ≡ [] → length bytes ≡ offset + size → data_faults o r c bytes offset ≡ []
+  unfolding data_faults
+  no_data_fault inside h =
+      let long : ltb (length bytes) (offset + data_length o r c) ≡ false = le-ltb _ _ (omega (arith, h, is)) in
+      let less : ltb (offset + data_length o r c) (length bytes) ≡ false = le-ltb _ _ (omega (arith, h, is)) in
+      let inside' : flat_map (byte_faults o c bytes offset) (range_with_len 0 (data_length o r c)) ≡ [] = rw (← is) inside in
+      rw (long, inside', less) refl
 
 -- ---- all of it
 
 pub fault_in_header : (bytes : List ℕ) (fault : FileFault) → First (header_faults bytes) fault → packed_fault bytes ≡ Some fault
 unfolding packed_fault
-fault_in_header bytes fault e = first_stays (header_faults bytes) (data_faults bytes) fault e
+fault_in_header bytes fault e = first_stays (header_faults bytes) _ fault e
 
-pub fault_in_data : (bytes : List ℕ) (fault : FileFault) → header_faults bytes ≡ [] → First (data_faults bytes) fault → packed_fault bytes ≡ Some fault
+pub fault_in_data : (bytes : List ℕ) (o : Order) (r c : ℕ) (fault : FileFault) → SaysShape bytes o r c → header_faults bytes ≡ []
+    → First (data_faults o r c bytes header_length) fault → packed_fault bytes ≡ Some fault
 unfolding packed_fault
-fault_in_data bytes fault header e = rw header e
+fault_in_data bytes o r c fault says header e = rw (header, says.order, says.rows, says.columns) e
 
-pub no_fault_at_all : (bytes : List ℕ) → header_faults bytes ≡ [] → data_faults bytes ≡ [] → packed_fault bytes ≡ None
+pub no_fault_at_all : (bytes : List ℕ) (o : Order) (r c : ℕ) → SaysShape bytes o r c → header_faults bytes ≡ [] → data_faults o r c bytes header_length ≡ [] → packed_fault bytes ≡ None
 unfolding packed_fault
-no_fault_at_all bytes header inside = rw (header, inside) refl
+no_fault_at_all bytes o r c says header inside = rw (header, says.order, says.rows, says.columns, inside) refl
 
 -- ---- the first fault of a range
 

@@ -3,9 +3,9 @@ use Rattle.std.proofs.Common.{◌≡◌, ℕ, ◌+◌, ◌^◌, ◌<◌, false, 
 use Rattle.std.proofs.lemmas.List.{get_or-append-add, length-append}
 use Rattle.std.proofs.lemmas.Nat.{from_le_bytes-to_le_bytes_4}
 use Rattle.axe_field.specs.Order.{Order, Two, Three, Four, Five, Seven, Eight, Nine, order_number}
-use Rattle.axe_file.specs.Packed.{packed_header, order_with_number, header_order, header_rows, header_columns, has_other_magic, has_reserved}
+use Rattle.axe_file.specs.Packed.{header_length, order_offset, packed_header, order_with_number, header_order, header_rows, header_columns, has_other_magic, has_reserved}
 
-pub length-packed_header : (o : Order) (r c : ℕ) → length (packed_header o r c) ≡ 16
+pub length-packed_header : (o : Order) (r c : ℕ) → length (packed_header o r c) ≡ header_length
 unfolding packed_header
 length-packed_header o r c = refl
 
@@ -19,7 +19,7 @@ order_of_number Seven = refl
 order_of_number Eight = refl
 order_of_number Nine = refl
 
-pub number_in_header : (o : Order) (r c : ℕ) (rest : List ℕ) → get_or (packed_header o r c ++ rest) 4 0 ≡ order_number o
+pub number_in_header : (o : Order) (r c : ℕ) (rest : List ℕ) → get_or (packed_header o r c ++ rest) order_offset 0 ≡ order_number o
 unfolding packed_header
 number_in_header o r c rest = refl
 
@@ -35,7 +35,7 @@ pub columns_in_header : (o : Order) (r c : ℕ) (rest : List ℕ) → c < 2 ^ 32
 unfolding header_columns packed_header
 columns_in_header o r c rest h = from_le_bytes-to_le_bytes_4 c h
 
-pub after_header : (o : Order) (r c : ℕ) (rest : List ℕ) (p : ℕ) → get_or (packed_header o r c ++ rest) (16 + p) 0 ≡ get_or rest p 0
+pub after_header : (o : Order) (r c : ℕ) (rest : List ℕ) (p : ℕ) → get_or (packed_header o r c ++ rest) (header_length + p) 0 ≡ get_or rest p 0
 after_header o r c rest p =
     ap (λ (n : ℕ). get_or (packed_header o r c ++ rest) (n + p) 0) (sym (length-packed_header o r c)) ∙ get_or-append-add (packed_header o r c) rest p 0
 
@@ -47,5 +47,5 @@ pub header_has_zeros : (o : Order) (r c : ℕ) (rest : List ℕ) → has_reserve
 unfolding has_reserved packed_header
 header_has_zeros o r c rest = refl
 
-pub length_with_header : (o : Order) (r c : ℕ) (rest : List ℕ) → length (packed_header o r c ++ rest) ≡ 16 + length rest
+pub length_with_header : (o : Order) (r c : ℕ) (rest : List ℕ) → length (packed_header o r c ++ rest) ≡ header_length + length rest
 length_with_header o r c rest = length-append (packed_header o r c) rest ∙ ap (λ (n : ℕ). n + length rest) (length-packed_header o r c)

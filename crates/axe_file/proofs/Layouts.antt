@@ -4,6 +4,7 @@ use Rattle.std.proofs.Math.Nat.{pow-le-pow_right, one-le-pow, pow-suc}
 use Rattle.std.proofs.lemmas.Bool.{le-leb, leb-true, ne_eqb, and_from, not_from_false}
 use Rattle.std.proofs.lemmas.Nat.{mul-le, mul-add-lt}
 use Rattle.axe_field.specs.Order.{Order, Two, Three, Four, Five, Seven, Eight, Nine, order_number}
+use Rattle.axe_matrix.specs.Limits.{most_columns}
 use Rattle.axe_file.specs.Marks.{marks_per_byte, byte_limit, byte_with_marks, mark_of, has_unused_mark, bytes_per_row, digit_of}
 use Rattle.axe_file.proofs.Digits.{horner, horner_below, number_is_horner}
 use Rattle.axe_file.proofs.Bytes.{limit-fits, order-positive, eight-marks, row_is_short}
@@ -31,15 +32,18 @@ pub mark_by_division : (o : Order) (q m byte j : ℕ) → q ≡ order_number o �
 unfolding mark_of digit_of
 mark_by_division o q m byte j eq em = rw (eq, em) refl
 
--- the column of a mark is a small number
-pub column_fits : (o : Order) (c k m : ℕ) → c ≤ 2048 → k < bytes_per_row o c → m ≡ marks_per_byte o → k * m ≤ 8192
-column_fits o c k m fits lt em =
-    let short = row_is_short o c in
-    let product : k * m ≤ 1024 * 8 = mul-le k m 1024 8 (omega arith) (omega (arith, eight-marks o)) in
-    omega arith
+-- what no row takes more bytes than: half as many as a matrix has columns, rounded up
+abbrev pub most_width : ℕ
+most_width = (most_columns + 1) / 2
 
-pub width_fits : (o : Order) (c : ℕ) → c ≤ 2048 → bytes_per_row o c ≤ 1024
+pub width_fits : (o : Order) (c : ℕ) → c ≤ most_columns → bytes_per_row o c ≤ most_width
 width_fits o c fits = omega (arith, row_is_short o c)
+
+-- the column of a mark is a small number
+pub column_fits : (o : Order) (c k m : ℕ) → c ≤ most_columns → k < bytes_per_row o c → m ≡ marks_per_byte o → k * m ≤ most_width * 8
+column_fits o c k m fits lt em =
+    let narrow : k ≤ most_width = omega (arith, width_fits o c fits) in
+    mul-le k m most_width 8 narrow (omega (arith, eight-marks o))
 
 -- one digit more is still a byte
 pub step_fits : (o : Order) (q m : ℕ) (d : ℕ → ℕ) (i : ℕ) → q ≡ order_number o → m ≡ marks_per_byte o → i < m → ((j : ℕ) → d j < order_number o) → horner q d i * q + d i < 256

@@ -5,37 +5,38 @@ use Rattle.std.specs.List.{flat_map}
 use Rattle.std.proofs.Math.Nat.{mod-lt}
 use Rattle.std.proofs.lemmas.Bool.{leb-true, le-leb, eqb-true, not-false}
 use Rattle.std.proofs.lemmas.List.{get_or_past}
-use Rattle.std.proofs.lemmas.Nat.{div-add-mod', div_below, mul-le}
+use Rattle.std.proofs.lemmas.Nat.{div-add-mod', div_below}
 use Rattle.axe_field.specs.Order.{Order, order_number}
 use Rattle.axe_matrix.specs.Matrices.{MatrixValue, IsMatrix}
 use Rattle.axe_file.specs.Limits.{most_packed_bytes}
 use Rattle.axe_file.specs.Marks.{marks_per_byte, byte_limit, byte_with_marks, mark_of, has_unused_mark, bytes_per_row}
-use Rattle.axe_file.specs.Packed.{packed, packed_row, unpacked, order_with_number, header_order, header_columns, row_width, data_length, has_padding, packed_fault}
-use Rattle.axe_file.proofs.Bytes.{byte_below, mark_of_byte, row_is_short, element_at}
+use Rattle.axe_file.specs.Packed.{header_length, order_offset, packed, packed_row, unpacked, order_with_number, data_length, has_padding, packed_fault}
+use Rattle.axe_file.proofs.Bytes.{byte_below, mark_of_byte, element_at}
 use Rattle.axe_file.proofs.Headers.{order_of_number, number_in_header, header_has_magic, header_has_zeros}
-use Rattle.axe_file.proofs.Unpacking.{packed_says, width_said, data_said, packed_byte, length-packed, unpacked_packed}
+use Rattle.axe_file.proofs.Unpacking.{packed_says, packed_byte, length-packed, unpacked_packed}
 use Rattle.axe_file.proofs.Ranges.{none_found, none_found_at, and_of_false, and_false}
+use Rattle.axe_file.proofs.Scans.{data_fits}
 use Rattle.axe_file.proofs.Soundness.{IsHeader, IsSoundAt, no_packed_fault}
 
 -- ---- a spelling has no fault
 
--- the rule of unused marks, with the header's words replaced
-pub padding_from : (bytes : List ℕ) (p : ℕ)
-    → ((j : ℕ) → j < marks_per_byte (header_order bytes) → header_columns bytes ≤ p % row_width bytes * marks_per_byte (header_order bytes) + j → mark_of (header_order bytes) (get_or bytes (16 + p) 0) j ≡ 0)
-    → has_padding bytes p ≡ false
+-- the rule of unused marks
+pub padding_from : (o : Order) (c : ℕ) (bytes : List ℕ) (offset p : ℕ)
+    → ((j : ℕ) → j < marks_per_byte o → c ≤ p % bytes_per_row o c * marks_per_byte o + j → mark_of o (get_or bytes (offset + p) 0) j ≡ 0)
+    → has_padding o c bytes offset p ≡ false
 unfolding has_padding has_unused_mark
-padding_from bytes p h =
-    none_found _ 0 (marks_per_byte (header_order bytes)) (λ j low high.
-    and_of_false (leb (header_columns bytes) (p % row_width bytes * marks_per_byte (header_order bytes) + j)) _
+padding_from o c bytes offset p h =
+    none_found _ 0 (marks_per_byte o) (λ j low high.
+    and_of_false (leb c (p % bytes_per_row o c * marks_per_byte o + j)) _
     (λ past. let mark = h j (omega arith) (leb-true _ _ past) in rw mark refl))
 
-pub padding_at : (bytes : List ℕ) (p j : ℕ) → has_padding bytes p ≡ false → j < marks_per_byte (header_order bytes)
-    → header_columns bytes ≤ p % row_width bytes * marks_per_byte (header_order bytes) + j → mark_of (header_order bytes) (get_or bytes (16 + p) 0) j ≡ 0
+pub padding_at : (o : Order) (c : ℕ) (bytes : List ℕ) (offset p j : ℕ) → has_padding o c bytes offset p ≡ false → j < marks_per_byte o
+    → c ≤ p % bytes_per_row o c * marks_per_byte o + j → mark_of o (get_or bytes (offset + p) 0) j ≡ 0
 unfolding has_padding has_unused_mark
-padding_at bytes p j e lt past =
-    let here = none_found_at _ 0 (marks_per_byte (header_order bytes)) e j (omega arith) (omega arith) in
-    let test : leb (header_columns bytes) (p % row_width bytes * marks_per_byte (header_order bytes) + j) ≡ true = le-leb _ _ past in
-    eqb-true _ _ (not-false _ (and_false (leb (header_columns bytes) (p % row_width bytes * marks_per_byte (header_order bytes) + j)) _ test here))
+padding_at o c bytes offset p j e lt past =
+    let here = none_found_at _ 0 (marks_per_byte o) e j (omega arith) (omega arith) in
+    let test : leb c (p % bytes_per_row o c * marks_per_byte o + j) ≡ true = le-leb _ _ past in
+    eqb-true _ _ (not-false _ (and_false (leb c (p % bytes_per_row o c * marks_per_byte o + j)) _ test here))
 
 -- a place of the data is that of a byte in a row
 pub record Place (p w r : ℕ) : Type 0 where
@@ -51,27 +52,23 @@ place_of p (suc w) r lt = record {
   is = div-add-mod' p (suc w);
 }
 
-packed_sound_at : (m : MatrixValue) → IsMatrix m → (p : ℕ) → p < data_length (packed m) → IsSoundAt (packed m) p
+packed_sound_at : (m : MatrixValue) → IsMatrix m → (p : ℕ) → p < data_length m.order (length m.rows) m.cols → IsSoundAt m.order m.cols (packed m) header_length p
+unfolding data_length
 packed_sound_at m h p lt =
     let o = m.order in
     let w = bytes_per_row o m.cols in
-    let says = packed_says m h in
-    let total = data_said (packed m) o (length m.rows) m.cols says in
-    let place = place_of p w (length m.rows) (omega arith) in
+    let place = place_of p w (length m.rows) lt in
     let row = get_or m.rows (p / w) [] in
     let k = p % w in
     let elements : (i : ℕ) → get_or row i 0 < order_number o = λ i. element_at o row i (h.elements (p / w) [] place.row) in
-    let byte : get_or (packed m) (16 + p) 0 ≡ byte_with_marks o (λ j. get_or row (k * marks_per_byte o + j) 0) =
-    ap (λ (n : ℕ). get_or (packed m) (16 + n) 0) (sym place.is) ∙ packed_byte m (p / w) k place.row place.byte in
-    let below : get_or (packed m) (16 + p) 0 < byte_limit o = rw byte (byte_below o _ (λ j inside. elements (k * marks_per_byte o + j))) in
+    let byte : get_or (packed m) (header_length + p) 0 ≡ byte_with_marks o (λ j. get_or row (k * marks_per_byte o + j) 0) =
+    ap (λ (n : ℕ). get_or (packed m) (header_length + n) 0) (sym place.is) ∙ packed_byte m (p / w) k place.row place.byte in
+    let below : get_or (packed m) (header_length + p) 0 < byte_limit o = rw byte (byte_below o _ (λ j inside. elements (k * marks_per_byte o + j))) in
     let long : length row ≡ m.cols = h.row_lengths (p / w) [] place.row in
-    let unused : (j : ℕ) → j < marks_per_byte o → m.cols ≤ k * marks_per_byte o + j → mark_of o (get_or (packed m) (16 + p) 0) j ≡ 0 =
+    let unused : (j : ℕ) → j < marks_per_byte o → m.cols ≤ k * marks_per_byte o + j → mark_of o (get_or (packed m) (header_length + p) 0) j ≡ 0 =
     λ j inside past. ap (λ (b : ℕ). mark_of o b j) byte ∙ mark_of_byte o _ j (λ t within. elements (k * marks_per_byte o + t)) inside
     ∙ get_or_past row (k * marks_per_byte o + j) 0 (omega arith) in
-    record {
-      below = rw (says.order) below;
-      padding = padding_from (packed m) p (rw (says.order, says.columns, width_said (packed m) o (length m.rows) m.cols says) unused);
-    }
+    record { below = below; padding = padding_from o m.cols (packed m) header_length p unused }
 
 packed_header_sound : (m : MatrixValue) → IsMatrix m → IsHeader (packed m)
 unfolding packed
@@ -79,7 +76,7 @@ packed_header_sound m h =
     let says = packed_says m h in
     let rest = flat_map (packed_row m.order m.cols) m.rows in
     let total = length-packed m in
-    let number : is_none (order_with_number (get_or (packed m) 4 0)) ≡ false =
+    let number : is_none (order_with_number (get_or (packed m) order_offset 0)) ≡ false =
     ap (λ (n : ℕ). is_none (order_with_number n)) (number_in_header m.order (length m.rows) m.cols rest) ∙ ap (λ (o : Option Order). is_none o) (order_of_number m.order) in
     record {
       long = omega arith;
@@ -92,10 +89,10 @@ packed_header_sound m h =
     }
 
 pub packed_faultless : (m : MatrixValue) → IsMatrix m → packed_fault (packed m) ≡ None
+unfolding data_length
 packed_faultless m h =
-    let says = packed_says m h in
-    no_packed_fault (packed m) (packed_header_sound m h) (record {
-      whole = omega (arith, length-packed m, data_said (packed m) m.order (length m.rows) m.cols says);
+    no_packed_fault (packed m) m.order (length m.rows) m.cols (packed_says m h) (packed_header_sound m h) (record {
+      whole = length-packed m;
       sound_at = packed_sound_at m h;
     })
 
@@ -103,13 +100,7 @@ packed_faultless m h =
 
 pub packed_within : (m : MatrixValue) → IsMatrix m → length (packed m) ≤ most_packed_bytes
 packed_within m h =
-    let w = bytes_per_row m.order m.cols in
-    let short = row_is_short m.order m.cols in
-    let rows_fit = h.rows_fit in
-    let columns_fit = h.columns_fit in
-    let narrow : w ≤ 1024 = omega arith in
-    let most : length m.rows * w ≤ 2048 * 1024 = mul-le (length m.rows) w 2048 1024 rows_fit narrow in
-    omega (arith, length-packed m)
+    omega (arith, length-packed m, data_fits m.order (length m.rows) m.cols h.rows_fit h.columns_fit)
 
 pub packed_apart : (a b : MatrixValue) → IsMatrix a → IsMatrix b → packed a ≡ packed b → a ≡ b
 packed_apart a b ha hb e = sym (unpacked_packed a ha) ∙ ap (λ (bytes : List ℕ). unpacked bytes) e ∙ unpacked_packed b hb

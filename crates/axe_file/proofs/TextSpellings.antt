@@ -12,7 +12,8 @@ use Rattle.std.proofs.lemmas.List.{length-map, map-append, length_push}
 use Rattle.std.proofs.lemmas.List.Elements.{All-nil, All-cons, All-head, All-tail, All-take, All-drop, All-append, filter-append}
 use Rattle.axe_field.specs.Order.{order_number}
 use Rattle.axe_matrix.specs.Matrices.{MatrixValue, IsMatrix}
-use Rattle.axe_file.specs.Limits.{most_text_bytes}
+use Rattle.axe_matrix.specs.Limits.{most_columns}
+use Rattle.axe_file.specs.Limits.{most_text_bytes, most_numeral_digits}
 use Rattle.axe_file.specs.TextGrammar.{is_white, is_dark, is_digit, digit_value, digit_code, is_element_digit, IsNumeral, numeral_value, IsPart, AreParts, Space, Gap, named_form, IsTextOf}
 use Rattle.axe_file.specs.TextWriting.{text_header, text_line, in_lines, text_row, text_of}
 use Rattle.axe_file.proofs.TextDigits.{dark_after_white}
@@ -53,17 +54,21 @@ one_more n ds ge h =
 are_digits : (n : ℕ) → n < 2 ^ 64 → AreDigitsOf n (decimal n)
 are_digits n lt = decimal_by_steps (λ m ds. AreDigitsOf m ds) one_digit one_more n lt
 
-numeral : (n : ℕ) → n ≤ 2048 → IsNumeral (decimal n)
-numeral n le =
+-- a numeral has room for it
+abbrev HasNumeral : ℕ → Type 0
+HasNumeral n = n < 10 ^ most_numeral_digits
+
+numeral : (n : ℕ) → HasNumeral n → IsNumeral (decimal n)
+numeral n small =
     let fits : n < 2 ^ 64 = omega arith in
     record {
       some_digit = decimal_nonempty n fits;
-      not_too_many = length-decimal-le 9 n (omega arith) (omega arith) fits;
+      not_too_many = length-decimal-le most_numeral_digits n (omega arith) (omega arith) fits;
       digits = (are_digits n fits).digits;
     }
 
-value : (n : ℕ) → n ≤ 2048 → n ∷ [] ≡ numeral_value (decimal n) ∷ []
-value n le = ap (λ (x : ℕ). x ∷ []) (sym (are_digits n (omega arith)).value)
+value : (n : ℕ) → HasNumeral n → n ∷ [] ≡ numeral_value (decimal n) ∷ []
+value n small = ap (λ (x : ℕ). x ∷ []) (sym (are_digits n (omega arith)).value)
 
 -- ---- the header
 
@@ -75,7 +80,7 @@ one_space : IsPart Gap (32 ∷ []) []
 unfolding is_white
 one_space = (omega arith, All-cons (λ byte. IsTrue (is_white byte)) 32 [] refl (All-nil (λ byte. IsTrue (is_white byte))), refl)
 
-is_named : (q r c : ℕ) → q ≤ 2048 → r ≤ 2048 → c ≤ 2048 → AreParts (Space ∷ named_form) (header_of q r c) (q ∷ r ∷ c ∷ [])
+is_named : (q r c : ℕ) → HasNumeral q → HasNumeral r → HasNumeral c → AreParts (Space ∷ named_form) (header_of q r c) (q ∷ r ∷ c ∷ [])
 unfolding named_form header_of
 is_named q r c lq lr lc = (
   [],
@@ -227,7 +232,7 @@ written_text m h = record {
     rows = length m.rows;
     columns = m.cols;
     whole = whole_text m;
-    is_header = inr (refl, is_named (order_number m.order) (length m.rows) m.cols (omega (arith, order_number-at_most m.order)) h.rows_fit h.columns_fit);
+    is_header = inr (refl, is_named (order_number m.order) (length m.rows) m.cols (omega (arith, order_number-at_most m.order)) (omega (arith, h.rows_fit)) (omega (arith, h.columns_fit)));
     apart = refl;
   };
   mode = refl;
@@ -249,21 +254,25 @@ lines_length digits i zero = omega arith
 lines_length digits i (suc k) =
     omega (arith, line_length digits i, lines_length digits (i + 1) k, length-append (text_line digits i) (flat_map (text_line digits) (range_with_len (i + 1) k)))
 
-row_length : (row : List ℕ) → length row ≤ 2048 → length (text_row row) ≤ 2106
+-- even where each digit has a line to itself
+abbrev most_row_bytes : ℕ
+most_row_bytes = 2 * most_columns + 81
+
+row_length : (row : List ℕ) → length row ≤ most_columns → length (text_row row) ≤ most_row_bytes
 unfolding text_row in_lines
 row_length row le =
     let digits = map digit_code row in
     let few = div_ceil_times (length digits) 80 (omega arith) in
     omega (arith, lines_length digits 0 (div_ceil (length digits) 80), few.1, length-map row digit_code)
 
-rows_length : (columns : ℕ) (rows : List (List ℕ)) → columns ≤ 2048 → All (λ row. length row ≡ columns) rows → length (flat_map text_row rows) ≤ length rows * 2106
+rows_length : (columns : ℕ) (rows : List (List ℕ)) → columns ≤ most_columns → All (λ row. length row ≡ columns) rows → length (flat_map text_row rows) ≤ length rows * most_row_bytes
 rows_length columns [] le all = omega arith
 rows_length columns (row ∷ rows) le all =
     let here = All-head (λ (r : List ℕ). length r ≡ columns) row rows all in
     omega (arith, row_length row (omega arith), rows_length columns rows le (All-tail (λ (r : List ℕ). length r ≡ columns) row rows all), length-append (text_row row) (flat_map text_row rows))
 
-decimal_length : (n : ℕ) → n ≤ 2048 → length (decimal n) ≤ 9
-decimal_length n le = (numeral n le).not_too_many
+decimal_length : (n : ℕ) → HasNumeral n → length (decimal n) ≤ 9
+decimal_length n small = (numeral n small).not_too_many
 
 header_length : (a b c : List ℕ) → length a ≤ 9 → length b ≤ 9 → length c ≤ 9 → length (codes "matrix field=" ++ (a ++ (codes " rows=" ++ (b ++ (codes " cols=" ++ (c ++ [])))))) ≤ 100
 header_length a b c la lb lc =
@@ -273,8 +282,8 @@ pub written_text_fits : (m : MatrixValue) → IsMatrix m → length (text_of m) 
 unfolding header_of
 written_text_fits m h =
     let header : length (header_of (order_number m.order) (length m.rows) m.cols) ≤ 100 =
-    header_length (decimal (order_number m.order)) (decimal (length m.rows)) (decimal m.cols) (decimal_length (order_number m.order) (omega (arith, order_number-at_most m.order))) (decimal_length (length m.rows) h.rows_fit)
-    (decimal_length m.cols h.columns_fit) in
+    header_length (decimal (order_number m.order)) (decimal (length m.rows)) (decimal m.cols) (decimal_length (order_number m.order) (omega (arith, order_number-at_most m.order))) (decimal_length (length m.rows) (omega (arith, h.rows_fit)))
+    (decimal_length m.cols (omega (arith, h.columns_fit))) in
     let rows = rows_length m.cols m.rows h.columns_fit h.row_lengths in
     let whole : length (text_of m) ≡ length (header_of (order_number m.order) (length m.rows) m.cols) + length (10 ∷ flat_map text_row m.rows) =
     ap length (whole_text m) ∙ length-append (header_of (order_number m.order) (length m.rows) m.cols) (10 ∷ flat_map text_row m.rows) in

@@ -1,13 +1,13 @@
 -- How long files, and the lines and the numerals of texts, may be.
 use Rattle.std.specs.Prelude.{ℕ}
 
--- the most bytes that a packed file has: 4 MiB, that is 4 times 2^20
+-- the most bytes that a packed file has: 16 MiB, that is 16 times 2^20
 abbrev pub most_packed_bytes : ℕ
-most_packed_bytes = 4194304
+most_packed_bytes = 16777216
 
--- the most bytes that a text file has: 16 MiB, that is 16 times 2^20
+-- the most bytes that a text file has: 64 MiB, that is 64 times 2^20
 abbrev pub most_text_bytes : ℕ
-most_text_bytes = 16777216
+most_text_bytes = 67108864
 
 -- how many digits a line of a written text has, but for the last of a row
 abbrev pub digits_per_line : ℕ

@@ -14,6 +14,24 @@ use Rattle.axe_file.specs.declared.fault.FileFault.{FileFault}
 use Rattle.axe_file.specs.declared.fault.FileFault.TheVariants.{ShortHeader, BadMagic, BadField, BadReserved, BadRows}
 use Rattle.axe_file.specs.declared.fault.FileFault.TheVariants.{BadCols, Truncated, BadByte, BadPadding, TrailingBytes}
 
+-- ---- where a header has what
+
+-- how many bytes a header has: the rows begin after it
+abbrev pub header_length : ℕ
+header_length = 16
+
+-- the offset of the order
+abbrev pub order_offset : ℕ
+order_offset = 4
+
+-- the offset of the number of rows
+abbrev pub rows_offset : ℕ
+rows_offset = 8
+
+-- the offset of the number of columns
+abbrev pub columns_offset : ℕ
+columns_offset = 12
+
 -- ---- the spelling of a matrix
 
 -- the header: the magic bytes, the order, three zeros, and the numbers of rows and columns, each as 4 bytes, low byte
@@ -31,6 +49,49 @@ packed_row o columns row =
 unfoldable pub packed : MatrixValue → List ℕ
 packed m = packed_header m.order (length m.rows) m.cols ++ flat_map (packed_row m.order m.cols) m.rows
 
+-- ---- rows over the order o, of so many columns, from an offset on
+
+-- how many bytes so many rows take together
+unfoldable pub data_length : Order → ℕ → ℕ → ℕ
+data_length o rows columns = rows * bytes_per_row o columns
+
+-- the mark in row i, column j
+unfoldable pub mark_at : Order → ℕ → List ℕ → ℕ → ℕ → ℕ → ℕ
+mark_at o columns bytes offset i j =
+    let m = marks_per_byte o in
+    mark_of o (slice_index bytes (offset + (i * bytes_per_row o columns + j / m))) (j % m)
+
+-- the matrix of so many rows
+unfoldable pub matrix_at : Order → ℕ → ℕ → List ℕ → ℕ → MatrixValue
+matrix_at o rows columns bytes offset = record {
+  order = o;
+  cols = columns;
+  rows = table rows columns (mark_at o columns bytes offset);
+}
+
+-- the fault, where the test finds it
+abbrev pub fault_where : Bool → FileFault → List FileFault
+fault_where found fault = if found then fault ∷ [] else []
+
+-- in the byte at this place of the rows, a mark past the last column is not 0
+unfoldable pub has_padding : Order → ℕ → List ℕ → ℕ → ℕ → Bool
+has_padding o columns bytes offset place =
+    has_unused_mark o columns (place % bytes_per_row o columns) (slice_index bytes (offset + place))
+
+-- what is wrong with the byte at this place of the rows: it is not below q ^ m, or an unused mark of it is not 0
+unfoldable pub byte_faults : Order → ℕ → List ℕ → ℕ → ℕ → List FileFault
+byte_faults o columns bytes offset place =
+    fault_where (nat_le (byte_limit o) (slice_index bytes (offset + place))) (BadByte (offset + place))
+    ++ fault_where (has_padding o columns bytes offset place) (BadPadding (offset + place))
+
+-- what is wrong with so many rows, up to the end: too few bytes, then the bytes in ascending order, then a byte after
+-- the last row
+unfoldable pub data_faults : Order → ℕ → ℕ → List ℕ → ℕ → List FileFault
+data_faults o rows columns bytes offset =
+    fault_where (nat_lt (length bytes) (offset + data_length o rows columns)) Truncated
+    ++ flat_map (byte_faults o columns bytes offset) (range_with_len 0 (data_length o rows columns))
+    ++ fault_where (nat_lt (offset + data_length o rows columns) (length bytes)) TrailingBytes
+
 -- ---- what bytes say
 
 -- the order with this number, where there is one
@@ -40,44 +101,21 @@ order_with_number n =
 
 -- the order that a header names; where it names none, any
 unfoldable pub header_order : List ℕ → Order
-header_order bytes = unwrap_or (order_with_number (slice_index bytes 4)) Two
+header_order bytes = unwrap_or (order_with_number (slice_index bytes order_offset)) Two
 
 -- how many rows a header names
 unfoldable pub header_rows : List ℕ → ℕ
-header_rows bytes = from_le_bytes w32 (slice_range bytes 8 12)
+header_rows bytes = from_le_bytes w32 (slice_range bytes rows_offset (rows_offset + 4))
 
 -- how many columns a header names
 unfoldable pub header_columns : List ℕ → ℕ
-header_columns bytes = from_le_bytes w32 (slice_range bytes 12 16)
-
--- how many bytes each row takes
-unfoldable pub row_width : List ℕ → ℕ
-row_width bytes = bytes_per_row (header_order bytes) (header_columns bytes)
-
--- how many bytes the rows take together
-unfoldable pub data_length : List ℕ → ℕ
-data_length bytes = header_rows bytes * row_width bytes
-
--- the mark in row i, column j
-unfoldable pub mark_at : List ℕ → ℕ → ℕ → ℕ
-mark_at bytes i j =
-    let o = header_order bytes in
-    let m = marks_per_byte o in
-    mark_of o (slice_index bytes (16 + (i * row_width bytes + j / m))) (j % m)
+header_columns bytes = from_le_bytes w32 (slice_range bytes columns_offset (columns_offset + 4))
 
 -- the matrix that faultless bytes spell
 unfoldable pub unpacked : List ℕ → MatrixValue
-unpacked bytes = record {
-  order = header_order bytes;
-  cols = header_columns bytes;
-  rows = table (header_rows bytes) (header_columns bytes) (mark_at bytes);
-}
+unpacked bytes = matrix_at (header_order bytes) (header_rows bytes) (header_columns bytes) bytes header_length
 
 -- ---- what is wrong with bytes
-
--- the fault, where the test finds it
-abbrev pub fault_where : Bool → FileFault → List FileFault
-fault_where found fault = if found then fault ∷ [] else []
 
 -- one of the first four bytes is not the magic byte of its place
 unfoldable pub has_other_magic : List ℕ → Bool
@@ -87,35 +125,19 @@ has_other_magic bytes = list_any (λ i. not (slice_index bytes i == slice_index 
 unfoldable pub has_reserved : List ℕ → Bool
 has_reserved bytes = list_any (λ i. not (slice_index bytes i == 0)) (5 ∷ 6 ∷ 7 ∷ [])
 
--- in the byte at this place of the data, a mark past the last column is not 0
-unfoldable pub has_padding : List ℕ → ℕ → Bool
-has_padding bytes place =
-    has_unused_mark (header_order bytes) (header_columns bytes) (place % row_width bytes)
-    (slice_index bytes (16 + place))
-
--- what is wrong with the byte at this place of the data: it is not below q ^ m, or an unused mark of it is not 0
-unfoldable pub byte_faults : List ℕ → ℕ → List FileFault
-byte_faults bytes place =
-    fault_where (nat_le (byte_limit (header_order bytes)) (slice_index bytes (16 + place))) (BadByte (16 + place))
-    ++ fault_where (has_padding bytes place) (BadPadding (16 + place))
-
 -- what is wrong with the header, in the order of the checks
 unfoldable pub header_faults : List ℕ → List FileFault
 header_faults bytes =
-    fault_where (nat_lt (length bytes) 16) ShortHeader
+    fault_where (nat_lt (length bytes) header_length) ShortHeader
     ++ fault_where (has_other_magic bytes) BadMagic
-    ++ fault_where (is_none (order_with_number (slice_index bytes 4))) BadField
+    ++ fault_where (is_none (order_with_number (slice_index bytes order_offset))) BadField
     ++ fault_where (has_reserved bytes) BadReserved
     ++ fault_where (nat_lt most_rows (header_rows bytes)) BadRows
     ++ fault_where (header_columns bytes == 0 || nat_lt most_columns (header_columns bytes)) BadCols
 
--- what is wrong with the data: too few bytes, then the bytes in ascending order, then a byte after the last row
-unfoldable pub data_faults : List ℕ → List FileFault
-data_faults bytes =
-    fault_where (nat_lt (length bytes) (16 + data_length bytes)) Truncated
-    ++ flat_map (byte_faults bytes) (range_with_len 0 (data_length bytes))
-    ++ fault_where (nat_lt (16 + data_length bytes) (length bytes)) TrailingBytes
-
--- the first fault, where there is one; bytes without one are the spelling of a matrix
+-- the first fault, of the header or of the rows after it, where there is one; bytes without one are the spelling of a
+-- matrix
 unfoldable pub packed_fault : List ℕ → Option FileFault
-packed_fault bytes = slice_get (header_faults bytes ++ data_faults bytes) 0
+packed_fault bytes =
+    slice_get (header_faults bytes
+    ++ data_faults (header_order bytes) (header_rows bytes) (header_columns bytes) bytes header_length) 0

@@ -14,6 +14,15 @@ pub(crate) const MAGIC: [u8; 4] = *b"AXP1";
 /// How many bytes stand before the first row.
 pub(crate) const HEADER_LENGTH: usize = 16;
 
+/// The offset of the order.
+pub(crate) const ORDER_OFFSET: usize = 4;
+
+/// The offset of the number of rows.
+pub(crate) const ROWS_OFFSET: usize = 8;
+
+/// The offset of the number of columns.
+pub(crate) const COLUMNS_OFFSET: usize = 12;
+
 /// How the elements of a matrix's rows, here called marks, lie in the bytes of its packed form.
 #[derive(Clone, Copy)]
 pub(crate) struct Layout {

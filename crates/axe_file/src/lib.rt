@@ -27,7 +27,7 @@ pub use text_writing::write_text;
 pub use writing::write_packed;
 
 /// No packed file is longer than this, in bytes.
-pub const PACKED_LIMIT: usize = 4_194_304;
+pub const PACKED_LIMIT: usize = 16_777_216;
 
 /// No text file is longer than this, in bytes.
-pub const TEXT_LIMIT: usize = 16_777_216;
+pub const TEXT_LIMIT: usize = 67_108_864;

@@ -1,6 +1,6 @@
 //! Reading the packed form: first all checks, which take no memory, then the matrix.
 
-ghost use Rattle.std.specs.Prelude.{ℕ, ◌≡◌, ◌≢◌, ◌+◌, ◌*◌, ◌/◌, ◌%◌, ◌<◌, ◌≤◌, [], None, Some, length};
+ghost use Rattle.std.specs.Prelude.{ℕ, ◌≡◌, ◌≢◌, ◌+◌, ◌*◌, ◌/◌, ◌%◌, ◌^◌, ◌<◌, ◌≤◌, [], None, Some, length};
 ghost use Rattle.std.specs.Prelude.{slice_get, slice_index, slice_range, IfOk, OnOk, IfErr};
 ghost use Rattle.std.specs.List.{flat_map, range_with_len};
 ghost use Rattle.std.specs.Int.{w32, from_le_bytes};
@@ -9,26 +9,26 @@ ghost use Rattle.axe_field.specs.Order.{order_number};
 ghost use Rattle.axe_matrix.specs.Matrices.{MatrixValue, IsMatrix};
 ghost use Rattle.axe_matrix.specs.Limits.{most_rows};
 ghost use Rattle.axe_file.specs.Marks.{bytes_per_row, marks_of_bytes, row_marks};
-ghost use Rattle.axe_file.specs.Packed.{packed, packed_fault, unpacked, header_faults, data_faults, byte_faults};
-ghost use Rattle.axe_file.specs.Packed.{header_rows, data_length};
+ghost use Rattle.axe_file.specs.Packed.{packed, packed_fault, unpacked, header_faults};
+ghost use Rattle.axe_file.specs.Packed.{data_length, matrix_at, data_faults, byte_faults};
 ghost use Rattle.axe_file.specs.Headers.{SaysShape};
 ghost use Rattle.axe_file.specs.Answers.{AnswersFile};
 ghost use Rattle.axe_file.specs.declared.fault.FileFault.TheVariants.{Memory};
 
 use crate::fault::FileFault;
-use crate::layout::{HEADER_LENGTH, Layout, MAGIC};
+use crate::layout::{COLUMNS_OFFSET, HEADER_LENGTH, Layout, MAGIC, ORDER_OFFSET, ROWS_OFFSET};
 use axe_field::Field;
 use axe_lane::end_of_run;
 use axe_matrix::{MAX_COLUMNS, MAX_ROWS, Matrix};
 use axe_row::Row;
 use std::alloc::{AllocError, Global};
 
-/// What a header without fault says.
+/// How many rows there are, and how each of them lies in its bytes.
 #[derive(Clone, Copy)]
-struct Header {
+struct Shape {
     rows: usize,
     layout: Layout,
-    ghost rows_fit: { rows ≤ most_rows },
+    ghost rows_fit: { rows < 2 ^ 32 },
 }
 
 /// The matrix that the bytes spell in the packed form. The answer is the first fault of the bytes, whatever the memory;
@@ -40,16 +40,16 @@ pub fn read_packed(alloc: Global, bytes: &[u8]) -> Result<Matrix, FileFault>
     ensures only { (a : MatrixValue) → IsMatrix a → bytes.now ≡ packed a → AnswersFile None (λ m. m ≡ a) result }
     ensures matrix { IfOk result (λ m. IsMatrix m) }
 {
-    let header = header_of(bytes)?;
-    check_data(&header, bytes)?;
-    matrix_of(alloc, &header, bytes)
+    let shape = header_of(bytes)?;
+    check_data(&shape, bytes, HEADER_LENGTH)?;
+    matrix_of(alloc, &shape, bytes, HEADER_LENGTH)
 }
 
 /// What the header says, or the first fault of the header.
-fn header_of(bytes: &[u8]) -> Result<Header, FileFault>
+fn header_of(bytes: &[u8]) -> Result<Shape, FileFault>
     ensures faultless { OnOk result (header_faults bytes.now ≡ []) }
     ensures fault { IfErr result (λ fault. slice_get (header_faults bytes.now) 0 ≡ Some fault) }
-    ensures says { IfOk result (λ header. SaysShape bytes.now header.layout.field header.rows header.layout.columns) }
+    ensures says { IfOk result (λ shape. SaysShape bytes.now shape.layout.field shape.rows shape.layout.columns) }
 {
     if bytes.len() < HEADER_LENGTH {
         return Err(FileFault::ShortHeader);
@@ -57,21 +57,21 @@ fn header_of(bytes: &[u8]) -> Result<Header, FileFault>
     if !bytes.starts_with(&MAGIC) {
         return Err(FileFault::BadMagic);
     }
-    let Ok(field) = Field::new(bytes[4]) else {
+    let Ok(field) = Field::new(bytes[ORDER_OFFSET]) else {
         return Err(FileFault::BadField);
     };
     if bytes[5] != 0 || bytes[6] != 0 || bytes[7] != 0 {
         return Err(FileFault::BadReserved);
     }
-    let rows = number_at(bytes, 8);
+    let rows = number_at(bytes, ROWS_OFFSET);
     if rows > MAX_ROWS {
         return Err(FileFault::BadRows);
     }
-    let columns = number_at(bytes, 12);
+    let columns = number_at(bytes, COLUMNS_OFFSET);
     if columns == 0 || columns > MAX_COLUMNS {
         return Err(FileFault::BadCols);
     }
-    Ok(Header {
+    Ok(Shape {
         rows,
         layout: Layout::new(field, columns),
     })
@@ -90,100 +90,108 @@ fn number_at(bytes: &[u8], offset: usize) -> usize
     ]) as usize
 }
 
-/// Looks for the first fault after the header.
-fn check_data(header: &Header, bytes: &[u8]) -> Result<(), FileFault>
-    requires { SaysShape bytes.now header.now.layout.field header.now.rows header.now.layout.columns }
-    ensures faultless { OnOk result (data_faults bytes.now ≡ []) }
-    ensures fault { IfErr result (λ fault. slice_get (data_faults bytes.now) 0 ≡ Some fault) }
+/// Looks for the first fault of the rows that begin at an offset, up to the end of the bytes.
+fn check_data(shape: &Shape, bytes: &[u8], offset: usize) -> Result<(), FileFault>
+    requires some_column { 1 ≤ shape.now.layout.columns }
+    requires begun { offset ≤ length bytes.now }
+    ensures faultless { OnOk result
+        (data_faults shape.now.layout.field shape.now.rows shape.now.layout.columns bytes.now offset ≡ []) }
+    ensures fault { IfErr result (λ fault.
+        slice_get (data_faults shape.now.layout.field shape.now.rows shape.now.layout.columns bytes.now offset) 0
+        ≡ Some fault) }
 {
-    let count = header.rows * header.layout.width;
-    if bytes.len() < HEADER_LENGTH + count {
+    let count = shape.rows * shape.layout.width;
+    let room = bytes.len() - offset;
+    if room < count {
         return Err(FileFault::Truncated);
     }
-    check_bytes(&header.layout, bytes, count)?;
-    if bytes.len() > HEADER_LENGTH + count {
+    check_bytes(&shape.layout, bytes, offset, count)?;
+    if room > count {
         return Err(FileFault::TrailingBytes);
     }
     Ok(())
 }
 
-/// Looks for the first fault in the bytes of the rows.
-fn check_bytes(layout: &Layout, bytes: &[u8], count: usize) -> Result<(), FileFault>
-    requires says { SaysShape bytes.now layout.now.field (header_rows bytes.now) layout.now.columns }
-    requires count { count ≡ data_length bytes.now }
-    requires long { 16 + count ≤ length bytes.now }
-    ensures faultless { OnOk result (flat_map (byte_faults bytes.now) (range_with_len 0 count) ≡ []) }
+/// Looks for the first fault in the bytes of rows, so many from an offset on.
+fn check_bytes(layout: &Layout, bytes: &[u8], offset: usize, count: usize) -> Result<(), FileFault>
+    requires some_column { 1 ≤ layout.now.columns }
+    requires long { offset + count ≤ length bytes.now }
+    ensures faultless { OnOk result
+        (flat_map (byte_faults layout.now.field layout.now.columns bytes.now offset) (range_with_len 0 count) ≡ []) }
     ensures fault { IfErr result (λ fault.
-        slice_get (flat_map (byte_faults bytes.now) (range_with_len 0 count)) 0 ≡ Some fault) }
+        slice_get (flat_map (byte_faults layout.now.field layout.now.columns bytes.now offset) (range_with_len 0 count)) 0
+        ≡ Some fault) }
 {
-    let fitting = fitting_bytes(layout, bytes, count);
-    check_last_bytes(layout, bytes, fitting)?;
+    let fitting = fitting_bytes(layout, bytes, offset, count);
+    check_last_bytes(layout, bytes, offset, fitting)?;
     if fitting < count {
-        return Err(FileFault::BadByte(HEADER_LENGTH + fitting));
+        return Err(FileFault::BadByte(offset + fitting));
     }
     Ok(())
 }
 
-/// How many bytes of the rows, of so many, come before the first that is more than its marks can make.
-fn fitting_bytes(layout: &Layout, bytes: &[u8], count: usize) -> usize
-    requires { 16 + count ≤ length bytes.now }
+/// How many bytes of rows, of so many from an offset on, come before the first that is more than its marks can make.
+fn fitting_bytes(layout: &Layout, bytes: &[u8], offset: usize, count: usize) -> usize
+    requires { offset + count ≤ length bytes.now }
     ensures within { result ≤ count }
-    ensures below { (place : ℕ) → place < result → slice_index bytes.now (16 + place) < layout.now.limit }
-    ensures next { result < count → layout.now.limit ≤ slice_index bytes.now (16 + result) }
+    ensures below { (place : ℕ) → place < result → slice_index bytes.now (offset + place) < layout.now.limit }
+    ensures next { result < count → layout.now.limit ≤ slice_index bytes.now (offset + result) }
 {
     if layout.limit == 256 {
         return count;
     }
-    let end = end_of_run(bytes, HEADER_LENGTH, 0, layout.limit as u8);
-    count.min(end - HEADER_LENGTH)
+    let end = end_of_run(bytes, offset, 0, layout.limit as u8);
+    count.min(end - offset)
 }
 
-/// Looks for the first fault in the first bytes of the rows, so many, none of which is more than its marks can make: so
-/// only the last byte of a row can have one.
-fn check_last_bytes(layout: &Layout, bytes: &[u8], count: usize) -> Result<(), FileFault>
-    requires says { SaysShape bytes.now layout.now.field (header_rows bytes.now) layout.now.columns }
-    requires count { count ≤ data_length bytes.now }
-    requires long { 16 + count ≤ length bytes.now }
-    requires below { (place : ℕ) → place < count → slice_index bytes.now (16 + place) < layout.now.limit }
-    ensures faultless { OnOk result (flat_map (byte_faults bytes.now) (range_with_len 0 count) ≡ []) }
+/// Looks for the first fault in the bytes of rows, so many from an offset on, none of which is more than its marks can
+/// make: so only the last byte of a row can have one.
+fn check_last_bytes(
+    layout: &Layout,
+    bytes: &[u8],
+    offset: usize,
+    count: usize,
+) -> Result<(), FileFault>
+    requires some_column { 1 ≤ layout.now.columns }
+    requires long { offset + count ≤ length bytes.now }
+    requires below { (place : ℕ) → place < count → slice_index bytes.now (offset + place) < layout.now.limit }
+    ensures faultless { OnOk result
+        (flat_map (byte_faults layout.now.field layout.now.columns bytes.now offset) (range_with_len 0 count) ≡ []) }
     ensures fault { IfErr result (λ fault.
-        slice_get (flat_map (byte_faults bytes.now) (range_with_len 0 count)) 0 ≡ Some fault) }
+        slice_get (flat_map (byte_faults layout.now.field layout.now.columns bytes.now offset) (range_with_len 0 count)) 0
+        ≡ Some fault) }
 {
-    if count == 0 {
-        return Ok(());
-    }
     for index in 0..count / layout.width {
         let in_row = layout.width - 1;
         let place = index * layout.width + in_row;
-        let offset = HEADER_LENGTH + place;
-        if layout.has_unused_mark(bytes[offset], in_row) {
-            return Err(FileFault::BadPadding(offset));
+        let at = offset + place;
+        if layout.has_unused_mark(bytes[at], in_row) {
+            return Err(FileFault::BadPadding(at));
         }
     }
     Ok(())
 }
 
-/// The matrix of bytes without fault.
-fn matrix_of(alloc: Global, header: &Header, bytes: &[u8]) -> Result<Matrix, FileFault>
-    requires says { SaysShape bytes.now header.now.layout.field header.now.rows header.now.layout.columns }
-    requires some_column { 1 ≤ header.now.layout.columns }
-    requires whole { length bytes.now ≡ 16 + data_length bytes.now }
-    ensures value { IfOk result (λ m. m ≡ unpacked bytes.now) }
+/// The matrix of faultless rows that begin at an offset.
+fn matrix_of(alloc: Global, shape: &Shape, bytes: &[u8], offset: usize) -> Result<Matrix, FileFault>
+    requires some_column { 1 ≤ shape.now.layout.columns }
+    requires rows_fit { shape.now.rows ≤ most_rows }
+    requires inside { offset + data_length shape.now.layout.field shape.now.rows shape.now.layout.columns
+        ≤ length bytes.now }
+    ensures value { IfOk result (λ m.
+        m ≡ matrix_at shape.now.layout.field shape.now.rows shape.now.layout.columns bytes.now offset) }
     ensures memory { IfErr result (λ fault. fault ≡ Memory) }
 {
-    let layout = &header.layout;
+    let layout = &shape.layout;
     let table = if layout.field.order() == 2 {
         Vec::new(alloc)
     } else {
         marks_of_bytes(alloc, layout)?
     };
-    let mut matrix = Matrix::with_capacity(
-        alloc,
-        layout.field,
-        layout.columns,
-        header.rows,
-    ).map_err(|_refusal| FileFault::Memory)?;
-    match take_rows(alloc, header, &table, bytes, &mut matrix) {
+    let mut matrix = Matrix::with_capacity(alloc, layout.field, layout.columns, shape.rows).map_err(
+        |_refusal| FileFault::Memory,
+    )?;
+    match take_rows(alloc, shape, &table, bytes, offset, &mut matrix) {
         Ok(()) => Ok(matrix),
         Err(fault) => {
             // By a call, so that the end of the matrix is proved apart from this function.
@@ -193,29 +201,31 @@ fn matrix_of(alloc: Global, header: &Header, bytes: &[u8]) -> Result<Matrix, Fil
     }
 }
 
-/// Appends the rows that bytes without fault hold to a matrix without rows. Over two elements the table is not looked
-/// at.
+/// Appends the rows that begin at an offset to a matrix without rows. Over two elements the table is not looked at.
 fn take_rows(
     alloc: Global,
-    header: &Header,
+    shape: &Shape,
     table: &[u8],
     bytes: &[u8],
+    offset: usize,
     matrix: &mut Matrix,
 ) -> Result<(), FileFault>
-    requires says { SaysShape bytes.now header.now.layout.field header.now.rows header.now.layout.columns }
-    requires whole { length bytes.now ≡ 16 + data_length bytes.now }
-    requires table { order_number header.now.layout.field ≢ 2 → table.now ≡ marks_of_bytes header.now.layout.field }
+    requires rows_fit { shape.now.rows ≤ most_rows }
+    requires inside { offset + data_length shape.now.layout.field shape.now.rows shape.now.layout.columns
+        ≤ length bytes.now }
+    requires table { order_number shape.now.layout.field ≢ 2 → table.now ≡ marks_of_bytes shape.now.layout.field }
     requires no_rows { matrix.old ≡ record {
-      order = header.now.layout.field;
-      cols = header.now.layout.columns;
+      order = shape.now.layout.field;
+      cols = shape.now.layout.columns;
       rows = [];
     } }
-    ensures value { OnOk result (matrix.new ≡ unpacked bytes.now) }
+    ensures value { OnOk result (matrix.new
+        ≡ matrix_at shape.now.layout.field shape.now.rows shape.now.layout.columns bytes.now offset) }
     ensures memory { IfErr result (λ fault. fault ≡ Memory) }
 {
-    let layout = &header.layout;
-    for index in 0..header.rows {
-        let start = HEADER_LENGTH + index * layout.width;
+    let layout = &shape.layout;
+    for index in 0..shape.rows {
+        let start = offset + index * layout.width;
         let row = row_of(alloc, layout, table, &bytes[start..start + layout.width])?;
         matrix.push_row(row).map_err(|_row| FileFault::Memory)?;
     }

@@ -1,5 +1,5 @@
 -- Entries that are zero, and the first that is not.
-use Rattle.std.proofs.Common.{◌≡◌, ◌↔◌, ℕ, zero, suc, ◌+◌, ◌-◌, ◌*◌, ◌/◌, ◌%◌, ◌<◌, List, [], ◌∷◌, Option, Some, None, length, get_or, refl, sym, ap, ap₂, ◌∙◌, arith, inl, inr, IsTrue, MatchOption, is_some, bit_or}
+use Rattle.std.proofs.Common.{◌≡◌, ◌↔◌, ℕ, zero, suc, ◌+◌, ◌-◌, ◌*◌, ◌/◌, ◌%◌, ◌<◌, ◌≤◌, List, [], ◌∷◌, Option, Some, None, length, get_or, refl, sym, ap, ap₂, ◌∙◌, arith, inl, inr, IsTrue, MatchOption, is_some, bit_or}
 use Rattle.std.specs.Simd.Lanes.{fold_l, chunk}
 use Rattle.std.specs.List.{All}
 use Rattle.std.specs.Int.{bit_at}
@@ -10,7 +10,7 @@ use Rattle.std.proofs.lemmas.List.Elements.{All-get_or}
 use Rattle.std.proofs.lemmas.Nat.{le_or_l, le_or_r}
 use Rattle.std.proofs.lemmas.Nat.Bits.{bit_at-zero}
 use Rattle.axe_lane.specs.Entries.{HasNonzero, AreZerosBefore, IsFirstNonzero}
-use Rattle.axe_lane.specs.Words.{bit_of, HasNoSetBit, IsFirstSetBit}
+use Rattle.axe_lane.specs.Words.{bit_of, HasNoSetBitBefore, IsFirstSetBit}
 
 first_and_rest : (x : ℕ) (xs : List ℕ) → x ≡ 0 → ((j : ℕ) → get_or xs j 0 ≡ 0) → (j : ℕ) → get_or (x ∷ xs) j 0 ≡ 0
 first_and_rest x xs e rest zero = e
@@ -46,9 +46,15 @@ no_bit_past words n i zeros =
       | inr g ↦ ap (λ x. bit_at x i) (get_or_past words n 0 g) ∙ bit_at-zero i
     ]
 
-pub no_set_bit : (words : List ℕ) → All (λ x. x ≡ 0) words → HasNoSetBit words
+pub no_set_bit : (words : List ℕ) (index : ℕ) → All (λ x. x ≡ 0) words → HasNoSetBitBefore words index
 unfolding bit_of
-no_set_bit words zeros i = no_bit_past words (i / 64) (i % 64) zeros
+no_set_bit words index zeros i before = no_bit_past words (i / 64) (i % 64) zeros
+
+-- the words before the first that is not zero have no set bit
+pub no_set_bit_before : (words : List ℕ) (at index : ℕ) → IsFirstNonzero words at → index ≤ at * 64 → HasNoSetBitBefore words index
+unfolding bit_of
+no_set_bit_before words at index first early i before =
+    ap (λ x. bit_at x (i % 64)) (first.zeros_before (i / 64) (omega arith)) ∙ bit_at-zero (i % 64)
 
 -- the lowest bit of the first word that is not zero
 pub first_set_bit : (words : List ℕ) (at bit : ℕ) → IsFirstNonzero words at → bit < 64 → bit_at (get_or words at 0) bit ≡ 1

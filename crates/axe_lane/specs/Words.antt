@@ -12,15 +12,15 @@ xor_of_words a b = zip2 bit_xor a b
 unfoldable pub bit_of : List ℕ → ℕ → ℕ
 bit_of words e = bit_at (slice_index words (e / 64)) (e % 64)
 
--- no bit is set
-abbrev pub HasNoSetBit : List ℕ → Type 0
-HasNoSetBit words = (i : ℕ) → bit_of words i ≡ 0
+-- no bit before an index is set
+abbrev pub HasNoSetBitBefore : List ℕ → ℕ → Type 0
+HasNoSetBitBefore words index = (i : ℕ) → i < index → bit_of words i ≡ 0
 
 -- the set bit of the least index is the one at this index
 pub record IsFirstSetBit (words : List ℕ) (index : ℕ) : Type 0 where
   pub within : index / 64 < length words
   pub is_set : bit_of words index ≡ 1
-  pub unset_before : (i : ℕ) → i < index → bit_of words i ≡ 0
+  pub unset_before : HasNoSetBitBefore words index
 
 -- how many bits are set in both lists at the same index
 abbrev pub common_bits : List ℕ → List ℕ → ℕ

@@ -5,13 +5,11 @@ ghost use Rattle.std.specs.List.{prefix_len};
 ghost use Rattle.std.specs.Simd.Lanes.{chunk, put_chunk};
 ghost use Rattle.axe_lane.specs.Runs.{is_within};
 
+use crate::words::WORD;
 use std::simd::prelude::*;
 
 /// How many bytes a block has: one vector.
 const BLOCK: usize = 16;
-
-/// How many bits a word has.
-const WORD: usize = 64;
 
 /// The byte of a word that has the bit at an index.
 const BYTE_OF_BIT: [usize; WORD] = [

@@ -2,10 +2,8 @@
 ghost use Rattle.std.specs.Int.{bit_at};
 ghost use Rattle.std.specs.Prelude.{ℕ, ◌≡◌, ◌↔◌, ◌+◌, ◌^◌, ◌<◌, ◌≤◌, length, slice_index};
 
+use crate::words::WORD;
 use std::simd::prelude::*;
-
-/// How many bytes a word has a bit for.
-const BLOCK: usize = 64;
 
 /// The word of the bits that the 64 bytes from an index on have at a place: its bit i is that of the byte at that index
 /// plus i.
@@ -28,7 +26,7 @@ pub fn support_of_bytes(bytes: &[u8], at: usize) -> u64
     ensures { (i : ℕ) → i < 64 → (bit_at result i ≡ 0) ↔ (slice_index bytes.now (at + i) ≡ 0) }
 {
     let rest = &bytes[at..];
-    if rest.len() >= BLOCK {
+    if rest.len() >= WORD {
         return support_of_block(rest);
     }
     support_of_block(&filled_block(rest))
@@ -36,12 +34,12 @@ pub fn support_of_bytes(bytes: &[u8], at: usize) -> u64
 
 /// Fewer than 64 bytes, and zeros after them.
 #[inline(always)]
-fn filled_block(bytes: &[u8]) -> [u8; BLOCK]
-    requires { length bytes.now < BLOCK }
-    ensures long { length result ≡ BLOCK }
+fn filled_block(bytes: &[u8]) -> [u8; WORD]
+    requires { length bytes.now < WORD }
+    ensures long { length result ≡ WORD }
     ensures first { (i : ℕ) → i < 64 → slice_index result i ≡ slice_index bytes.now i }
 {
-    let mut block = [0; BLOCK];
+    let mut block = [0; WORD];
     block[..bytes.len()].copy_from_slice(bytes);
     block
 }
@@ -49,7 +47,7 @@ fn filled_block(bytes: &[u8]) -> [u8; BLOCK]
 /// The word of the places where the first 64 bytes are other than 0.
 #[inline(always)]
 fn support_of_block(bytes: &[u8]) -> u64
-    requires { BLOCK ≤ length bytes.now }
+    requires { WORD ≤ length bytes.now }
     ensures { (i : ℕ) → i < 64 → (bit_at result i ≡ 0) ↔ (slice_index bytes.now i ≡ 0) }
 {
     u8x64::from_slice(bytes)

@@ -3,9 +3,12 @@ ghost use Rattle.std.specs.Prelude.{◌≡◌, ◌↔◌, ◌+◌, ◌*◌, ◌%
 ghost use Rattle.std.specs.Prelude.{MatchOption, slice_index, slice_set};
 ghost use Rattle.std.specs.Simd.Lanes.{chunk, put_chunk, zip2};
 ghost use Rattle.axe_lane.specs.Entries.{AreZerosBefore, HasNonzero, IsFirstNonzero};
-ghost use Rattle.axe_lane.specs.Words.{common_bits, xor_of_words, HasNoSetBit, IsFirstSetBit};
+ghost use Rattle.axe_lane.specs.Words.{common_bits, xor_of_words, HasNoSetBitBefore, IsFirstSetBit};
 
 use std::simd::prelude::*;
+
+/// How many bits a word has.
+pub const WORD: usize = 64;
 
 /// How many words a block has: one vector.
 const BLOCK: usize = 8;
@@ -84,17 +87,16 @@ pub fn any_nonzero(words: &[u64]) -> bool
     first_nonzero_word(words).is_some()
 }
 
-/// The least index of a set bit, or `None` where no bit is set. Bit i of the list is bit i mod 64 of word i / 64. It
-/// stands apart so that a search that ends in its first word is short.
+/// The least index of a set bit, or `None` where no bit is set that has a `usize` as its index: none at all in a list
+/// of up to 2^58 words. Bit i of the list is bit i mod 64 of word i / 64. It stands apart so that a search that ends in
+/// its first word is short.
 #[inline(never)]
 pub fn first_set(words: &[u64]) -> Option<usize>
-    requires { 64 * length words.now ≤ 2 ^ 64 }
-    ensures { MatchOption result (HasNoSetBit words.now) (IsFirstSetBit words.now) }
+    ensures { MatchOption result (HasNoSetBitBefore words.now (2 ^ 64)) (IsFirstSetBit words.now) }
 {
-    match first_nonzero_word(words) {
-        Some(at) => Some(at * 64 + words[at].trailing_zeros() as usize),
-        None => None,
-    }
+    let at = first_nonzero_word(words)?;
+    let before = at.checked_mul(WORD)?;
+    Some(before + words[at].trailing_zeros() as usize)
 }
 
 /// The parity of the number of bits that are set in both lists at the same index: the dot product of two rows over the

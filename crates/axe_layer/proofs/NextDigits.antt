@@ -8,7 +8,7 @@ use Rattle.std.proofs.lemmas.Nat.Bits.{bit_at-zero, bit_at_above, bit_at-trailin
 use Rattle.std.proofs.Math.Nat.{div-le_self}
 use native.Mathlib.Decide.{dec_lt}
 use Rattle.axe_lane.specs.Entries.{IsFirstNonzero, AreZerosBetween, AreZerosFrom, IsNextNonzero}
-use Rattle.axe_lane.specs.Words.{bit_of, HasNoSetBit, IsFirstSetBit}
+use Rattle.axe_lane.specs.Words.{bit_of, HasNoSetBitBefore, IsFirstSetBit}
 use Rattle.axe_layer.specs.Bits.{bits, HoldsBits}
 use Rattle.axe_layer.proofs.BitLaws.{length-bits, get_or-bits, bit_of-word, bit_of-further, bit_at-shifted}
 
@@ -130,14 +130,14 @@ next_in_words n words start word m i held is none first =
 
 -- no bit is left
 pub none_in_words : (n : ℕ) (words : List ℕ) (start word m end : ℕ) → HoldsBits n words → get_or words (start / 64) 0 ≡ word →
-    word / 2 ^ (start % 64) ≡ 0 → HasNoSetBit (take m (drop (start / 64 + 1) words)) → end ≤ (start / 64 + 1 + m) * 64 →
+    word / 2 ^ (start % 64) ≡ 0 → HasNoSetBitBefore (take m (drop (start / 64 + 1) words)) (m * 64) → end ≤ (start / 64 + 1 + m) * 64 →
     AreZerosBetween (bits n words) start end
 none_in_words n words start word m end held is none unset all = λ j from before.
     bit_of-digit n words j held ∙ elim (dec_lt j ((start / 64 + 1) * 64)) [
       | yes inside ↦ none_in_word words start word is none j from inside
       | no outside ↦
           unset_before words (start / 64 + 1) (m * 64) j
-          (λ i low. sym (bit_of-take (drop (start / 64 + 1) words) m i (omega arith)) ∙ unset i) (omega arith) (omega arith)
+          (λ i low. sym (bit_of-take (drop (start / 64 + 1) words) m i (omega arith)) ∙ unset i low) (omega arith) (omega arith)
     ]
 
 -- ---- any numbers

@@ -1,5 +1,5 @@
 -- The first digit of a plane that is not zero, by its words and bytes; and multiples of bits.
-use Rattle.std.proofs.Common.{◌≡◌, ◌↔◌, ℕ, suc, ◌*◌, ◌+◌, ◌/◌, ◌%◌, ◌<◌, Bool, true, false, not, Option, Some, None, List, length, get_or, refl, sym, ap, ap₂, ◌∙◌, arith, IsTrue, MatchOption, lit<, inl, inr}
+use Rattle.std.proofs.Common.{◌≡◌, ◌↔◌, ℕ, suc, ◌*◌, ◌+◌, ◌/◌, ◌%◌, ◌<◌, ◌≤◌, Bool, true, false, not, Option, Some, None, List, length, get_or, refl, sym, ap, ap₂, ◌∙◌, arith, IsTrue, MatchOption, lit<, inl, inr}
 use Rattle.std.specs.List.{All}
 use Rattle.std.specs.Int.{bit_at}
 use Rattle.std.proofs.lemmas.List.{get_or_default, get_or_past}
@@ -8,17 +8,18 @@ use Rattle.std.proofs.lemmas.Bool.{cases_eq}
 use Rattle.std.proofs.lemmas.Nat.Bits.{bit_at-zero, same_from_bits_below}
 use native.Mathlib.Decide.{dec_lt}
 use Rattle.axe_lane.specs.Entries.{HasNonzero, IsFirstNonzero}
-use Rattle.axe_lane.specs.Words.{bit_of, HasNoSetBit, IsFirstSetBit}
+use Rattle.axe_lane.specs.Words.{bit_of, HasNoSetBitBefore, IsFirstSetBit}
 use Rattle.axe_layer.specs.Bits.{bits, HoldsBits}
 use Rattle.axe_layer.proofs.BitLaws.{length-bits, get_or-bits, bit_of-word}
 
 abbrev IsZero : ℕ → Type 0
 IsZero digit = digit ≡ 0
 
-no_digit : (n : ℕ) (words : List ℕ) → HasNoSetBit words → All IsZero (bits n words)
-no_digit n words none =
+no_digit : (n end : ℕ) (words : List ℕ) → n ≤ end → HasNoSetBitBefore words end → All IsZero (bits n words)
+no_digit n end words room none =
     All-from_get_or IsZero (bits n words) 0 (λ e inside.
-    get_or-bits n words e (omega (arith, length-bits n words)) ∙ none e)
+    let within : e < n = omega (arith, length-bits n words) in
+    get_or-bits n words e within ∙ none e (omega (arith, room)))
 
 first_digit : (n : ℕ) (words : List ℕ) (index : ℕ) → HoldsBits n words → IsFirstSetBit words index → IsFirstNonzero (bits n words) index
 first_digit n words index held h =
@@ -35,10 +36,10 @@ first_digit n words index held h =
     }
 
 -- the first set bit is the first digit
-pub first_of_bits : (r : Option ℕ) (n : ℕ) (words : List ℕ) → HoldsBits n words → MatchOption r (HasNoSetBit words) (IsFirstSetBit words) →
-    MatchOption r (All IsZero (bits n words)) (IsFirstNonzero (bits n words))
-first_of_bits None n words held none = no_digit n words none
-first_of_bits (Some index) n words held h = first_digit n words index held h
+pub first_of_bits : (r : Option ℕ) (n end : ℕ) (words : List ℕ) → HoldsBits n words → n ≤ end →
+    MatchOption r (HasNoSetBitBefore words end) (IsFirstSetBit words) → MatchOption r (All IsZero (bits n words)) (IsFirstNonzero (bits n words))
+first_of_bits None n end words held room none = no_digit n end words room none
+first_of_bits (Some index) n end words held room h = first_digit n words index held h
 
 -- where all digits are zero, so are all words
 pub zero_word : (n : ℕ) (words : List ℕ) (k : ℕ) → HoldsBits n words → All IsZero (bits n words) → get_or words k 0 ≡ 0

@@ -33,7 +33,7 @@ number_from b size at digits = number_with_digits b (chunk at size digits)
 
 -- the bound of the numbers of up to eight digits below 9
 abbrev pub number_bound : ℕ
-number_bound = 43046721
+number_bound = 9 ^ 8
 
 -- the numbers of four lists of digits of one size, one after another from an index on
 abbrev pub numbers_from : ℕ → ℕ → ℕ → List ℕ → List ℕ

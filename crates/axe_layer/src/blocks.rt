@@ -3,8 +3,7 @@ ghost use Rattle.std.specs.Int.{bit_at};
 ghost use Rattle.std.specs.Prelude.{ℕ, ◌≡◌, ◌≢◌, ◌+◌, ◌*◌, ◌/◌, ◌<◌, slice_index};
 
 use crate::packed::WORD_BYTES;
-use crate::parts::WORD;
-use axe_lane::bits_of_bytes;
+use axe_lane::{WORD, bits_of_bytes};
 
 /// The transpose of a block of 64 by 64 bits: bit j of word i is bit i of word j of the block, where bits are counted
 /// from the lowest.

@@ -13,8 +13,8 @@ ghost use Rattle.axe_layer.specs.Digits.{number_from, numbers_from, number_bound
 
 use crate::base_three::in_base_three;
 use crate::packed::numbers_of_pieces;
-use crate::parts::{WORD, add_spread, gathered, lowest, spread, word_from};
-use axe_lane::{bits_of_bytes, first_set};
+use crate::parts::{add_spread, gathered, lowest, spread, word_from};
+use axe_lane::{WORD, bits_of_bytes, first_set};
 
 /// Makes words, as many as the digits take, the layer of the bits that numbers have at a place, the lowest being at 0.
 pub fn fill_with_bits(words: &mut [u64], numbers: &[u8], place: u8)

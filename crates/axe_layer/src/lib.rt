@@ -16,6 +16,6 @@ pub use layer::{
     number_in, numbers_by_digits, numbers_in, set_bit,
 };
 pub use packed::{WORD_BYTES, packed_word, word_of_packed};
-pub use parts::{WORD, lowest};
+pub use parts::lowest;
 pub use places::earlier;
 pub use supports::{four_in_word, next_in_word};

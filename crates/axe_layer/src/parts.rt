@@ -3,10 +3,7 @@ ghost use Rattle.std.specs.Int.{bit_at};
 ghost use Rattle.std.specs.Prelude.{ℕ, ◌≡◌, ◌≢◌, ◌+◌, ◌*◌, ◌/◌, ◌^◌, ◌<◌, ◌≤◌, length, map, slice_index, All};
 ghost use Rattle.axe_lane.specs.Words.{bit_of};
 
-use axe_lane::add_bits;
-
-/// How many digits a word has.
-pub const WORD: usize = 64;
+use axe_lane::{WORD, add_bits};
 
 /// The word of the digits at the indices that a list has from one of its places on, as many as a word holds; where
 /// there is no index, the digit is 0.

@@ -4,7 +4,7 @@ ghost use Rattle.std.specs.Int.{bit_at, trailing_zeros, w64};
 ghost use Rattle.axe_lane.specs.Entries.{AreZerosBetween, IsNextNonzero};
 ghost use Rattle.axe_layer.specs.Supports.{AreFewerThanFour, AreNextFour, IsSupportWord};
 
-use crate::parts::WORD;
+use axe_lane::WORD;
 
 /// The index of the first place from an index on that a word of a support has, where the index stands in that word;
 /// `None` where the word has no such place.

@@ -5,6 +5,8 @@ pub mod SumLaws
 pub mod TransposeLaws
 mod RowListLaws
 pub mod PartialMatrices
+pub mod OnlyZeros
+mod ChosenRows
 mod RowWrites
 pub mod MultipleLaws
 mod DiagonalLaws

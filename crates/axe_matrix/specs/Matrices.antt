@@ -1,7 +1,8 @@
 -- Matrices over one of the seven fields.
 use Rattle.std.specs.Prelude.{◌≡◌, ℕ, ◌+◌, ◌<◌, ◌≤◌, ◌==◌, ◌&&◌, not, List, [], ◌++◌, length, take, drop, reverse}
-use Rattle.std.specs.Prelude.{slice_index_or, All}
+use Rattle.std.specs.Prelude.{slice_index_or, get_or, map, All, Bool}
 use Rattle.std.specs.Prelude.{Option, Some, None, if◌then◌else◌}
+use Rattle.std.specs.List.{list_all}
 use Rattle.axe_algebra.specs.Lists.{entry, listed, table}
 use Rattle.axe_algebra.specs.ListArithmetic.{combination, product, matrix_sum, transpose, identity}
 use Rattle.axe_field.specs.Order.{Order, order_number, IsElement}
@@ -81,6 +82,26 @@ reversed_matrix m = record { order = m.order; cols = m.cols; rows = reverse m.ro
 abbrev pub matrix_block : MatrixValue → ℕ → ℕ → ℕ → ℕ → MatrixValue
 matrix_block m row rows column cols =
     record { order = m.order; cols = cols; rows = table rows cols (λ i j. entry m.rows (row + i) (column + j)) }
+
+-- the matrix of the rows of a matrix at these places, in their order
+abbrev pub rows_at : List ℕ → MatrixValue → MatrixValue
+rows_at places m = record { order = m.order; cols = m.cols; rows = map (λ place. get_or m.rows place []) places }
+
+-- the entries of a vector at these columns, in their order
+abbrev pub entries_at : List ℕ → List ℕ → List ℕ
+entries_at columns v = map (λ column. get_or v column 0) columns
+
+-- the matrix of these columns of a matrix, in their order: each row has the entries of the matrix's row there
+abbrev pub columns_at : List ℕ → MatrixValue → MatrixValue
+columns_at columns m = record {
+  order = m.order;
+  cols = length columns;
+  rows = listed (length m.rows) (λ i. entries_at columns (get_or m.rows i []));
+}
+
+-- each entry of each row is 0
+abbrev pub has_only_zeros : List (List ℕ) → Bool
+has_only_zeros rows = list_all (list_all (λ number. number == 0)) rows
 
 -- why two matrices have no sum: they are over different fields, or else of different shapes
 abbrev pub sum_refusal : MatrixValue → MatrixValue → Option Refusal

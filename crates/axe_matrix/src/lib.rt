@@ -7,7 +7,7 @@ ghost use Rattle.axe_field.specs.Order.{IsElement};
 ghost use Rattle.axe_row.specs.Rows.{IsRow};
 ghost use Rattle.axe_row.specs.Refusals.{Answers};
 ghost use Rattle.axe_matrix.specs.Limits.{most_rows, most_columns};
-ghost use Rattle.axe_matrix.specs.Matrices.{IsMatrix, row_of, vector_product};
+ghost use Rattle.axe_matrix.specs.Matrices.{IsMatrix, row_of, vector_product, has_only_zeros};
 
 mod arithmetic;
 mod multiples;
@@ -22,10 +22,10 @@ use std::alloc::Global;
 use std::marker::Model;
 
 /// The most rows that a matrix has.
-pub const MAX_ROWS: usize = 2_048;
+pub const MAX_ROWS: usize = 4_096;
 
 /// The most columns that a matrix has. It has at least one.
-pub const MAX_COLUMNS: usize = 2_048;
+pub const MAX_COLUMNS: usize = 4_096;
 
 /// The limits of the code are those of the definitions.
 pub fn limits_are_named()
@@ -177,6 +177,19 @@ impl Matrix {
         ensures well_formed { IsMatrix self.now }
     {
         self.row(row).get(column)
+    }
+
+    /// Whether every entry is 0: whether the rows span the zero space. A matrix without rows has only zeros. It takes no
+    /// memory.
+    pub fn has_only_zeros(&self) -> bool
+        ensures { result ≡ has_only_zeros self.now.rows }
+    {
+        for index in 0..self.rows() {
+            if !self.row(index).is_zero() {
+                return false;
+            }
+        }
+        true
     }
 
     /// Whether two matrices are equal: one field, one shape, and the same entries.

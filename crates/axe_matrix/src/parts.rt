@@ -1,11 +1,11 @@
-//! The zero matrix, the identity matrix, copies, blocks, and rows that move: within a matrix, from one to another, and
-//! out of it.
+//! The zero matrix, the identity matrix, copies, blocks, chosen rows and columns, and rows that move: within a matrix,
+//! from one to another, and out of it.
 
-ghost use Rattle.std.specs.Prelude.{◌≡◌, ◌+◌, ◌<◌, ◌≤◌, ◌++◌, length, take, drop, None, IfOk, OnErr};
+ghost use Rattle.std.specs.Prelude.{◌≡◌, ◌+◌, ◌<◌, ◌≤◌, ◌++◌, length, take, drop, All, None, IfOk, OnErr};
 ghost use Rattle.axe_row.specs.Refusals.{Answers};
 ghost use Rattle.axe_matrix.specs.Limits.{most_rows, most_columns};
 ghost use Rattle.axe_matrix.specs.Matrices.{IsMatrix, AreSplit, HasFirstRows, zero_matrix, identity_matrix};
-ghost use Rattle.axe_matrix.specs.Matrices.{matrix_block, reversed_matrix};
+ghost use Rattle.axe_matrix.specs.Matrices.{matrix_block, reversed_matrix, rows_at, columns_at};
 ghost use Rattle.axe_matrix.specs.RowLists.{AreRowsOf};
 
 use super::{Matrix, Refusal, Row};
@@ -154,5 +154,36 @@ impl Matrix {
             block.append(part)?;
         }
         Ok(block)
+    }
+
+    /// The rows at these places, in their order. A place may stand more than once.
+    pub fn rows_at(&self, alloc: Global, places: &[usize]) -> Result<Matrix, Refusal>
+        requires within { All (λ place. place < length self.now.rows) places.now }
+        requires places_fit { length places.now ≤ most_rows }
+        ensures rows { Answers None (λ chosen. chosen ≡ rows_at places.now self.now) result }
+        ensures well_formed { IfOk result IsMatrix }
+    {
+        let mut chosen = Matrix::with_capacity(alloc, *self.field(), self.cols(), places.len())?;
+        for place in places {
+            let row = self.row(*place).copy(alloc)?;
+            chosen.append(row)?;
+        }
+        Ok(chosen)
+    }
+
+    /// These columns, in their order. A column may stand more than once.
+    pub fn columns_at(&self, alloc: Global, columns: &[usize]) -> Result<Matrix, Refusal>
+        requires some_column { 1 ≤ length columns.now }
+        requires columns_fit { length columns.now ≤ most_columns }
+        requires within { All (λ column. column < self.now.cols) columns.now }
+        ensures columns { Answers None (λ chosen. chosen ≡ columns_at columns.now self.now) result }
+        ensures well_formed { IfOk result IsMatrix }
+    {
+        let mut chosen = Matrix::with_capacity(alloc, *self.field(), columns.len(), self.rows())?;
+        for index in 0..self.rows() {
+            let row = self.row(index).select(alloc, columns)?;
+            chosen.append(row)?;
+        }
+        Ok(chosen)
     }
 }

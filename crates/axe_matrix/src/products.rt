@@ -12,7 +12,7 @@ ghost use Rattle.axe_matrix.specs.Products.{matrix_with_product, matrix_with_ter
 
 use super::{Matrix, Refusal, Row};
 use axe_field::Field;
-use axe_row::{Combos, most_combined};
+use axe_row::{Combos, digits_per_byte};
 use std::alloc::Global;
 
 impl Matrix {
@@ -268,7 +268,7 @@ fn rows_combined(field: &Field, rows: usize, terms: usize) -> usize
     ensures fits { result ≤ most_combined field.now }
 {
     let order = usize::from(field.order());
-    let most = most_combined(field).min(terms.div_ceil(4));
+    let most = digits_per_byte(field).min(terms.div_ceil(4));
     let (mut size, mut combinations) = (1, order);
     while size < most {
         let more = combinations.saturating_mul(order);

@@ -9,10 +9,8 @@ ghost use Rattle.axe_matrix.specs.Products.{row_with_product};
 ghost use Rattle.axe_matrix.specs.VectorTerms.{row_with_first_terms};
 
 use super::{Matrix, Row};
+use axe_lane::WORD;
 use axe_layer::{four_in_word, next_in_word};
-
-/// How many places a word of a support has.
-const WORD: usize = 64;
 
 impl Matrix {
     /// Adds a multiple of a row vector times this matrix to a row over its field: each entry d of the row becomes

@@ -27,7 +27,7 @@ const BAD_PACKED: [(&[u8], FileFault); 10] = [
     (b"AXP2\0\0\0\0\0\0\0\0\0\0\0\0", FileFault::BadMagic),
     (b"AXP1\x06\x01\0\0\0\0\0\0\0\0\0\0", FileFault::BadField),
     (b"AXP1\x02\x01\0\0\0\0\0\0\0\0\0\0", FileFault::BadReserved),
-    (b"AXP1\x02\0\0\0\x01\x08\0\0\0\0\0\0", FileFault::BadRows),
+    (b"AXP1\x02\0\0\0\x01\x10\0\0\0\0\0\0", FileFault::BadRows),
     (b"AXP1\x02\0\0\0\x01\0\0\0\0\0\0\0", FileFault::BadCols),
     (
         b"AXP1\x02\0\0\0\x02\0\0\0\x02\0\0\0\x40",
@@ -54,7 +54,7 @@ const BAD_TEXT: [(&[u8], FileFault); 10] = [
     (b"matrix field=2 rows=1 col=1", FileFault::BadHeader(25)),
     (b"2 3 2 2\n12\n01", FileFault::BadMode),
     (b"1 6 1 1\n0", FileFault::BadField),
-    (b"1 2 2049 1", FileFault::BadRows),
+    (b"1 2 4097 1", FileFault::BadRows),
     (b"1 2 1 0", FileFault::BadCols),
     (b"1 3 2 2\n13\n01\n", FileFault::BadDigit(9)),
     (b"1 3 2 2\n12\n0", FileFault::TooFewDigits),

@@ -31,8 +31,8 @@ This is one matrix over the field of order 3, twice:
 White space (spaces, tabs, ends of lines) ends the header. There may be more of
 it between and after the digits, as much and as little as you like, and nothing
 else. So a text of mode 1 with one matrix, as the ATLAS of Group
-Representations has it, goes in as it is. IN has at most 16777216 bytes
-(16 MiB).
+Representations has it, goes in as it is. IN has at most 67108864 bytes
+(64 MiB).
 
 Each digit is the number of an element. Over the fields of order 2, 3, 5 and 7
 the elements are the integers modulo the order. Over those of order 4, 8 and 9
@@ -273,9 +273,11 @@ M1a.1, M1a.2 and M.rep.
 Each section of the module is looked at with the words 0 to W in the
 generators, which the seed draws, until one shows that it is irreducible or
 gives a submodule. The same seed and W give the same files. Where no word does
-either, the section stays undecided: try another seed, or more words. That
-never happens to a module with at most 1000 points (vectors whose first nonzero
-entry is 1).
+either, the section stays undecided: try another seed, or more words. For some
+modules no seed helps: where every matrix that words can give is invertible or
+has a null space of more than 1000 points, as for one generator that acts
+irreducibly on a large space. A module with at most 1000 points (vectors whose
+first nonzero entry is 1) is never undecided.
 
 Where the module is refused or a section undecided, no file changes. NAME.rep
 is taken away before the first file is written, and written last: where there

@@ -53,10 +53,24 @@ pub fn parse(alloc: Global, words: &[String]) -> Result<Command, ParseFault>
     ensures names { IfOk result HasNames }
     ensures counts { IfOk result HasCounts }
 {
-    match program::program(alloc)?.try_get_matches_from(words) {
+    match program::program(alloc)?.try_get_matches_from(asked_of_clap(words)) {
         Ok(matches) => command_in(alloc, &matches),
         Err(error) => Err(fault_of(alloc, &error)?),
     }
+}
+
+/// The words that `clap` takes apart: it knows no help of `help`, so `help -h` is `help`.
+fn asked_of_clap(words: &[String]) -> &[String] {
+    if words.len() == 2 && words[0].as_str() == "help" && is_help_option(words[1].as_str()) {
+        &words[..1]
+    } else {
+        words
+    }
+}
+
+/// Whether a word asks for help.
+fn is_help_option(word: &str) -> bool {
+    word == "-h" || word == "--help"
 }
 
 /// The command that `clap` found.

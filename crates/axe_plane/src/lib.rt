@@ -3,12 +3,12 @@
 #![tactic(auto)]
 
 ghost use Rattle.std.specs.Prelude.{ℕ, ◌≡◌, ◌≢◌, ◌⊎◌, ◌+◌, ◌%◌, ◌<◌, ◌≤◌, ◌↔◌, IsTrue, IfOk, length, map, replicate};
-ghost use Rattle.std.specs.Prelude.{slice_index, slice_set, All, MatchOption, ◌^◌, ◌*◌};
+ghost use Rattle.std.specs.Prelude.{slice_index, slice_set, All, MatchOption};
 ghost use Rattle.axe_algebra.specs.Lists.{listed};
 ghost use Rattle.axe_lane.specs.Bytes.{multiple_modulo, sum_of_products, AreDigits};
 ghost use Rattle.axe_lane.specs.Entries.{IsFirstNonzero, AreZerosBefore, AreZerosFrom, IsNextNonzero};
 ghost use Rattle.axe_layer.specs.Digits.{digits_at, digits_with_four, digits_with_multiple, AreSmallSums};
-ghost use Rattle.axe_layer.specs.Digits.{numbers_with_multiple, numbers_from, number_bound};
+ghost use Rattle.axe_layer.specs.Digits.{numbers_with_multiple};
 ghost use Rattle.axe_plane.specs.Planes.{negative_modulo};
 ghost use Rattle.axe_plane.specs.Tables.{plane_at, IsEntryFor};
 
@@ -90,35 +90,6 @@ impl Plane {
             Plane::Bits(plane) => plane.len(),
             Plane::Trits(plane) => plane.len(),
             Plane::Bytes(plane) => plane.len(),
-        }
-    }
-
-    /// The digit at an index, counted from 0, and 0 from the length on.
-    #[inline(always)]
-    pub fn get(&self, index: usize) -> u8
-        ensures { result ≡ slice_index (digits_of self.now) index }
-    {
-        match self {
-            Plane::Bits(plane) => plane.get(index),
-            // Trits and bytes, by a call: so a bit is read in few steps.
-            _ => self.digit_by_call(index),
-        }
-    }
-
-    /// Four numbers in a base up to 9, the digits of each being up to eight of the plane's, most significant first:
-    /// those of the pieces of `size` digits one after another from an index on, as far as the plane goes.
-    #[inline]
-    pub fn numbers_from(&self, base: usize, size: usize, at: usize) -> [usize; 4]
-        requires base { base ≤ 9 }
-        requires short { size ≤ 8 }
-        requires counted { at + 4 * size < 2 ^ 64 }
-        ensures value { result ≡ numbers_from base size at (digits_of self.now) }
-        ensures small { (i : ℕ) → slice_index result i < number_bound }
-    {
-        match self {
-            Plane::Bits(plane) => plane.numbers_from(base, size, at),
-            // Trits and bytes, by a call: so numbers are read in few steps from bits.
-            _ => self.numbers_by_call(base, size, at),
         }
     }
 
@@ -235,8 +206,8 @@ impl Plane {
                 (Plane::Bytes(plane), Plane::Bytes(other)) => {
                     plane.add_scaled_from(start, factor, other)
                 }
-                // Two planes modulo one prime are of one kind, so no other pair comes.
-                _ => {}
+                // Two planes modulo one prime are of one kind.
+                _ => unreachable!(),
             }
         }
     }
@@ -295,8 +266,8 @@ impl Plane {
             (Plane::Bits(plane), Plane::Bits(other)) => cancel_bits(plane, index, start, other),
             (Plane::Trits(plane), Plane::Trits(other)) => cancel_trits(plane, index, start, other),
             (Plane::Bytes(plane), Plane::Bytes(other)) => plane.cancel(index, start, other),
-            // Two planes modulo one prime are of one kind, so no other pair comes.
-            _ => 0,
+            // Two planes modulo one prime are of one kind.
+            _ => unreachable!(),
         }
     }
 
@@ -371,7 +342,7 @@ impl Plane {
     {
         match self {
             Plane::Bits(plane) => plane.words(),
-            Plane::Trits(_) | Plane::Bytes(_) => &[],
+            Plane::Trits(_) | Plane::Bytes(_) => unreachable!(),
         }
     }
 
@@ -384,8 +355,7 @@ impl Plane {
     {
         match self {
             Plane::Trits(other) => plane.add_scaled(1, other),
-            // A plane modulo 3 is one of trits, so no other kind comes.
-            _ => {}
+            Plane::Bits(_) | Plane::Bytes(_) => unreachable!(),
         }
     }
 
@@ -397,7 +367,7 @@ impl Plane {
         ensures digits { AreDigits (prime_of_plane self.now) result.now }
     {
         match self {
-            Plane::Bits(_) | Plane::Trits(_) => &[],
+            Plane::Bits(_) | Plane::Trits(_) => unreachable!(),
             Plane::Bytes(plane) => plane.bytes(),
         }
     }
@@ -426,8 +396,8 @@ impl Plane {
             (Plane::Bits(plane), Plane::Bits(other)) => plane.dot(other),
             (Plane::Trits(plane), Plane::Trits(other)) => plane.dot(other),
             (Plane::Bytes(plane), Plane::Bytes(other)) => plane.dot(other),
-            // Two planes modulo one prime are of one kind, so no other pair comes.
-            _ => 0,
+            // Two planes modulo one prime are of one kind.
+            _ => unreachable!(),
         }
     }
 

@@ -1,24 +1,42 @@
 //! The numbers of pieces of planes.
-ghost use Rattle.std.specs.Prelude.{ℕ, ◌≡◌, ◌+◌, ◌*◌, ◌^◌, ◌<◌, ◌≤◌, slice_index};
+ghost use Rattle.std.specs.Prelude.{ℕ, ◌≡◌, ◌≢◌, ◌+◌, ◌*◌, ◌^◌, ◌<◌, ◌≤◌, slice_index};
 ghost use Rattle.axe_layer.specs.Digits.{number_bound, numbers_from};
-ghost use Rattle.axe_plane.specs.Planes.{digits_of};
+ghost use Rattle.axe_plane.specs.Planes.{prime_of_plane, digits_of};
 
 use crate::Plane;
 
 impl Plane {
-    /// The numbers that [`Plane::numbers_from`] gives. It stands apart so that they are read in few steps modulo 2.
-    #[inline(never)]
-    pub(crate) fn numbers_by_call(&self, base: usize, size: usize, at: usize) -> [usize; 4]
+    /// Four numbers in a base up to 9, the digits of each being up to eight of the plane's, most significant first:
+    /// those of the pieces of `size` digits one after another from an index on, as far as the plane goes.
+    #[inline]
+    pub fn numbers_from(&self, base: usize, size: usize, at: usize) -> [usize; 4]
         requires base { base ≤ 9 }
         requires short { size ≤ 8 }
         requires counted { at + 4 * size < 2 ^ 64 }
         ensures value { result ≡ numbers_from base size at (digits_of self.now) }
         ensures small { (i : ℕ) → slice_index result i < number_bound }
     {
+        match self {
+            Plane::Bits(plane) => plane.numbers_from(base, size, at),
+            Plane::Trits(_) | Plane::Bytes(_) => self.numbers_modulo_odd(base, size, at),
+        }
+    }
+
+    /// The numbers that `numbers_from` gives, of a plane modulo an odd prime. It stands apart so that they are read in
+    /// few steps modulo 2.
+    #[inline(never)]
+    fn numbers_modulo_odd(&self, base: usize, size: usize, at: usize) -> [usize; 4]
+        requires base { base ≤ 9 }
+        requires short { size ≤ 8 }
+        requires counted { at + 4 * size < 2 ^ 64 }
+        requires odd { prime_of_plane self.now ≢ 2 }
+        ensures value { result ≡ numbers_from base size at (digits_of self.now) }
+        ensures small { (i : ℕ) → slice_index result i < number_bound }
+    {
         let (second, third) = (at + size, at + 2 * size);
         let fourth = at + 3 * size;
         match self {
-            Plane::Bits(plane) => plane.numbers_from(base, size, at),
+            Plane::Bits(_) => unreachable!(),
             Plane::Trits(plane) => plane.numbers_from(base, size, at),
             Plane::Bytes(plane) => [
                 plane.number_from(base, size, at),

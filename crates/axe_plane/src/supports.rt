@@ -3,10 +3,7 @@ ghost use Rattle.axe_layer.specs.Supports.{IsSupportWord};
 ghost use Rattle.axe_plane.specs.Planes.{digits_of};
 
 use crate::{BytePlane, Plane};
-use axe_lane::support_of_bytes;
-
-/// How many places a word of a support has.
-const WORD: usize = 64;
+use axe_lane::{WORD, support_of_bytes};
 
 impl Plane {
     /// The word at an index of the plane's support, counted from 0: its bit i, counted from the lowest, is 0 exactly

@@ -79,8 +79,8 @@ impl PlaneTable {
                 (PlaneTable::Bytes(table), Plane::Bytes(plane)) => table.add_to_entry(
                     to, factor, plane,
                 ),
-                // A table and a plane modulo one prime are of one kind, so no other pair comes.
-                _ => {}
+                // A table and a plane modulo one prime are of one kind.
+                _ => unreachable!(),
             }
         }
     }
@@ -137,8 +137,8 @@ impl PlaneTable {
                     factor,
                     table.entry(index),
                 ),
-                // A table and a plane modulo one prime are of one kind, so no other pair comes.
-                _ => {}
+                // A table and a plane modulo one prime are of one kind.
+                _ => unreachable!(),
             }
         }
     }
@@ -154,7 +154,7 @@ impl PlaneTable {
     {
         match self {
             PlaneTable::Bits(table) => table.entry(index),
-            PlaneTable::Trits(_) | PlaneTable::Bytes(_) => &[],
+            PlaneTable::Trits(_) | PlaneTable::Bytes(_) => unreachable!(),
         }
     }
 
@@ -168,8 +168,7 @@ impl PlaneTable {
     {
         match self {
             PlaneTable::Trits(table) => table.add_entry(index, 1, plane),
-            // A table modulo 3 is one of trits, so no other kind comes.
-            _ => {}
+            PlaneTable::Bits(_) | PlaneTable::Bytes(_) => unreachable!(),
         }
     }
 
@@ -182,7 +181,7 @@ impl PlaneTable {
         ensures digits { AreDigits (prime_of_table self.now) result.now }
     {
         match self {
-            PlaneTable::Bits(_) | PlaneTable::Trits(_) => &[],
+            PlaneTable::Bits(_) | PlaneTable::Trits(_) => unreachable!(),
             PlaneTable::Bytes(table) => table.entry(index),
         }
     }

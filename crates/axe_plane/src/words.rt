@@ -16,7 +16,7 @@ impl Plane {
         match self {
             Plane::Bits(plane) => [plane.word(at), 0],
             Plane::Trits(plane) => plane.digit_words(at),
-            Plane::Bytes(_) => [0, 0],
+            Plane::Bytes(_) => unreachable!(),
         }
     }
 
@@ -32,7 +32,7 @@ impl Plane {
         match self {
             Plane::Bits(plane) => plane.set_word(at, words[0]),
             Plane::Trits(plane) => plane.set_digit_words(at, words),
-            Plane::Bytes(_) => {}
+            Plane::Bytes(_) => unreachable!(),
         }
     }
 }

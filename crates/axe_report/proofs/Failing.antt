@@ -3,6 +3,7 @@ use Rattle.std.proofs.Common.{◌≡◌, ◌≢◌, ℕ, Bool, true, false, eqb,
 use Rattle.std.specs.List.{flat_map}
 use Rattle.std.proofs.lemmas.Bool.{cases_lt, eqb-true, eq-eqb}
 use Rattle.std.proofs.lemmas.List.{nil_from_length}
+use Rattle.axe_report.specs.Limits.{most_dimension}
 use Rattle.axe_report.specs.Reports.{FactorValue, ReportValue, total_dim, IsReportHeader, AreFactors, IsFactorAfter, IsSeriesOf, IsReport}
 use Rattle.axe_report.specs.Spelling.{header_line, factor_line, series_line, opening_bytes, report_bytes}
 use Rattle.axe_report.specs.Passing.{LinesPass, FailsFirstAt}
@@ -123,7 +124,7 @@ whole_report bytes r text o there =
     o.spelled ∙ ap (λ (l : List ℕ). header_line r.header ++ (flat_map factor_line r.factors ++ l)) there ∙ sym (report_open r []) ∙ append-nil (report_bytes r)
 
 -- another series does not stand there
-pub other_series : (dim : ℕ) (fs : List FactorValue) (text s rest : List ℕ) → dim ≤ 2048 → AreFactors dim fs → InRange (length fs) s → text ≡ series_line fs s ++ rest → (IsSeriesOf fs s → ⊥)
+pub other_series : (dim : ℕ) (fs : List FactorValue) (text s rest : List ℕ) → dim ≤ most_dimension → AreFactors dim fs → InRange (length fs) s → text ≡ series_line fs s ++ rest → (IsSeriesOf fs s → ⊥)
     → (t x : List ℕ) → IsSeriesOf fs t → text ≢ series_line fs t ++ x
 other_series dim fs text s rest small are range there wrong t x is e =
     let same = series_unique fs s t rest x (all_plain dim fs small are) (all_distinct dim fs small are) range (places_in_range t (length fs) is.order) (sym there ∙ e) in

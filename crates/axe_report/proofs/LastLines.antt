@@ -3,6 +3,7 @@ use Rattle.std.proofs.Common.{◌≡◌, ◌≢◌, ℕ, ◌<◌, List, [], ◌�
 use Rattle.std.specs.List.{flat_map, prefix_len}
 use Rattle.std.proofs.lemmas.Bool.{cases_lt}
 use Rattle.axe_report.specs.Fronts.{is_no_separator, Stops}
+use Rattle.axe_report.specs.Limits.{most_dimension}
 use Rattle.axe_report.specs.Reports.{FactorValue, names, AreFactors}
 use Rattle.axe_report.specs.Spelling.{place_bytes, series_line}
 use Rattle.axe_report.proofs.Fronts.{front_is_prefix, prefix_stops, cancel_front}
@@ -20,10 +21,10 @@ place_there fs text word left k p f count front back lt here same = (
   sym (take-append-drop k text) ∙ ap₂ (λ (a : List ℕ) (b : List ℕ). a ++ b) (sym front ∙ sym same ∙ sym (name_at fs p f lt here)) (sym back),
 )
 
-pub no_place : (fs : List FactorValue) (text word : List ℕ) (k : ℕ) → AreFactors 2048 fs → k ≡ prefix_len is_no_separator text → word ≡ take k text
+pub no_place : (fs : List FactorValue) (text word : List ℕ) (k : ℕ) → AreFactors most_dimension fs → k ≡ prefix_len is_no_separator text → word ≡ take k text
     → ((q : ℕ) → q < length fs → get_or (names fs) q [] ≡ word → ⊥) → (p : ℕ) (x : List ℕ) → p < length fs → Stops is_no_separator x → text ≢ get_or (names fs) p [] ++ x
 no_place fs text word k h count front none p x lt stops e =
-    let parts = front_is_prefix is_no_separator text (get_or (names fs) p []) x (name_of_plain fs p (all_plain 2048 fs (omega arith) h) lt) stops e in
+    let parts = front_is_prefix is_no_separator text (get_or (names fs) p []) x (name_of_plain fs p (all_plain most_dimension fs (omega arith) h) lt) stops e in
     none p lt (sym (front ∙ ap (λ (i : ℕ). take i text) count ∙ parts.0))
 
 pub none_more : (fs : List FactorValue) (word : List ℕ) (i : ℕ) (f : FactorValue) → i < length fs → f ≡ get_or fs i f → (f.name ≡ word → ⊥) → ((q : ℕ) → q < i → get_or (names fs) q [] ≡ word → ⊥)
@@ -72,7 +73,7 @@ next_place fs [] name x e r =
     absurd (omega (arith, differ))
 next_place fs (q ∷ v) name x e r = (q, v, r.0, r.1, cancel_front (32 ∷ []) name _ (e ∙ places_open fs q v (10 ∷ x)))
 
-pub series_more : (text : List ℕ) (fs : List FactorValue) (s t left name next : List ℕ) (p : ℕ) → AreFactors 2048 fs → SeriesRead text fs s left → left ≡ 32 ∷ name → p < length fs → Stops is_no_separator next
+pub series_more : (text : List ℕ) (fs : List FactorValue) (s t left name next : List ℕ) (p : ℕ) → AreFactors most_dimension fs → SeriesRead text fs s left → left ≡ 32 ∷ name → p < length fs → Stops is_no_separator next
     → name ≡ get_or (names fs) p [] ++ next → t ≡ s ++ p ∷ [] → SeriesRead text fs t next
 series_more text fs s t left name next p h inv space lt stops here new = rw new (record {
   range = range_push (length fs) s p inv.range lt;
@@ -83,7 +84,7 @@ series_more text fs s t left name next p h inv space lt stops here new = rw new 
   only = λ t x r same.
       let goes = inv.only t x r same in
       let found = next_place fs goes.0 name x (sym space ∙ goes.2) goes.1 in
-      let one = place_unique fs p found.0 next _ (all_plain 2048 fs (omega arith) h) (all_distinct 2048 fs (omega arith) h) lt found.2 stops (places_stop fs found.1 x) (sym here ∙ found.4) in
+      let one = place_unique fs p found.0 next _ (all_plain most_dimension fs (omega arith) h) (all_distinct most_dimension fs (omega arith) h) lt found.2 stops (places_stop fs found.1 x) (sym here ∙ found.4) in
       (found.1, found.3, one.1);
 })
 

@@ -2,6 +2,7 @@
 use Rattle.std.proofs.Common.{◌≡◌, ℕ, zero, suc, ◌+◌, ◌-◌, ◌*◌, ◌/◌, ◌%◌, ◌<◌, ◌≤◌, false, eqb, List, [], ◌∷◌, ◌++◌, reverse, length, ◌⊎◌, refl, sym, ap, ap₂, ◌∙◌, inl, inr, append_assoc, arith, length-append}
 use Rattle.std.proofs.lemmas.Bool.{cases_Bool, cases_lt, eqb-true, eqb-false, ne_eqb}
 use Rattle.std.proofs.lemmas.List.{reverse-append, reverse-reverse}
+use Rattle.axe_report.specs.Limits.{most_dimension}
 use Rattle.axe_report.specs.Names.{next_letters, letters_backwards, letters}
 
 -- ---- the letters after some letters
@@ -145,7 +146,7 @@ some_letter k = elim (cases_lt k 26) [
 ]
 
 -- with at most n constituents there are at most three letters
-pub three_letters : (k : ℕ) → k < 2048 → length (letters k) ≤ 3
+pub three_letters : (k : ℕ) → k < most_dimension → length (letters k) ≤ 3
 three_letters k small = elim (cases_lt k 26) [
   | inl lt ↦ rw (letters_few k lt) (omega arith)
   | inr ge ↦

@@ -2,6 +2,7 @@
 use Rattle.std.proofs.Common.{◌≡◌, ◌≢◌, ℕ, ◌+◌, ◌-◌, ◌*◌, ◌/◌, ◌^◌, ◌<◌, ◌≤◌, List, [], ◌∷◌, ◌++◌, decimal, codes, refl, sym, ap, ap₂, ◌∙◌, append_assoc, append-nil, le-div_iff_mul-le, mul_comm, arith}
 use Rattle.std.specs.List.{flat_map}
 use Rattle.axe_report.specs.Fronts.{is_digit, Stops}
+use Rattle.axe_report.specs.Limits.{most_dimension}
 use Rattle.axe_report.specs.Names.{letters, constituent_name, count_of}
 use Rattle.axe_report.specs.Reports.{FactorValue, dims, total_dim, AreFactors, IsFactorAfter}
 use Rattle.axe_report.specs.Spelling.{factor_line, factor_start}
@@ -60,14 +61,14 @@ fits_from earlier room f h =
     record { dim = omega arith; multiplicity = below_quotient f.multiplicity f.dim room h.some_dim (omega arith); most = omega arith }
 
 -- no number is there, so no line
-pub no_dim : (text : List ℕ) (earlier : List FactorValue) (room : ℕ) (f : FactorValue) (rest : List ℕ) → room ≤ 2048
+pub no_dim : (text : List ℕ) (earlier : List FactorValue) (room : ℕ) (f : FactorValue) (rest : List ℕ) → room ≤ most_dimension
     → ((n : ℕ) (x : List ℕ) → n < 2 ^ 64 → Stops is_digit x → text ≢ codes "factor " ++ (decimal n ++ x)) → IsFactorAfter (total_dim earlier + room) earlier f → text ≢ factor_line f ++ rest
 no_dim text earlier room f rest small none h e =
     let fits = fits_from earlier room f h in
     none f.dim _ (omega (arith, fits.dim)) (letters_stop (count_of f.dim (dims earlier)) _) (e ∙ dim_first f (count_of f.dim (dims earlier)) rest h.name)
 
 -- the number that is there is the dimension
-pub dim_is : (text left : List ℕ) (earlier : List FactorValue) (room d : ℕ) (f : FactorValue) (rest : List ℕ) → room ≤ 2048 → d < 2 ^ 64 → text ≡ codes "factor " ++ (decimal d ++ left) → Stops is_digit left
+pub dim_is : (text left : List ℕ) (earlier : List FactorValue) (room d : ℕ) (f : FactorValue) (rest : List ℕ) → room ≤ most_dimension → d < 2 ^ 64 → text ≡ codes "factor " ++ (decimal d ++ left) → Stops is_digit left
     → IsFactorAfter (total_dim earlier + room) earlier f → text ≡ factor_line f ++ rest → d ≡ f.dim
 dim_is text left earlier room d f rest small fit there stops h e =
     let fits = fits_from earlier room f h in
@@ -81,7 +82,7 @@ start_is text start name earlier room d f rest same n s h e =
     e ∙ multiplicity_next f rest ∙ ap (λ (l : List ℕ). l ++ (decimal f.multiplicity ++ (10 ∷ rest))) (sym (s ∙ ap₂ (λ (a : List ℕ) (k : ℕ). factor_start a k) named same))
 
 -- the number after it is the multiplicity
-pub multiplicity_is : (text start left : List ℕ) (m : ℕ) (earlier : List FactorValue) (room : ℕ) (f : FactorValue) (rest : List ℕ) → room ≤ 2048 → m < 2 ^ 64 → text ≡ start ++ (decimal m ++ left) → Stops is_digit left
+pub multiplicity_is : (text start left : List ℕ) (m : ℕ) (earlier : List FactorValue) (room : ℕ) (f : FactorValue) (rest : List ℕ) → room ≤ most_dimension → m < 2 ^ 64 → text ≡ start ++ (decimal m ++ left) → Stops is_digit left
     → IsFactorAfter (total_dim earlier + room) earlier f → text ≡ start ++ (decimal f.multiplicity ++ (10 ∷ rest)) → (m ≡ f.multiplicity) × (left ≡ 10 ∷ rest)
 multiplicity_is text start left m earlier room f rest small fit there stops h e =
     let fits = fits_from earlier room f h in

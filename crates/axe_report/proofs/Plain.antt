@@ -6,6 +6,7 @@ use Rattle.std.proofs.lemmas.List.Sums.{sum_by-cons, sum_by-append, sum_by-take-
 use Rattle.std.proofs.lemmas.List.Elements.{All-head, All-tail, All-nil, All-cons, All-push, All-take, All-get_or}
 use Rattle.std.proofs.lemmas.List.{map-append, length-map}
 use Rattle.axe_report.specs.Fronts.{is_no_separator}
+use Rattle.axe_report.specs.Limits.{most_dimension}
 use Rattle.axe_report.specs.Names.{constituent_name, count_of, names_after, names_of}
 use Rattle.axe_report.specs.Reports.{FactorValue, names, dims, multiplicities, total_dim, AreFactors, IsFactorAfter}
 use Rattle.axe_report.proofs.Counts.{count_split}
@@ -15,8 +16,8 @@ use Rattle.axe_report.proofs.Numerals.{name_dark, name_unique}
 -- a constituent as it may stand in a line
 pub record IsPlain (f : FactorValue) : Type 0 where
   pub name : Passes is_no_separator f.name
-  pub dim : f.dim ≤ 2048
-  pub multiplicity : f.multiplicity ≤ 2048
+  pub dim : f.dim ≤ most_dimension
+  pub multiplicity : f.multiplicity ≤ most_dimension
   pub some_dim : 1 ≤ f.dim
   pub some_multiplicity : 1 ≤ f.multiplicity
 
@@ -37,7 +38,7 @@ product_most (suc a) b p =
 pub product_some : (a b : ℕ) → 1 ≤ a → 1 ≤ b → 1 ≤ a * b
 product_some a b p q = omega (arith, product_most a b p)
 
-pub plain_from : (f : FactorValue) (bound k : ℕ) → bound ≤ 2048 → f.name ≡ constituent_name f.dim k → 1 ≤ f.dim → 1 ≤ f.multiplicity → f.dim * f.multiplicity ≤ bound → IsPlain f
+pub plain_from : (f : FactorValue) (bound k : ℕ) → bound ≤ most_dimension → f.name ≡ constituent_name f.dim k → 1 ≤ f.dim → 1 ≤ f.multiplicity → f.dim * f.multiplicity ≤ bound → IsPlain f
 plain_from f bound k small e d m le =
     let bounds = product_bounds f.dim f.multiplicity bound d m le in
     record {
@@ -78,7 +79,7 @@ names_more earlier d ds = refl
 
 -- ---- all are plain
 
-plain_after : (fs : List FactorValue) (earlier : List ℕ) → names fs ≡ names_after earlier (dims fs) → All (λ d. 1 ≤ d) (dims fs) → All (λ m. 1 ≤ m) (multiplicities fs) → total_dim fs ≤ 2048
+plain_after : (fs : List FactorValue) (earlier : List ℕ) → names fs ≡ names_after earlier (dims fs) → All (λ d. 1 ≤ d) (dims fs) → All (λ m. 1 ≤ m) (multiplicities fs) → total_dim fs ≤ most_dimension
     → AllByRecursion IsPlain fs
 plain_after [] earlier n d m t = tt
 plain_after (f ∷ fs) earlier n d m t =
@@ -86,12 +87,12 @@ plain_after (f ∷ fs) earlier n d m t =
     let whole : f.name ∷ names fs ≡ constituent_name f.dim (count_of f.dim earlier) ∷ names_after (earlier ++ f.dim ∷ []) (dims fs) = n ∙ names_more earlier f.dim (dims fs) in
     let one : f.name ≡ constituent_name f.dim (count_of f.dim earlier) = cc in
     let rest : names fs ≡ names_after (earlier ++ f.dim ∷ []) (dims fs) = cc in
-    let bound : f.dim * f.multiplicity ≤ 2048 = omega arith in (
-      plain_from f 2048 (count_of f.dim earlier) (omega arith) one (All-head (λ d. 1 ≤ d) f.dim (dims fs) d) (All-head (λ m. 1 ≤ m) f.multiplicity (multiplicities fs) m) bound,
+    let bound : f.dim * f.multiplicity ≤ most_dimension = omega arith in (
+      plain_from f most_dimension (count_of f.dim earlier) (omega arith) one (All-head (λ d. 1 ≤ d) f.dim (dims fs) d) (All-head (λ m. 1 ≤ m) f.multiplicity (multiplicities fs) m) bound,
       plain_after fs (earlier ++ f.dim ∷ []) rest (All-tail (λ d. 1 ≤ d) f.dim (dims fs) d) (All-tail (λ m. 1 ≤ m) f.multiplicity (multiplicities fs) m) (omega arith),
     )
 
-pub all_plain : (dim : ℕ) (fs : List FactorValue) → dim ≤ 2048 → AreFactors dim fs → AllByRecursion IsPlain fs
+pub all_plain : (dim : ℕ) (fs : List FactorValue) → dim ≤ most_dimension → AreFactors dim fs → AllByRecursion IsPlain fs
 unfolding names_of
 all_plain dim fs le h = plain_after fs [] h.named h.some_dims h.some_multiplicities (omega (arith, h.fits))
 
@@ -241,16 +242,16 @@ more_before ds i j lt lt' e =
 abbrev pub AreDistinct : List (List ℕ) → Type 0
 AreDistinct ns = (i j : ℕ) → i < length ns → j < length ns → get_or ns i [] ≡ get_or ns j [] → i ≡ j
 
-earlier_differs : (ds : List ℕ) → All (λ d. d ≤ 2048) ds → (i j : ℕ) → i < j → j < length ds → get_or (names_of ds) i [] ≡ get_or (names_of ds) j [] → ⊥
+earlier_differs : (ds : List ℕ) → All (λ d. d ≤ most_dimension) ds → (i j : ℕ) → i < j → j < length ds → get_or (names_of ds) i [] ≡ get_or (names_of ds) j [] → ⊥
 unfolding names_of
 earlier_differs ds small i j lt lt' e =
-    let si : get_or ds i 0 ≤ 2048 = All-get_or (λ d. d ≤ 2048) ds i 0 (omega arith) small in
-    let sj : get_or ds j 0 ≤ 2048 = All-get_or (λ d. d ≤ 2048) ds j 0 (omega arith) small in
+    let si : get_or ds i 0 ≤ most_dimension = All-get_or (λ d. d ≤ most_dimension) ds i 0 (omega arith) small in
+    let sj : get_or ds j 0 ≤ most_dimension = All-get_or (λ d. d ≤ most_dimension) ds j 0 (omega arith) small in
     let same = name_unique (get_or ds i 0) (get_or ds j 0) _ _ (omega arith) (omega arith) (sym (name_at [] ds i (omega arith)) ∙ e ∙ name_at [] ds j lt') in
     let less = more_before ds i j lt lt' same.0 in
     omega (arith, less, same.1)
 
-names_distinct : (ds : List ℕ) → All (λ d. d ≤ 2048) ds → AreDistinct (names_of ds)
+names_distinct : (ds : List ℕ) → All (λ d. d ≤ most_dimension) ds → AreDistinct (names_of ds)
 names_distinct ds small i j li lj e = elim (cases_lt i j) [
   | inl lt ↦ absurd (earlier_differs ds small i j lt (omega (arith, lj, length_of ds)) e)
   | inr ge ↦ elim (cases_lt j i) [
@@ -259,16 +260,16 @@ names_distinct ds small i j li lj e = elim (cases_lt i j) [
   ]
 ]
 
-dims_small : (fs : List FactorValue) → AllByRecursion IsPlain fs → All (λ d. d ≤ 2048) (dims fs)
-dims_small [] h = All-nil (λ d. d ≤ 2048)
-dims_small (f ∷ fs) h = All-cons (λ d. d ≤ 2048) f.dim (dims fs) h.0.dim (dims_small fs h.1)
+dims_small : (fs : List FactorValue) → AllByRecursion IsPlain fs → All (λ d. d ≤ most_dimension) (dims fs)
+dims_small [] h = All-nil (λ d. d ≤ most_dimension)
+dims_small (f ∷ fs) h = All-cons (λ d. d ≤ most_dimension) f.dim (dims fs) h.0.dim (dims_small fs h.1)
 
-pub all_distinct : (dim : ℕ) (fs : List FactorValue) → dim ≤ 2048 → AreFactors dim fs → AreDistinct (names fs)
+pub all_distinct : (dim : ℕ) (fs : List FactorValue) → dim ≤ most_dimension → AreFactors dim fs → AreDistinct (names fs)
 all_distinct dim fs le h = rw h.named (names_distinct (dims fs) (dims_small fs (all_plain dim fs le h)))
 
 -- ---- the name after these is none of them
 
-one_differs : (d n x : ℕ) (earlier xs : List ℕ) → d ≤ 2048 → x ≤ 2048 → count_of d (earlier ++ x ∷ xs) ≤ n
+one_differs : (d n x : ℕ) (earlier xs : List ℕ) → d ≤ most_dimension → x ≤ most_dimension → count_of d (earlier ++ x ∷ xs) ≤ n
     → constituent_name x (count_of x earlier) ≡ constituent_name d n → ⊥
 one_differs d n x earlier xs small small' le same =
     let parts = name_unique x d (count_of x earlier) n (omega arith) (omega arith) same in
@@ -277,17 +278,17 @@ one_differs d n x earlier xs small small' le same =
     ap (λ (k : ℕ). count_of d (earlier ++ k ∷ xs)) parts.0 ∙ count_split d earlier xs in
     omega (arith, le, here, whole)
 
-others_differ : (d n : ℕ) (earlier ds : List ℕ) → d ≤ 2048 → All (λ x. x ≤ 2048) ds → count_of d (earlier ++ ds) ≤ n
+others_differ : (d n : ℕ) (earlier ds : List ℕ) → d ≤ most_dimension → All (λ x. x ≤ most_dimension) ds → count_of d (earlier ++ ds) ≤ n
     → AllByRecursion (λ name. name ≡ constituent_name d n → ⊥) (names_after earlier ds)
 others_differ d n earlier [] small all le = rw (names_none earlier) tt
 others_differ d n earlier (x ∷ xs) small all le =
     let rest : count_of d ((earlier ++ x ∷ []) ++ xs) ≤ n = rw (append_assoc earlier (x ∷ []) xs) le in
     rw (names_more earlier x xs) (
-      one_differs d n x earlier xs small (All-head (λ x. x ≤ 2048) x xs all) le,
-      others_differ d n (earlier ++ x ∷ []) xs small (All-tail (λ x. x ≤ 2048) x xs all) rest,
+      one_differs d n x earlier xs small (All-head (λ x. x ≤ most_dimension) x xs all) le,
+      others_differ d n (earlier ++ x ∷ []) xs small (All-tail (λ x. x ≤ most_dimension) x xs all) rest,
     )
 
-pub name_is_new : (d : ℕ) (ds : List ℕ) → d ≤ 2048 → All (λ x. x ≤ 2048) ds
+pub name_is_new : (d : ℕ) (ds : List ℕ) → d ≤ most_dimension → All (λ x. x ≤ most_dimension) ds
     → AllByRecursion (λ name. name ≡ constituent_name d (count_of d ds) → ⊥) (names_of ds)
 unfolding names_of
 name_is_new d ds small all = others_differ d (count_of d ds) [] ds small all (omega arith)

@@ -5,7 +5,7 @@ use Rattle.std.proofs.lemmas.Bool.{cases_lt, ne_eqb, eq-eqb, lt-ltb, le-ltb}
 use Rattle.std.proofs.lemmas.Fmt.{length-decimal-le}
 use Rattle.std.proofs.lemmas.List.Sums.{sum_by-cons, count_by-le-length}
 use Rattle.axe_field.specs.Order.{order_number}
-use Rattle.axe_report.specs.Limits.{most_report_bytes}
+use Rattle.axe_report.specs.Limits.{most_dimension, most_report_bytes}
 use Rattle.axe_report.specs.Names.{letters, constituent_name, count_of, names_after, names_of}
 use Rattle.axe_report.specs.Reports.{FactorValue, ReportValue, names, dims, multiplicities, total_dim, counts_in, IsReportHeader, AreFactors, IsReport}
 use Rattle.axe_report.specs.Spelling.{header_line, factor_line, place_bytes, series_line, opening_bytes, report_bytes}
@@ -100,13 +100,13 @@ series_length n s h =
 
 -- ---- the lengths of lines
 
-small_decimal : (n : ℕ) → n ≤ 2048 → length (decimal n) ≤ 4
+small_decimal : (n : ℕ) → n ≤ most_dimension → length (decimal n) ≤ 4
 small_decimal n le = length-decimal-le 4 n (omega arith) (omega arith) (omega arith)
 
 any_decimal : (n : ℕ) → n < 2 ^ 64 → length (decimal n) ≤ 20
 any_decimal n lt = length-decimal-le 20 n (omega arith) (omega arith) lt
 
-name_short : (d k : ℕ) → d ≤ 2048 → k < 2048 → length (constituent_name d k) ≤ 7
+name_short : (d k : ℕ) → d ≤ most_dimension → k < most_dimension → length (constituent_name d k) ≤ 7
 unfolding constituent_name
 name_short d k le lt = rw (length-append (decimal d) (letters k)) (omega (arith, small_decimal d le, three_letters k lt))
 
@@ -117,13 +117,13 @@ count_small d ds = count_by-le-length (λ other. eqb other d) ds
 abbrev AreShort : List FactorValue → Type 0
 AreShort fs = AllByRecursion (λ (f : FactorValue). length f.name ≤ 7) fs
 
-names_short : (fs : List FactorValue) (earlier : List ℕ) → names fs ≡ names_after earlier (dims fs) → AllByRecursion IsPlain fs → length earlier + length fs ≤ 2048 → AreShort fs
+names_short : (fs : List FactorValue) (earlier : List ℕ) → names fs ≡ names_after earlier (dims fs) → AllByRecursion IsPlain fs → length earlier + length fs ≤ most_dimension → AreShort fs
 names_short [] earlier n h le = tt
 names_short (f ∷ fs) earlier n h le =
     let whole : f.name ∷ names fs ≡ constituent_name f.dim (count_of f.dim earlier) ∷ names_after (earlier ++ f.dim ∷ []) (dims fs) = n ∙ names_more earlier f.dim (dims fs) in
     let one : f.name ≡ constituent_name f.dim (count_of f.dim earlier) = cc in
     let rest : names fs ≡ names_after (earlier ++ f.dim ∷ []) (dims fs) = cc in
-    let few : count_of f.dim earlier < 2048 = omega (arith, count_small f.dim earlier, le) in
+    let few : count_of f.dim earlier < most_dimension = omega (arith, count_small f.dim earlier, le) in
     let longer = length-append earlier (f.dim ∷ []) in
     (rw one (name_short f.dim (count_of f.dim earlier) h.0.dim few), names_short fs (earlier ++ f.dim ∷ []) rest h.1 (omega (arith, longer, le)))
 
@@ -174,5 +174,5 @@ report_within r is =
     let s = series_short r.factors r.series short range in
     simp length-append (omega (arith, few, long, sums, h, f, s, is.whole, most))
 
-pub few_factors : (fs : List FactorValue) → AreFactors 2048 fs → length fs ≤ 2048
-few_factors fs h = omega (arith, length_total fs (all_plain 2048 fs (omega arith) h), h.fits)
+pub few_factors : (fs : List FactorValue) → AreFactors most_dimension fs → length fs ≤ most_dimension
+few_factors fs h = omega (arith, length_total fs (all_plain most_dimension fs (omega arith) h), h.fits)

@@ -3,7 +3,7 @@ use Rattle.std.specs.Prelude.{ℕ}
 
 -- the greatest dimension of a module: a matrix has at most so many columns
 abbrev pub most_dimension : ℕ
-most_dimension = 2048
+most_dimension = 4096
 
 -- the most generators that a module has
 abbrev pub most_generators : ℕ

@@ -24,7 +24,7 @@ pub use report::{Report, ReportFactor, ReportHeader};
 pub use writing::write_report;
 
 /// The greatest dimension that a report names.
-pub const MAX_DIMENSION: usize = 2_048;
+pub const MAX_DIMENSION: usize = 4_096;
 
 /// The most generators that a report names.
 pub const MAX_GENERATORS: usize = 16;

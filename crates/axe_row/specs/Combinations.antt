@@ -3,8 +3,9 @@ use Rattle.std.specs.Prelude.{◌≡◌, ℕ, ◌+◌, ◌*◌, ◌^◌, ◌<◌
 use Rattle.std.specs.Simd.Lanes.{chunk}
 use Rattle.axe_algebra.specs.Digits.{digits, number_with_digits}
 use Rattle.axe_algebra.specs.ListArithmetic.{combination}
-use Rattle.axe_field.specs.Order.{Order, Two, Three, Four, Five, Seven, Eight, Nine, order_number, IsElement}
+use Rattle.axe_field.specs.Order.{Order, order_number, IsElement}
 use Rattle.axe_field.specs.NumberFields.{number_field}
+use Rattle.axe_row.specs.ByteDigits.{digits_per_byte}
 use Rattle.axe_row.specs.Operations.{multiple, row_with_multiple}
 use Rattle.axe_row.specs.Rows.{RowValue}
 
@@ -16,15 +17,9 @@ pub record CombosValue : Type 0 where
   pub len : ℕ
   pub rows : List (List ℕ)
 
--- how many rows a table combines at most: the greatest t with at most 256 lists of t elements of the field
+-- how many rows a table combines at most: so many that a byte has room for the numbers of the combinations
 abbrev pub most_combined : Order → ℕ
-most_combined Two = 8
-most_combined Three = 5
-most_combined Four = 4
-most_combined Five = 3
-most_combined Seven = 2
-most_combined Eight = 2
-most_combined Nine = 2
+most_combined o = digits_per_byte o
 
 -- the table of q^size rows of so many zeros
 abbrev pub zero_table : Order → ℕ → ℕ → CombosValue

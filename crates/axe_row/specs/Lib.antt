@@ -5,6 +5,7 @@ pub mod Operations
 pub mod Planes
 pub mod HigherPlanes
 pub mod MadePlanes
+pub mod ByteDigits
 pub mod Combinations
 pub mod PlaneTables
 pub mod Words

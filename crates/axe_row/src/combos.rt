@@ -6,6 +6,7 @@ ghost use Rattle.axe_field.specs.NumberFields.{number_field};
 ghost use Rattle.axe_field.specs.Order.{IsElement, order_number};
 ghost use Rattle.axe_plane.specs.Planes.{prime_of_plane, digits_of, IsPlane};
 ghost use Rattle.axe_plane.specs.Tables.{prime_of_table, entries_of_table, plane_at, IsTable};
+ghost use Rattle.axe_row.specs.ByteDigits.{digits_per_byte};
 ghost use Rattle.axe_row.specs.Combinations.{most_combined, zero_table, combination_at, row_with_four, AreOfOneKind};
 ghost use Rattle.axe_row.specs.Combinations.{Combines, IsRowFor, IsTableOfRows};
 ghost use Rattle.axe_row.specs.Operations.{row_with_multiple, sum_with_multiple};
@@ -51,9 +52,10 @@ impl Model for Combos {
     ghost invariant = { λ a. ArePlaneTables a.field a.size a.len a.constant a.linear a.quadratic };
 }
 
-/// How many rows a table over a field combines at most: the greatest number for which a table has at most 256 rows.
-pub fn most_combined(field: &Field) -> usize
-    ensures value { result ≡ most_combined field.now }
+/// How many digits in base q a byte has room for, where q is the order of the field: the greatest `m` with
+/// `q^m <= 256`. So many elements stand in a byte, and so many rows a table combines at most.
+pub fn digits_per_byte(field: &Field) -> usize
+    ensures value { result ≡ digits_per_byte field.now }
     ensures some { 1 ≤ result }
 {
     match field.order() {

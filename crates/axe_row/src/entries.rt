@@ -4,10 +4,8 @@ ghost use Rattle.axe_lane.specs.Entries.{AreZerosFrom, IsNextNonzero};
 ghost use Rattle.axe_layer.specs.Supports.{restricted, IsSupportWord};
 
 use crate::{BitPlane, Row};
+use axe_lane::WORD;
 use axe_layer::next_in_word;
-
-/// How many places a word of a support has.
-const WORD: usize = 64;
 
 impl Row {
     /// The index of the first entry other than 0 from an index on, counted from 0, or `None` where every entry from

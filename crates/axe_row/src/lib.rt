@@ -32,7 +32,7 @@ use axe_field::Field;
 use axe_layer::earlier;
 pub use axe_plane::BitPlane;
 use axe_plane::Plane;
-pub use combos::{Combos, most_combined};
+pub use combos::{Combos, digits_per_byte};
 use higher::Higher;
 use planes::{add_planes, digits_in_plane, element, plane_of, quadratic_at};
 pub use refusals::Refusal;
@@ -309,7 +309,7 @@ impl Row {
             return true;
         };
         let Some(others) = &other.higher else {
-            return true;
+            unreachable!();
         };
         if !higher.linear.same(&others.linear) {
             return false;
@@ -374,7 +374,7 @@ impl Row {
             return;
         };
         let Some(higher) = &mut self.higher else {
-            return;
+            unreachable!();
         };
         let (field, constant) = (&self.field, &mut self.constant);
         add_planes(

@@ -42,7 +42,7 @@ impl Row {
     {
         match &self.constant {
             Plane::Bits(bits) => bits.copy_packed(bytes),
-            Plane::Trits(_) | Plane::Bytes(_) => {}
+            Plane::Trits(_) | Plane::Bytes(_) => unreachable!(),
         }
     }
 }

@@ -52,7 +52,7 @@ impl Row {
         ensures well_formed { IsRow self.new }
     {
         let Some(higher) = &mut self.higher else {
-            return;
+            unreachable!();
         };
         let degree = self.field.degree();
         let matrix = self.field.plane_matrix(self.field.prime());

@@ -1,6 +1,6 @@
 //! Tables of the combinations of rows, and the numbers of the pieces of a row.
 use crate::tables::{Topic, each_call, two_numbers};
-use axe_row::{Combos, Row, most_combined};
+use axe_row::{Combos, Row, digits_per_byte};
 use axe_test_values::{
     TableFault, element_in, first_field, four_fields, is_row, number_of, row_of, row_of_shape,
     three_fields,
@@ -42,7 +42,7 @@ fn adds_combination(rt: &impl Abort, alloc: Global, line: &str) -> Result<bool, 
     let second = row_of_shape(alloc, second, first.field(), first.len())?;
     let field = *first.field();
     let mut sum = Row::zero(alloc, field, first.len())?;
-    assert!(rt; 2 <= most_combined(&field));
+    assert!(rt; 2 <= digits_per_byte(&field));
     assert!(rt; index < usize::from(field.order()).pow(2));
     let mut table = Combos::new(alloc, field, first.len(), 2)?;
     table.fill(&[first, second]);

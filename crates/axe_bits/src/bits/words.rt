@@ -4,7 +4,8 @@ ghost use Rattle.std.specs.Prelude.{ℕ, ◌≡◌, ◌+◌, ◌*◌, ◌<◌, s
 ghost use Rattle.axe_layer.specs.Words.{digits_with_word};
 
 use super::BitPlane;
-use axe_layer::{WORD, lowest};
+use axe_lane::WORD;
+use axe_layer::lowest;
 
 impl BitPlane {
     /// The word at an index, counted from 0: its bit i, counted from the lowest, is the digit 64 times the index plus

@@ -5,7 +5,8 @@ ghost use Rattle.axe_layer.specs.Bits.{bits, HoldsBits};
 ghost use Rattle.axe_layer.specs.Words.{digit_of_words, digits_with_word};
 
 use super::TritPlane;
-use axe_layer::{WORD, lowest};
+use axe_lane::WORD;
+use axe_layer::lowest;
 
 impl TritPlane {
     /// The words of the ones and of the twos at an index, counted from 0: digit i of these two is the plane's digit 64

@@ -1,5 +1,6 @@
 use Rattle.std.proofs.Common.{◌≡◌, ◌≤◌, true, get_or, refl, sym, ◌∙◌, arith}
-use Rattle.axe_file.specs.Packed.{header_rows, header_columns, has_reserved}
+use Rattle.axe_matrix.specs.Limits.{most_rows}
+use Rattle.axe_file.specs.Packed.{order_offset, header_rows, header_columns, has_reserved}
 use Rattle.axe_file.proofs.Checks.{short_header, bad_magic, bad_field, bad_reserved, bad_rows, bad_columns, no_columns, many_columns, order_named, no_order, reserved_5, reserved_6, reserved_7, none_reserved, named_order}
 use Rattle.axe_file.proofs.Soundness.{header_is_sound}
 use Rattle.axe_file.proofs.Magic.{magic_found, magic_missed}
@@ -18,7 +19,7 @@ returns-then-not-starts_with-clause-fault c =
 pub returns-in_default-clause-fault : goal.returns-in_default-clause-fault
 returns-in_default-clause-fault c =
     let found = magic_found c.args.bytes.now (omega arith) (sym c.starts_with.ensures.value ∙ c.if-not-starts_with.false) in
-    bad_field c.args.bytes.now c.if-bytes-lt-HEADER_LENGTH.false found (no_order (get_or c.args.bytes.now 4 0) c.in_default.ensures.err)
+    bad_field c.args.bytes.now c.if-bytes-lt-HEADER_LENGTH.false found (no_order (get_or c.args.bytes.now order_offset 0) c.in_default.ensures.err)
 
 pub returns-then-bytes-ne0-clause-fault : goal.returns-then-bytes-ne0-clause-fault
 returns-then-bytes-ne0-clause-fault c =
@@ -43,7 +44,7 @@ unfolding header_rows header_columns
 returns-then-columns-eq0-clause-fault c =
     let found = magic_found c.args.bytes.now (omega arith) (sym c.starts_with.ensures.value ∙ c.if-not-starts_with.false) in
     let zeros = none_reserved c.args.bytes.now c.if-bytes-ne0.false c.if-bytes-ne0-2.false c.if-bytes-ne0-3.false in
-    let few : header_rows c.args.bytes.now ≤ 2048 = rw (← c.number_at-rows.ensures) c.if-rows-gt-MAX_ROWS.false in
+    let few : header_rows c.args.bytes.now ≤ most_rows = rw (← c.number_at-rows.ensures) c.if-rows-gt-MAX_ROWS.false in
     bad_columns c.args.bytes.now c.in-Ok.field c.if-bytes-lt-HEADER_LENGTH.false found c.in-Ok.ensures.ok zeros few
     (elim c.then-columns-eq0.branch [
       | then-columns-eq0-via-then-columns-eq0 w ↦ no_columns c.args.bytes.now (sym c.number_at-columns.ensures ∙ w.if-columns-eq0.true)
@@ -55,7 +56,7 @@ unfolding header_rows header_columns
 returns-clause-faultless c =
     let found = magic_found c.args.bytes.now (omega arith) (sym c.starts_with.ensures.value ∙ c.if-not-starts_with.false) in
     let zeros = none_reserved c.args.bytes.now c.if-bytes-ne0.false c.if-bytes-ne0-2.false c.if-bytes-ne0-3.false in
-    let few : header_rows c.args.bytes.now ≤ 2048 = rw (← c.number_at-rows.ensures) c.if-rows-gt-MAX_ROWS.false in
+    let few : header_rows c.args.bytes.now ≤ most_rows = rw (← c.number_at-rows.ensures) c.if-rows-gt-MAX_ROWS.false in
     let nonzero : header_columns c.args.bytes.now ≡ 0 → ⊥ = λ e. c.if-columns-eq0.false (c.number_at-columns.ensures ∙ e) in
     header_is_sound c.args.bytes.now (record {
       long = c.if-bytes-lt-HEADER_LENGTH.false;

@@ -1,5 +1,6 @@
 use Rattle.std.proofs.Common.{◌≡◌, ◌||◌, true, eqb, ltb, sym, ◌∙◌, eq-eqb, ne_eqb, lt-ltb, le-ltb}
 use Rattle.std.proofs.lemmas.Bool.{or_left, or_right, or_from}
+use Rattle.axe_matrix.specs.Limits.{most_columns}
 use Rattle.axe_file.proofs.TextNumbers.{mode_fault, field_fault, rows_fault, columns_fault, numbers_allowed}
 use Rattle.axe_file.proofs.text_header.field_of.Goals as goal
 use Rattle.axe_file.proofs.text_header.field_of.Goals.{then-header-eq0-via-then-header-eq0, then-header-eq0-via-else-header-eq0+then-header-gt-MAX_COLUMNS}
@@ -18,7 +19,7 @@ returns-then-header-gt-MAX_ROWS c =
 
 pub returns-then-header-eq0 : goal.returns-then-header-eq0
 returns-then-header-eq0 c =
-    let wrong : (eqb c.args.header.columns 0 || ltb 2048 c.args.header.columns) ≡ true = elim c.then-header-eq0.branch [
+    let wrong : (eqb c.args.header.columns 0 || ltb most_columns c.args.header.columns) ≡ true = elim c.then-header-eq0.branch [
       | then-header-eq0-via-then-header-eq0 w ↦ or_left _ _ (eq-eqb _ _ w.if-header-eq0.true)
       | then-header-eq0-via-else-header-eq0+then-header-gt-MAX_COLUMNS w ↦ or_right _ _ (lt-ltb _ _ w.if-header-gt-MAX_COLUMNS.true)
     ] in

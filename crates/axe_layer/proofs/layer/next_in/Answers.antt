@@ -21,5 +21,6 @@ returns-in-Some c = λ n held.
 
 pub returns-in-None : goal.returns-in-None
 returns-in-None c = λ n held.
-    none_in_words n c.args.words.now c.args.start _ (c.div_ceil.result - (c.args.start / 64 + 1)) c.args.end held refl c.if-rest-ne0.false c.in-None.ensures
+    none_in_words n c.args.words.now c.args.start _ (c.div_ceil.result - (c.args.start / 64 + 1)) c.args.end held refl c.if-rest-ne0.false
+    (λ i low. c.in-None.ensures i (omega (arith, low, c.div_ceil.ensures, c.requires.within, c.requires.counted)))
     (omega (arith, c.div_ceil.ensures))

@@ -6,5 +6,5 @@ returns-in-Bits-clause-value c = rw c.in-Bits.is c.numbers_from.ensures.value
 pub returns-in-Bits-clause-small : goal.returns-in-Bits-clause-small
 returns-in-Bits-clause-small c = c.numbers_from.ensures.small
 
-pub returns-in_default : goal.returns-in_default
-returns-in_default c = c.numbers_by_call.ensures
+pub returns-in-Trits : goal.returns-in-Trits
+returns-in-Trits c = c.numbers_modulo_odd.ensures

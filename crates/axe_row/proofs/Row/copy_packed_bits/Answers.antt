@@ -11,10 +11,10 @@ copy_packed-requires c =
     c.requires.room ∙ ap (λ n. (n + 7) / 8)
     (length_of_row _ c.self.inside.constant (linear_of c.self.inside.field c.self.inside.higher) (quadratic_of c.self.inside.field c.self.inside.higher) _ c.self.view_is ∙ ap (λ (p : Plane). length (digits_of p)) c.in-Bits.is)
 
-pub returns-in-Bits-clause-entries : goal.returns-in-Bits-clause-entries
-returns-in-Bits-clause-entries c = λ e.
+pub returns-clause-entries : goal.returns-clause-entries
+returns-clause-entries c = λ e.
     c.copy_packed.ensures.digits e ∙ sym (ap (λ (p : Plane). get_or (digits_of p) e 0) c.in-Bits.is)
     ∙ bit_is_entry _ c.self.inside.constant (linear_of c.self.inside.field c.self.inside.higher) (quadratic_of c.self.inside.field c.self.inside.higher) _ e c.self.invariant.planes c.self.view_is c.requires.even
 
-pub returns-in-Bits-clause-long : goal.returns-in-Bits-clause-long
-returns-in-Bits-clause-long c = search rules
+pub returns-clause-long : goal.returns-clause-long
+returns-clause-long c = search rules

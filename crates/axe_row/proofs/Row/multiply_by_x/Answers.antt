@@ -28,8 +28,8 @@ scale-requires c =
     (turned _ _ _ _ _ _ _ _ _ c.degree-degree.ensures (degree_along _ _ _ c.self.view_is c.requires) (kept_planes _ _ _ _ c.self.invariant _ _ _ c.in-Some.is c.deref_mut.ensures.value c.deref_mut.ensures.value) c.rotate.ensures)
     (factor_is _ _ _ 0 _ (c.from.ensures ∙ c.degree-degree.ensures) c.prime.ensures c.plane_matrix-matrix.ensures.value)
 
-pub invariant_of-self-2 : goal.invariant_of-self-2
-invariant_of-self-2 c = record {
+pub invariant_of-self : goal.invariant_of-self
+invariant_of-self c = record {
   planes =
       with_length _ _ _ _ _ (times_x_planes _ _ _ _ _ _ _ _ _ _ _ _ _ _
       (turned _ _ _ _ _ _ _ _ _ c.degree-degree.ensures (degree_along _ _ _ c.self.view_is c.requires) (kept_planes _ _ _ _ c.self.invariant _ _ _ c.in-Some.is c.deref_mut.ensures.value c.deref_mut.ensures.value) c.rotate.ensures)
@@ -61,17 +61,11 @@ returns-clause-multiple c =
     }))
 
 pub returns-clause-well_formed : goal.returns-clause-well_formed
-returns-clause-well_formed c = IsRow-of_planes _ _ _ _ _ (invariant_of-self-2 c).planes
+returns-clause-well_formed c = IsRow-of_planes _ _ _ _ _ (invariant_of-self c).planes
 
 -- over a field that is not prime all planes are kept
-not_alone : (c : goal.In_default) → ⊥
-not_alone c = omega (arith, c.requires, alone_order _ _ _ _ _ _ c.self.invariant c.self.view_is c.in_default.is)
-
-pub returns-in_default-clause-multiple : goal.returns-in_default-clause-multiple
-returns-in_default-clause-multiple c = absurd (not_alone c)
-
-pub returns-in_default-clause-well_formed : goal.returns-in_default-clause-well_formed
-returns-in_default-clause-well_formed c = absurd (not_alone c)
+pub unreachable-requires : goal.unreachable-requires
+unreachable-requires c = omega (arith, c.requires, alone_order _ _ _ _ _ _ c.self.invariant c.self.view_is c.in_default.is)
 
 pub plane_matrix-matrix-requires : goal.plane_matrix-matrix-requires
 plane_matrix-matrix-requires c = search rules
@@ -84,9 +78,6 @@ offset_bounds-matrix-from c = search rules
 
 pub bounds-matrix-from : goal.bounds-matrix-from
 bounds-matrix-from c = search rules
-
-pub invariant_of-self : goal.invariant_of-self
-invariant_of-self c = c.self.invariant
 
 pub add_scaled-requires-clause-prime : goal.add_scaled-requires-clause-prime
 add_scaled-requires-clause-prime c =

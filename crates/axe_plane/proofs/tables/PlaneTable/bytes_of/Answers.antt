@@ -1,7 +1,7 @@
 use Rattle.axe_plane.proofs.tables.PlaneTable.bytes_of.Goals as goal
 
-pub returns-in-Bytes-clause-value : goal.returns-in-Bytes-clause-value
-returns-in-Bytes-clause-value c = rw c.in-Bytes.is c.entry.ensures.value
+pub returns-clause-value : goal.returns-clause-value
+returns-clause-value c = rw c.in-Bytes.is c.entry.ensures.value
 
-pub returns-in-Bytes-clause-digits : goal.returns-in-Bytes-clause-digits
-returns-in-Bytes-clause-digits c = rw c.in-Bytes.is c.entry.ensures.digits
+pub returns-clause-digits : goal.returns-clause-digits
+returns-clause-digits c = rw c.in-Bytes.is c.entry.ensures.digits

@@ -1,5 +1,5 @@
 use Rattle.std.proofs.Common.{rules}
-use Rattle.axe_row.proofs.combos.most_combined.Goals as goal
+use Rattle.axe_row.proofs.combos.digits_per_byte.Goals as goal
 
 pub returns-in-2-clause-value : goal.returns-in-2-clause-value
 returns-in-2-clause-value c = search rules

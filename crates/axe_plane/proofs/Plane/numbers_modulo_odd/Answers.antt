@@ -3,11 +3,7 @@ use Rattle.axe_layer.specs.Digits.{numbers_from}
 use Rattle.axe_plane.specs.Planes.{digits_of}
 use Rattle.axe_plane.specs.declared.Plane.{Plane}
 use Rattle.axe_layer.proofs.PieceDigits.{same_four, four_small}
-use Rattle.axe_plane.proofs.Plane.numbers_by_call.Goals as goal
-
-pub returns-in-Bits-clause-value : goal.returns-in-Bits-clause-value
-returns-in-Bits-clause-value c =
-    c.numbers_from.ensures.value ∙ sym (ap (λ (p : Plane). numbers_from c.args.base c.args.size c.args.at (digits_of p)) c.in-Bits.is)
+use Rattle.axe_plane.proofs.Plane.numbers_modulo_odd.Goals as goal
 
 pub returns-in-Bytes-clause-value : goal.returns-in-Bytes-clause-value
 returns-in-Bytes-clause-value c =
@@ -19,4 +15,4 @@ returns-in-Bytes-clause-small c =
     four_small _ _ _ _ _ c.number_from.ensures.small c.number_from-in-Bytes.ensures.small c.number_from-in-Bytes-2.ensures.small c.number_from-in-Bytes-3.ensures.small
 
 pub returns-in-Trits-clause-value : goal.returns-in-Trits-clause-value
-returns-in-Trits-clause-value c = rw c.in-Trits.is c.numbers_from-in-Trits.ensures.value
+returns-in-Trits-clause-value c = rw c.in-Trits.is c.numbers_from.ensures.value

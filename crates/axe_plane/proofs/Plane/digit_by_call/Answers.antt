@@ -1,4 +1,0 @@
-use Rattle.axe_plane.proofs.Plane.digit_by_call.Goals as goal
-
-pub returns : goal.returns
-returns c = c.digit.ensures
