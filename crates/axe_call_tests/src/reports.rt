@@ -58,10 +58,13 @@ const REFUSED: [(&str, usize); 12] = [
 ];
 
 /// Parts of the report, what stands in the place of each, and the line that fails then.
-const PARTS_REFUSED: [(&str, &str, usize); 7] = [
+const PARTS_REFUSED: [(&str, &str, usize); 10] = [
     ("words=400", "words=10001", 1),
     ("seed=1", "seed=18446744073709551616", 1),
     ("dim=3", "dim=03", 1),
+    ("dim=3", "dim=4097", 1),
+    ("dim=3", "dim=4096", 4),
+    ("dim=3", "dim=2049", 4),
     ("factor 2a", "factor 2b", 2),
     ("mult=1", "mult=0", 2),
     ("factor 2a dim=2", "factor 0a dim=0", 2),

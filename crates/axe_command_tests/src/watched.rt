@@ -48,12 +48,13 @@ pub(crate) struct Watched<F: Folder + Drop> {
 impl<F: Folder + Drop> Folder for Watched<F> {
     ghost use Rattle.std.specs.Prelude.{false};
     ghost use Rattle.axe_folder.specs.Files.{no_files};
+    ghost use Rattle.axe_folder.specs.Outcomes.{none_failed};
 
     ghost tells = { false };
 
     ghost files = { λ _. no_files };
 
-    ghost failures = { λ _. 0 };
+    ghost tally = { λ _. none_failed };
 
     fn get(&mut self, name: &str, limit: usize) -> Result<Vec<u8>, FolderFault> {
         self.folder.get(name, limit)

@@ -1,4 +1,4 @@
--- Echelon forms of independent rows: their pivots are those of the span, what is cleared at them, and one more row.
+-- Echelon forms: their pivots are those of the span, what is cleared at them, one more row, and rows that they come from.
 use Rattle.std.specs.Prelude.{◌≡◌, ◌≢◌, ℕ, zero, suc, ◌<◌, ◌⊎◌}
 use Rattle.axe_algebra.specs.Field.{Field}
 use Rattle.axe_algebra.specs.Vectors.{Vector, Matrix, HasLength, zero_vector, add_vectors, scale, times}
@@ -9,8 +9,8 @@ use Rattle.axe_algebra.proofs.Sums.{sum_one, sum_zeros}
 use Rattle.axe_algebra.proofs.ProductLaws.{times-at, times_same, times-add_vectors, times-scale}
 use Rattle.axe_algebra.proofs.Spanning.{span_row, span_same, span_add, span_scale, span_times}
 use Rattle.axe_algebra.proofs.Exchange.{independent_rows_span}
-use Rattle.axe_algebra.proofs.ReducedBases.{place_or_none, pivot_of_same_span}
-use Rattle.axe_echelon.specs.Forms.{IsEchelonForm}
+use Rattle.axe_algebra.proofs.ReducedBases.{place_or_none}
+use Rattle.axe_echelon.specs.Forms.{IsEchelonForm, IsCombined}
 use mathlib.Core.Logic.{inl, inr}
 use mathlib.Core.Path.{refl, sym, ◌∙◌, ap, ap₂, subst, fun_ext}
 use native.Mathlib.Omega.{arith}
@@ -26,18 +26,15 @@ below_or_at P r before at t below = cases (ℕ_discrete t r)
 
 module _ (F : Field) where
   -- no rows
-  pub form_of_none : (n : ℕ) (v w m : Matrix F) (c : Vector F) (p : ℕ → ℕ) → IsEchelonForm F n 0 v w m c p
-  form_of_none n v w m c p = record {
-    independent = record { only_zero = λ d vanishes t below. absurd (omega arith) };
+  pub form_of_none : (n : ℕ) (w : Matrix F) (p : ℕ → ℕ) → IsEchelonForm F n 0 w p
+  form_of_none n w p = record {
     place = λ t below. absurd (omega arith);
     one = λ t below. absurd (omega arith);
     before = λ t i below ahead. absurd (omega arith);
     cleared = λ s t first below. absurd (omega arith);
-    combines = λ t below. absurd (omega arith);
-    few = λ t below. absurd (omega arith);
   }
 
-  module _ (n r : ℕ) (v w m : Matrix F) (c : Vector F) (p : ℕ → ℕ) (form : IsEchelonForm F n r v w m c p) where
+  module _ (n r : ℕ) (w : Matrix F) (p : ℕ → ℕ) (form : IsEchelonForm F n r w p) where
     -- where a combination of the rows is 0 at the pivots below b, the coefficients at these rows are 0
     coefficients_below : (x d : Vector F) → x ≡ times F r d w → (b : ℕ) → ((t : ℕ) → t < r → p t < b → x (p t) ≡ F.zero) →
         (k t : ℕ) → t < k → t < r → p t < b → d t ≡ F.zero
@@ -56,8 +53,8 @@ module _ (F : Field) where
             cases (yes first) (no over) = ap (F.mul (d s)) (form.before s (p t) inside (omega arith)) ∙ mul-zero F (d s)
             cases (no later) _ = ap (F.mul (d s)) (form.cleared t s (omega arith) inside) ∙ mul-zero F (d s)
 
-    -- the columns p t are the pivots of the span of w's rows
-    place_of_pivot : (j : ℕ) → IsPivot F r w j → (t : ℕ) × (t < r) × (p t ≡ j)
+    -- the columns p t are the pivots of the span
+    pub place_of_pivot : (j : ℕ) → IsPivot F r w j → (t : ℕ) × (t < r) × (p t ≡ j)
     place_of_pivot j pivot = cases (place_or_none r p j)
       where
         d : Vector F
@@ -76,40 +73,19 @@ module _ (F : Field) where
             (ap (λ (y : Vector F). y j) pivot.in_span.combines ∙ times-at F r d w j
             ∙ sum_zeros F r (λ t. F.mul (d t) (w t j)) (λ t below. term none t below (dec_lt (p t) j))))
 
-    -- the rows of w are independent, and span what the rows of v span
-    rows_independent : IsIndependent F r w
+    pub pivot_of_place : (t : ℕ) → t < r → IsPivot F r w (p t)
+    pivot_of_place t below = record {
+      vector = w t;
+      in_span = span_row F r w t below;
+      leads = record { nonzero = λ e. F.one-not-zero (sym (form.one t below) ∙ e); before = λ i ahead. form.before t i below ahead };
+    }
+
+    -- the rows are independent
+    pub rows_independent : IsIndependent F r w
     rows_independent = record {
       only_zero = λ d vanishes t below.
           coefficients_below (zero_vector F) d (sym vanishes) n (λ s inside small. refl) (suc t) t (omega arith) below (form.place t below);
     }
-
-    within_before : (k t : ℕ) → t < k → t < r → InSpan F r v (w t)
-    within_before zero t earlier below = absurd (omega arith)
-    within_before (suc k) t earlier below =
-        span_same F r v (w t) (scale F (c t) (add_vectors F (v t) (times F t (m t) w))) (form.combines t below)
-        (span_scale F r v (c t) (add_vectors F (v t) (times F t (m t) w))
-        (span_add F r v (v t) (times F t (m t) w) (span_row F r v t below)
-        (span_times F r v t (m t) w (λ s inside. within_before k s (omega (arith, inside, earlier)) (omega (arith, inside, below))))))
-
-    pub rows_within : SpanWithin F r w r v
-    rows_within t below = within_before (suc t) t (omega arith) below
-
-    pub form_spans : SameSpan F r v r w
-    form_spans = record {
-      forth = λ t below. independent_rows_span F r w v (v t) rows_independent rows_within (span_row F r v t below);
-      back = rows_within;
-    }
-
-    -- the columns p t are the pivots of the span of v's rows
-    pub place_of_span_pivot : (j : ℕ) → IsPivot F r v j → (t : ℕ) × (t < r) × (p t ≡ j)
-    place_of_span_pivot j pivot = place_of_pivot j (pivot_of_same_span F r v r w j form_spans.forth pivot)
-
-    pub span_pivot_of_place : (t : ℕ) → t < r → IsPivot F r v (p t)
-    span_pivot_of_place t below = pivot_of_same_span F r w r v (p t) rows_within (record {
-      vector = w t;
-      in_span = span_row F r w t below;
-      leads = record { nonzero = λ e. F.one-not-zero (sym (form.one t below) ∙ e); before = λ i ahead. form.before t i below ahead };
-    })
 
     -- a vector that is 0 at the pivots before a column
     abbrev pub IsClearedBefore : ℕ → Vector F → Type 0
@@ -131,19 +107,16 @@ module _ (F : Field) where
             ∙ ap (λ (z : Vector F). z (p t)) same
             ∙ ap (F.add (x (p t))) (ap (F.mul (F.neg (x (p t)))) (form.one t inside) ∙ F.mul-one (F.neg (x (p t)))) ∙ F.add-neg (x (p t))
 
-    pub cleared_all : (x : Vector F) → IsClearedBefore n x → IsZeroAtPivots F r v x
-    cleared_all x cleared j pivot = at (place_of_span_pivot j pivot)
+    pub cleared_all : (x : Vector F) → IsClearedBefore n x → IsZeroAtPivots F r w x
+    cleared_all x cleared j pivot = at (place_of_pivot j pivot)
       where
         at : (t : ℕ) × (t < r) × (p t ≡ j) → x j ≡ F.zero
         at (t, below, e) = ap x (sym e) ∙ cleared t below (form.place t below)
 
     -- one more row
-    pub form_more : (v' w' m' : Matrix F) (c' : Vector F) (p' : ℕ → ℕ) → ((t : ℕ) → t < r → v' t ≡ v t) → ((t : ℕ) → t < r → w' t ≡ w t) →
-        ((t : ℕ) → t < r → m' t ≡ m t) → ((t : ℕ) → t < r → c' t ≡ c t) → ((t : ℕ) → t < r → p' t ≡ p t) → IsIndependent F (suc r) v' → p' r < n →
-        w' r (p' r) ≡ F.one → ((i : ℕ) → i < p' r → w' r i ≡ F.zero) → IsZeroAtPivots F r v (w' r) →
-        w' r ≡ scale F (c' r) (add_vectors F (v' r) (times F r (m' r) w)) → HasLength F r (m' r) → IsEchelonForm F n (suc r) v' w' m' c' p'
-    form_more v' w' m' c' p' same_v same_w same_m same_c same_p independent inside one before at_pivots combines few = record {
-      independent = independent;
+    pub form_more : (w' : Matrix F) (p' : ℕ → ℕ) → ((t : ℕ) → t < r → w' t ≡ w t) → ((t : ℕ) → t < r → p' t ≡ p t) → p' r < n →
+        w' r (p' r) ≡ F.one → ((i : ℕ) → i < p' r → w' r i ≡ F.zero) → IsZeroAtPivots F r w (w' r) → IsEchelonForm F n (suc r) w' p'
+    form_more w' p' same_w same_p inside one before at_pivots = record {
       place = below_or_at (λ t. p' t < n) r (λ t below. subst (λ k. k < n) (sym (same_p t below)) (form.place t below)) inside;
       one = below_or_at (λ t. w' t (p' t) ≡ F.one) r
           (λ t below. ap₂ (λ (x : Vector F) (k : ℕ). x k) (same_w t below) (same_p t below) ∙ form.one t below) one;
@@ -152,15 +125,45 @@ module _ (F : Field) where
           (before i) t below;
       cleared = λ s t first below. below_or_at (λ t. s < t → w' t (p' s) ≡ F.zero) r
           (λ t below first. ap₂ (λ (x : Vector F) (k : ℕ). x k) (same_w t below) (same_p s (omega arith)) ∙ form.cleared s t first below)
-          (λ first. ap (w' r) (same_p s first) ∙ at_pivots (p s) (span_pivot_of_place s first)) t below first;
+          (λ first. ap (w' r) (same_p s first) ∙ at_pivots (p s) (pivot_of_place s first)) t below first;
+    }
+
+  -- no rows that come from others
+  pub combined_none : (v w m : Matrix F) (c : Vector F) → IsCombined F 0 v w m c
+  combined_none v w m c = record { combines = λ t below. absurd (omega arith); few = λ t below. absurd (omega arith) }
+
+  module _ (r : ℕ) (v w m : Matrix F) (c : Vector F) (combined : IsCombined F r v w m c) where
+    -- independent rows that come from others span what these span
+    within_before : (k t : ℕ) → t < k → t < r → InSpan F r v (w t)
+    within_before zero t earlier below = absurd (omega arith)
+    within_before (suc k) t earlier below =
+        span_same F r v (w t) (scale F (c t) (add_vectors F (v t) (times F t (m t) w))) (combined.combines t below)
+        (span_scale F r v (c t) (add_vectors F (v t) (times F t (m t) w))
+        (span_add F r v (v t) (times F t (m t) w) (span_row F r v t below)
+        (span_times F r v t (m t) w (λ s inside. within_before k s (omega (arith, inside, earlier)) (omega (arith, inside, below))))))
+
+    pub combined_spans : IsIndependent F r w → SameSpan F r w r v
+    combined_spans independent = record {
+      forth = within;
+      back = λ t below. independent_rows_span F r w v (v t) independent within (span_row F r v t below);
+    }
+      where
+        within : SpanWithin F r w r v
+        within t below = within_before (suc t) t (omega arith) below
+
+    -- one more row, and one that it comes from
+    pub combined_more : (v' w' m' : Matrix F) (c' : Vector F) → ((t : ℕ) → t < r → v' t ≡ v t) → ((t : ℕ) → t < r → w' t ≡ w t) →
+        ((t : ℕ) → t < r → m' t ≡ m t) → ((t : ℕ) → t < r → c' t ≡ c t) → w' r ≡ scale F (c' r) (add_vectors F (v' r) (times F r (m' r) w)) →
+        HasLength F r (m' r) → IsCombined F (suc r) v' w' m' c'
+    combined_more v' w' m' c' same_v same_w same_m same_c combines few = record {
       combines = below_or_at (λ t. w' t ≡ scale F (c' t) (add_vectors F (v' t) (times F t (m' t) w'))) r
-          (λ t below. same_w t below ∙ form.combines t below
+          (λ t below. same_w t below ∙ combined.combines t below
           ∙ ap₂ (λ (e : F.Element) (x : Vector F). scale F e x) (sym (same_c t below))
           (ap₂ (add_vectors F) (sym (same_v t below)) (earlier_rows t below)))
           (combines ∙ ap (λ (x : Vector F). scale F (c' r) (add_vectors F (v' r) x))
           (times_same F r (m' r) (m' r) w w' (λ s first. refl) (λ s first. sym (same_w s first))));
       few = below_or_at (λ t. HasLength F t (m' t)) r
-          (λ t below j past. ap (λ (x : Vector F). x j) (same_m t below) ∙ form.few t below j past) few;
+          (λ t below j past. ap (λ (x : Vector F). x j) (same_m t below) ∙ combined.few t below j past) few;
     }
       where
         earlier_rows : (t : ℕ) → t < r → times F t (m t) w ≡ times F t (m' t) w'

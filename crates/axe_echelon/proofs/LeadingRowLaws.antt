@@ -18,19 +18,16 @@ use Rattle.axe_field.specs.NumberFields.{number_field, gf}
 use Rattle.axe_row.specs.Rows.{RowValue}
 use Rattle.axe_matrix.specs.Matrices.{MatrixValue, IsMatrix}
 use Rattle.axe_echelon.specs.Echelons.{EchelonValue}
-use Rattle.axe_echelon.specs.Steps.{inserted_rows, echelon_rows, pivots, echelon_of, IsStep, AreTabledSteps, IsPivotRow}
-use Rattle.axe_echelon.specs.Subspaces.{step_of, steps_of}
+use Rattle.axe_echelon.specs.Subspaces.{rows_of, pivots_of, space_of, IsRowOfForm, AreTabledRows, IsPivotRow}
 use Rattle.axe_echelon.specs.PivotTables.{marks_in, marks_of, HasRoom, IsPivotAt}
 use Rattle.axe_echelon.specs.LeadingRows.{IsLeadingRow, HasPivotAt, HasRowsFrom, IsTakenOut, IsClearedAfter}
-use Rattle.axe_echelon.specs.declared.Step.{Step}
 use Rattle.axe_echelon.specs.declared.pivot_table.PivotTable.{PivotTable}
 use Rattle.axe_echelon.specs.declared.subspace.PivotRow.{PivotRow}
 use Rattle.axe_echelon.proofs.ClearingLaws.{IsClearing, vector_of_sum}
 use Rattle.axe_echelon.proofs.PivotLaws.{pivot_if_marked, marked_if_pivot}
 use Rattle.axe_echelon.proofs.PivotTableLaws.{zero_where_marked, room_if_marked}
 use Rattle.axe_echelon.proofs.ReducedLaws.{IsReducedUpTo, reduced_none, reduced_other, reduced_more}
-use Rattle.axe_echelon.proofs.StepLaws.{row_of_steps, pivot_of_steps, length-inserted, step_at, steps_fit}
-use Rattle.axe_echelon.proofs.SubspaceLaws.{length-steps_from, step_of_row, row_at, length-rows}
+use Rattle.axe_echelon.proofs.PivotRowLaws.{vector_at, pivot_at, length-rows_of, form_row_at, rows_fit, row_at, length-rows}
 use mathlib.Core.Path.{refl, sym, ◌∙◌, ap, ap₂, subst}
 use native.Mathlib.Omega.{arith}
 use native.Mathlib.Decide.{ℕ_discrete, dec_lt}
@@ -251,7 +248,7 @@ module _ (order : Order) (cols column : ℕ) (rows : List PivotRow) (table : Piv
 
   -- one more
   pub cleared_next : (place index : ℕ) (p : PivotRow) (next : RowValue) (scalar : ℕ) → IsNextNonzero (restricted (marks_of table) row.entries) start place →
-      IsLeadingRow order cols p → index < length rows → p ≡ get_or rows index p → p.pivot ≡ place → IsClearing order cols (step_of order cols 0 p) row next scalar →
+      IsLeadingRow order cols p → index < length rows → p ≡ get_or rows index p → p.pivot ≡ place → IsClearing order cols p row next scalar →
       IsClearedUpTo order cols column rows table (place + 1) first next
   cleared_next place index p next scalar found leads below is pivot clearing = record {
     field = clearing.field;
@@ -307,70 +304,61 @@ pub record IsHalfMoved (e : EchelonValue) (column : ℕ) (rows : List PivotRow) 
   pub marked : (j : ℕ) → (get_or (marks_of table) j 0 ≢ 0) ↔ IsPivot (number_field e.order) e.rows j
 
 -- none has moved
-module _ (o : Order) (n : ℕ) (rows : List PivotRow) (table : PivotTable) (tabled : AreTabledSteps o n (steps_of o n rows) table) where
+module _ (o : Order) (n : ℕ) (rows : List PivotRow) (table : PivotTable) (tabled : AreTabledRows o n rows table) where
   abbrev N : NumberField
   N = number_field o
-
-  abbrev steps : List Step
-  steps = steps_of o n rows
 
   row_leads : (i : ℕ) (p : PivotRow) → i < length rows → p ≡ get_or rows i p → IsLeadingRow o n p
   row_leads i p below is = record {
     field = at.row_field;
     over = at.row_over;
-    place = subst (λ k. k < n) pivot_is (tabled.are_steps.form.place i inside);
-    one = ap₂ (λ (x : Vector (gf o)) (k : ℕ). x k) (sym row_is) (sym pivot_is) ∙ tabled.are_steps.form.one i inside;
-    before = λ j ahead. ap (λ (x : Vector (gf o)). x j) (sym row_is) ∙ tabled.are_steps.form.before i j inside (subst (λ k. j < k) (sym pivot_is) ahead);
+    place = subst (λ k. k < n) pivot_is (tabled.are_rows.form.place i inside);
+    one = ap₂ (λ (x : Vector (gf o)) (k : ℕ). x k) (sym row_is) (sym pivot_is) ∙ tabled.are_rows.form.one i inside;
+    before = λ j ahead. ap (λ (x : Vector (gf o)). x j) (sym row_is) ∙ tabled.are_rows.form.before i j inside (subst (λ k. j < k) (sym pivot_is) ahead);
   }
     where
-      within : i < length steps
-      within = omega (arith, below, length-steps_from o n 0 rows)
+      inside : i < length (rows_of rows)
+      inside = omega (arith, below, length-rows_of rows)
 
-      inside : i < length (inserted_rows steps)
-      inside = omega (arith, within, length-inserted steps)
+      at : IsRowOfForm o n p
+      at = form_row_at o n rows i p tabled.are_rows below is
 
-      step_is : step_of o n i p ≡ get_or steps i (step_of o n i p)
-      step_is = step_of_row o n rows i p below is
+      row_is : matrix_of N (rows_of rows) i ≡ vector_of N p.row.entries
+      row_is = vector_at o rows i p below is
 
-      at : IsStep o n (step_of o n i p)
-      at = step_at o n steps i (step_of o n i p) tabled.are_steps within step_is
-
-      row_is : matrix_of N (echelon_rows steps) i ≡ vector_of N p.row.entries
-      row_is = row_of_steps o (λ (s : Step). s.row.entries) steps i (step_of o n i p) within step_is
-
-      pivot_is : get_or (pivots steps) i 0 ≡ p.pivot
-      pivot_is = pivot_of_steps steps i (step_of o n i p) within step_is
+      pivot_is : get_or (pivots_of rows) i 0 ≡ p.pivot
+      pivot_is = pivot_at rows i p below is
 
   itself : (i : ℕ) (p : PivotRow) → i < length rows → get_or rows i p ≡ get_or rows i (get_or rows i p)
   itself i p below = get_or_default rows i p (get_or rows i p) below
 
-  none_moved : (m : MatrixValue) → m ≡ record { order = o; cols = n; rows = [] } → IsMatrix m → IsHalfMoved (echelon_of o n steps) 0 rows table m
+  none_moved : (m : MatrixValue) → m ≡ record { order = o; cols = n; rows = [] } → IsMatrix m → IsHalfMoved (space_of o n rows) 0 rows table m
   none_moved m is well = record {
-    so_far = reduced_none (echelon_of o n steps) m is;
+    so_far = reduced_none (space_of o n rows) m is;
     well_formed = well;
     left = record {
       each = λ i p below. row_leads i (get_or rows i p) below (itself i p below);
-      few = omega (arith, steps_fit o n steps tabled.are_steps, tabled.are_steps.columns_fit, length-steps_from o n 0 rows);
-      room = λ j marked. room_if_marked n (pivots steps) table j tabled.tabled marked;
+      few = omega (arith, rows_fit o n rows tabled.are_rows, tabled.are_rows.columns_fit);
+      room = λ j marked. room_if_marked n (pivots_of rows) table j tabled.tabled marked;
       found = λ j from marked. found (tabled.tabled.row j marked);
     };
-    spanned = λ i p below. subst (λ (r : RowValue). IsSpanned N (inserted_rows steps) r.entries)
-        (sym (row_at o n rows i (get_or rows i p) (echelon_of o n steps) tabled.are_steps refl below (itself i p below)))
-        (row_spanned N (inserted_rows steps) i (omega (arith, below, length-rows o n rows (echelon_of o n steps) refl)));
-    marked = λ j. (pivot_if_marked o n steps table j tabled, marked_if_pivot o n steps table j tabled);
+    spanned = λ i p below. subst (λ (r : RowValue). IsSpanned N (rows_of rows) r.entries)
+        (sym (row_at o n rows i (get_or rows i p) (space_of o n rows) tabled.are_rows refl below (itself i p below)))
+        (row_spanned N (rows_of rows) i (omega (arith, below, length-rows o n rows (space_of o n rows) refl)));
+    marked = λ j. (pivot_if_marked o n rows table j tabled, marked_if_pivot o n rows table j tabled);
   }
     where
-      found : {j index : ℕ} → IsPivotAt (pivots steps) index j → HasPivotAt rows j index
+      found : {j index : ℕ} → IsPivotAt (pivots_of rows) index j → HasPivotAt rows j index
       found {j} {index} at = record {
         within = below;
-        pivot = λ p p_is. sym (pivot_of_steps steps index (step_of o n index p) (omega (arith, below, length-steps_from o n 0 rows)) (step_of_row o n rows index p below p_is)) ∙ at.is;
+        pivot = λ p p_is. sym (pivot_at rows index p below p_is) ∙ at.is;
       }
         where
           below : index < length rows
-          below = omega (arith, at.within, length-map steps (λ (s : Step). s.pivot), length-steps_from o n 0 rows)
+          below = omega (arith, at.within, length-map rows (λ (p : PivotRow). p.pivot))
 
 pub moved_none : (o : Order) (n : ℕ) (rows : List PivotRow) (table : PivotTable) (e : EchelonValue) (m : MatrixValue) →
-    AreTabledSteps o n (steps_of o n rows) table → echelon_of o n (steps_of o n rows) ≡ e → m ≡ record { order = e.order; cols = e.cols; rows = [] } → IsMatrix m →
+    AreTabledRows o n rows table → space_of o n rows ≡ e → m ≡ record { order = e.order; cols = e.cols; rows = [] } → IsMatrix m →
     IsHalfMoved e 0 rows table m
 moved_none o n rows table e m tabled view is well =
     subst (λ (x : EchelonValue). IsHalfMoved x 0 rows table m) view

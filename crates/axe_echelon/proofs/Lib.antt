@@ -6,9 +6,9 @@ pub mod ClearingLaws
 pub mod SolvingLaws
 pub mod PivotTableLaws
 pub mod PivotLaws
-pub mod MoreStepsLaws
+pub mod PivotRowLaws
 pub mod EliminationLaws
-pub mod InsertLaws
+pub mod InsertedRows
 pub mod ReducedLaws
 pub mod InverseLaws
 pub mod NewRows

@@ -23,7 +23,7 @@ use Rattle.axe_row.specs.Operations.{multiple, multiple_row}
 use Rattle.axe_row.proofs.OperationLaws.{get_or-multiple, length-multiple}
 use Rattle.axe_matrix.specs.Matrices.{MatrixValue}
 use Rattle.axe_echelon.specs.Echelons.{EchelonValue, IsEchelon, IsReducedMatrix}
-use Rattle.axe_echelon.specs.Steps.{IsPivotRow}
+use Rattle.axe_echelon.specs.Subspaces.{IsPivotRow}
 use Rattle.axe_echelon.proofs.FormLaws.{below_or_at}
 use Rattle.axe_echelon.proofs.StepLaws.{over_of_row, below_of_element}
 use mathlib.Core.Path.{refl, sym, ◌∙◌, ap, ap₂, subst, fun_ext}

@@ -18,10 +18,11 @@ use Rattle.axe_field.specs.NumberFields.{number_field, gf}
 use Rattle.axe_field.proofs.NumberFields.{number_field-mul}
 use Rattle.axe_row.specs.Rows.{RowValue, IsRow}
 use Rattle.axe_row.specs.Operations.{row_with_multiple}
-use Rattle.axe_echelon.specs.Steps.{inserted_rows, echelon_rows, multiplier_rows, scalars, IsStep, AreSteps, IsSolved}
+use Rattle.axe_echelon.specs.Echelons.{EchelonValue}
+use Rattle.axe_echelon.specs.Steps.{inserted_rows, multiplier_rows, scalars, IsStep, HasSteps, IsSolved}
 use Rattle.axe_echelon.specs.declared.Step.{Step}
 use Rattle.axe_echelon.proofs.ClearingLaws.{vector_of_sum}
-use Rattle.axe_echelon.proofs.StepLaws.{over_of_row, below_of_element, row_of_steps, scalar_of_steps, length-inserted, step_at, steps_fit}
+use Rattle.axe_echelon.proofs.StepLaws.{over_of_row, below_of_element, row_of_steps, scalar_of_steps, step_at, steps_fit}
 use mathlib.Core.Path.{refl, sym, ◌∙◌, ap, ap₂, subst, fun_ext}
 use native.Mathlib.Omega.{arith}
 use native.Mathlib.Decide.{ℕ_discrete, dec_lt}
@@ -124,126 +125,126 @@ module _ (F : Field) where
 
 -- the combination of the rows of the echelon form with the first multipliers, as one of those rows before `left` and of
 -- the inserted rows from there on
-pub record IsSolvedFrom (o : Order) (n : ℕ) (steps : List Step) (left : ℕ) (first multipliers : RowValue) : Type 0 where
-  pub field : multipliers.order ≡ o
-  pub over : IsVectorOver (number_field o) n multipliers.entries
-  pub same : times (gf o) (length (inserted_rows steps)) (vector_of (number_field o) first.entries) (matrix_of (number_field o) (echelon_rows steps)) ≡
-      times (gf o) (length (inserted_rows steps)) (vector_of (number_field o) multipliers.entries)
-      (mixed_rows (gf o) left (matrix_of (number_field o) (echelon_rows steps)) (matrix_of (number_field o) (inserted_rows steps)))
+pub record IsSolvedFrom (space : EchelonValue) (steps : List Step) (left : ℕ) (first multipliers : RowValue) : Type 0 where
+  pub field : multipliers.order ≡ space.order
+  pub over : IsVectorOver (number_field space.order) space.cols multipliers.entries
+  pub same : times (gf space.order) (length space.rows) (vector_of (number_field space.order) first.entries) (matrix_of (number_field space.order) space.rows) ≡
+      times (gf space.order) (length space.rows) (vector_of (number_field space.order) multipliers.entries)
+      (mixed_rows (gf space.order) left (matrix_of (number_field space.order) space.rows) (matrix_of (number_field space.order) (inserted_rows steps)))
 
-pub solved_from_end : (o : Order) (n : ℕ) (steps : List Step) (left : ℕ) (row : RowValue) → row.order ≡ o → IsVectorOver (number_field o) n row.entries →
-    length steps ≤ left → IsSolvedFrom o n steps left row row
-solved_from_end o n steps left row field over all = record {
+pub solved_from_end : (space : EchelonValue) (steps : List Step) (left : ℕ) (row : RowValue) → row.order ≡ space.order → IsVectorOver (number_field space.order) space.cols row.entries →
+    length space.rows ≤ left → IsSolvedFrom space steps left row row
+solved_from_end space steps left row field over all = record {
   field = field;
   over = over;
-  same = times_same (gf o) (length (inserted_rows steps)) (vector_of (number_field o) row.entries) (vector_of (number_field o) row.entries)
-      (matrix_of (number_field o) (echelon_rows steps))
-      (mixed_rows (gf o) left (matrix_of (number_field o) (echelon_rows steps)) (matrix_of (number_field o) (inserted_rows steps)))
+  same = times_same (gf space.order) (length space.rows) (vector_of (number_field space.order) row.entries) (vector_of (number_field space.order) row.entries)
+      (matrix_of (number_field space.order) space.rows)
+      (mixed_rows (gf space.order) left (matrix_of (number_field space.order) space.rows) (matrix_of (number_field space.order) (inserted_rows steps)))
       (λ t below. refl)
-      (λ t below. sym (mixed_before (gf o) left (matrix_of (number_field o) (echelon_rows steps)) (matrix_of (number_field o) (inserted_rows steps)) t
-      (omega (arith, below, all, length-inserted steps))));
+      (λ t below. sym (mixed_before (gf space.order) left (matrix_of (number_field space.order) space.rows) (matrix_of (number_field space.order) (inserted_rows steps)) t
+      (omega (arith, below, all))));
 }
 
-pub solved_from_start : (o : Order) (n : ℕ) (steps : List Step) (left : ℕ) (first multipliers : RowValue) → left ≡ 0 →
-    IsSolvedFrom o n steps left first multipliers → IsSolved o n steps first multipliers
-solved_from_start o n steps left first multipliers none so_far = record {
+pub solved_from_start : (space : EchelonValue) (steps : List Step) (left : ℕ) (first multipliers : RowValue) → left ≡ 0 →
+    IsSolvedFrom space steps left first multipliers → IsSolved space steps first multipliers
+solved_from_start space steps left first multipliers none so_far = record {
   field = solved.field;
   over = solved.over;
   same = solved.same
-      ∙ times_same (gf o) (length (inserted_rows steps)) (vector_of (number_field o) multipliers.entries) (vector_of (number_field o) multipliers.entries)
-      (mixed_rows (gf o) 0 (matrix_of (number_field o) (echelon_rows steps)) (matrix_of (number_field o) (inserted_rows steps)))
-      (matrix_of (number_field o) (inserted_rows steps)) (λ t below. refl)
-      (λ t below. mixed_after (gf o) 0 (matrix_of (number_field o) (echelon_rows steps)) (matrix_of (number_field o) (inserted_rows steps)) t (omega arith));
+      ∙ times_same (gf space.order) (length space.rows) (vector_of (number_field space.order) multipliers.entries) (vector_of (number_field space.order) multipliers.entries)
+      (mixed_rows (gf space.order) 0 (matrix_of (number_field space.order) space.rows) (matrix_of (number_field space.order) (inserted_rows steps)))
+      (matrix_of (number_field space.order) (inserted_rows steps)) (λ t below. refl)
+      (λ t below. mixed_after (gf space.order) 0 (matrix_of (number_field space.order) space.rows) (matrix_of (number_field space.order) (inserted_rows steps)) t (omega arith));
 }
   where
-    solved : IsSolvedFrom o n steps 0 first multipliers
-    solved = subst (λ k. IsSolvedFrom o n steps k first multipliers) none so_far
+    solved : IsSolvedFrom space steps 0 first multipliers
+    solved = subst (λ k. IsSolvedFrom space steps k first multipliers) none so_far
 
-module _ (o : Order) (n : ℕ) (steps : List Step) (i : ℕ) (step : Step) (are : AreSteps o n steps) (below : i < length steps) (is : step ≡ get_or steps i step) where
+module _ (space : EchelonValue) (steps : List Step) (i : ℕ) (step : Step) (has : HasSteps space steps) (below : i < length steps) (is : step ≡ get_or steps i step) where
   abbrev K : NumberField
-  K = number_field o
+  K = number_field space.order
 
-  abbrev w : Matrix (gf o)
-  w = matrix_of K (echelon_rows steps)
+  abbrev w : Matrix (gf space.order)
+  w = matrix_of K space.rows
 
-  abbrev v : Matrix (gf o)
+  abbrev v : Matrix (gf space.order)
   v = matrix_of K (inserted_rows steps)
 
-  inside : i < length (inserted_rows steps)
-  inside = omega (arith, below, length-inserted steps)
+  inside : i < length space.rows
+  inside = omega (arith, below, has.count)
 
   multipliers_are : matrix_of K (multiplier_rows steps) i ≡ vector_of K step.multipliers.entries
-  multipliers_are = row_of_steps o (λ (s : Step). s.multipliers.entries) steps i step below is
+  multipliers_are = row_of_steps space.order (λ (s : Step). s.multipliers.entries) steps i step below is
 
   -- the multiplier of the step's row is 0
-  pub solve_step_none : (left : ℕ) (first row : RowValue) (number : ℕ) → left ≡ suc i → IsSolvedFrom o n steps left first row → number ≡ get_or row.entries i 0 →
-      number ≡ 0 → IsSolvedFrom o n steps i first row
+  pub solve_step_none : (left : ℕ) (first row : RowValue) (number : ℕ) → left ≡ suc i → IsSolvedFrom space steps left first row → number ≡ get_or row.entries i 0 →
+      number ≡ 0 → IsSolvedFrom space steps i first row
   solve_step_none left first row number next_left so_far number_is none = record {
     field = solved.field;
     over = solved.over;
     same = solved.same
-        ∙ times_same_but (gf o) (length (inserted_rows steps)) i (vector_of K row.entries) (mixed_rows (gf o) (suc i) w v) (mixed_rows (gf o) i w v)
-        (ap (element K) (sym number_is ∙ none) ∙ element_zero K) (λ s first differs. mixed_but_one (gf o) i w v s differs);
+        ∙ times_same_but (gf space.order) (length space.rows) i (vector_of K row.entries) (mixed_rows (gf space.order) (suc i) w v) (mixed_rows (gf space.order) i w v)
+        (ap (element K) (sym number_is ∙ none) ∙ element_zero K) (λ s first differs. mixed_but_one (gf space.order) i w v s differs);
   }
     where
-      solved : IsSolvedFrom o n steps (suc i) first row
-      solved = subst (λ k. IsSolvedFrom o n steps k first row) next_left so_far
+      solved : IsSolvedFrom space steps (suc i) first row
+      solved = subst (λ k. IsSolvedFrom space steps k first row) next_left so_far
 
-  pub solve_step : (left : ℕ) (first row next placed : RowValue) (q : Order) (number coefficient : ℕ) → left ≡ suc i → IsSolvedFrom o n steps left first row → q ≡ o →
+  pub solve_step : (left : ℕ) (first row next placed : RowValue) (q : Order) (number coefficient : ℕ) → left ≡ suc i → IsSolvedFrom space steps left first row → q ≡ space.order →
       number ≡ get_or row.entries i 0 → coefficient ≡ field_mul q number step.scalar → IsElement q coefficient →
       next ≡ row_with_multiple row coefficient step.multipliers → length next.entries ≡ length row.entries → IsRow next →
-      placed ≡ record { order = next.order; entries = set next.entries i coefficient } → IsRow placed → IsSolvedFrom o n steps i first placed
+      placed ≡ record { order = next.order; entries = set next.entries i coefficient } → IsRow placed → IsSolvedFrom space steps i first placed
   solve_step left first row next placed q number coefficient next_left so_far same_field number_is coefficient_is is_element next_is long next_row placed_is placed_row = record {
     field = placed_field;
-    over = over_of_row o n placed placed_field placed_row
+    over = over_of_row space.order space.cols placed placed_field placed_row
         (ap (λ (r : RowValue). length r.entries) placed_is ∙ length-set next.entries i coefficient ∙ next_over.length_is);
     same = solved.same
-        ∙ solved_at (gf o) (length (inserted_rows steps)) i (mixed_rows (gf o) (suc i) w v) (mixed_rows (gf o) i w v) (vector_of K row.entries)
+        ∙ solved_at (gf space.order) (length space.rows) i (mixed_rows (gf space.order) (suc i) w v) (mixed_rows (gf space.order) i w v) (vector_of K row.entries)
         (vector_of K placed.entries) (matrix_of K (multiplier_rows steps) i) (vector_of K (scalars steps) i) inside
-        (λ s first differs. mixed_but_one (gf o) i w v s differs) row_is (are.form.few i inside)
+        (λ s first differs. mixed_but_one (gf space.order) i w v s differs) row_is (has.combined.few i inside)
         (ap (element K) (ap (λ (r : RowValue). get_or r.entries i 0) placed_is ∙ get_or-set_same next.entries i coefficient 0 place) ∙ product)
         (λ s differs. ap (element K) (ap (λ (r : RowValue). get_or r.entries s 0) placed_is ∙ get_or-set_other next.entries i s coefficient 0 differs)
-        ∙ ap (λ (x : Vector (gf o)). x s) next_vector
-        ∙ ap₂ (λ (e : (gf o).Element) (x : Vector (gf o)). (gf o).add (vector_of K row.entries s) ((gf o).mul e (x s))) product (sym multipliers_are));
+        ∙ ap (λ (x : Vector (gf space.order)). x s) next_vector
+        ∙ ap₂ (λ (e : (gf space.order).Element) (x : Vector (gf space.order)). (gf space.order).add (vector_of K row.entries s) ((gf space.order).mul e (x s))) product (sym multipliers_are));
   }
     where
-      solved : IsSolvedFrom o n steps (suc i) first row
-      solved = subst (λ k. IsSolvedFrom o n steps k first row) next_left so_far
+      solved : IsSolvedFrom space steps (suc i) first row
+      solved = subst (λ k. IsSolvedFrom space steps k first row) next_left so_far
 
-      at_i : IsStep o n step
-      at_i = step_at o n steps i step are below is
+      at_i : IsStep space.order space.cols step
+      at_i = step_at space steps i step has below is
 
-      next_field : next.order ≡ o
+      next_field : next.order ≡ space.order
       next_field = ap (λ (r : RowValue). r.order) next_is ∙ solved.field
 
-      placed_field : placed.order ≡ o
+      placed_field : placed.order ≡ space.order
       placed_field = ap (λ (r : RowValue). r.order) placed_is ∙ next_field
 
-      next_over : IsVectorOver K n next.entries
-      next_over = over_of_row o n next next_field next_row (long ∙ solved.over.length_is)
+      next_over : IsVectorOver K space.cols next.entries
+      next_over = over_of_row space.order space.cols next next_field next_row (long ∙ solved.over.length_is)
 
       place : i < length next.entries
-      place = omega (arith, below, steps_fit o n steps are, next_over.length_is)
+      place = omega (arith, below, steps_fit space steps has, next_over.length_is)
 
       coefficient_below : coefficient < K.order
       coefficient_below = subst (λ p. coefficient < (number_field p).order) same_field (below_of_element q coefficient is_element)
 
-      product : element K coefficient ≡ (gf o).mul (vector_of K row.entries i) (vector_of K (scalars steps) i)
+      product : element K coefficient ≡ (gf space.order).mul (vector_of K row.entries i) (vector_of K (scalars steps) i)
       product =
           ap (element K) (coefficient_is ∙ ap₂ (λ p a. field_mul p a step.scalar) same_field number_is
-          ∙ sym (number_field-mul o (get_or row.entries i 0) step.scalar))
+          ∙ sym (number_field-mul space.order (get_or row.entries i 0) step.scalar))
           ∙ element_mul K (get_or row.entries i 0) step.scalar (entry-below K row.entries i solved.over.elements) at_i.scalar_below
-          ∙ ap (λ a. (gf o).mul (vector_of K row.entries i) (element K a)) (sym (scalar_of_steps steps i step below is))
+          ∙ ap (λ a. (gf space.order).mul (vector_of K row.entries i) (element K a)) (sym (scalar_of_steps steps i step below is))
 
-      next_vector : vector_of K next.entries ≡ add_vectors (gf o) (vector_of K row.entries) (scale (gf o) (element K coefficient) (vector_of K step.multipliers.entries))
-      next_vector = vector_of_sum o n row step.multipliers next coefficient solved.field solved.over at_i.multipliers_over next_is next_over coefficient_below
+      next_vector : vector_of K next.entries ≡ add_vectors (gf space.order) (vector_of K row.entries) (scale (gf space.order) (element K coefficient) (vector_of K step.multipliers.entries))
+      next_vector = vector_of_sum space.order space.cols row step.multipliers next coefficient solved.field solved.over at_i.multipliers_over next_is next_over coefficient_below
 
-      row_is : mixed_rows (gf o) (suc i) w v i ≡
-          scale (gf o) (vector_of K (scalars steps) i) (add_vectors (gf o) (mixed_rows (gf o) i w v i)
-          (times (gf o) i (matrix_of K (multiplier_rows steps) i) (mixed_rows (gf o) (suc i) w v)))
+      row_is : mixed_rows (gf space.order) (suc i) w v i ≡
+          scale (gf space.order) (vector_of K (scalars steps) i) (add_vectors (gf space.order) (mixed_rows (gf space.order) i w v i)
+          (times (gf space.order) i (matrix_of K (multiplier_rows steps) i) (mixed_rows (gf space.order) (suc i) w v)))
       row_is =
-          mixed_before (gf o) (suc i) w v i (omega arith) ∙ are.form.combines i inside
-          ∙ ap₂ (λ (x y : Vector (gf o)). scale (gf o) (vector_of K (scalars steps) i) (add_vectors (gf o) x y))
-          (sym (mixed_after (gf o) i w v i (omega arith)))
-          (times_same (gf o) i (matrix_of K (multiplier_rows steps) i) (matrix_of K (multiplier_rows steps) i) w (mixed_rows (gf o) (suc i) w v) (λ s first. refl)
-          (λ s first. sym (mixed_before (gf o) (suc i) w v s (omega (arith, first)))))
+          mixed_before (gf space.order) (suc i) w v i (omega arith) ∙ has.combined.combines i inside
+          ∙ ap₂ (λ (x y : Vector (gf space.order)). scale (gf space.order) (vector_of K (scalars steps) i) (add_vectors (gf space.order) x y))
+          (sym (mixed_after (gf space.order) i w v i (omega arith)))
+          (times_same (gf space.order) i (matrix_of K (multiplier_rows steps) i) (matrix_of K (multiplier_rows steps) i) w (mixed_rows (gf space.order) (suc i) w v) (λ s first. refl)
+          (λ s first. sym (mixed_before (gf space.order) (suc i) w v s (omega (arith, first)))))

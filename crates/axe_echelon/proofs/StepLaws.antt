@@ -1,4 +1,4 @@
--- The steps of an elimination: their rows over the field, and the rows that were inserted as an echelon form that callers see.
+-- Rows over the seven fields, and the steps that gave the rows of an echelon form.
 use Rattle.std.specs.Prelude.{◌≡◌, ℕ, zero, suc, ◌<◌, ◌≤◌, List, [], ◌∷◌, All, map, length, get_or, replicate}
 use Rattle.std.proofs.lemmas.List.{get_or-map, length-map, length-replicate}
 use Rattle.std.proofs.lemmas.List.Elements.{All-from_get_or}
@@ -11,8 +11,8 @@ use Rattle.axe_field.specs.Order.{Order, IsElement}
 use Rattle.axe_field.specs.NumberFields.{number_field, gf}
 use Rattle.axe_row.specs.Rows.{RowValue, IsRow}
 use Rattle.axe_row.proofs.RowLaws.{IsRow-zero}
-use Rattle.axe_echelon.specs.Echelons.{IsEchelon}
-use Rattle.axe_echelon.specs.Steps.{inserted_rows, pivots, scalars, echelon_of, IsStep, AreSteps}
+use Rattle.axe_echelon.specs.Echelons.{EchelonValue, IsEchelon}
+use Rattle.axe_echelon.specs.Steps.{inserted_rows, scalars, echelon_of, IsStep, HasSteps}
 use Rattle.axe_echelon.specs.declared.Step.{Step}
 use mathlib.Core.Path.{refl, sym, ◌∙◌, ap, subst, fun_ext}
 use native.Mathlib.Omega.{arith}
@@ -56,9 +56,6 @@ pub row_of_steps : (o : Order) (f : Step → List ℕ) (steps : List Step) (i : 
 row_of_steps o f steps i step below is =
     ap (vector_of (number_field o)) (get_or-map f steps i step [] below ∙ ap f (sym is))
 
-pub pivot_of_steps : (steps : List Step) (i : ℕ) (step : Step) → i < length steps → step ≡ get_or steps i step → get_or (pivots steps) i 0 ≡ step.pivot
-pivot_of_steps steps i step below is = get_or-map (λ (s : Step). s.pivot) steps i step 0 below ∙ ap (λ (s : Step). s.pivot) (sym is)
-
 pub scalar_of_steps : (steps : List Step) (i : ℕ) (step : Step) → i < length steps → step ≡ get_or steps i step → get_or (scalars steps) i 0 ≡ step.scalar
 scalar_of_steps steps i step below is = get_or-map (λ (s : Step). s.scalar) steps i step 0 below ∙ ap (λ (s : Step). s.scalar) (sym is)
 
@@ -66,12 +63,9 @@ pub length-inserted : (steps : List Step) → length (inserted_rows steps) ≡ l
 length-inserted steps = length-map steps (λ (s : Step). s.inserted.entries)
 
 -- the steps' facts
-pub step_at : (o : Order) (n : ℕ) (steps : List Step) (i : ℕ) (step : Step) → AreSteps o n steps → i < length steps → step ≡ get_or steps i step → IsStep o n step
-step_at o n steps i step are below is = subst (IsStep o n) (sym is) (are.each i step below)
-
-pub step_place : (o : Order) (n : ℕ) (steps : List Step) (i : ℕ) (step : Step) → AreSteps o n steps → i < length steps → step ≡ get_or steps i step → step.pivot < n
-step_place o n steps i step are below is =
-    subst (λ k. k < n) (pivot_of_steps steps i step below is) (are.form.place i (omega (arith, length-inserted steps)))
+pub step_at : (space : EchelonValue) (steps : List Step) (i : ℕ) (step : Step) → HasSteps space steps → i < length steps → step ≡ get_or steps i step →
+    IsStep space.order space.cols step
+step_at space steps i step has below is = subst (IsStep space.order space.cols) (sym is) (has.each i step below)
 
 -- each step of a list that has one
 first_step : (steps : List Step) (i : ℕ) → i < length steps → (step : Step) × (step ≡ get_or steps i step)
@@ -80,13 +74,11 @@ first_step (s ∷ rest) zero below = (s, refl)
 first_step (s ∷ rest) (suc i) below = first_step rest i (omega arith)
 
 pub inserted_are_over : (o : Order) (n : ℕ) (steps : List Step) → All (IsStep o n) steps → All (IsVectorOver (number_field o) n) (inserted_rows steps)
-inserted_are_over o n steps each = All-from_get_or (IsVectorOver (number_field o) n) (inserted_rows steps) [] (λ i below. at i below (steps_at i below))
+inserted_are_over o n steps each =
+    All-from_get_or (IsVectorOver (number_field o) n) (inserted_rows steps) [] (λ i below. at i (omega (arith, below, length-inserted steps)))
   where
-    steps_at : (i : ℕ) → i < length (inserted_rows steps) → i < length steps
-    steps_at i below = omega (arith, length-inserted steps)
-
-    at : (i : ℕ) → i < length (inserted_rows steps) → i < length steps → IsVectorOver (number_field o) n (get_or (inserted_rows steps) i [])
-    at i below inside = found (first_step steps i inside)
+    at : (i : ℕ) → i < length steps → IsVectorOver (number_field o) n (get_or (inserted_rows steps) i [])
+    at i inside = found (first_step steps i inside)
       where
         found : (step : Step) × (step ≡ get_or steps i step) → IsVectorOver (number_field o) n (get_or (inserted_rows steps) i [])
         found (step, is) = subst (IsVectorOver (number_field o) n)
@@ -94,22 +86,16 @@ inserted_are_over o n steps each = All-from_get_or (IsVectorOver (number_field o
             (each i step inside).inserted_over
 
 -- the rows that were inserted are an echelon form as callers see it
-pub echelon_of_steps : (o : Order) (n : ℕ) (steps : List Step) → AreSteps o n steps → IsEchelon (echelon_of o n steps)
-echelon_of_steps o n steps are = record {
-  some_column = are.some_column;
-  columns_fit = are.columns_fit;
-  over = inserted_are_over o n steps are.each;
-  independent = are.form.independent;
+pub echelon_of_steps : (space : EchelonValue) (steps : List Step) → HasSteps space steps → IsEchelon (echelon_of space steps)
+echelon_of_steps space steps has = record {
+  some_column = has.well_formed.some_column;
+  columns_fit = has.well_formed.columns_fit;
+  over = inserted_are_over space.order space.cols steps has.each;
+  independent = has.independent;
 }
 
--- the steps are over the field of a row that has an entry for each column
-pub steps_as_long : (o : Order) (n : ℕ) (steps : List Step) (row : RowValue) → AreSteps o n steps → row.order ≡ o → length row.entries ≡ n →
-    AreSteps row.order (length row.entries) steps
-steps_as_long o n steps row are field long =
-    subst (λ q. AreSteps q (length row.entries) steps) (sym field) (subst (λ k. AreSteps o k steps) (sym long) are)
-
 -- there are no more steps than columns
-pub steps_fit : (o : Order) (n : ℕ) (steps : List Step) → AreSteps o n steps → length steps ≤ n
-steps_fit o n steps are =
-    let few = independent_rows_are_few (number_field o) n (inserted_rows steps) (inserted_are_over o n steps are.each) are.form.independent in
-    omega (arith, few, length-inserted steps)
+pub steps_fit : (space : EchelonValue) (steps : List Step) → HasSteps space steps → length steps ≤ space.cols
+steps_fit space steps has =
+    let few = independent_rows_are_few (number_field space.order) space.cols space.rows has.well_formed.over has.well_formed.independent in
+    omega (arith, few, has.count)

@@ -1,6 +1,6 @@
 -- Matrices whose rows are all zero: their null space is everything, as is the space of all vectors that are orthogonal to
 -- their rows.
-use Rattle.std.specs.Prelude.{◌≡◌, ℕ, ◌+◌, ◌-◌, ◌<◌, ◌≤◌, List, [], length, get_or, All, Some, cond, eqb}
+use Rattle.std.specs.Prelude.{◌≡◌, ℕ, ◌-◌, ◌<◌, ◌≤◌, List, [], length, get_or, All, Some, cond, eqb}
 use Rattle.std.proofs.lemmas.List.{get_or_past}
 use Rattle.std.proofs.lemmas.List.Elements.{All-get_or, All-from_get_or}
 use Rattle.axe_algebra.specs.NumberField.{NumberField}
@@ -26,29 +26,11 @@ use Rattle.axe_matrix.specs.Matrices.{MatrixValue, IsMatrix, identity_matrix, tr
 use Rattle.axe_echelon.proofs.EliminationLaws.{vector_of_zero_row}
 use Rattle.axe_echelon.specs.Echelons.{EchelonValue, IsEchelon, IsReducedMatrix, IsNullSpaceMatrix}
 use Rattle.axe_echelon.specs.OrthogonalPoints.{IsOrthogonalPoint}
-use Rattle.axe_echelon.proofs.FormLaws.{below_or_at}
 use Rattle.axe_echelon.proofs.WholeSpace.{identity_is_reduced}
 use Rattle.axe_echelon.proofs.SomeMatrix.{matrix_of_rows_over}
 use mathlib.Core.Path.{refl, sym, ◌∙◌, ap, ap₂, subst}
 use native.Mathlib.Omega.{arith}
 use native.Mathlib.Decide.{dec_lt}
-
--- the rows before this index are zero
-abbrev pub AreZeroBefore : ℕ → List (List ℕ) → Type 0
-AreZeroBefore k rows = (i : ℕ) → i < k → IsZeroVector (get_or rows i [])
-
--- one more row
-pub zero_more : (rows : List (List ℕ)) (k : ℕ) (row : List ℕ) → row ≡ get_or rows k [] → AreZeroBefore k rows → IsZeroVector row → AreZeroBefore (k + 1) rows
-zero_more rows k row is before zero =
-    λ i ahead. below_or_at (λ t. IsZeroVector (get_or rows t [])) k before (subst IsZeroVector is zero) i (omega (arith, ahead))
-
--- all rows
-pub zero_whole : (rows : List (List ℕ)) (k : ℕ) → length rows ≤ k → AreZeroBefore k rows → All IsZeroVector rows
-zero_whole rows k whole before = All-from_get_or IsZeroVector rows [] (λ i below. before i (omega (arith, below, whole)))
-
--- where all rows are zero, the row at an index is
-pub zero_row : (rows : List (List ℕ)) (k : ℕ) (row : List ℕ) → row ≡ get_or rows k [] → k < length rows → All IsZeroVector rows → IsZeroVector row
-zero_row rows k row is below zeros = subst IsZeroVector (sym is) (All-get_or IsZeroVector rows k [] below zeros)
 
 -- an entry of a list of zeros, or 0 outside it
 zero_entry : (v : List ℕ) (j : ℕ) → IsZeroVector v → get_or v j 0 ≡ 0

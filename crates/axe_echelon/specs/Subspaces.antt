@@ -1,13 +1,24 @@
--- Subspaces, by a basis of each.
-use Rattle.std.specs.Prelude.{◌≡◌, ℕ, suc, ◌<◌, List, ◌++◌, ◌∷◌, [], length, get_or, map, replicate}
+-- Subspaces, each by the rows of an echelon form of it.
+use Rattle.std.specs.Prelude.{◌≡◌, ◌≢◌, ℕ, suc, ◌<◌, ◌≤◌, List, All, ◌++◌, ◌∷◌, [], length, get_or, map}
 use Rattle.std.specs.Prelude.{Bool, if◌then◌else◌}
-use Rattle.axe_algebra.specs.SpansOfLists.{HaveSameSpan, IsSpanned}
-use Rattle.axe_field.specs.Order.{Order}
-use Rattle.axe_field.specs.NumberFields.{number_field}
+use Rattle.axe_algebra.specs.Vectors.{HasLength, add_vectors, times}
+use Rattle.axe_algebra.specs.Reduced.{IsZeroAtPivots}
+use Rattle.axe_algebra.specs.Bridge.{vector_of, matrix_of}
+use Rattle.axe_algebra.specs.Lists.{IsVectorOver}
+use Rattle.axe_algebra.specs.SpansOfLists.{HaveSameSpan, IsSpanned, IsPivot}
+use Rattle.axe_field.specs.Order.{Order, IsElement}
+use Rattle.axe_field.specs.Arithmetic.{field_mul}
+use Rattle.axe_field.specs.NumberFields.{number_field, gf}
+use Rattle.axe_lane.specs.Entries.{IsFirstNonzero}
+use Rattle.axe_row.specs.Operations.{multiple_row}
+use Rattle.axe_row.specs.Rows.{RowValue, IsRow}
+use Rattle.axe_matrix.specs.Limits.{most_columns}
 use Rattle.axe_echelon.specs.Echelons.{EchelonValue}
-use Rattle.axe_echelon.specs.Steps.{IsNextStep}
-use Rattle.axe_echelon.specs.declared.Step.{Step}
+use Rattle.axe_echelon.specs.Forms.{IsEchelonForm}
+use Rattle.axe_echelon.specs.PivotTables.{HasPivots}
+use Rattle.axe_echelon.specs.declared.pivot_table.PivotTable.{PivotTable}
 use Rattle.axe_echelon.specs.declared.subspace.PivotRow.{PivotRow}
+use Rattle.axe_echelon.specs.declared.subspace.ScaledRow.{ScaledRow}
 
 -- the rows of e span what those of `old` span, and one more row where that is new; they are as many and one more
 -- where it is new, and begin with those of `old`
@@ -18,32 +29,73 @@ pub record SpansOneMore (new : Bool) (old : EchelonValue) (row : List ℕ) (e : 
   pub count : length e.rows ≡ (if new then suc (length old.rows) else length old.rows)
   pub begins : (t : ℕ) → t < length old.rows → get_or e.rows t [] ≡ get_or old.rows t []
 
--- row t of an echelon form as a step of an elimination that is given the form's rows themselves: the step's row is the
--- inserted one, to which nothing was added
-abbrev pub step_of : Order → ℕ → ℕ → PivotRow → Step
-step_of order cols t p = record {
-  inserted = p.row;
-  pivot = p.pivot;
-  row = p.row;
-  scalar = 1;
-  multipliers = record { order = order; entries = replicate cols 0 };
-}
-
--- these steps for the rows from t on
-abbrev pub steps_from : Order → ℕ → ℕ → List PivotRow → List Step
-steps_from order cols t [] = []
-steps_from order cols t (p ∷ rest) = step_of order cols t p ∷ steps_from order cols (suc t) rest
-
--- these steps for all rows
-abbrev pub steps_of : Order → ℕ → List PivotRow → List Step
-steps_of order cols rows = steps_from order cols 0 rows
+-- the vectors that the rows are
+abbrev pub rows_of : List PivotRow → List (List ℕ)
+rows_of rows = map (λ (p : PivotRow). p.row.entries) rows
 
 -- the pivots of the rows
 abbrev pub pivots_of : List PivotRow → List ℕ
 pivots_of rows = map (λ (p : PivotRow). p.pivot) rows
 
--- the row of the echelon form that one more vector gives
-pub record IsNextEchelonRow (e : EchelonValue) (v : List ℕ) (p : PivotRow) : Type 0 where
-  pub next : IsNextStep e e.rows p.row.entries (step_of e.order e.cols (length e.rows) p)
-  pub outside : ¬ (IsSpanned (number_field e.order) e.rows v)
-  pub same : HaveSameSpan (number_field e.order) (e.rows ++ v ∷ []) (e.rows ++ p.row.entries ∷ [])
+-- the space with these rows, over a field of this order and with so many columns
+abbrev pub space_of : Order → ℕ → List PivotRow → EchelonValue
+space_of order cols rows = record { order = order; cols = cols; rows = rows_of rows }
+
+-- the row is over the field, and has an entry for each column
+pub record IsRowOfForm (order : Order) (cols : ℕ) (p : PivotRow) : Type 0 where
+  pub row_field : p.row.order ≡ order
+  pub row_over : IsVectorOver (number_field order) cols p.row.entries
+
+-- the rows are an echelon form
+pub record AreFormRows (order : Order) (cols : ℕ) (rows : List PivotRow) : Type 0 where
+  pub some_column : 1 ≤ cols
+  pub columns_fit : cols ≤ most_columns
+  pub each : All (IsRowOfForm order cols) rows
+  pub form : IsEchelonForm (gf order) cols (length (rows_of rows)) (matrix_of (number_field order) (rows_of rows))
+      (λ t. get_or (pivots_of rows) t 0)
+
+-- the table has the pivots of the rows
+pub record AreTabledRows (order : Order) (cols : ℕ) (rows : List PivotRow) (table : PivotTable) : Type 0 where
+  pub are_rows : AreFormRows order cols rows
+  pub tabled : HasPivots cols (pivots_of rows) table
+
+-- a row that the echelon form of the space can have after its others: 1 at its pivot, 0 before it and at the pivots of the
+-- space
+pub record IsNextRow (e : EchelonValue) (p : PivotRow) : Type 0 where
+  pub each : IsRowOfForm e.order e.cols p
+  pub place : p.pivot < e.cols
+  pub one : vector_of (number_field e.order) p.row.entries p.pivot ≡ (gf e.order).one
+  pub before : (i : ℕ) → i < p.pivot → vector_of (number_field e.order) p.row.entries i ≡ (gf e.order).zero
+  pub at_pivots : IsZeroAtPivots (gf e.order) (length e.rows) (matrix_of (number_field e.order) e.rows)
+      (vector_of (number_field e.order) p.row.entries)
+
+-- a row from which all pivots were cleared: it is the first row plus the combination of the space's rows with these
+-- multipliers
+pub record IsCleared (e : EchelonValue) (first row multipliers : RowValue) : Type 0 where
+  pub row_field : row.order ≡ e.order
+  pub multipliers_field : multipliers.order ≡ e.order
+  pub row_over : IsVectorOver (number_field e.order) e.cols row.entries
+  pub multipliers_over : IsVectorOver (number_field e.order) e.cols multipliers.entries
+  pub offset : vector_of (number_field e.order) row.entries ≡
+      add_vectors (gf e.order) (vector_of (number_field e.order) first.entries)
+      (times (gf e.order) (length e.rows) (vector_of (number_field e.order) multipliers.entries) (matrix_of (number_field e.order) e.rows))
+  pub at_pivots : IsZeroAtPivots (gf e.order) (length e.rows) (matrix_of (number_field e.order) e.rows)
+      (vector_of (number_field e.order) row.entries)
+  pub few : HasLength (gf e.order) (length e.rows) (vector_of (number_field e.order) multipliers.entries)
+
+-- what is left of a vector, times the scalar that makes its first entry other than 0, at the pivot, 1
+pub record IsScaledRest (rest : RowValue) (scaled : ScaledRow) : Type 0 where
+  pub leads : IsFirstNonzero rest.entries scaled.row.pivot
+  pub element : IsElement rest.order scaled.scalar
+  pub inverse : field_mul rest.order (get_or rest.entries scaled.row.pivot 0) scaled.scalar ≡ 1
+  pub row : scaled.row.row ≡ multiple_row scaled.scalar rest
+  pub row_well_formed : IsRow scaled.row.row
+
+-- the vector of the span that is 1 at a pivot and 0 at all other pivots
+pub record IsPivotRow (e : EchelonValue) (pivot : ℕ) (row : RowValue) : Type 0 where
+  pub field : row.order ≡ e.order
+  pub over : IsVectorOver (number_field e.order) e.cols row.entries
+  pub in_span : IsSpanned (number_field e.order) e.rows row.entries
+  pub one : vector_of (number_field e.order) row.entries pivot ≡ (gf e.order).one
+  pub zeros : (j : ℕ) → IsPivot (number_field e.order) e.rows j → j ≢ pivot →
+      vector_of (number_field e.order) row.entries j ≡ (gf e.order).zero

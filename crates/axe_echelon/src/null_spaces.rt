@@ -5,12 +5,11 @@
 //! pivot: so this vector is 0 after its column, and all of them, read from the last entry to the first, are a reduced
 //! basis. Therefore the rows that are given are read so in the first place.
 
-ghost use Rattle.std.specs.Prelude.{◌≡◌, ◌≢◌, ◌<◌, ◌↔◌, None, All, IsTrue, IfOk, length, slice_set};
+ghost use Rattle.std.specs.Prelude.{◌≡◌, ◌≢◌, ◌<◌, None, IfOk, length, slice_set};
 ghost use Rattle.axe_algebra.specs.SpansOfLists.{IsAnnihilatorBasis, IsPivot};
 ghost use Rattle.axe_field.specs.Arithmetic.{field_neg};
 ghost use Rattle.axe_field.specs.NumberFields.{number_field};
 ghost use Rattle.axe_field.specs.Order.{IsElement};
-ghost use Rattle.axe_row.specs.Operations.{IsZeroVector};
 ghost use Rattle.axe_row.specs.Refusals.{Answers};
 ghost use Rattle.axe_row.specs.Rows.{IsRow};
 ghost use Rattle.axe_matrix.specs.Matrices.{IsMatrix, transposed_matrix};
@@ -38,24 +37,12 @@ pub fn null_space(alloc: Global, matrix: &Matrix) -> Result<Matrix, Refusal>
         return Err(Refusal::NoRows);
     }
     // All vectors are in the null space of a zero matrix.
-    if is_zero(matrix) {
+    if matrix.has_only_zeros() {
         return Matrix::identity(alloc, *matrix.field(), matrix.rows());
     }
     // The entries of `v X` are the dot products of v with the columns of X.
     let space = space_of_rows(alloc, mirrored_columns(alloc, matrix)?)?;
     orthogonal_to(alloc, &space)
-}
-
-/// Whether each row of a matrix is zero.
-pub(crate) fn is_zero(matrix: &Matrix) -> bool
-    ensures { IsTrue result ↔ All IsZeroVector matrix.now.rows }
-{
-    for index in 0..matrix.rows() {
-        if !matrix.row(index).is_zero() {
-            return false;
-        }
-    }
-    true
 }
 
 /// The reduced basis of the space of all vectors that are orthogonal to the rows of a matrix: that have dot product 0

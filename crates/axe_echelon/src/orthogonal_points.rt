@@ -10,7 +10,7 @@ ghost use Rattle.axe_echelon.specs.OrthogonalPoints.{IsOrthogonalPoint, IsFirstF
 
 use super::Subspace;
 use crate::mirrors::mirrored_matrix;
-use crate::null_spaces::{is_zero, orthogonal_vector};
+use crate::null_spaces::orthogonal_vector;
 use crate::spans::space_of_rows;
 use axe_matrix::{Matrix, Refusal, Row};
 use std::alloc::Global;
@@ -21,7 +21,7 @@ pub fn orthogonal_point(alloc: Global, rows: &Matrix) -> Result<Option<Row>, Ref
     ensures { Answers None (IsOrthogonalPoint rows.now) result }
 {
     // All vectors are orthogonal to zeros, and the last row of their reduced basis is the last unit vector.
-    if is_zero(rows) {
+    if rows.has_only_zeros() {
         let point = Row::unit(alloc, *rows.field(), rows.cols(), rows.cols() - 1)?;
         return Ok(Some(point));
     }

@@ -1,18 +1,17 @@
 //! Subspaces, each by an echelon form of it.
 
-ghost use Rattle.std.specs.Prelude.{⊤, ◌≡◌, ◌<◌, ◌≤◌, ◌↔◌, ◌++◌, ◌∷◌, [], length, get_or};
-ghost use Rattle.std.specs.Prelude.{IsTrue, None, IfOk, MatchOption, OnErr};
+ghost use Rattle.std.specs.Prelude.{⊤, ◌≡◌, ◌<◌, ◌≤◌, ◌↔◌, ◌++◌, ◌∷◌, [], length, get_or, replicate};
+ghost use Rattle.std.specs.Prelude.{IsTrue, true, None, IfOk, MatchOption, OnErr};
 ghost use Rattle.axe_algebra.specs.SpansOfLists.{IsPivot, IsRepresentative, IsSpanned};
 ghost use Rattle.axe_field.specs.NumberFields.{number_field};
+ghost use Rattle.axe_row.specs.Operations.{IsZeroVector};
 ghost use Rattle.axe_row.specs.Refusals.{Answers};
 ghost use Rattle.axe_row.specs.Rows.{IsRow};
 ghost use Rattle.axe_matrix.specs.Limits.{most_columns};
 ghost use Rattle.axe_matrix.specs.Matrices.{IsMatrix};
-ghost use Rattle.axe_echelon.specs.Echelons.{IsEchelon, IsReducedMatrix};
+ghost use Rattle.axe_echelon.specs.Echelons.{IsEchelon, IsReducedMatrix, with_row_where};
 ghost use Rattle.axe_echelon.specs.Orthogonal.{IsPivotOfRow};
-ghost use Rattle.axe_echelon.specs.Steps.{IsPivotRow};
-ghost use Rattle.axe_echelon.specs.PivotTables.{HasPivots};
-ghost use Rattle.axe_echelon.specs.Subspaces.{IsNextEchelonRow, SpansOneMore, pivots_of};
+ghost use Rattle.axe_echelon.specs.Subspaces.{IsCleared, IsNextRow, IsPivotRow, IsScaledRest, SpansOneMore};
 
 use crate::leading_rows::{clear_after, take_row};
 use crate::pivot_table::PivotTable;
@@ -26,6 +25,13 @@ use std::marker::Model;
 pub(crate) struct PivotRow {
     pub(crate) pivot: usize,
     pub(crate) row: Row,
+}
+
+/// What is left of a vector when pivots are cleared from it, scaled to 1 at its first entry other than 0, and the scalar.
+#[derive(Drop)]
+pub(crate) struct ScaledRow {
+    pub(crate) row: PivotRow,
+    pub(crate) scalar: u8,
 }
 
 /// The span of the vectors that were inserted, which are all of one length over one field. Unlike an [`Echelon`], it
@@ -46,12 +52,11 @@ impl Model for Subspace {
 
     ghost Value = { EchelonValue };
 
-    ghost use Rattle.axe_echelon.specs.Steps.{echelon_of, AreTabledSteps};
-    ghost use Rattle.axe_echelon.specs.Subspaces.{steps_of};
+    ghost use Rattle.axe_echelon.specs.Subspaces.{space_of, AreTabledRows};
 
-    ghost view = { λ a. echelon_of a.field a.cols (steps_of a.field a.cols a.rows.items) };
+    ghost view = { λ a. space_of a.field a.cols a.rows.items };
 
-    ghost invariant = { λ a. AreTabledSteps a.field a.cols (steps_of a.field a.cols a.rows.items) a.pivots };
+    ghost invariant = { λ a. AreTabledRows a.field a.cols a.rows.items a.pivots };
 }
 
 impl Subspace {
@@ -141,30 +146,28 @@ impl Subspace {
         if self.dim() == self.cols() {
             return Ok(false);
         }
-        let Some(next) = self.next_row(row) else {
+        let mut rest = row;
+        self.reduce(&mut rest);
+        let Some(next) = scaled_rest(rest) else {
             return Ok(false);
         };
-        add_row(&mut self.rows, &mut self.pivots, self.cols, next)?;
+        self.add_row(next.row)?;
         Ok(true)
     }
 
-    /// The row of the echelon form that one more vector gives, or `None` where the vector is in the space.
-    fn next_row(&self, row: Row) -> Option<PivotRow>
-        requires field { row.order ≡ self.now.order }
-        requires fits { length row.entries ≡ self.now.cols }
-        requires room { length self.now.rows < self.now.cols }
-        ensures { MatchOption result
-            (IsSpanned (number_field self.now.order) self.now.rows row.entries)
-            (IsNextEchelonRow self.now row.entries) }
+    /// Adds a row to the echelon form, and marks its pivot. For want of memory the space stays as it is.
+    pub(crate) fn add_row(&mut self, row: PivotRow) -> Result<(), Refusal>
+        requires { IsNextRow self.old row }
+        ensures added { Answers None (λ _. self.new ≡ with_row_where true self.old row.row.entries) result }
+        ensures unchanged { OnErr result (self.new ≡ self.old) }
+        ensures well_formed { IsEchelon self.new }
     {
-        let mut rest = row;
-        self.reduce(&mut rest);
-        let Some(pivot) = rest.first_nonzero() else {
-            return None;
-        };
-        let scalar = self.field().inv(rest.get(pivot));
-        rest.scale(scalar);
-        Some(PivotRow { pivot, row: rest })
+        let (pivot, index) = (row.pivot, self.rows.len());
+        // The table has room first, and tells the same: so where the push finds no memory nothing has changed.
+        self.pivots.make_room(self.cols)?;
+        self.rows.push(row)?;
+        self.pivots.mark(pivot, index);
+        Ok(())
     }
 
     /// Makes a vector over the field the one vector of its coset modulo the space that is 0 at each pivot.
@@ -186,6 +189,29 @@ impl Subspace {
             let pivot_row = &self.rows[self.pivots.row_of(pivot)];
             row.cancel_from(pivot, &pivot_row.row);
             start = pivot + 1;
+        }
+    }
+
+    /// Clears the pivots from a vector as [`Subspace::reduce`] does, and keeps in a row of zeros the multiplier of each
+    /// row that is added for that.
+    pub(crate) fn reduce_with(&self, row: &mut Row, multipliers: &mut Row)
+        requires field { row.old.order ≡ self.now.order }
+        requires fits { length row.old.entries ≡ self.now.cols }
+        requires zeros { multipliers.old
+            ≡ record { order = row.old.order; entries = replicate (length row.old.entries) 0 } }
+        ensures cleared { IsCleared self.now row.old row.new multipliers.new }
+        ensures well_formed { IsEchelon self.now }
+    {
+        // `len` is called for what it ensures beside the number: that the entries are elements.
+        prove!(row.len() == multipliers.len());
+        let mut column = 0;
+        while let Some(pivot) = self.pivots.next_pivot(row, column) {
+            // The pivot's row is 0 before it: so what was cleared stays 0, and is not looked at again.
+            let index = self.pivots.row_of(pivot);
+            let pivot_row = &self.rows[index];
+            let multiplier = row.cancel_from(pivot, &pivot_row.row);
+            multipliers.set(index, multiplier);
+            column = pivot + 1;
         }
     }
 
@@ -280,24 +306,18 @@ impl Subspace {
     }
 }
 
-/// Adds a row to those of an echelon form, and marks its pivot in the table of theirs. For want of memory the rows stay
-/// as they are.
-fn add_row(
-    rows: &mut Vec<PivotRow>,
-    table: &mut PivotTable,
-    cols: usize,
-    row: PivotRow,
-) -> Result<(), Refusal>
-    requires place { row.pivot < cols }
-    requires tabled { HasPivots cols (pivots_of rows.old.items) table.old }
-    ensures added { Answers None (λ _. rows.new.items ≡ rows.old.items ++ row ∷ []) result }
-    ensures unchanged { OnErr result (rows.new.items ≡ rows.old.items) }
-    ensures tabled { HasPivots cols (pivots_of rows.new.items) table.new }
+/// What is left of a vector, scaled to 1 at its first entry other than 0, or `None` where nothing is left.
+pub(crate) fn scaled_rest(rest: Row) -> Option<ScaledRow>
+    ensures { MatchOption result (IsZeroVector rest.entries) (IsScaledRest rest) }
 {
-    let (pivot, index) = (row.pivot, rows.len());
-    // The table has room first, and tells the same: so where the push finds no memory nothing has changed.
-    table.make_room(cols)?;
-    rows.push(row)?;
-    table.mark(pivot, index);
-    Ok(())
+    let Some(pivot) = rest.first_nonzero() else {
+        return None;
+    };
+    let mut row = rest;
+    let scalar = row.field().inv(row.get(pivot));
+    row.scale(scalar);
+    Some(ScaledRow {
+        row: PivotRow { pivot, row },
+        scalar,
+    })
 }

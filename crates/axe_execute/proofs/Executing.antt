@@ -1,12 +1,13 @@
 -- How a command ends, by what was read and what was made.
 use Rattle.std.proofs.Common.{◌≡◌, ℕ, List, Ok, Err, inl, inr}
 use Rattle.axe_folder.specs.Files.{Files}
+use Rattle.axe_folder.specs.Outcomes.{Tally}
 use Rattle.axe_fault.specs.declared.fault.Fault.{Fault}
 use Rattle.axe_fault.specs.Causes.{Cause, Stands, DeviceFailed, NoMemory, NoCommand, cause_of}
 use Rattle.axe_plan.specs.Plans.{Plan}
 use Rattle.axe_plan.specs.Meanings.{Meaning}
 use Rattle.axe_plan.specs.Drafts.{plan_in}
-use Rattle.axe_plan.specs.Outcome.{StopsReading, Agrees, StopsSteps, Carries}
+use Rattle.axe_plan.specs.Outcome.{StopsReading, Agrees, StopsSteps, Carries, CountsCause}
 use Rattle.axe_execute.specs.Execution.{StopsCommand, Executes}
 
 -- a fault at what is read or computed
@@ -32,3 +33,13 @@ stops_at_step NoCommand names meaning plan old new right stops = absurd stops
 pub broken : (fault : Fault) (names : List (List ℕ)) (meaning : Meaning Plan) (plan : Plan) (old new : Files) → meaning (Ok plan) →
     Carries (Err fault) plan.steps old new → Executes (Err fault) names meaning old new
 broken fault names meaning plan old new right carried = stops_at_step (cause_of fault) names meaning plan old new right carried
+
+-- ---- what is counted
+
+-- want of memory that may come where P is true, may come where Q is, which follows
+pub counts_as : (P Q : Type 0) (cause : Cause) (old new : Tally) → (P → Q) → CountsCause P cause old new → CountsCause Q cause old new
+counts_as P Q (Stands problem) old new follows counts = counts
+counts_as P Q (DeviceFailed name) old new follows counts = counts
+counts_as P Q NoMemory old new follows (inl short) = inl short
+counts_as P Q NoMemory old new follows (inr (early, same)) = inr (follows early, same)
+counts_as P Q NoCommand old new follows counts = counts

@@ -38,7 +38,7 @@ pub(crate) fn chop_draft<F: Folder>(
     name: &Name,
     folder: &mut F,
 ) -> Result<Draft, Fault>
-    ensures { IsTrue F.tells → Reads F.files F.failures folder.old folder.new
+    ensures { IsTrue F.tells → Reads F.files F.tally folder.old folder.new
         (numbered_names name.now generators) plan_in result (ChopPlan generators seed words name.now) }
 {
     let module = read_module(alloc, folder, name, generators)?;
@@ -52,7 +52,7 @@ fn read_module<F: Folder>(
     name: &Name,
     generators: GeneratorCount,
 ) -> Result<Module, Fault>
-    ensures { IsTrue F.tells → Reads F.files F.failures folder.old folder.new
+    ensures { IsTrue F.tells → Reads F.files F.tally folder.old folder.new
         (numbered_names name.now generators) (λ read. read) result
         (λ files. Is (module_in generators name.now files)) }
 {

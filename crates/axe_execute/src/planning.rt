@@ -24,7 +24,7 @@ pub(crate) fn draft_of<F: Folder>(
     command: &Command,
     folder: &mut F,
 ) -> Result<Draft, Fault>
-    ensures { IsTrue F.tells → Reads F.files F.failures folder.old folder.new
+    ensures { IsTrue F.tells → Reads F.files F.tally folder.old folder.new
         (names_read command.now (F.files folder.old)) plan_in result (Means command.now) }
 {
     match command {
@@ -68,7 +68,7 @@ fn conversion_draft<F: Folder>(
     out: &Name,
     folder: &mut F,
 ) -> Result<Draft, Fault>
-    ensures { IsTrue F.tells → Reads F.files F.failures folder.old folder.new (input.now ∷ [])
+    ensures { IsTrue F.tells → Reads F.files F.tally folder.old folder.new (input.now ∷ [])
         plan_in result (ConversionPlan input.now out.now) }
 {
     let matrix = read_text_matrix(alloc, folder, input)?;
@@ -82,7 +82,7 @@ fn printing_draft<F: Folder>(
     out: Option<&Name>,
     folder: &mut F,
 ) -> Result<Draft, Fault>
-    ensures { IsTrue F.tells → Reads F.files F.failures folder.old folder.new (input.now ∷ [])
+    ensures { IsTrue F.tells → Reads F.files F.tally folder.old folder.new (input.now ∷ [])
         plan_in result (PrintingPlan input.now (option_copied out.entry)) }
 {
     let matrix = read_matrix(alloc, folder, input)?;
@@ -97,7 +97,7 @@ fn draft_of_one<F: Folder>(
     out: &Name,
     folder: &mut F,
 ) -> Result<Draft, Fault>
-    ensures { IsTrue F.tells → Reads F.files F.failures folder.old folder.new (input.now ∷ [])
+    ensures { IsTrue F.tells → Reads F.files F.tally folder.old folder.new (input.now ∷ [])
         plan_in result (PlanOfOne (MadeOfOne operation) input.now out.now) }
 {
     let matrix = read_matrix(alloc, folder, input)?;
@@ -114,7 +114,7 @@ fn draft_of_two<F: Folder>(
     out: &Name,
     folder: &mut F,
 ) -> Result<Draft, Fault>
-    ensures { IsTrue F.tells → Reads F.files F.failures folder.old folder.new (left.now ∷ right.now ∷ [])
+    ensures { IsTrue F.tells → Reads F.files F.tally folder.old folder.new (left.now ∷ right.now ∷ [])
         plan_in result (PlanOfTwo (MadeOfTwo operation) left.now right.now out.now) }
 {
     let left = read_matrix(alloc, folder, left)?;

@@ -23,7 +23,7 @@ pub(crate) fn quotient_draft<F: Folder>(
     out: &Name,
     folder: &mut F,
 ) -> Result<Draft, Fault>
-    ensures { IsTrue F.tells → Reads F.files F.failures folder.old folder.new
+    ensures { IsTrue F.tells → Reads F.files F.tally folder.old folder.new
         (subspace.now ∷ numbered_names name.now generators) plan_in result
         (QuotientPlan generators subspace.now name.now out.now) }
 {

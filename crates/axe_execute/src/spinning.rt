@@ -34,7 +34,7 @@ impl SeededModule {
         name: &Name,
         seed: &Name,
     ) -> Result<SeededModule, Fault>
-        ensures reads { IsTrue F.tells → Reads F.files F.failures folder.old folder.new
+        ensures reads { IsTrue F.tells → Reads F.files F.tally folder.old folder.new
             (numbered_names name.now generators ++ seed.now ∷ []) (λ seeded. (seeded.«module», seeded.seed)) result
             (λ files. Is (seeded_module generators name.now seed.now files)) }
         ensures module_well_formed { IfOk result (λ seeded. IsModule seeded.«module») }

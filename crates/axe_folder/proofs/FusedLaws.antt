@@ -1,5 +1,5 @@
 -- What a put leaves that fails, or that put a part of its bytes, is what a folder may leave at a failure of its device.
-use Rattle.std.proofs.Common.{◌≡◌, ◌≢◌, ℕ, List, take, Result, Ok, Err, refl, ap, ◌∙◌, inl, inr}
+use Rattle.std.proofs.Common.{◌≡◌, ℕ, List, take, Result, Ok, Err, IfErr, ap, ◌∙◌, inl, inr}
 use Rattle.axe_folder.specs.declared.fault.FolderFault.{FolderFault}
 use Rattle.axe_folder.specs.declared.fault.FolderFault.TheVariants.{Missing, TooLong, Device, Memory}
 use Rattle.axe_folder.specs.Files.{Files, file_at, with_file}
@@ -19,10 +19,10 @@ torn_put old name bytes n new torn = (
 
 -- a put of the first of the bytes, for which there may be no memory
 pub half_put : (result : Result (Unit {0}) FolderFault) (before old : Files) (name bytes : List ℕ) (n : ℕ) (new : Files)
-    → before ≡ old → Puts result before name (take n bytes) new → result ≢ Err Device → Puts (Err Device) old name bytes new
+    → before ≡ old → Puts result before name (take n bytes) new → IfErr result (λ fault. fault ≡ Memory) → Puts (Err Device) old name bytes new
 half_put (Ok done) before old name bytes n new is put sound =
     torn_put old name bytes n new (put ∙ ap (λ f. with_file f name (take n bytes)) is)
 half_put (Err Missing) before old name bytes n new is put sound = absurd put
 half_put (Err TooLong) before old name bytes n new is put sound = absurd put
-half_put (Err Device) before old name bytes n new is put sound = absurd (sound refl)
+half_put (Err Device) before old name bytes n new is put sound = absurd cc
 half_put (Err Memory) before old name bytes n new is put sound = unchanged_put old name bytes new (put ∙ is)

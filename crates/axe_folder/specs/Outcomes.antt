@@ -1,6 +1,6 @@
 -- What the calls of a folder that tells its files may answer, and what each answer says of the files.
 use Rattle.std.specs.Prelude.{◌≡◌, ◌≢◌, ◌⊎◌, ⊤, ℕ, ◌+◌, ◌-◌, ◌^◌, min, nat_lt, List, length, take, Option, Some, None}
-use Rattle.std.specs.Prelude.{Result, Ok, Err, IsOk, Vec, if◌then◌else◌}
+use Rattle.std.specs.Prelude.{Result, Ok, Err, IsOk, IfSome, Vec, if◌then◌else◌}
 use Rattle.axe_folder.specs.declared.fault.FolderFault.{FolderFault}
 use Rattle.axe_folder.specs.declared.fault.FolderFault.TheVariants.{Missing, TooLong, Device, Memory}
 use Rattle.axe_folder.specs.Files.{Files, file_at, with_file, without_file}
@@ -48,14 +48,39 @@ Removes (Err Device) old name new = KeepsOthers old name new
     × ((file_at new name ≡ file_at old name) ⊎ (file_at new name ≡ None))
 Removes (Err Memory) old name new = new ≡ old
 
--- the most that a count of failures shows, the largest 64-bit number
+-- ---- how calls have failed
+
+-- the most that a count of failed calls shows, the largest 64-bit number
 abbrev pub most_failures : ℕ
 most_failures = 2 ^ 64 - 1
 
--- the count of device failures rises by one with Device, stays at its end, and is unchanged by every other answer
-abbrev pub Counts : {T : Type 0} → Result T FolderFault → ℕ → ℕ → Type 0
-Counts (Ok answer) old new = new ≡ old
-Counts (Err Missing) old new = new ≡ old
-Counts (Err TooLong) old new = new ≡ old
-Counts (Err Device) old new = new ≡ min (old + 1) most_failures
-Counts (Err Memory) old new = new ≡ old
+-- how the calls of a folder have failed: how many for a device; the name at which the last of these was made, where the
+-- folder keeps it; and how many for want of memory
+pub record Tally : Type 0 where
+  pub failures : ℕ
+  pub failed_at : Option (List ℕ)
+  pub shortages : ℕ
+
+-- no call has failed
+abbrev pub none_failed : Tally
+none_failed = record { failures = 0; failed_at = None; shortages = 0 }
+
+-- a device failed once more, in a call at this name: the count of device failures has risen by one, or stays at its
+-- end, and that of want of memory is as it was
+pub record FailedAt (name : List ℕ) (old new : Tally) : Type 0 where
+  pub counted : new.failures ≡ min (old.failures + 1) most_failures
+  pub named : IfSome new.failed_at (λ file. file ≡ name)
+  pub as_short : new.shortages ≡ old.shortages
+
+-- memory was wanting once more: the count of that has risen by one, or stays at its end
+abbrev pub short_again : Tally → Tally
+short_again tally =
+    record { failures = tally.failures; failed_at = tally.failed_at; shortages = min (tally.shortages + 1) most_failures }
+
+-- a call at this name is counted: a failure of the device with Device, want of memory with Memory, and nothing else
+abbrev pub Counts : {T : Type 0} → Result T FolderFault → List ℕ → Tally → Tally → Type 0
+Counts (Ok answer) name old new = new ≡ old
+Counts (Err Missing) name old new = new ≡ old
+Counts (Err TooLong) name old new = new ≡ old
+Counts (Err Device) name old new = FailedAt name old new
+Counts (Err Memory) name old new = new ≡ short_again old

@@ -193,13 +193,13 @@ impl<R: Files + AllocGlobal + Drop> Folder for DirFolder<R> {
     ghost use Rattle.std.specs.Prelude.{◌≡◌, ◌≤◌, false, vec_len, IfOk, IfErr};
     ghost use Rattle.axe_folder.specs.FileName.{is_plain_name};
     ghost use Rattle.axe_folder.specs.Files.{no_files};
-    ghost use Rattle.axe_folder.specs.Outcomes.{IsWriteFault};
+    ghost use Rattle.axe_folder.specs.Outcomes.{IsWriteFault, none_failed};
 
     ghost tells = { false };
 
     ghost files = { λ _. no_files };
 
-    ghost failures = { λ _. 0 };
+    ghost tally = { λ _. none_failed };
 
     fn get(&mut self, name: &str, limit: usize) -> Result<Vec<u8>, FolderFault>
         ensures bounded { IfOk result (λ bytes. vec_len bytes ≤ limit) }

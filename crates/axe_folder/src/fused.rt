@@ -24,7 +24,7 @@ impl Model for FusedFolder {
 
     ghost coded = { fused_code };
 
-    ghost view = { λ a. record { files = a.inside; calls = a.calls; tears = a.tears; failures = a.failures } };
+    ghost view = { λ a. record { inside = a.inside; calls = a.calls; tears = a.tears; failures = a.failures } };
 }
 
 impl FusedFolder {
@@ -36,7 +36,7 @@ impl FusedFolder {
     /// The folder that passes this many calls on to `inside`. `tears` says whether the first call that fails may tear a
     /// file.
     pub fn new(inside: MemFolder, calls: u64, tears: bool) -> Self
-        ensures { result ≡ record { files = inside; calls = calls; tears = tears; failures = 0 } }
+        ensures { result ≡ record { inside = inside; calls = calls; tears = tears; failures = 0 } }
     {
         Self {
             inside,
@@ -49,7 +49,7 @@ impl FusedFolder {
     /// The bytes of the file of this name in the folder inside, or None where there is none. This is no call that
     /// fails.
     pub fn bytes(&self, name: &str) -> Option<&[u8]>
-        ensures { option_copied result ≡ file_at self.now.files name.now }
+        ensures { option_copied result ≡ file_at self.now.inside.files name.now }
     {
         self.inside.bytes(name)
     }
@@ -74,18 +74,18 @@ impl Folder for FusedFolder {
     ghost use Rattle.std.specs.Prelude.{◌≡◌, ◌<◌, true};
     ghost use Rattle.axe_folder.specs.Files.{file_at};
     ghost use Rattle.axe_folder.specs.Outcomes.{Gets, Puts, Removes, Counts};
-    ghost use Rattle.axe_folder.specs.Fused.{Burns, Tears};
+    ghost use Rattle.axe_folder.specs.Fused.{Burns, Tears, fused_tally};
 
     ghost tells = { true };
 
-    ghost files = { λ folder. folder.files };
+    ghost files = { λ folder. folder.inside.files };
 
-    ghost failures = { λ folder. folder.failures };
+    ghost tally = { fused_tally };
 
     fn get(&mut self, name: &str, limit: usize) -> Result<Vec<u8>, FolderFault>
-        ensures gives { Gets result (file_at self.old.files name.now) limit }
-        ensures kept { self.new.files ≡ self.old.files }
-        ensures counted { Counts result self.old.failures self.new.failures }
+        ensures gives { Gets result (file_at self.old.inside.files name.now) limit }
+        ensures kept { self.new.inside.files ≡ self.old.inside.files }
+        ensures counted { Counts result name.now (fused_tally self.old) (fused_tally self.new) }
         ensures burns { Burns result self.old self.new }
     {
         if self.passes() {
@@ -96,10 +96,10 @@ impl Folder for FusedFolder {
     }
 
     fn put(&mut self, name: &str, bytes: &[u8]) -> Result<(), FolderFault>
-        ensures puts { Puts result self.old.files name.now bytes.now self.new.files }
-        ensures counted { Counts result self.old.failures self.new.failures }
+        ensures puts { Puts result self.old.inside.files name.now bytes.now self.new.inside.files }
+        ensures counted { Counts result name.now (fused_tally self.old) (fused_tally self.new) }
         ensures burns { Burns result self.old self.new }
-        ensures tears { self.old.calls ≡ 0 → Tears self.old name.now bytes.now self.new.files }
+        ensures tears { self.old.calls ≡ 0 → Tears self.old name.now bytes.now self.new.inside.files }
     {
         let may_tear = self.tears && self.failures == 0;
         if self.passes() {
@@ -107,16 +107,16 @@ impl Folder for FusedFolder {
         }
         if may_tear {
             // Without memory for them nothing is left of the bytes.
-            let _ = self.inside.put(name, &bytes[..bytes.len() / 2]);
+            let _ = self.inside.keep(name, &bytes[..bytes.len() / 2]);
         }
         Err(FolderFault::Device)
     }
 
     fn remove(&mut self, name: &str) -> Result<(), FolderFault>
-        ensures removes { Removes result self.old.files name.now self.new.files }
-        ensures counted { Counts result self.old.failures self.new.failures }
+        ensures removes { Removes result self.old.inside.files name.now self.new.inside.files }
+        ensures counted { Counts result name.now (fused_tally self.old) (fused_tally self.new) }
         ensures burns { Burns result self.old self.new }
-        ensures kept { self.old.calls ≡ 0 → self.new.files ≡ self.old.files }
+        ensures kept { self.old.calls ≡ 0 → self.new.inside.files ≡ self.old.inside.files }
         ensures passed { 0 < self.old.calls → result ≡ Ok tt }
     {
         if self.passes() {

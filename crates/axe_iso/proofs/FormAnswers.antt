@@ -1,7 +1,6 @@
 -- What the calls that make a form answer: operands that are not refused, and what is left but Memory.
-use Rattle.std.proofs.Common.{◌≡◌, ◌≢◌, ℕ, ◌<◌, false, cond, [], length, get_or, Some, None, Result, Ok, Err, refl, sym, ap, subst, ◌∙◌, arith}
-use Rattle.std.specs.Prelude.{IfOk}
-use Rattle.std.proofs.lemmas.Bool.{eq-eqb, ne_eqb}
+use Rattle.std.proofs.Common.{◌≡◌, ◌≢◌, ◌<◌, false, [], length, get_or, None, Ok, Err, refl, sym, ap, ◌∙◌}
+use Rattle.std.proofs.lemmas.Bool.{eq-eqb}
 use Rattle.axe_algebra.specs.Field.{Field}
 use Rattle.axe_algebra.specs.NumberField.{NumberField}
 use Rattle.axe_algebra.specs.Vectors.{Vector, zero_vector, unit_vector, times}
@@ -12,42 +11,19 @@ use Rattle.axe_algebra.proofs.ProductLaws.{times_zero, times_zero_rows, unit_at,
 use Rattle.axe_algebra.proofs.StandardBases.{standard_basis_is_invariant}
 use Rattle.axe_echelon.proofs.EliminationLaws.{vector_of_zero_row}
 use Rattle.axe_echelon.proofs.Exits.{asked_late}
-use Rattle.axe_echelon.specs.Echelons.{null_space_refusal, IsNullSpaceMatrix}
 use Rattle.axe_field.specs.Order.{order_number}
 use Rattle.axe_field.specs.NumberFields.{number_field, gf}
 use Rattle.axe_row.specs.Rows.{RowValue}
 use Rattle.axe_row.specs.Operations.{IsZeroVector}
-use Rattle.axe_row.specs.Refusals.{Answers, AnswersOr, RefusedAs}
+use Rattle.axe_row.specs.Refusals.{AnswersOr, RefusedAs}
 use Rattle.axe_row.specs.declared.refusals.Refusal.{Refusal}
-use Rattle.axe_row.specs.declared.refusals.Refusal.TheVariants.{NotInvariant, NoRows, Memory}
-use Rattle.axe_matrix.specs.Matrices.{MatrixValue, IsMatrix}
+use Rattle.axe_row.specs.declared.refusals.Refusal.TheVariants.{NotInvariant, Memory}
+use Rattle.axe_matrix.specs.Matrices.{MatrixValue}
 use Rattle.axe_spin.specs.Modules.{ModuleValue, IsModule, IsInvariantIn}
 use Rattle.axe_spin.specs.Spinning.{IsStandardMatrix, has_only_zeros}
 use Rattle.axe_spin.proofs.GeneratedLaws.{some_nonzero}
 use Rattle.axe_action.specs.Actions.{sub_action_refusal, action_late, IsBasisAction, IsActionOverRows}
-use Rattle.axe_word.specs.Words.{IsValueOf}
-use Rattle.axe_word.specs.Drawing.{drawn_word}
-use Rattle.axe_iso.specs.Forms.{IsNullSpaceOf}
 use mathlib.Core.Logic.{inl, inr}
-
--- ---- null spaces
-
-answered : (m : ModuleValue) (seed number : ℕ) (x : MatrixValue) → IsValueOf m (drawn_word seed number (order_number m.order) (length m.generators)) x →
-    (result : Result MatrixValue Refusal) → Answers None (IsNullSpaceMatrix x) result → IfOk result IsMatrix → Answers None (IsNullSpaceOf m seed number) result
-answered m seed number x is_value (Ok space) is well = record { matrix = x; is_value = is_value; is_null_space = is; well_formed = well }
-answered m seed number x is_value (Err refusal) is well = is
-
-pub null_space_answered : (m : ModuleValue) (seed number : ℕ) (x : MatrixValue) (result : Result MatrixValue Refusal) → IsModule m →
-    IsValueOf m (drawn_word seed number (order_number m.order) (length m.generators)) x → Answers (null_space_refusal x) (IsNullSpaceMatrix x) result →
-    IfOk result IsMatrix → Answers None (IsNullSpaceOf m seed number) result
-null_space_answered m seed number x result is_module is_value is well =
-    answered m seed number x is_value result (subst (λ why. Answers why (IsNullSpaceMatrix x) result) none is) well
-  where
-    some : length x.rows ≢ 0
-    some e = absurd (omega (arith, is_module.over.positive, is_value.value.square.length_is))
-
-    none : null_space_refusal x ≡ None
-    none = ap (λ b. cond b (Some NoRows) None) (ne_eqb (length x.rows) 0 some)
 
 -- ---- vectors that generate everything
 

@@ -4,7 +4,7 @@ use Rattle.std.proofs.Math.Seq.{drop-cons}
 use Rattle.std.proofs.lemmas.List.{length-drop}
 use Rattle.axe_algebra.specs.Field.{Field}
 use Rattle.axe_algebra.specs.NumberField.{NumberField}
-use Rattle.axe_algebra.specs.Vectors.{Vector, zero_vector, unit_vector}
+use Rattle.axe_algebra.specs.Vectors.{Vector, Matrix, zero_vector, unit_vector}
 use Rattle.axe_algebra.specs.Spans.{IsIndependent, IsNullVector}
 use Rattle.axe_algebra.specs.Modules.{Module}
 use Rattle.axe_algebra.specs.Modules
@@ -12,7 +12,7 @@ use Rattle.axe_algebra.specs.Reduced.{IsReducedBasisOf}
 use Rattle.axe_algebra.specs.Standard.{AreStandardMatrices}
 use Rattle.axe_algebra.specs.Words.{IsWordOf, word_value}
 use Rattle.axe_algebra.specs.Bridge.{vector_of, matrix_of, module_of, word_of}
-use Rattle.axe_algebra.specs.Lists.{IsMatrixOver, IsModuleOver}
+use Rattle.axe_algebra.specs.Lists.{IsMatrixOver, IsSquareOver, IsModuleOver}
 use Rattle.axe_algebra.specs.SpansOfLists.{IsReducedBasis}
 use Rattle.axe_algebra.specs.ModulesOfLists.{AreIsomorphic}
 use Rattle.axe_algebra.specs.PointsOfLists.{points}
@@ -32,51 +32,63 @@ use Rattle.axe_matrix.specs.Matrices.{MatrixValue}
 use Rattle.axe_echelon.proofs.InverseLaws.{matrix_over}
 use Rattle.axe_spin.specs.Modules.{ModuleValue, IsModule}
 use Rattle.axe_word.specs.Words.{WordValue}
+use Rattle.axe_word.specs.declared.tested.Tested.{Tested}
+use Rattle.axe_word.specs.Tested.{IsTested}
 use Rattle.axe_word.specs.Drawing.{drawn_word}
 use Rattle.axe_word.specs.PointsOfMatrix.{PointsLeft, point_count, most_points, points_of, GivesNext}
 use Rattle.axe_word.proofs.DrawingLaws.{drawn_word-over}
-use Rattle.axe_iso.specs.Forms.{FormValue, HasNullity, IsNullSpaceOf, IsFormOver, IsForm}
+use Rattle.axe_iso.specs.Forms.{FormValue, HasNullity, IsNullSpaceOf, IsFormOver, IsForm, drawn_value}
 use Rattle.axe_iso.specs.Matches.{HasStandardMatrices, point_row}
 use Rattle.axe_iso.specs.Following.{AreFormMatrices}
 use native.Mathlib.Decide.{ℕ_discrete}
 
 -- ---- null spaces
 
--- the null space of the value of a word, as the theory has it
-pub record IsSpaceOfWord (m : ModuleValue) (word : WordValue) (space : MatrixValue) : Type 0 where
+-- the reduced basis of the null space of a matrix, as the theory has it
+pub record IsSpaceOf (m : ModuleValue) (x : Matrix (gf m.order)) (space : MatrixValue) : Type 0 where
   pub field : space.order ≡ m.order
   pub columns : space.cols ≡ m.dim
   pub over : IsMatrixOver (number_field m.order) m.dim space.rows
-  pub basis : IsReducedBasisOf (gf m.order)
-      (IsNullVector (gf m.order) m.dim (word_value (gf m.order) (module_of (number_field m.order) m.dim m.generators) (word_of (number_field m.order) word)))
-      (length space.rows) (matrix_of (number_field m.order) space.rows)
+  pub basis : IsReducedBasisOf (gf m.order) (IsNullVector (gf m.order) m.dim x) (length space.rows) (matrix_of (number_field m.order) space.rows)
 
-pub space_of_word : (m : ModuleValue) (seed number count : ℕ) (space : MatrixValue) → length m.generators ≡ count → IsNullSpaceOf m seed number space →
-    IsSpaceOfWord m (drawn_word seed number (order_number m.order) count) space
-space_of_word m seed number count space same is =
-    subst (λ k. IsSpaceOfWord m (drawn_word seed number (order_number m.order) k) space) same (record {
-      field = field;
-      columns = columns;
-      over = subst (λ o. IsMatrixOver (number_field o) m.dim space.rows) field
-          (subst (λ n. IsMatrixOver (number_field space.order) n space.rows) columns (matrix_over space is.well_formed));
-      basis =
-          subst (λ x. IsReducedBasisOf (gf m.order) (IsNullVector (gf m.order) m.dim x) (length space.rows) (matrix_of K space.rows)) is.is_value.value.value
-          (subst (λ n. IsReducedBasisOf (gf m.order) (IsNullVector (gf m.order) n (matrix_of K is.matrix.rows)) (length space.rows) (matrix_of K space.rows))
-          is.is_value.value.square.length_is
-          (subst (λ o. IsReducedBasisOf (gf o) (IsNullVector (gf o) (length is.matrix.rows) (matrix_of (number_field o) is.matrix.rows)) (length space.rows) (matrix_of (number_field o) space.rows))
-          is.is_value.field is.is_null_space.basis_of_null_space));
-    })
+-- that of a tested matrix
+pub space_of_tested : (m : ModuleValue) (t : Tested) (x : Matrix (gf m.order)) → t.matrix.order ≡ m.order → IsSquareOver (number_field m.order) m.dim t.matrix.rows →
+    matrix_of (number_field m.order) t.matrix.rows ≡ x → IsTested t → IsSpaceOf m x t.null_space
+space_of_tested m t x order square equals is = record {
+  field = field;
+  columns = columns;
+  over = subst (λ o. IsMatrixOver (number_field o) m.dim t.null_space.rows) field
+      (subst (λ n. IsMatrixOver (number_field t.null_space.order) n t.null_space.rows) columns (matrix_over t.null_space is.well_formed));
+  basis =
+      subst (λ y. IsReducedBasisOf (gf m.order) (IsNullVector (gf m.order) m.dim y) (length t.null_space.rows) (matrix_of K t.null_space.rows)) equals
+      (subst (λ n. IsReducedBasisOf (gf m.order) (IsNullVector (gf m.order) n (matrix_of K t.matrix.rows)) (length t.null_space.rows) (matrix_of K t.null_space.rows))
+      square.length_is
+      (subst (λ o. IsReducedBasisOf (gf o) (IsNullVector (gf o) (length t.matrix.rows) (matrix_of (number_field o) t.matrix.rows)) (length t.null_space.rows) (matrix_of (number_field o) t.null_space.rows))
+      order is.null_space.basis_of_null_space));
+}
   where
     K : NumberField
     K = number_field m.order
 
-    field : space.order ≡ m.order
-    field = is.is_null_space.field ∙ is.is_value.field
+    field : t.null_space.order ≡ m.order
+    field = is.null_space.field ∙ order
 
-    columns : space.cols ≡ m.dim
-    columns = is.is_null_space.columns ∙ is.is_value.value.square.length_is
+    columns : t.null_space.cols ≡ m.dim
+    columns = is.null_space.columns ∙ square.length_is
 
-module _ (m : ModuleValue) (word : WordValue) (space : MatrixValue) (is : IsSpaceOfWord m word space) where
+-- that of the value of a word
+abbrev pub IsSpaceOfWord : ModuleValue → WordValue → MatrixValue → Type 0
+IsSpaceOfWord m word space =
+    IsSpaceOf m (word_value (gf m.order) (module_of (number_field m.order) m.dim m.generators) (word_of (number_field m.order) word)) space
+
+pub space_of_word : (m : ModuleValue) (seed number count : ℕ) (space : MatrixValue) → length m.generators ≡ count → IsNullSpaceOf m seed number space →
+    IsSpaceOfWord m (drawn_word seed number (order_number m.order) count) space
+space_of_word m seed number count space same is =
+    subst (λ k. IsSpaceOfWord m (drawn_word seed number (order_number m.order) k) space) same
+    (space_of_tested m (record { matrix = is.matrix; null_space = space }) _ is.is_tested.value.field is.is_tested.value.value.square
+    is.is_tested.value.value.value is.is_tested.tested)
+
+module _ (m : ModuleValue) (x : Matrix (gf m.order)) (space : MatrixValue) (is : IsSpaceOf m x space) where
   abbrev K : NumberField
   K = number_field m.order
 
@@ -97,11 +109,11 @@ module _ (m : ModuleValue) (word : WordValue) (space : MatrixValue) (is : IsSpac
 
 -- a null space has the dimension of a nullity
 pub nullity_of_space : (m : ModuleValue) (seed number : ℕ) (space : MatrixValue) → IsNullSpaceOf m seed number space →
-    HasNullity m.order m.dim m.generators seed number (length space.rows)
+    HasNullity m.order m.dim (drawn_value m.order m.dim m.generators seed number) (length space.rows)
 nullity_of_space m seed number space is_space = record {
   basis = matrix_of K space.rows;
   spans = record { lengths = rows_length K m.dim space.rows facts.over; forth = facts.basis.forth; back = facts.basis.back };
-  independent = space_independent m (drawn_word seed number (order_number m.order) (length m.generators)) space facts;
+  independent = space_independent m _ space facts;
 }
   where
     K : NumberField
@@ -119,7 +131,7 @@ space_of_numbers m seed other_seed number other_number space e f is =
 pub reduced_of_word : (m : ModuleValue) (seed number : ℕ) (space : MatrixValue) → IsNullSpaceOf m seed number space →
     IsReducedBasis (number_field space.order) space.rows space.rows
 reduced_of_word m seed number space is_space =
-    space_reduced m (drawn_word seed number (order_number m.order) (length m.generators)) space (space_of_word m seed number (length m.generators) space refl is_space)
+    space_reduced m _ space (space_of_word m seed number (length m.generators) space refl is_space)
 
 -- ---- the points in turn
 
@@ -202,17 +214,17 @@ module _ (a m : ModuleValue) (is_a : IsModule a) (is_m : IsModule m) (field : m.
   space_facts seed number space is_space = space_of_word m seed number (length a.generators) space count is_space
 
   -- modules in which a word's value has null spaces of other dimensions are not isomorphic
-  pub other_nullity : (seed number nullity : ℕ) → HasNullity a.order a.dim a.generators seed number nullity →
+  pub other_nullity : (seed number nullity : ℕ) → HasNullity a.order a.dim (drawn_value a.order a.dim a.generators seed number) nullity →
       (space : MatrixValue) → IsNullSpaceOf m seed number space → length space.rows ≢ nullity →
       ¬ (AreIsomorphic (number_field a.order) a.dim a.generators m.dim m.generators)
   other_nullity seed number nullity is_nullity space is_space other = at_first_field (λ iso. other (sym
       (isomorphism_keeps_nullity F A N A_is_module N_is_module iso (word_of K' (word_of_both seed number)) (is_word_of_A seed number)
       nullity of_a.basis (length space.rows) (matrix_of K' space.rows) of_a.spans of_a.independent
       (record { lengths = rows_length K' m.dim space.rows facts.over; forth = facts.basis.forth; back = facts.basis.back })
-      (space_independent m (word_of_both seed number) space facts))))
+      (space_independent m _ space facts))))
     where
-      of_a : HasNullity m.order a.dim a.generators seed number nullity
-      of_a = subst (λ o. HasNullity o a.dim a.generators seed number nullity) (sym field) is_nullity
+      of_a : HasNullity m.order a.dim (drawn_value m.order a.dim a.generators seed number) nullity
+      of_a = subst (λ o. HasNullity o a.dim (drawn_value o a.dim a.generators seed number) nullity) (sym field) is_nullity
 
       facts : IsSpaceOfWord m (word_of_both seed number) space
       facts = space_facts seed number space is_space
@@ -242,14 +254,14 @@ module _ (form : FormValue) (m : ModuleValue) (is_form : IsForm form) (is_module
   pub more_points : (most : ℕ) → most_points ≤ most → ¬ (point_count (order_number m.order) (length space.rows) ≤ most) →
       ¬ (AreIsomorphic (number_field form.matrices.order) form.matrices.dim form.matrices.generators m.dim m.generators)
   more_points most enough more =
-      other_nullity form.matrices m is_form.well_formed is_module field count form.seed form.word is_form.over.nullity is_form.over.is_nullity space is_space
+      other_nullity form.matrices m is_form.well_formed is_module field count form.seed form.word is_form.over.few.nullity is_form.over.few.is_nullity space is_space
       (λ e. more (few e))
     where
-      few : length space.rows ≡ is_form.over.nullity → point_count (order_number m.order) (length space.rows) ≤ most
+      few : length space.rows ≡ is_form.over.few.nullity → point_count (order_number m.order) (length space.rows) ≤ most
       few e =
-          let same : point_count (order_number m.order) (length space.rows) ≡ point_count (order_number form.matrices.order) is_form.over.nullity =
+          let same : point_count (order_number m.order) (length space.rows) ≡ point_count (order_number form.matrices.order) is_form.over.few.nullity =
           ap (λ o. point_count (order_number o) (length space.rows)) field ∙ ap (point_count (order_number form.matrices.order)) e in
-          omega (arith, same, is_form.over.few, enough)
+          omega (arith, same, is_form.over.few.few, enough)
 
   unit-nonzero : unit_vector F' 0 ≢ zero_vector F'
   unit-nonzero e = F'.one-not-zero (sym (unit_at F' 0) ∙ ap (λ (x : Vector F'). x 0) e)
@@ -267,7 +279,7 @@ module _ (form : FormValue) (m : ModuleValue) (is_form : IsForm form) (is_module
       (subst (λ (ps : List (List ℕ)). (j : ℕ) → j < length ps →
       ¬ (AreStandardMatrices F' (module_of (number_field m.order) m.dim m.generators) (vector_of (number_field m.order) (get_or ps j []))
       (module_of (number_field m.order) form.matrices.dim form.matrices.generators)))
-      (points_in_module m (word_of_both form.matrices m is_form.well_formed is_module field count form.seed form.word) space facts') none))
+      (points_in_module m _ space facts') none))
 
 -- ---- matrices that are followed
 

@@ -35,7 +35,7 @@ use Rattle.axe_action.specs.Actions.{IsBasisAction}
 use Rattle.axe_word.specs.Words.{WordValue}
 use Rattle.axe_word.specs.Drawing.{drawn_word}
 use Rattle.axe_word.proofs.DrawingLaws.{drawn_word-over}
-use Rattle.axe_iso.specs.Forms.{FormValue, HasFewNullPoints, IsNullVectorOf, IsFormOver, IsForm, IsFormFrom}
+use Rattle.axe_iso.specs.Forms.{FormValue, HasFewNullPointsOf, IsNullVectorOf, IsFormOver, IsForm, IsFormFrom}
 
 module _ (m : ModuleValue) (v : RowValue) (basis : MatrixValue) (is_module : Values.IsModule m) (of : IsVectorOf m v)
     (standard : IsStandardMatrix m v basis) (well : Matrices.IsMatrix basis)
@@ -103,7 +103,7 @@ module _ (m : ModuleValue) (v : RowValue) (basis : MatrixValue) (is_module : Val
       seed_is = refl;
     }
 
-    module _ (seed number : ℕ) (null : IsNullVectorOf m seed number v.entries) (few : HasFewNullPoints m seed number) where
+    module _ (seed number : ℕ) (null : IsNullVectorOf m seed number v.entries) (few : HasFewNullPointsOf m seed number) where
       abbrev word : WordValue
       word = drawn_word seed number (order_number m.order) (length m.generators)
 
@@ -123,14 +123,16 @@ module _ (m : ModuleValue) (v : RowValue) (basis : MatrixValue) (is_module : Val
             standard = standard_matrices_of_unit F M (vector_of K v.entries) M_is_module long (matrix_of K basis.rows) A shape whole acts_on;
             null = subst (λ k. IsNullVector F action.dim (word_value F A (word_of K (drawn_word seed number (order_number m.order) k))) (unit_vector F 0))
                 (sym acts.acts.count) null_at;
-            nullity = few.nullity;
-            is_nullity = record {
-              basis = e;
-              spans = subst (λ k. SpansNullSpace F action.dim (word_value F A (word_of K (drawn_word seed number (order_number m.order) k))) few.nullity e)
-                  (sym acts.acts.count) e_spans;
-              independent = e_independent;
+            few = record {
+              nullity = few.nullity;
+              is_nullity = record {
+                basis = e;
+                spans = subst (λ k. SpansNullSpace F action.dim (word_value F A (word_of K (drawn_word seed number (order_number m.order) k))) few.nullity e)
+                    (sym acts.acts.count) e_spans;
+                independent = e_independent;
+              };
+              few = few.few;
             };
-            few = few.few;
           }
 
       form_over_action : IsFormOver action.order action.dim action.generators seed number
@@ -138,7 +140,7 @@ module _ (m : ModuleValue) (v : RowValue) (basis : MatrixValue) (is_module : Val
 
 -- what a form's type keeps holds of the form of a module from a vector
 pub form_is_kept : (m : ModuleValue) (seed number : ℕ) (v : RowValue) (form : FormValue) → Values.IsModule m → IsVectorOf m v →
-    GeneratesEverything (number_field m.order) m.dim m.generators v.entries → IsNullVectorOf m seed number v.entries → HasFewNullPoints m seed number →
+    GeneratesEverything (number_field m.order) m.dim m.generators v.entries → IsNullVectorOf m seed number v.entries → HasFewNullPointsOf m seed number →
     IsFormFrom m seed number v form → IsForm form
 form_is_kept m seed number v form is_module of_module generates null few from = record {
   well_formed = from.matrices_well_formed;

@@ -34,7 +34,7 @@ module _ (form : FormValue) (m : ModuleValue) (space : MatrixValue) (is_module :
 
   nonzero_spanned : IsNonzeroSpanned K m.dim space.rows point.entries
   nonzero_spanned = subst (IsNonzeroSpanned K m.dim space.rows) entries
-      (point_in_module m (drawn_word form.seed form.word (order_number m.order) (length m.generators)) space facts before.place
+      (point_in_module m _ space facts before.place
       (tried_inside form m space s t point before gives))
 
   pub point_fits : length point.entries ≡ m.dim

@@ -24,11 +24,12 @@ use native.Mathlib.Decide.{dec_lt}
 
 pub null_space_of_word_is_one : (m : ModuleValue) (seed number : ℕ) (a b : MatrixValue) → IsNullSpaceOf m seed number a → IsNullSpaceOf m seed number b → a ≡ b
 null_space_of_word_is_one m seed number a b first second =
-    null_space_is_one first.matrix a b (first.is_null_space, first.well_formed)
-    (subst (λ x. IsNullSpaceMatrix x b) same second.is_null_space, second.well_formed)
+    null_space_is_one first.matrix a b (first.is_tested.tested.null_space, first.is_tested.tested.well_formed)
+    (subst (λ x. IsNullSpaceMatrix x b) same second.is_tested.tested.null_space, second.is_tested.tested.well_formed)
   where
     same : second.matrix ≡ first.matrix
-    same = value-is_unique m (drawn_word seed number (order_number m.order) (length m.generators)) second.matrix first.matrix second.is_value first.is_value
+    same = value-is_unique m (drawn_word seed number (order_number m.order) (length m.generators)) second.matrix first.matrix second.is_tested.value
+        first.is_tested.value
 
 pub standard_matrix_is_one : (m : ModuleValue) (v : RowValue) (a b : MatrixValue) → IsStandardMatrix m v a → IsMatrix a → IsStandardMatrix m v b → IsMatrix b → a ≡ b
 standard_matrix_is_one m v a b first of_a second of_b =

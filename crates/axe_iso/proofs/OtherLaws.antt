@@ -24,7 +24,7 @@ use Rattle.axe_spin.specs.Spinning.{IsStandardMatrix}
 use Rattle.axe_spin.specs.SpinLaws.{IsVectorOf}
 use Rattle.axe_word.specs.Drawing.{drawn_word}
 use Rattle.axe_word.specs.PointsOfMatrix.{point_count, most_points, points_of}
-use Rattle.axe_iso.specs.Forms.{FormValue, IsNullVectorOf, HasFewNullPoints, IsNullSpaceOf, IsFormFrom}
+use Rattle.axe_iso.specs.Forms.{FormValue, IsNullVectorOf, HasFewNullPointsOf, IsNullSpaceOf, IsFormFrom}
 use Rattle.axe_iso.specs.Matches.{IsMatch}
 use Rattle.axe_iso.proofs.FormLaws.{IsSpaceOfWord, space_of_word, points_in_module, point_in_module, nullity_of_space}
 use Rattle.axe_iso.proofs.Forming.{action_is_isomorphic}
@@ -45,12 +45,12 @@ not_few o rows order number bound few order_is rows_is exactly fails holds =
     false≢true (sym fails ∙ (few_said o rows order number bound few order_is rows_is exactly).1 holds)
 
 pub space_field : (m : ModuleValue) (seed number : ℕ) (space : MatrixValue) → IsNullSpaceOf m seed number space → space.order ≡ m.order
-space_field m seed number space is = is.is_null_space.field ∙ is.is_value.field
+space_field m seed number space is = is.is_tested.tested.null_space.field ∙ is.is_tested.value.field
 
 -- ---- the first point of a null space with few points
 
 module _ (m : ModuleValue) (seed number : ℕ) (space : MatrixValue) (is : IsNullSpaceOf m seed number space) where
-  pub few_null : point_count (order_number m.order) (length space.rows) ≤ most_points → HasFewNullPoints m seed number
+  pub few_null : point_count (order_number m.order) (length space.rows) ≤ most_points → HasFewNullPointsOf m seed number
   few_null few = record { nullity = length space.rows; is_nullity = nullity_of_space m seed number space is; few = few }
 
   module _ (v : RowValue) (some : 0 < length space.rows) (v_is : v ≡ record { order = space.order; entries = get_or (points_of space) 0 [] }) where
@@ -62,19 +62,19 @@ module _ (m : ModuleValue) (seed number : ℕ) (space : MatrixValue) (is : IsNul
 
     inside : 0 < length (points_of space)
     inside = subst (λ (ps : List (List ℕ)). 0 < length ps)
-        (sym (points_in_module m (drawn_word seed number (order_number m.order) (length m.generators)) space facts))
+        (sym (points_in_module m _ space facts))
         (first_point_is_last_row (number_field m.order) m.dim space.rows facts.over some).0
 
     pub first_is_vector : IsVectorOf m v
-    first_is_vector = point_is_vector m seed number is.matrix space is.is_value is.is_null_space is.well_formed 0 inside v entries
+    first_is_vector = point_is_vector m seed number space is 0 inside v entries
         (ap (λ (r : RowValue). r.order) v_is ∙ facts.field)
 
     pub first_is_null : IsNullVectorOf m seed number v.entries
-    first_is_null = point_is_null_vector m seed number is.matrix space is.is_value is.is_null_space is.well_formed 0 inside v entries
+    first_is_null = point_is_null_vector m seed number space is 0 inside v entries
 
     pub first_nonzero : ¬ (IsZeroVector v.entries)
     first_nonzero zeros =
-        (point_in_module m (drawn_word seed number (order_number m.order) (length m.generators)) space facts 0 inside).nonzero
+        (point_in_module m _ space facts 0 inside).nonzero
         (ap (vector_of (number_field m.order)) (sym entries) ∙ vector_of_zero_row (number_field m.order) v.entries zeros)
 
 -- ---- forms of the first module

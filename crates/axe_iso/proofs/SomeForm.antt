@@ -34,6 +34,7 @@ use Rattle.axe_word.specs.Words.{WordValue, IsWordIn, IsValueOf}
 use Rattle.axe_word.specs.Drawing.{drawn_word}
 use Rattle.axe_word.specs.PointsOfMatrix.{points_of, PointsLeft, GivesNext}
 use Rattle.axe_word.proofs.ValueLaws.{drawn_word-in}
+use Rattle.axe_word.proofs.TestedLaws.{tested_by}
 use Rattle.axe_iso.specs.Forms.{FormValue, IsNullSpaceOf, IsForm, IsFormFrom}
 use Rattle.axe_iso.specs.Matches.{HasStandardMatrices, point_row, IsFirstMatch, IsMatch}
 use Rattle.axe_iso.proofs.FormAnswers.{generator_is_nonzero}
@@ -91,7 +92,7 @@ some_space m seed number is_module =
       where
         of_null : (space : MatrixValue) × (IsNullSpaceMatrix x space × IsMatrix space) → (space : MatrixValue) × IsNullSpaceOf m seed number space
         of_null (space, (is_null_space, of_space)) =
-            (space, record { matrix = x; is_value = is_value; is_null_space = is_null_space; well_formed = of_space })
+            (space, record { matrix = x; is_tested = tested_by m word x space is_value is_null_space of_space })
 
 -- ---- standard bases, and the actions on them
 
@@ -226,7 +227,7 @@ module _ (form : FormValue) (m : ModuleValue) (is_form : IsForm form) (is_module
     Matches j = HasStandardMatrices m (point_row space j).entries form.matrices
 
     point : (j : ℕ) → j < length (points_of space) → IsNonzeroSpanned K m.dim space.rows (get_or (points_of space) j [])
-    point = point_in_module m (drawn_word form.seed form.word (order_number m.order) (length m.generators)) space facts
+    point = point_in_module m _ space facts
 
     point_decided : (j : ℕ) → j < length (points_of space) → Dec (Matches j)
     point_decided j inside = matrices_or_not (point_row space j) (point j inside).over.length_is (point j inside).nonzero
@@ -243,7 +244,7 @@ module _ (form : FormValue) (m : ModuleValue) (is_form : IsForm form) (is_module
           drop-cons (points_of space) j [] inside,
           refl,
           refl,
-          (point_is_vector m form.seed form.word is_space.matrix space is_space.is_value is_space.is_null_space is_space.well_formed j inside
+          (point_is_vector m form.seed form.word space is_space j inside
               (point_row space j) refl facts.field).well_formed,
         )
 

@@ -10,11 +10,10 @@ use Rattle.axe_field.specs.Order.{Order, order_number}
 use Rattle.axe_field.specs.NumberFields.{number_field, gf}
 use Rattle.axe_row.specs.Rows.{RowValue}
 use Rattle.axe_matrix.specs.Matrices.{MatrixValue, IsMatrix}
-use Rattle.axe_echelon.specs.Echelons.{IsNullSpaceMatrix}
 use Rattle.axe_spin.specs.Modules.{ModuleValue, IsModule}
 use Rattle.axe_spin.specs.Spinning.{IsStandardMatrix}
 use Rattle.axe_action.specs.Actions.{IsBasisAction}
-use Rattle.axe_word.specs.Words.{IsValueOf}
+use Rattle.axe_word.specs.Tested.{IsTestedBy}
 use Rattle.axe_word.specs.Drawing.{drawn_word}
 use Rattle.axe_word.specs.PointsOfMatrix.{point_count, most_points}
 
@@ -25,6 +24,20 @@ pub record FormValue : Type 0 where
   pub word : ℕ
   pub seed : ℕ
 
+-- ---- the null space of a square matrix of a dimension over the field of an order
+
+-- it is the span of so many independent rows
+pub record HasNullity (o : Order) (dim : ℕ) (x : Matrix (gf o)) (nullity : ℕ) : Type 0 where
+  pub basis : Matrix (gf o)
+  pub spans : SpansNullSpace (gf o) dim x nullity basis
+  pub independent : IsIndependent (gf o) nullity basis
+
+-- it has few points
+pub record HasFewNullPoints (o : Order) (dim : ℕ) (x : Matrix (gf o)) : Type 0 where
+  pub nullity : ℕ
+  pub is_nullity : HasNullity o dim x nullity
+  pub few : point_count (order_number o) nullity ≤ most_points
+
 -- ---- the value of a word of a seed, in generators of a dimension over the field of an order
 
 -- the value of the word that a seed draws by this number (Parker 1984)
@@ -33,12 +46,6 @@ drawn_value o dim generators seed number =
     word_value (gf o) (module_of (number_field o) dim generators)
     (word_of (number_field o) (drawn_word seed number (order_number o) (length generators)))
 
--- its null space is the span of so many independent rows
-pub record HasNullity (o : Order) (dim : ℕ) (generators : List (List (List ℕ))) (seed number nullity : ℕ) : Type 0 where
-  pub basis : Matrix (gf o)
-  pub spans : SpansNullSpace (gf o) dim (drawn_value o dim generators seed number) nullity basis
-  pub independent : IsIndependent (gf o) nullity basis
-
 -- v is one of its null vectors
 abbrev pub IsNullVectorOf : ModuleValue → ℕ → ℕ → List ℕ → Type 0
 IsNullVectorOf m seed number v =
@@ -46,17 +53,15 @@ IsNullVectorOf m seed number v =
     (vector_of (number_field m.order) v)
 
 -- its null space has few points
-pub record HasFewNullPoints (m : ModuleValue) (seed number : ℕ) : Type 0 where
-  pub nullity : ℕ
-  pub is_nullity : HasNullity m.order m.dim m.generators seed number nullity
-  pub few : point_count (order_number m.order) nullity ≤ most_points
+abbrev pub HasFewNullPointsOf : ModuleValue → ℕ → ℕ → Type 0
+HasFewNullPointsOf m seed number =
+    HasFewNullPoints m.order m.dim (drawn_value m.order m.dim m.generators seed number)
 
 -- the matrix has as its rows the reduced basis of its null space
 pub record IsNullSpaceOf (m : ModuleValue) (seed number : ℕ) (space : MatrixValue) : Type 0 where
   pub matrix : MatrixValue
-  pub is_value : IsValueOf m (drawn_word seed number (order_number m.order) (length m.generators)) matrix
-  pub is_null_space : IsNullSpaceMatrix matrix space
-  pub well_formed : IsMatrix space
+  pub is_tested : IsTestedBy m (drawn_word seed number (order_number m.order) (length m.generators))
+      (record { matrix = matrix; null_space = space })
 
 -- ---- forms
 
@@ -66,9 +71,7 @@ pub record IsFormOver (o : Order) (dim : ℕ) (generators : List (List (List ℕ
   pub standard : AreStandardMatrices (gf o) (module_of (number_field o) dim generators) (unit_vector (gf o) 0)
       (module_of (number_field o) dim generators)
   pub null : IsNullVector (gf o) dim (drawn_value o dim generators seed number) (unit_vector (gf o) 0)
-  pub nullity : ℕ
-  pub is_nullity : HasNullity o dim generators seed number nullity
-  pub few : point_count (order_number o) nullity ≤ most_points
+  pub few : HasFewNullPoints o dim (drawn_value o dim generators seed number)
 
 -- a standard form: its matrices make a module, and are standard ones over the word that it names
 pub record IsForm (form : FormValue) : Type 0 where

@@ -7,7 +7,7 @@ ghost use Rattle.axe_row.specs.Refusals.{Answers};
 ghost use Rattle.axe_matrix.specs.Matrices.{IsMatrix};
 ghost use Rattle.axe_spin.specs.Spinning.{IsStandardMatrix};
 ghost use Rattle.axe_spin.specs.SpinLaws.{IsVectorOf};
-ghost use Rattle.axe_iso.specs.Forms.{IsForm, IsFormFrom, IsNullVectorOf, HasFewNullPoints};
+ghost use Rattle.axe_iso.specs.Forms.{IsForm, IsFormFrom, IsNullVectorOf, HasFewNullPointsOf};
 
 use axe_action::{basis_action, change_basis};
 use axe_matrix::{Matrix, Refusal, Row};
@@ -97,7 +97,7 @@ pub fn form_of(
     requires null { IsNullVectorOf «module».now seed word vector.now.entries }
     requires generates { GeneratesEverything (number_field «module».now.order) «module».now.dim
         «module».now.generators vector.now.entries }
-    requires few { HasFewNullPoints «module».now seed word }
+    requires few { HasFewNullPointsOf «module».now seed word }
     ensures form { Answers None (IsFormFrom «module».now seed word vector.now) result }
     ensures well_formed { IfOk result IsForm }
 {
@@ -119,7 +119,7 @@ pub(crate) fn form_by_basis(
     requires null { IsNullVectorOf «module».now seed word vector.now.entries }
     requires generates { GeneratesEverything (number_field «module».now.order) «module».now.dim
         «module».now.generators vector.now.entries }
-    requires few { HasFewNullPoints «module».now seed word }
+    requires few { HasFewNullPointsOf «module».now seed word }
     requires basis { IsStandardMatrix «module».now vector.now basis }
     requires well_formed { IsMatrix basis }
     ensures form { Answers None (IsFormFrom «module».now seed word vector.now) result }
@@ -144,7 +144,7 @@ pub fn form_of_owned(
     requires null { IsNullVectorOf «module» seed word vector.now.entries }
     requires generates { GeneratesEverything (number_field «module».order) «module».dim «module».generators
         vector.now.entries }
-    requires few { HasFewNullPoints «module» seed word }
+    requires few { HasFewNullPointsOf «module» seed word }
     ensures form { Answers None (IsFormFrom «module» seed word vector.now) result }
     ensures well_formed { IfOk result IsForm }
 {

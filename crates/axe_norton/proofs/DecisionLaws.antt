@@ -6,10 +6,12 @@ use Rattle.axe_row.specs.Refusals.{Answers}
 use Rattle.axe_row.specs.declared.refusals.Refusal.{Refusal}
 use Rattle.axe_matrix.specs.Matrices.{MatrixValue, IsMatrix}
 use Rattle.axe_reduction.specs.Solutions.{IsInvertibleMatrix}
-use Rattle.axe_echelon.specs.Echelons.{IsNullSpaceMatrix, null_space_refusal}
+use Rattle.axe_echelon.specs.Echelons.{IsNullSpaceMatrix}
 use Rattle.axe_echelon.proofs.Exits.{answers_more}
 use Rattle.axe_spin.specs.Modules.{ModuleValue, IsModule}
-use Rattle.axe_word.specs.Words.{WordValue, IsWordIn, IsValueOf}
+use Rattle.axe_word.specs.Words.{WordValue, IsWordIn}
+use Rattle.axe_word.specs.declared.tested.Tested.{Tested}
+use Rattle.axe_word.specs.Tested.{IsTestedBy}
 use Rattle.axe_word.specs.Drawing.{drawn_word}
 use Rattle.axe_word.specs.PointsOfMatrix.{most_points, point_count}
 use Rattle.axe_norton.specs.declared.verdicts.At.{At}
@@ -19,7 +21,7 @@ use Rattle.axe_norton.specs.Searches.{IsReducedIn, IsSquareIn}
 use Rattle.axe_norton.specs.Verdicts.{Tells, Says, LeavesOpen, LeaveOpenBefore, word_of_seed, IsTrueOf}
 use Rattle.axe_norton.proofs.OpenLaws.{own_square, invertible_without_rows, no_rows_of_invertible}
 use Rattle.axe_word.proofs.ReducedNullSpaces.{null_is_reduced}
-use Rattle.axe_norton.proofs.SearchLaws.{null_accepted, some_point_in}
+use Rattle.axe_norton.proofs.SearchLaws.{some_point_in}
 use Rattle.axe_norton.proofs.TruthLaws.{said_is_true}
 use mathlib.Core.Logic.{inl, inr}
 use mathlib.Core.Path.{refl, sym, ◌∙◌, ap, subst}
@@ -70,19 +72,10 @@ module _ (m : ModuleValue) (matrix null : MatrixValue) (square : IsSquareIn m ma
 
 -- ---- a word
 
--- the null space of a value is not refused
-pub value_null : (m : ModuleValue) (word : WordValue) (matrix : MatrixValue) (result : Result MatrixValue Refusal) → IsMatrix matrix → IsValueOf m word matrix →
-    Answers (null_space_refusal matrix) (IsNullSpaceMatrix matrix) result → Answers None (IsNullSpaceMatrix matrix) result
-value_null m word matrix result formed is_value answer =
-    null_accepted matrix result (omega (arith, is_value.value.square.length_is, is_value.columns, formed.some_column)) answer
-
-pub said_by : (m : ModuleValue) (word : WordValue) (matrix null : MatrixValue) (result : Result At Refusal) → IsValueOf m word matrix →
-    IsNullSpaceMatrix matrix null → IsMatrix null → Answers None (Tells m matrix null) result → Answers None (Says m word) result
-said_by m word matrix null result is_value is well_formed told = answers_more result (Tells m matrix null) (Says m word) told
-    (λ answer tells. record {
-      tested = record { matrix = matrix; is_value = is_value; null_space = null; is_null_space = is; well_formed = well_formed };
-      tells = tells;
-    })
+pub said_by : (m : ModuleValue) (word : WordValue) (t : Tested) (result : Result At Refusal) → IsTestedBy m word t →
+    Answers None (Tells m t.matrix t.null_space) result → Answers None (Says m word) result
+said_by m word t result is told = answers_more result (Tells m t.matrix t.null_space) (Says m word) told
+    (λ answer tells. record { tested = t; is_tested = is; tells = tells })
 
 pub truth_told : (m : ModuleValue) (word : WordValue) (result : Result At Refusal) → IsModule m → IsWordIn m word → Answers None (Says m word) result →
     Answers None (IsTrueOf m) result

@@ -11,14 +11,14 @@ use Rattle.axe_matrix.specs.Matrices.{MatrixValue}
 use Rattle.axe_reduction.specs.Solutions.{IsInvertibleMatrix}
 use Rattle.axe_echelon.specs.Echelons.{IsNullSpaceMatrix}
 use Rattle.axe_spin.specs.Modules.{ModuleValue, IsModule}
-use Rattle.axe_word.specs.Words.{WordValue, IsValueOf}
+use Rattle.axe_word.specs.declared.tested.Tested.{Tested}
+use Rattle.axe_word.specs.Tested.{IsTestedBy}
 use Rattle.axe_word.specs.Drawing.{drawn_word}
 use Rattle.axe_word.specs.PointsOfMatrix.{most_points, point_count}
-use Rattle.axe_norton.specs.Spaces.{Tested}
 use Rattle.axe_norton.specs.Searches.{IsSquareIn}
 use Rattle.axe_norton.specs.Verdicts.{LeavesOpen, IsLeftWithMany, word_of_seed}
 use Rattle.axe_norton.proofs.SearchLaws.{invertible_matrix}
-use Rattle.axe_norton.proofs.TestedLaws.{tested_over}
+use Rattle.axe_norton.proofs.TestedLaws.{value_square, value_over}
 use mathlib.Core.Logic.{inl, inr}
 use mathlib.Core.Path.{refl, sym, subst}
 use native.Mathlib.Omega.{arith}
@@ -28,10 +28,6 @@ pub own_square : (m : ModuleValue) (matrix : MatrixValue) → IsSquareIn m matri
 own_square m matrix is =
     subst (λ k. IsSquareOver (number_field matrix.order) k matrix.rows) (sym is.columns)
     (subst (λ o. IsSquareOver (number_field o) m.dim matrix.rows) (sym is.field) is.square)
-
--- the value of a word is square
-pub value_square : (m : ModuleValue) (word : WordValue) (matrix : MatrixValue) → IsValueOf m word matrix → IsSquareIn m matrix
-value_square m word matrix is_value = record { field = is_value.field; columns = is_value.columns; square = is_value.value.square }
 
 -- a square matrix is invertible exactly where the basis of its null space has no rows
 module _ (matrix null : MatrixValue) (square : IsSquareOver (number_field matrix.order) matrix.cols matrix.rows) (is : IsNullSpaceMatrix matrix null) where
@@ -48,27 +44,27 @@ module _ (matrix null : MatrixValue) (square : IsSquareOver (number_field matrix
       })
 
 -- the null space of the value of the word without terms is everything
-pub null_space_of_no_terms : (m : ModuleValue) (t : Tested m []) → length t.null_space.rows ≡ m.dim
+pub null_space_of_no_terms : (m : ModuleValue) (t : Tested) → IsTestedBy m [] t → length t.null_space.rows ≡ m.dim
 unfolding word_value
-null_space_of_no_terms m t =
-    null_space_of_zero (number_field m.order) m.dim t.matrix.rows t.null_space.rows t.is_value.value.square t.is_value.value.value (tested_over m [] t).over
-    (tested_over m [] t).basis
+null_space_of_no_terms m t is =
+    null_space_of_zero (number_field m.order) m.dim t.matrix.rows t.null_space.rows is.value.value.square is.value.value.value (value_over m [] t is).over
+    (value_over m [] t is).basis
 
 -- so this word leaves a module open only where the module has many points
 pub many_where_open : (m : ModuleValue) → IsModule m → LeavesOpen m [] → most_points < point_count (order_number m.order) m.dim
 many_where_open m is open_ = cases open_.tells
   where
     rows : length open_.tested.null_space.rows ≡ m.dim
-    rows = null_space_of_no_terms m open_.tested
+    rows = null_space_of_no_terms m open_.tested open_.is_tested
 
     field : open_.tested.null_space.order ≡ m.order
-    field = (tested_over m [] open_.tested).field
+    field = (value_over m [] open_.tested open_.is_tested).field
 
     cases : IsInvertibleMatrix open_.tested.matrix ⊎ IsLeftWithMany m open_.tested.matrix open_.tested.null_space →
         most_points < point_count (order_number m.order) m.dim
     cases (inl invertible) =
         let none : length open_.tested.null_space.rows ≡ 0 = no_rows_of_invertible open_.tested.matrix open_.tested.null_space
-        (own_square m open_.tested.matrix (value_square m [] open_.tested.matrix open_.tested.is_value)) open_.tested.is_null_space invertible in
+        (own_square m open_.tested.matrix (value_square m [] open_.tested.matrix open_.is_tested.value)) open_.is_tested.tested.null_space invertible in
         absurd (omega (arith, none, rows, is.over.positive))
     cases (inr left) =
         subst (λ k. most_points < point_count (order_number m.order) k) rows

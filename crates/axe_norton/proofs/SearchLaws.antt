@@ -1,6 +1,6 @@
 -- The steps of the test: seeds of one row, first points, and what points generate.
 use Rattle.std.specs.Prelude.{◌≡◌, ◌≢◌, ℕ, ◌-◌, ◌<◌, ◌⊎◌, List, [], ◌∷◌, ◌++◌, length, Option, Some, None, Result, Bool, false, IsTrue}
-use Rattle.std.proofs.lemmas.Bool.{ne_eqb, eq-eqb}
+use Rattle.std.proofs.lemmas.Bool.{eq-eqb}
 use Rattle.axe_algebra.specs.Vectors.{Matrix, zero_vector}
 use Rattle.axe_algebra.specs.Spans
 use Rattle.axe_algebra.specs.Bridge.{vector_of, matrix_of, module_of}
@@ -26,7 +26,7 @@ use Rattle.axe_row.specs.Operations.{IsZeroVector}
 use Rattle.axe_row.specs.declared.refusals.Refusal.{Refusal}
 use Rattle.axe_matrix.specs.Matrices.{MatrixValue, IsMatrix, transposed_matrix}
 use Rattle.axe_reduction.specs.Solutions.{IsInvertibleMatrix}
-use Rattle.axe_echelon.specs.Echelons.{EchelonValue, IsReducedMatrix, IsNullSpaceMatrix, null_space_refusal}
+use Rattle.axe_echelon.specs.Echelons.{EchelonValue, IsReducedMatrix, IsNullSpaceMatrix}
 use Rattle.axe_echelon.specs.OrthogonalPoints.{IsOrthogonalPoint}
 use Rattle.axe_echelon.proofs.InverseLaws.{matrix_over}
 use Rattle.axe_echelon.proofs.EliminationLaws.{vector_of_zero_row}
@@ -233,11 +233,7 @@ module _ (m : ModuleValue) (matrix : MatrixValue) (is : IsSquareIn m matrix) (v 
     well_formed = well_formed;
   }
 
--- ---- the null space of a matrix that has rows, and that of its transpose
-
-pub null_accepted : (matrix : MatrixValue) (result : Result MatrixValue Refusal) → 0 < length matrix.rows →
-    Answers (null_space_refusal matrix) (IsNullSpaceMatrix matrix) result → Answers None (IsNullSpaceMatrix matrix) result
-null_accepted matrix result some answer = rw (ne_eqb (length matrix.rows) 0 (λ none. omega (arith, none))) at answer
+-- ---- the null space of the transpose of a matrix
 
 -- a row that is the first point of the null space of the transpose
 pub transposed_row_is : (matrix null : MatrixValue) (v : RowValue) → IsSquareOver (number_field matrix.order) matrix.cols matrix.rows → ¬ (IsInvertibleMatrix matrix) →

@@ -14,8 +14,11 @@ use Rattle.axe_echelon.specs.Echelons.{IsNullSpaceMatrix}
 use Rattle.axe_echelon.proofs.InverseLaws.{matrix_over}
 use Rattle.axe_spin.specs.Modules.{ModuleValue}
 use Rattle.axe_word.specs.Words.{WordValue, IsValueOf}
+use Rattle.axe_word.specs.declared.tested.Tested.{Tested}
+use Rattle.axe_word.specs.Tested.{IsTested, IsTestedBy}
 use Rattle.axe_word.specs.PointsOfMatrix.{points_of}
-use Rattle.axe_norton.specs.Spaces.{Tested, point_of}
+use Rattle.axe_norton.specs.Spaces.{point_of}
+use Rattle.axe_norton.specs.Searches.{IsSquareIn}
 use Rattle.axe_norton.proofs.PointLaws.{point_is}
 use mathlib.Core.Path.{sym, ◌∙◌, subst}
 
@@ -41,21 +44,29 @@ null_space_over o n matrix null field square is well_formed =
       basis = subst (λ p. IsNullSpaceBasis (number_field p) matrix.rows null.rows) field is.basis_of_null_space;
     }
 
--- that of the tested matrix
-pub tested_over : (m : ModuleValue) (word : WordValue) (t : Tested m word) → IsNullSpaceOver m.order m.dim t.matrix.rows t.null_space
-tested_over m word t = null_space_over m.order m.dim t.matrix t.null_space t.is_value.field t.is_value.value.square t.is_null_space t.well_formed
+-- the value of a word is square
+pub value_square : (m : ModuleValue) (word : WordValue) (matrix : MatrixValue) → IsValueOf m word matrix → IsSquareIn m matrix
+value_square m word matrix is_value = record { field = is_value.field; columns = is_value.columns; square = is_value.value.square }
+
+-- that of a tested matrix
+pub tested_over : (m : ModuleValue) (t : Tested) → IsSquareIn m t.matrix → IsTested t → IsNullSpaceOver m.order m.dim t.matrix.rows t.null_space
+tested_over m t square is = null_space_over m.order m.dim t.matrix t.null_space square.field square.square is.null_space is.well_formed
+
+-- that of the value of a word
+pub value_over : (m : ModuleValue) (word : WordValue) (t : Tested) → IsTestedBy m word t → IsNullSpaceOver m.order m.dim t.matrix.rows t.null_space
+value_over m word t is = tested_over m t (value_square m word t.matrix is.value) is.tested
 
 -- that of its transpose
 pub transposed_square : (o : Order) (n : ℕ) (rows : List (List ℕ)) → IsSquareOver (number_field o) n rows → IsSquareOver (number_field o) n (transpose n rows)
 transposed_square o n rows square = transpose_square (number_field o) n rows square
 
-pub transposed_over : (m : ModuleValue) (word : WordValue) (matrix null : MatrixValue) → IsValueOf m word matrix →
+pub transposed_over : (m : ModuleValue) (matrix null : MatrixValue) → IsSquareIn m matrix →
     IsNullSpaceMatrix (transposed_matrix matrix) null → IsMatrix null → IsNullSpaceOver m.order m.dim (transpose m.dim matrix.rows) null
-transposed_over m word matrix null is_value is well_formed =
-    subst (λ k. IsNullSpaceOver m.order m.dim (transpose k matrix.rows) null) is_value.columns
-    (null_space_over m.order m.dim (transposed_matrix matrix) null is_value.field
-    (subst (λ k. IsSquareOver (number_field m.order) m.dim (transpose k matrix.rows)) (sym is_value.columns)
-    (transposed_square m.order m.dim matrix.rows is_value.value.square)) is well_formed)
+transposed_over m matrix null square is well_formed =
+    subst (λ k. IsNullSpaceOver m.order m.dim (transpose k matrix.rows) null) square.columns
+    (null_space_over m.order m.dim (transposed_matrix matrix) null square.field
+    (subst (λ k. IsSquareOver (number_field m.order) m.dim (transpose k matrix.rows)) (sym square.columns)
+    (transposed_square m.order m.dim matrix.rows square.square)) is well_formed)
 
 pub independent_null : (o : Order) (n : ℕ) (matrix : List (List ℕ)) (null : MatrixValue) → IsNullSpaceOver o n matrix null → IsIndependent (number_field o) null.rows
 independent_null o n matrix null is =

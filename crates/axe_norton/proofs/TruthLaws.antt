@@ -24,14 +24,17 @@ use Rattle.axe_matrix.specs.Matrices.{MatrixValue, IsMatrix}
 use Rattle.axe_echelon.proofs.InverseLaws.{matrix_over}
 use Rattle.axe_spin.specs.Modules.{ModuleValue, IsModule}
 use Rattle.axe_action.specs.Actions.{dual_module}
-use Rattle.axe_word.specs.Words.{WordValue, IsWordIn, IsValueOf}
+use Rattle.axe_word.specs.Words.{WordValue, IsWordIn}
+use Rattle.axe_word.specs.declared.tested.Tested.{Tested}
+use Rattle.axe_word.specs.Tested.{IsTested, IsTestedBy}
 use Rattle.axe_word.specs.PointsOfMatrix.{points_of}
-use Rattle.axe_norton.specs.Spaces.{Tested, IsIrreducibleModule, IsProperSubmodule, GeneratesModule, GeneratesProper, point_of, TriedGenerate, IsFirstProperSpace, IsTransposedSpace}
+use Rattle.axe_norton.specs.Spaces.{IsIrreducibleModule, IsProperSubmodule, GeneratesModule, GeneratesProper, point_of, TriedGenerate, IsFirstProperSpace, IsTransposedSpace}
+use Rattle.axe_norton.specs.Searches.{IsSquareIn}
 use Rattle.axe_norton.specs.Verdicts.{ShowsIrreducible, ShowsReducible, Says, IsTrueOf}
 use Rattle.axe_norton.specs.declared.verdicts.At.{At}
 use Rattle.axe_norton.specs.declared.verdicts.At.TheVariants.{Irreducible, Reducible, Left}
 use Rattle.axe_norton.proofs.PointLaws.{points_over, point_at, multiple_of_point}
-use Rattle.axe_norton.proofs.TestedLaws.{IsNullSpaceOver, tested_over, transposed_over, null_point}
+use Rattle.axe_norton.proofs.TestedLaws.{IsNullSpaceOver, value_square, tested_over, value_over, transposed_over, null_point}
 use mathlib.Core.Logic.{inl, inr}
 use mathlib.Core.Path.{sym, ◌∙◌, ap, subst}
 use native.Mathlib.Omega.{arith}
@@ -77,14 +80,14 @@ module _ (m : ModuleValue) (is : IsModule m) where
       (vector_length K m.dim point over.length_is) x).1 (generates x long))
 
   -- a word that shows the module to be irreducible tells the truth
-  pub irreducible_is_true : (word : WordValue) (t : Tested m word) (v : RowValue) → IsWordIn m word → ShowsIrreducible m t.matrix t.null_space v →
-      IsIrreducibleModule m
-  irreducible_is_true word t v is_word shows =
+  pub irreducible_is_true : (word : WordValue) (t : Tested) (v : RowValue) → IsWordIn m word → IsTestedBy m word t →
+      ShowsIrreducible m t.matrix t.null_space v → IsIrreducibleModule m
+  irreducible_is_true word t v is_word is_tested shows =
       irreducible_by_norton K m.dim m.generators is.over.square word t.matrix.rows (point_of shows.transpose.point.null_space 0)
-      is_word.over t.is_value.value each null_point_of_transpose shows.transpose.generates
+      is_word.over is_tested.value.value each null_point_of_transpose shows.transpose.generates
     where
       null : IsNullSpaceOver m.order m.dim t.matrix.rows t.null_space
-      null = tested_over m word t
+      null = value_over m word t is_tested
 
       each : (x : List ℕ) → IsVectorOver K m.dim x → x ≢ listed m.dim (λ j. 0) → IsNullVector K t.matrix.rows x → GeneratesModule m x
       each x over nonzero is_null = by_point (multiple_of_point m.order m.dim t.null_space null.field null.columns null.over
@@ -101,8 +104,8 @@ module _ (m : ModuleValue) (is : IsModule m) where
               (shows.generate multiple.place (record { below = below; first_or_few = inr shows.few }))
 
       transposed : IsNullSpaceOver m.order m.dim (transpose m.dim t.matrix.rows) shows.transpose.point.null_space
-      transposed = transposed_over m word t.matrix shows.transpose.point.null_space t.is_value shows.transpose.point.is_null_space
-          shows.transpose.point.well_formed
+      transposed = transposed_over m t.matrix shows.transpose.point.null_space (value_square m word t.matrix is_tested.value)
+          shows.transpose.point.is_null_space shows.transpose.point.well_formed
 
       null_point_of_transpose : IsNullVector K (transpose m.dim t.matrix.rows) (point_of shows.transpose.point.null_space 0)
       null_point_of_transpose =
@@ -136,9 +139,8 @@ module _ (m : ModuleValue) (is : IsModule m) where
 
 -- the annihilator of the proper space that the first point of the transpose's null space generates under the transposes
 module _ (m : ModuleValue) (is : IsModule m) where
-  pub transposed_is_proper_submodule : (word : WordValue) (matrix space : MatrixValue) → IsValueOf m word matrix → IsTransposedSpace m matrix space →
-      IsProperSubmodule m space
-  transposed_is_proper_submodule word matrix space is_value found = record {
+  pub transposed_is_proper_submodule : (matrix space : MatrixValue) → IsSquareIn m matrix → IsTransposedSpace m matrix space → IsProperSubmodule m space
+  transposed_is_proper_submodule matrix space square found = record {
     field = field;
     columns = columns;
     independent = both.0.independent;
@@ -155,7 +157,7 @@ module _ (m : ModuleValue) (is : IsModule m) where
       null = found.point.null_space
 
       transposed : IsNullSpaceOver m.order m.dim (transpose m.dim matrix.rows) found.point.null_space
-      transposed = transposed_over m word matrix found.point.null_space is_value found.point.is_null_space found.point.well_formed
+      transposed = transposed_over m matrix found.point.null_space square found.point.is_null_space found.point.well_formed
 
       point : IsNonzeroSpanned (number_field m.order) m.dim found.point.null_space.rows (point_of found.point.null_space 0)
       point = null_point m.order m.dim (transpose m.dim matrix.rows) found.point.null_space transposed 0 found.point.some_point
@@ -180,12 +182,13 @@ module _ (m : ModuleValue) (is : IsModule m) where
           generated.independent generated.invariant generated.nonzero generated.proper
           (rows_over_field m.order m.dim space field columns found.well_formed) annihilator
 
-  -- a word that shows the module to be reducible tells the truth
-  pub reducible_is_true : (word : WordValue) (t : Tested m word) (space : MatrixValue) → ShowsReducible m t.matrix t.null_space space → IsProperSubmodule m space
-  reducible_is_true word t space shows = cases shows
+  -- a tested matrix that shows the module to be reducible tells the truth
+  pub reducible_is_true : (t : Tested) (space : MatrixValue) → IsSquareIn m t.matrix → IsTested t → ShowsReducible m t.matrix t.null_space space →
+      IsProperSubmodule m space
+  reducible_is_true t space square is_tested shows = cases shows
     where
       null : IsNullSpaceOver m.order m.dim t.matrix.rows t.null_space
-      null = tested_over m word t
+      null = tested_over m t square is_tested
 
       cases : IsFirstProperSpace m t.null_space space ⊎
           (TriedGenerate m t.null_space × IsTransposedSpace m t.matrix space) → IsProperSubmodule m space
@@ -193,10 +196,11 @@ module _ (m : ModuleValue) (is : IsModule m) where
           let point : IsNonzeroSpanned (number_field m.order) m.dim t.null_space.rows (point_of t.null_space found.number) =
           null_point m.order m.dim t.matrix.rows t.null_space null found.number found.tried.below in
           generated_is_proper_submodule m is (point_of t.null_space found.number) space point.over point.nonzero found.proper
-      cases (inr (generate, found)) = transposed_is_proper_submodule word t.matrix space t.is_value found
+      cases (inr (generate, found)) = transposed_is_proper_submodule t.matrix space square found
 
   -- what a word says of a module is true of it
   pub said_is_true : (word : WordValue) (answer : At) → IsWordIn m word → Says m word answer → IsTrueOf m answer
-  said_is_true word (Irreducible v) is_word says = irreducible_is_true m is word says.tested v is_word says.tells
-  said_is_true word (Reducible space) is_word says = reducible_is_true word says.tested space says.tells
+  said_is_true word (Irreducible v) is_word says = irreducible_is_true m is word says.tested v is_word says.is_tested says.tells
+  said_is_true word (Reducible space) is_word says =
+      reducible_is_true says.tested space (value_square m word says.tested.matrix says.is_tested.value) says.is_tested.tested says.tells
   said_is_true word Left is_word says = tt

@@ -33,7 +33,8 @@ use Rattle.axe_norton.specs.declared.verdicts.At.{At}
 use Rattle.axe_norton.specs.declared.verdicts.At.TheVariants.{Irreducible, Reducible, Left}
 use Rattle.axe_norton.specs.Spaces.{HasFewPoints, GeneratesModule, GeneratesProper, one_row, point_of, TriedGenerate, IsFirstProperSpace, TransposedPoint, TransposeGenerates, IsTransposedSpace}
 use Rattle.axe_norton.specs.Verdicts.{Tells, Says, LeavesOpen, DecidesAt, Decides, word_of_seed, ShowsIrreducible, ShowsReducible, IsLeftWithMany}
-use Rattle.axe_norton.proofs.OpenLaws.{own_square, value_square, no_rows_of_invertible}
+use Rattle.axe_norton.proofs.OpenLaws.{own_square, no_rows_of_invertible}
+use Rattle.axe_norton.proofs.TestedLaws.{value_square}
 use Rattle.axe_norton.proofs.TruthLaws.{rows_over_field}
 use mathlib.Core.Logic.{inl, inr}
 use mathlib.Core.Path.{refl, sym, ◌∙◌, ap, subst}
@@ -181,19 +182,19 @@ says_one m word a b first second =
     second.tells
   where
     matrices : first.tested.matrix ≡ second.tested.matrix
-    matrices = value-is_unique m word first.tested.matrix second.tested.matrix first.tested.is_value second.tested.is_value
+    matrices = value-is_unique m word first.tested.matrix second.tested.matrix first.is_tested.value second.is_tested.value
 
     nulls : first.tested.null_space ≡ second.tested.null_space
     nulls = unique_null second.tested.matrix first.tested.null_space second.tested.null_space
-        (subst (λ (x : MatrixValue). IsNullSpaceMatrix x first.tested.null_space) matrices first.tested.is_null_space) second.tested.is_null_space
-        first.tested.well_formed second.tested.well_formed
+        (subst (λ (x : MatrixValue). IsNullSpaceMatrix x first.tested.null_space) matrices first.is_tested.tested.null_space)
+        second.is_tested.tested.null_space first.is_tested.tested.well_formed second.is_tested.tested.well_formed
 
     square : IsSquareOver (number_field second.tested.matrix.order) second.tested.matrix.cols second.tested.matrix.rows
-    square = own_square m second.tested.matrix (value_square m word second.tested.matrix second.tested.is_value)
+    square = own_square m second.tested.matrix (value_square m word second.tested.matrix second.is_tested.value)
 
     some_rows : 0 < length (points_of second.tested.null_space) → ¬ (IsInvertibleMatrix second.tested.matrix)
     some_rows some invertible =
-        no_points second.tested.null_space (no_rows_of_invertible second.tested.matrix second.tested.null_space square second.tested.is_null_space invertible) some
+        no_points second.tested.null_space (no_rows_of_invertible second.tested.matrix second.tested.null_space square second.is_tested.tested.null_space invertible) some
 
     transposed_rows : TransposedPoint second.tested.matrix → ¬ (IsInvertibleMatrix second.tested.matrix)
     transposed_rows point invertible =

@@ -1,4 +1,4 @@
--- What Norton's test looks at: a word's value, the points of its null space and of its transpose's, and what these
+-- What Norton's test looks at: the points of the null space of a tested matrix and of its transpose's, and what these
 -- generate (Parker 1984; Holt and Rees 1994).
 use Rattle.std.specs.Prelude.{◌≡◌, ℕ, ◌<◌, ◌≤◌, ◌⊎◌, List, [], ◌∷◌, length, get_or}
 use Rattle.axe_algebra.specs.SpansOfLists.{IsIndependent}
@@ -10,7 +10,6 @@ use Rattle.axe_echelon.specs.Echelons.{IsNullSpaceMatrix}
 use Rattle.axe_spin.specs.Modules.{ModuleValue}
 use Rattle.axe_spin.specs.Spinning.{IsGeneratedMatrix}
 use Rattle.axe_action.specs.Actions.{dual_module, IsAnnihilatorMatrix}
-use Rattle.axe_word.specs.Words.{WordValue, IsValueOf}
 use Rattle.axe_word.specs.PointsOfMatrix.{points_of, point_count, most_points}
 
 -- the module is irreducible (Holt and Rees 1994)
@@ -26,14 +25,6 @@ pub record IsProperSubmodule (m : ModuleValue) (space : MatrixValue) : Type 0 wh
   pub nonzero : 0 < length space.rows
   pub proper : length space.rows < m.dim
   pub well_formed : IsMatrix space
-
--- the tested matrix of a module: the value of a word, with the reduced basis of its null space (Parker 1984)
-pub record Tested (m : ModuleValue) (word : WordValue) : Type 0 where
-  pub matrix : MatrixValue
-  pub is_value : IsValueOf m word matrix
-  pub null_space : MatrixValue
-  pub is_null_space : IsNullSpaceMatrix matrix null_space
-  pub well_formed : IsMatrix null_space
 
 -- the space with this reduced basis has few points: so few that all are tried
 abbrev pub HasFewPoints : MatrixValue → Type 0

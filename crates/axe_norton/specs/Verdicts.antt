@@ -6,12 +6,14 @@ use Rattle.axe_matrix.specs.Matrices.{MatrixValue}
 use Rattle.axe_reduction.specs.Solutions.{IsInvertibleMatrix}
 use Rattle.axe_spin.specs.Modules.{ModuleValue}
 use Rattle.axe_word.specs.Words.{WordValue}
+use Rattle.axe_word.specs.declared.tested.Tested.{Tested}
+use Rattle.axe_word.specs.Tested.{IsTestedBy}
 use Rattle.axe_word.specs.Drawing.{drawn_word}
 use Rattle.axe_word.specs.PointsOfMatrix.{points_of, point_count, most_points}
 use Rattle.axe_norton.specs.declared.verdicts.At.{At}
 use Rattle.axe_norton.specs.declared.verdicts.At.TheVariants.{Irreducible, Reducible, Left}
 use Rattle.axe_norton.specs.declared.verdicts.Verdict
-use Rattle.axe_norton.specs.Spaces.{IsIrreducibleModule, IsProperSubmodule, Tested, HasFewPoints, point_of}
+use Rattle.axe_norton.specs.Spaces.{IsIrreducibleModule, IsProperSubmodule, HasFewPoints, point_of}
 use Rattle.axe_norton.specs.Spaces.{GeneratesModule, TriedGenerate, IsFirstProperSpace, TransposeGenerates}
 use Rattle.axe_norton.specs.Spaces.{IsTransposedSpace}
 
@@ -51,9 +53,10 @@ Tells m matrix null_space (Irreducible v) = ShowsIrreducible m matrix null_space
 Tells m matrix null_space (Reducible space) = ShowsReducible m matrix null_space space
 Tells m matrix null_space Left = IsInvertibleMatrix matrix ⊎ IsLeftWithMany m matrix null_space
 
--- what a word says of a module: what its value tells
+-- what a word says of a module: what its value tells, with the null space of that
 pub record Says (m : ModuleValue) (word : WordValue) (answer : At) : Type 0 where
-  pub tested : Tested m word
+  pub tested : Tested
+  pub is_tested : IsTestedBy m word tested
   pub tells : Tells m tested.matrix tested.null_space answer
 
 -- the word leaves the module open

@@ -2,10 +2,9 @@
 
 ghost use Rattle.std.specs.Prelude.{◌≡◌, ◌<◌, ◌≤◌, length, IsTrue, None};
 ghost use Rattle.axe_row.specs.Refusals.{Answers};
-ghost use Rattle.axe_matrix.specs.Matrices.{IsMatrix};
-ghost use Rattle.axe_echelon.specs.Echelons.{IsNullSpaceMatrix};
 ghost use Rattle.axe_spin.specs.Modules.{IsModule};
 ghost use Rattle.axe_word.specs.Words.{IsWordIn};
+ghost use Rattle.axe_word.specs.Tested.{IsTested};
 ghost use Rattle.axe_norton.specs.Searches.{IsSquareIn};
 ghost use Rattle.axe_norton.specs.Spaces.{IsIrreducibleModule};
 ghost use Rattle.axe_norton.specs.Verdicts.{last_word, Tells, Says, IsTrueOf, Decides, IsTrueVerdict};
@@ -14,10 +13,9 @@ use crate::MOST_POINTS;
 use crate::others::is_known_irreducible;
 use crate::spaces::{transposed_space, tried_space};
 use crate::verdicts::{At, Verdict};
-use axe_echelon::null_space;
-use axe_matrix::{Matrix, Refusal};
+use axe_matrix::Refusal;
 use axe_spin::Module;
-use axe_word::{Word, few_points, first_point, nth_word};
+use axe_word::{Tested, Word, few_points, first_point, nth_word};
 use std::alloc::Global;
 
 /// What a word says of a module, of which it is one as [`Word::is_word_in`] says, by its value x (Norton's test: Parker
@@ -32,9 +30,8 @@ pub fn decide_at(alloc: Global, module: &Module, word: &Word) -> Result<At, Refu
     ensures says { Answers None (Says «module».now word.now) result }
     ensures holds { Answers None (IsTrueOf «module».now) result }
 {
-    let value = word.value(alloc, module)?;
-    let null = null_space(alloc, &value)?;
-    test_matrix(alloc, module, value, null, false)
+    let tested = word.tested(alloc, module)?;
+    test_matrix(alloc, module, tested, false)
 }
 
 /// What the words 0 to `words` of a seed decide of a module: what the first of them says that doesn't leave the module
@@ -78,37 +75,35 @@ fn test_word_of_seed(
     ensures says { Answers None (Says «module».now word.now) result }
     ensures holds { Answers None (IsTrueOf «module».now) result }
 {
-    let value = word.value(alloc, module)?;
-    let null = null_space(alloc, &value)?;
-    let irreducible = is_known_irreducible(alloc, module, &null, seed, number)?;
-    test_matrix(alloc, module, value, null, irreducible)
+    let tested = word.tested(alloc, module)?;
+    let irreducible = is_known_irreducible(alloc, module, &tested.null_space, seed, number)?;
+    test_matrix(alloc, module, tested, irreducible)
 }
 
-/// What a square matrix, the value of a word, and its null space tell of a module, which may be known to be
+/// What a square matrix, as the value of a word, and its null space tell of a module, which may be known to be
 /// irreducible.
 pub(crate) fn test_matrix(
     alloc: Global,
     module: &Module,
-    value: Matrix,
-    null: Matrix,
+    tested: Tested,
     irreducible: bool,
 ) -> Result<At, Refusal>
     requires irreducible { IsTrue irreducible → IsIrreducibleModule «module».now }
-    requires square { IsSquareIn «module».now value }
-    requires null { IsNullSpaceMatrix value null }
-    requires null_well_formed { IsMatrix null }
-    ensures tells { Answers None (Tells «module».now value null) result }
+    requires square { IsSquareIn «module».now tested.matrix }
+    requires tested { IsTested tested }
+    ensures tells { Answers None (Tells «module».now tested.matrix tested.null_space) result }
     ensures well_formed { IsModule «module».now }
 {
-    let few = few_points(module.field().order(), null.rows(), MOST_POINTS);
-    if null.rows() == 0 {
+    let Tested { matrix, null_space } = tested;
+    let few = few_points(module.field().order(), null_space.rows(), MOST_POINTS);
+    if null_space.rows() == 0 {
         return Ok(At::Left);
     }
-    let first = first_point(alloc, &null)?;
-    if let Some(space) = tried_space(alloc, module, null, few, irreducible)? {
+    let first = first_point(alloc, &null_space)?;
+    if let Some(space) = tried_space(alloc, module, null_space, few, irreducible)? {
         return Ok(At::Reducible(space));
     }
-    if let Some(space) = transposed_space(alloc, module, value)? {
+    if let Some(space) = transposed_space(alloc, module, matrix)? {
         return Ok(At::Reducible(space));
     }
     if few {

@@ -11,7 +11,6 @@ use crate::MOST_POINTS;
 use crate::decisions::test_matrix;
 use crate::spaces::proper_space;
 use crate::verdicts::At;
-use axe_echelon::null_space;
 use axe_matrix::{Matrix, Refusal};
 use axe_spin::Module;
 use axe_word::{few_points, first_point, nth_word};
@@ -86,10 +85,9 @@ fn test_other(
     ensures { Answers None (IsTrueOf «module».now) result }
 {
     let word = nth_word(seed, number, module.field().order(), module.gens() as u8);
-    let value = word.value(alloc, module)?;
-    let null = null_space(alloc, &value)?;
-    if null.rows() > most {
+    let tested = word.tested(alloc, module)?;
+    if tested.null_space.rows() > most {
         return Ok(At::Left);
     }
-    test_matrix(alloc, module, value, null, false)
+    test_matrix(alloc, module, tested, false)
 }

@@ -1,8 +1,8 @@
--- How a call may end that a command makes: what its answer says of a meaning, of the files, and of the folder's device.
-use Rattle.std.specs.Prelude.{◌≡◌, ◌⊎◌, ⊤, ℕ, ◌+◌, min, List, [], ◌∷◌, ◌++◌, Result, Ok, Err}
+-- How a call may end that a command makes: what its answer says of a meaning, of the files, and of the folder's failures.
+use Rattle.std.specs.Prelude.{◌≡◌, ◌⊎◌, ⊤, ℕ, List, [], ◌∷◌, ◌++◌, Result, Ok, Err}
 use Rattle.axe_folder.specs.declared.fault.FolderFault.TheVariants as folder
 use Rattle.axe_folder.specs.Files.{Files}
-use Rattle.axe_folder.specs.Outcomes.{Puts, Removes, most_failures}
+use Rattle.axe_folder.specs.Outcomes.{Puts, Removes, Tally, FailedAt, short_again}
 use Rattle.axe_fault.specs.declared.fault.Fault.{Fault}
 use Rattle.axe_fault.specs.Causes.{Cause, Stands, DeviceFailed, NoMemory, NoCommand, cause_of}
 use Rattle.axe_plan.specs.Plans.{Step, Put, Remove, step_name, step_applied, applied}
@@ -78,28 +78,29 @@ abbrev pub Carries : Result (Unit {0}) Fault → List Step → Files → Files �
 Carries (Ok done) steps old new = new ≡ applied steps old
 Carries (Err fault) steps old new = StopsSteps (cause_of fault) steps old new
 
--- ---- the device
+-- ---- the device and memory
 
--- the folder's count of failures rises by one where a device failed, or stays at its greatest value, and every other
--- cause leaves it as it was
-abbrev pub CountsCause : Cause → ℕ → ℕ → Type 0
-CountsCause (Stands problem) old new = new ≡ old
-CountsCause (DeviceFailed name) old new = new ≡ min (old + 1) most_failures
-CountsCause NoMemory old new = new ≡ old
-CountsCause NoCommand old new = new ≡ old
+-- how the tally of a folder changes in a call that ends with this cause. A device: it failed once more, in a call at the
+-- file that the fault names. Want of memory: a call of the folder had none, or something else had, which comes only where
+-- `Early` holds. Every other cause leaves the tally as it was
+abbrev pub CountsCause : Type 0 → Cause → Tally → Tally → Type 0
+CountsCause Early (Stands problem) old new = new ≡ old
+CountsCause Early (DeviceFailed name) old new = FailedAt name old new
+CountsCause Early NoMemory old new = (new ≡ short_again old) ⊎ (Early × (new ≡ old))
+CountsCause Early NoCommand old new = new ≡ old
 
--- the same of an answer; a value leaves the count as it was
-abbrev pub Counted : {T : Type 0} → Result T Fault → ℕ → ℕ → Type 0
-Counted (Ok value) old new = new ≡ old
-Counted (Err fault) old new = CountsCause (cause_of fault) old new
+-- the same of an answer; a value leaves the tally as it was
+abbrev pub Counted : {T : Type 0} → Type 0 → Result T Fault → Tally → Tally → Type 0
+Counted Early (Ok value) old new = new ≡ old
+Counted Early (Err fault) old new = CountsCause Early (cause_of fault) old new
 
 -- ---- reading, the files and the device with it
 
--- how a call ends that reads the files of these names in a folder, of which `files` tells the files and `failures` how
--- often its device failed: its answer is right, no file has changed, and a failure is counted just where one is
--- answered
-pub record Reads {S T V : Type 0} (files : S → Files) (failures : S → ℕ) (old new : S) (names : List (List ℕ))
+-- how a call ends that reads the files of these names in a folder, of which `files` tells the files and `tally` how its
+-- calls have failed: its answer is right, no file has changed, and a failure of the device is counted just where one is
+-- answered, at the file that the fault names; anything may want memory
+pub record Reads {S T V : Type 0} (files : S → Files) (tally : S → Tally) (old new : S) (names : List (List ℕ))
     (view : T → V) (result : Result T Fault) (meaning : Files → Meaning V) : Type 0 where
   pub agrees : Agrees names view result (meaning (files old))
   pub kept : files new ≡ files old
-  pub counted : Counted result (failures old) (failures new)
+  pub counted : Counted ⊤ result (tally old) (tally new)

@@ -36,7 +36,7 @@ impl Change {
     /// Makes the change.
     pub fn make<F: Folder>(self, folder: &mut F) -> Result<(), Fault>
         ensures made { IsTrue F.tells → Makes result (step_in self) (F.files folder.old) (F.files folder.new) }
-        ensures counted { IsTrue F.tells → Counted result (F.failures folder.old) (F.failures folder.new) }
+        ensures counted { IsTrue F.tells → Counted ⊥ result (F.tally folder.old) (F.tally folder.new) }
     {
         match self {
             Change::Put { name, bytes } => match folder.put(&name, &bytes) {
@@ -206,7 +206,7 @@ impl Draft {
 pub fn make_all<F: Folder>(changes: Vec<Change>, folder: &mut F) -> Result<(), Fault>
     ensures carried { IsTrue F.tells →
         Carries result (map step_in changes.items) (F.files folder.old) (F.files folder.new) }
-    ensures counted { IsTrue F.tells → Counted result (F.failures folder.old) (F.failures folder.new) }
+    ensures counted { IsTrue F.tells → Counted ⊥ result (F.tally folder.old) (F.tally folder.new) }
 {
     for change in changes {
         change.make(folder)?;

@@ -22,7 +22,7 @@ pub fn read_generators<F: Folder>(
     name: &Name,
     count: GeneratorCount,
 ) -> Result<Vec<Matrix>, Fault>
-    ensures reads { IsTrue F.tells → Reads F.files F.failures folder.old folder.new (numbered_names name.now count)
+    ensures reads { IsTrue F.tells → Reads F.files F.tally folder.old folder.new (numbered_names name.now count)
         (λ matrices. matrices.items) result (λ files. Is (matrices_in files (numbered_names name.now count))) }
     ensures many { IfOk result (λ matrices. length matrices.items ≡ count) }
 {

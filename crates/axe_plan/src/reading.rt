@@ -14,7 +14,7 @@ use std::alloc::Global;
 
 /// The matrix of the packed file that a command names.
 pub fn read_matrix<F: Folder>(alloc: Global, folder: &mut F, name: &Name) -> Result<Matrix, Fault>
-    ensures reads { IsTrue F.tells → Reads F.files F.failures folder.old folder.new (name.now ∷ [])
+    ensures reads { IsTrue F.tells → Reads F.files F.tally folder.old folder.new (name.now ∷ [])
         (λ matrix. matrix) result (λ files. Is (matrix_in files name.now)) }
     ensures well_formed { IfOk result IsMatrix }
 {
@@ -28,7 +28,7 @@ pub(crate) fn read_matrix_file<F: Folder>(
     folder: &mut F,
     file: &str,
 ) -> Result<Matrix, Fault>
-    ensures reads { IsTrue F.tells → Reads F.files F.failures folder.old folder.new (file.now ∷ [])
+    ensures reads { IsTrue F.tells → Reads F.files F.tally folder.old folder.new (file.now ∷ [])
         (λ matrix. matrix) result (λ files. Is (matrix_in files file.now)) }
     ensures well_formed { IfOk result IsMatrix }
 {
@@ -46,7 +46,7 @@ pub fn read_text_matrix<F: Folder>(
     folder: &mut F,
     name: &Name,
 ) -> Result<Matrix, Fault>
-    ensures reads { IsTrue F.tells → Reads F.files F.failures folder.old folder.new (name.now ∷ [])
+    ensures reads { IsTrue F.tells → Reads F.files F.tally folder.old folder.new (name.now ∷ [])
         (λ matrix. matrix) result (λ files. Is (text_matrix_in files name.now)) }
     ensures well_formed { IfOk result IsMatrix }
 {
@@ -65,7 +65,7 @@ fn fetch<F: Folder>(
     file: &str,
     limit: usize,
 ) -> Result<Vec<u8>, Fault>
-    ensures { IsTrue F.tells → Reads F.files F.failures folder.old folder.new (file.now ∷ [])
+    ensures { IsTrue F.tells → Reads F.files F.tally folder.old folder.new (file.now ∷ [])
         (λ bytes. bytes.items) result (λ files. Is (bytes_in files file.now limit)) }
 {
     // The name is copied before the call, so that want of memory can't hide a fault of the device.

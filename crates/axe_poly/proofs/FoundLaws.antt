@@ -12,6 +12,7 @@ use Rattle.axe_polynomial_algebra.specs.PolynomialsOfLists.{degree_of, IsMonicOv
 use Rattle.axe_polynomial_algebra.specs.PolynomialsOfLists.{IsIrreduciblePolynomial}
 use Rattle.axe_poly.specs.Numbering.{polynomial_with_number, AreIrreduciblesBelow, AreIrreduciblesUpTo}
 use Rattle.axe_poly.specs.Polys.{PolyValue, poly_with, coefficients_of}
+use Rattle.axe_poly.specs.Limits.{greatest_degree}
 use Rattle.axe_poly.specs.Tables.{IrreduciblesValue, AreFoundBelow, AreTabled, table_of}
 use Rattle.axe_poly.proofs.NumberLaws.{polynomial_is_monic, polynomial_degree, number_of_polynomial}
 use Rattle.axe_poly.proofs.IrreducibleLists.{none_below, one_more, not_one_more, one_more_degree}
@@ -112,14 +113,15 @@ module _ (t : IrreduciblesValue) where
 -- a table with one more degree
 pub tabled_more : (o : Order) (d : ℕ) (items found all : List PolyValue) → AreTabled o d items →
     AreFoundBelow (table_of o d items) (2 * order_number o ^ (d + 1)) found →
-    all ≡ items ++ found → AreTabled o (d + 1) all
-tabled_more o d items found all h g is = subst (AreTabled o (d + 1)) (sym is) (record {
+    d < greatest_degree o → all ≡ items ++ found → AreTabled o (d + 1) all
+tabled_more o d items found all h g small is = subst (AreTabled o (d + 1)) (sym is) (record {
   fields = All-append (λ (x : PolyValue). x.order ≡ o) items found h.fields g.fields;
   irreducibles = subst (AreIrreduciblesUpTo K (d + 1))
       (sym (map-append (λ (x : PolyValue). x.coefficients) items found))
       (one_more_degree K d (coefficients_of items) (coefficients_of found) h.irreducibles
       (subst (λ q. AreIrreduciblesBelow K (d + 1) (2 * q ^ (d + 1)) (coefficients_of found))
       (sym (number_field-order o)) g.irreducibles));
+  bounded = omega (arith, small);
 })
   where
     K : NumberField

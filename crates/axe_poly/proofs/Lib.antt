@@ -7,3 +7,6 @@ pub mod FoundLaws
 pub mod FactorLaws
 pub mod PowerLaws
 pub mod HornerLaws
+pub mod CodeLaws
+pub mod PackLaws
+pub mod WindowLaws

@@ -4,3 +4,4 @@ pub mod Powers
 pub mod Remainders
 pub mod Numbering
 pub mod Tables
+pub mod Lanes

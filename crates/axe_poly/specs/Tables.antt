@@ -1,10 +1,11 @@
 -- Irreducible polynomials in a table, degree by degree.
-use Rattle.std.specs.Prelude.{◌≡◌, ℕ, ◌+◌, List, All, take}
+use Rattle.std.specs.Prelude.{◌≡◌, ℕ, ◌+◌, ◌≤◌, List, All, take}
 use Rattle.std.specs.List.{Contains}
 use Rattle.axe_algebra.specs.NumberField.{NumberField}
 use Rattle.axe_field.specs.NumberFields.{number_field}
 use Rattle.axe_field.specs.Order.{Order}
 use Rattle.axe_polynomial_algebra.specs.PolynomialsOfLists.{IsFactorOfDegree, ListsByNumber}
+use Rattle.axe_poly.specs.Limits.{greatest_degree}
 use Rattle.axe_poly.specs.Numbering.{AreIrreduciblesBelow, AreIrreduciblesUpTo}
 use Rattle.axe_poly.specs.Polys.{PolyValue, coefficients_of}
 
@@ -23,10 +24,12 @@ abbrev pub table_of : Order → ℕ → List PolyValue → IrreduciblesValue
 table_of order degree polynomials =
     record { order = order; degree = degree; polynomials = coefficients_of polynomials }
 
--- the polynomials are over the field, and the irreducible ones of degree 1 up to the degree
+-- the polynomials are over the field, and the irreducible ones of degree 1 up to the degree, which is no greater than the
+-- greatest degree
 pub record AreTabled (order : Order) (degree : ℕ) (polynomials : List PolyValue) : Type 0 where
   pub fields : All (λ p. p.order ≡ order) polynomials
   pub irreducibles : AreIrreducibles (table_of order degree polynomials)
+  pub bounded : degree ≤ greatest_degree order
 
 -- the polynomials are the irreducible ones of the next degree whose number is below a bound
 pub record AreFoundBelow (t : IrreduciblesValue) (bound : ℕ) (found : List PolyValue) : Type 0 where

@@ -6,8 +6,8 @@ ghost use Rattle.axe_poly.specs.Limits.{greatest_degree};
 ghost use Rattle.axe_poly.specs.Polys.{AreFactors, AreFactorsOf};
 ghost use Rattle.axe_poly.specs.Tables.{AreFactorsAmong};
 
-use crate::digits::Digits;
 use crate::irreducibles::Irreducibles;
+use crate::lanes::Lanes;
 use crate::poly::Poly;
 use axe_row::Refusal;
 use std::alloc::Global;
@@ -43,10 +43,10 @@ impl Irreducibles {
         requires found { degree ≤ self.now.degree }
         ensures { Answers None (λ factors. AreFactorsOf poly.now degree factors.items) result }
     {
-        let mut rest = Digits::zeros(alloc, *self.field(), poly.coefficients().len())?;
+        let lanes = Lanes::new(self.field());
         let mut factors = Vec::new(alloc);
         for index in 0..self.count() {
-            self.take_factor(alloc, poly, degree, index, &mut rest, &mut factors)?;
+            self.take_factor(alloc, poly, degree, index, &lanes, &mut factors)?;
         }
         Ok(factors)
     }
@@ -58,26 +58,25 @@ impl Irreducibles {
         poly: &Poly,
         degree: usize,
         index: usize,
-        rest: &mut Digits,
+        lanes: &Lanes,
         factors: &mut Vec<Poly>,
     ) -> Result<(), Refusal>
         requires index { index < length self.now.polynomials }
         requires field { poly.now.order ≡ self.now.order }
-        requires rest_field { rest.old.order ≡ self.now.order }
-        requires rest_long { length rest.old.entries ≡ length poly.now.coefficients }
+        requires lanes_field { lanes.now ≡ self.now.order }
+        requires found { degree ≤ self.now.degree }
         requires taken { AreFactorsAmong self.now poly.now degree index factors.old.items }
-        ensures taken { Answers None
+        ensures { Answers None
             (λ _. AreFactorsAmong self.now poly.now degree (index + 1) factors.new.items) result }
-        ensures rest_field { rest.new.order ≡ self.now.order }
-        ensures rest_long { length rest.new.entries ≡ length poly.now.coefficients }
     {
-        // `count` is called for what it ensures beside their number: that they are irreducible.
+        // `count` is called for what it ensures beside their number: that they are irreducible, and that their degrees
+        // are no greater than the greatest one.
         prove!(index < self.count());
         let divisor = self.polynomial(index);
         if divisor.degree() != degree {
             return Ok(());
         }
-        if rest.divides(divisor.coefficients(), poly.coefficients()) {
+        if lanes.divides(divisor.coefficients(), poly.coefficients()) {
             let factor = divisor.copy(alloc)?;
             factors.push(factor)?;
         }

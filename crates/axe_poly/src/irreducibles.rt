@@ -81,6 +81,7 @@ impl Irreducibles {
     /// How many there are.
     pub(crate) fn count(&self) -> usize
         ensures count { result ≡ length self.now.polynomials }
+        ensures bounded { self.now.degree ≤ greatest_degree self.now.order }
         ensures well_formed { AreIrreducibles self.now }
     {
         self.polynomials.len()

@@ -5,10 +5,12 @@
 mod digits;
 mod factors;
 mod irreducibles;
+mod lanes;
 mod limits;
 mod minimal;
 mod poly;
 mod value;
+mod windows;
 
 pub use factors::factors_up_to;
 pub use irreducibles::Irreducibles;

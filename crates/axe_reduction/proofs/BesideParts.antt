@@ -1,15 +1,10 @@
 -- Some rows of matrices beside one another, rows after rows, and entries at chosen columns.
-use Rattle.std.proofs.Common.{◌≡◌, ℕ, ◌+◌, ◌-◌, ◌<◌, ◌≤◌, List, [], ◌∷◌, ◌++◌, length, get_or, map, min, take, drop, refl, sym, ap, ap₂, ◌∙◌, arith, length-append}
-use Rattle.std.specs.Prelude.{slice_index}
+use Rattle.std.proofs.Common.{◌≡◌, ℕ, ◌+◌, ◌-◌, ◌<◌, ◌≤◌, List, [], ◌++◌, length, get_or, min, take, drop, refl, sym, ap, ap₂, ◌∙◌, arith, length-append}
 use Rattle.std.specs.List.{All}
-use Rattle.std.proofs.lemmas.List.{ext_get_or, get_or-drop, get_or-map, get_or-take, length-drop, length-take, length-take-le, length-map, append_assoc, append-nil}
-use Rattle.axe_algebra.specs.Lists.{entry, listed, table}
-use Rattle.axe_algebra.proofs.ListEntries.{listed_length, listed_at, table_length, table_row}
-use Rattle.axe_field.specs.Order.{Order}
-use Rattle.axe_row.specs.Rows.{RowValue}
-use Rattle.axe_matrix.specs.Matrices.{MatrixValue, IsMatrix, AreSplit, row_of}
-use Rattle.axe_matrix.proofs.MatrixLaws.{same_matrix}
-use Rattle.axe_matrix.proofs.PartialMatrices.{first_rows, first_rows-more, length-first_rows}
+use Rattle.std.proofs.lemmas.List.{ext_get_or, get_or-drop, get_or-map, get_or-take, length-drop, length-take, length-take-le, length-map}
+use Rattle.axe_algebra.specs.Lists.{entry, listed}
+use Rattle.axe_algebra.proofs.ListEntries.{listed_length, listed_at}
+use Rattle.axe_matrix.specs.Matrices.{MatrixValue, IsMatrix, AreSplit, columns_at, entries_at}
 use Rattle.axe_reduction.specs.Augmented.{AugmentedValue, AreBeside, rows_beside, augmented, some_rows, with_rows, entries_at_columns}
 use Rattle.axe_reduction.proofs.BesideLaws.{length-rows_beside, row-rows_beside, append_beside, same_augmented, view-count, view-entry}
 
@@ -85,57 +80,6 @@ split_rows_after a b left right left_after right_after v count view_is h within 
     (after_beside count a.rows b.rows h.as_many (omega (arith, within, view-count a b v view_is)))
     ∙ ap₂ (λ (x : AugmentedValue) k. some_rows x count (k - count)) view_is (sym (view-count a b v view_is))
 
--- ---- matrices that get one row after another
-
-no_first_rows : (f : ℕ → List ℕ) (rows : List (List ℕ)) → rows ≡ rows ++ first_rows f 0
-unfolding first_rows
-no_first_rows f rows = sym (append-nil rows)
-
--- a matrix of so many columns that has these rows, and then the rows f 0 to f (n - 1)
-pub record IsExtended (order : Order) (cols : ℕ) (rows : List (List ℕ)) (f : ℕ → List ℕ) (n : ℕ) (m : MatrixValue) : Type 0 where
-  pub field : m.order ≡ order
-  pub columns : m.cols ≡ cols
-  pub rows_are : m.rows ≡ rows ++ first_rows f n
-  pub count : length m.rows ≡ length rows + n
-  pub well_formed : IsMatrix m
-
--- with none of them
-pub IsExtended-none : (order : Order) (cols : ℕ) (rows : List (List ℕ)) (f : ℕ → List ℕ) (m : MatrixValue) → m.order ≡ order → m.cols ≡ cols → m.rows ≡ rows →
-    IsMatrix m → IsExtended order cols rows f 0 m
-IsExtended-none order cols rows f m field columns is h = record {
-  field = field;
-  columns = columns;
-  rows_are = is ∙ no_first_rows f rows;
-  count = ap (λ (rs : List (List ℕ)). length rs) is ∙ (let none : length rows ≡ length rows + 0 = omega arith in none);
-  well_formed = h;
-}
-
--- with one more
-pub IsExtended-more : (order : Order) (cols : ℕ) (rows : List (List ℕ)) (f : ℕ → List ℕ) (n : ℕ) (m next : MatrixValue) (row : List ℕ) →
-    IsExtended order cols rows f n m → next ≡ record m { rows = m.rows ++ row ∷ [] } → IsMatrix next → row ≡ f n → IsExtended order cols rows f (n + 1) next
-IsExtended-more order cols rows f n m next row h e well_formed is =
-    let rows_are : next.rows ≡ rows ++ first_rows f (n + 1) =
-    ap (λ (x : MatrixValue). x.rows) e ∙ ap₂ (λ (rs : List (List ℕ)) (r : List ℕ). rs ++ r ∷ []) h.rows_are is
-    ∙ append_assoc rows (first_rows f n) (f n ∷ []) ∙ ap (λ (rs : List (List ℕ)). rows ++ rs) (sym (first_rows-more f n)) in
-    record {
-      field = ap (λ (x : MatrixValue). x.order) e ∙ h.field;
-      columns = ap (λ (x : MatrixValue). x.cols) e ∙ h.columns;
-      rows_are = rows_are;
-      count = ap (λ (rs : List (List ℕ)). length rs) rows_are ∙ length-append rows (first_rows f (n + 1)) ∙ ap (λ k. length rows + k) (length-first_rows f (n + 1));
-      well_formed = well_formed;
-    }
-
--- with all of them
-pub IsExtended-all : (order : Order) (cols : ℕ) (rows : List (List ℕ)) (f : ℕ → List ℕ) (n : ℕ) (others : List (List ℕ)) (m : MatrixValue) →
-    IsExtended order cols rows f n m → n ≡ length others → ((i : ℕ) → i < length others → f i ≡ get_or others i []) →
-    m ≡ record { order = order; cols = cols; rows = rows ++ others }
-unfolding first_rows
-IsExtended-all order cols rows f n others m h all same =
-    let long : length (listed n f) ≡ length others = listed_length n f ∙ all in
-    same_matrix m (record { order = order; cols = cols; rows = rows ++ others }) h.field h.columns
-    (h.rows_are ∙ ap (λ (rs : List (List ℕ)). rows ++ rs) (ext_get_or [] (listed n f) others long (λ i below.
-    listed_at n f i [] (omega (arith, long)) ∙ same i (omega (arith, long)))))
-
 -- ---- rows after rows
 
 -- both matrices with more rows
@@ -160,29 +104,40 @@ more_rows-AreBeside a b x y left right h other left_is right_is left_fine right_
 
 -- ---- entries at chosen columns
 
--- chosen entries of row i
-abbrev pub chosen : MatrixValue → List ℕ → ℕ → List ℕ
-chosen a columns i = map (λ j. entry a.rows i j) columns
+-- the entries of a row left of the bar are those of the first matrix's row
+entries_beside : (a b : MatrixValue) (v : AugmentedValue) (columns : List ℕ) (i : ℕ) → augmented a b ≡ v → AreBeside a b →
+    All (λ column. column < v.left) columns → i < length v.rows →
+    entries_at columns (get_or a.rows i []) ≡ entries_at columns (get_or v.rows i [])
+entries_beside a b v columns i view_is h inside below =
+    ext_get_or 0 (entries_at columns (get_or a.rows i [])) (entries_at columns (get_or v.rows i []))
+    (length-map columns (entry a.rows i) ∙ sym (length-map columns (entry v.rows i))) (λ t in_row.
+    let before : t < length columns = omega (arith, length-map columns (entry a.rows i)) in
+    get_or-map (entry a.rows i) columns t 0 0 before
+    ∙ sym (get_or-map (entry v.rows i) columns t 0 0 before ∙ view-entry a b v i (get_or columns t 0) view_is h below (inside t 0 before)))
 
--- they are what is taken from a row that is row i
-pub chosen-row : (a : MatrixValue) (columns : List ℕ) (i : ℕ) (row taken : RowValue) → row ≡ row_of a i →
-    taken ≡ record { order = row.order; entries = map (slice_index row.entries) columns } → taken.entries ≡ chosen a columns i
-chosen-row a columns i row taken row_is is =
-    ap (λ (r : RowValue). r.entries) is ∙ ap (λ (r : RowValue). map (slice_index r.entries) columns) row_is
+-- the columns of the first matrix are those left of the bar
+pub columns_beside : (a b entries : MatrixValue) (v : AugmentedValue) (columns : List ℕ) → augmented a b ≡ v → AreBeside a b →
+    All (λ column. column < v.left) columns → entries ≡ columns_at columns a → entries ≡ entries_at_columns v columns
+columns_beside a b entries v columns view_is h inside is =
+    is ∙ (λ k. record { order = order k; cols = length columns; rows = same k })
+  where
+    order : a.order ≡ v.order
+    order = ap (λ (x : AugmentedValue). x.order) view_is
 
--- the matrix of them is that of the entries left of the bar
-pub chosen_are_entries : (a b entries : MatrixValue) (v : AugmentedValue) (columns : List ℕ) (o : Order) (width n : ℕ) → augmented a b ≡ v → AreBeside a b →
-    All (λ column. column < v.left) columns → o ≡ v.order → width ≡ length columns → n ≡ length v.rows →
-    IsExtended o width [] (chosen a columns) n entries → entries ≡ entries_at_columns v columns
-chosen_are_entries a b entries v columns o width n view_is h inside o_is width_is n_is made =
-    let f = λ (i t : ℕ). entry v.rows i (get_or columns t 0) in
-    let count = table_length (length v.rows) (length columns) f in
-    IsExtended-all o width [] (chosen a columns) n (table (length v.rows) (length columns) f) entries made (n_is ∙ sym count) (λ i below.
-    let within : i < length v.rows = omega (arith, count) in
-    let long : length (chosen a columns i) ≡ length columns = length-map columns (λ j. entry a.rows i j) in
-    ext_get_or 0 (chosen a columns i) (listed (length columns) (f i)) (long ∙ sym (listed_length (length columns) (f i))) (λ t in_row.
-    let before : t < length columns = omega (arith, long) in
-    get_or-map (λ j. entry a.rows i j) columns t 0 0 before
-    ∙ sym (listed_at (length columns) (f i) t 0 before ∙ view-entry a b v i (get_or columns t 0) view_is h within (inside t 0 before)))
-    ∙ sym (table_row (length v.rows) (length columns) f i within))
-    ∙ ap₂ (λ p k. record { order = p; cols = k; rows = table (length v.rows) (length columns) f }) o_is width_is
+    f : ℕ → List ℕ
+    f i = entries_at columns (get_or a.rows i [])
+
+    g : ℕ → List ℕ
+    g i = entries_at columns (get_or v.rows i [])
+
+    count : length v.rows ≡ length a.rows
+    count = view-count a b v view_is
+
+    same : listed (length a.rows) f ≡ listed (length v.rows) g
+    same =
+        ext_get_or [] (listed (length a.rows) f) (listed (length v.rows) g)
+        (listed_length (length a.rows) f ∙ sym count ∙ sym (listed_length (length v.rows) g)) (λ i inside_list.
+        let below : i < length a.rows = omega (arith, listed_length (length a.rows) f) in
+        let within : i < length v.rows = omega (arith, below, count) in
+        listed_at (length a.rows) f i [] below ∙ entries_beside a b v columns i view_is h inside within
+        ∙ sym (listed_at (length v.rows) g i [] within))

@@ -1,19 +1,22 @@
 -- Rows, each less the combination of reduced rows that has the row's entries at the pivots as its coefficients.
-use Rattle.std.specs.Prelude.{◌≡◌, ℕ, ◌<◌, List, length, get_or}
+use Rattle.std.specs.Prelude.{◌≡◌, ℕ, ◌<◌, List, [], length, get_or, map}
+use Rattle.std.proofs.lemmas.List.{length-map, get_or-map}
+use Rattle.std.proofs.lemmas.List.FromFn.{fill_by_all}
 use Rattle.axe_algebra.specs.NumberField.{NumberField}
 use Rattle.axe_algebra.specs.Field.{Field}
 use Rattle.axe_algebra.specs.Vectors.{Vector, Matrix, HasShape, multiply}
 use Rattle.axe_algebra.specs.Bridge.{field_of, element, matrix_of}
-use Rattle.axe_algebra.specs.Lists.{entry, table, IsMatrixOver}
+use Rattle.axe_algebra.specs.Lists.{entry, listed, IsMatrixOver}
 use Rattle.axe_algebra.specs.ListArithmetic.{product_entry}
 use Rattle.axe_algebra.proofs.FieldLaws.{neg-mul, one-mul}
 use Rattle.axe_algebra.proofs.ProductLaws.{times_same, times_zero_coefficients, times_length}
 use Rattle.axe_algebra.proofs.ElementNumbers.{element_add, element_mul}
-use Rattle.axe_algebra.proofs.ListEntries.{table_over, table_length, table_entry, matrix_entry-below, matrix_shape, matrix_of_table}
+use Rattle.axe_algebra.proofs.ListEntries.{listed_at, table_over, table_length, matrix_entry-below, matrix_shape, matrix_of_table}
 use Rattle.axe_algebra.proofs.ListProducts.{product_entry-below, element_product_entry}
+use Rattle.axe_matrix.specs.Matrices.{entries_at}
 use Rattle.axe_matrix.specs.Products.{rows_with_product}
 use Rattle.axe_reduction.specs.Forms.{less_rows}
-use mathlib.Core.Path.{refl, ◌∙◌, ap, ap₂, subst}
+use mathlib.Core.Path.{refl, sym, ◌∙◌, ap, ap₂, subst, fun_ext}
 use native.Mathlib.Omega.{arith}
 
 module _ (K : NumberField) where
@@ -22,7 +25,7 @@ module _ (K : NumberField) where
 
   -- the entries of the rows at the pivots
   abbrev pub at_pivots : List ℕ → List (List ℕ) → List (List ℕ)
-  at_pivots pivots rows = table (length rows) (length pivots) (λ i t. entry rows i (get_or pivots t 0))
+  at_pivots pivots rows = listed (length rows) (λ i. entries_at pivots (get_or rows i []))
 
   -- the rows, plus c times the product of these entries and the reduced rows: c is -1
   abbrev pub cleared_rows : ℕ → ℕ → List ℕ → List (List ℕ) → List (List ℕ) → List (List ℕ)
@@ -36,8 +39,20 @@ module _ (K : NumberField) where
   pub at_pivots_over : (columns : ℕ) (pivots : List ℕ) (rows : List (List ℕ)) → IsMatrixOver K columns rows →
       IsMatrixOver K (length pivots) (at_pivots pivots rows)
   at_pivots_over columns pivots rows over =
-      table_over K (length rows) (length pivots) (λ i t. entry rows i (get_or pivots t 0))
-      (λ i t below inside. matrix_entry-below K columns rows i (get_or pivots t 0) over)
+      subst (IsMatrixOver K (length pivots)) (sym (ap (listed (length rows)) (fun_ext row_at)))
+      (table_over K (length rows) (length pivots) (λ i t. entry rows i (get_or pivots t 0))
+      (λ i t below inside. matrix_entry-below K columns rows i (get_or pivots t 0) over))
+    where
+      row_at : (i : ℕ) → entries_at pivots (get_or rows i []) ≡ listed (length pivots) (λ t. entry rows i (get_or pivots t 0))
+      row_at i =
+          fill_by_all (λ t. entry rows i (get_or pivots t 0)) (map (entry rows i) pivots) (length pivots) 0 (length-map pivots (entry rows i))
+          (λ t below. get_or-map (entry rows i) pivots t 0 0 below)
+
+  at_pivots_entry : (pivots : List ℕ) (rows : List (List ℕ)) (i t : ℕ) → i < length rows → t < length pivots →
+      entry (at_pivots pivots rows) i t ≡ entry rows i (get_or pivots t 0)
+  at_pivots_entry pivots rows i t below inside =
+      ap (λ (row : List ℕ). get_or row t 0) (listed_at (length rows) (λ i. entries_at pivots (get_or rows i [])) i [] below)
+      ∙ get_or-map (entry rows i) pivots t 0 0 inside
 
   pub cleared_length : (columns c : ℕ) (pivots : List ℕ) (reduced rows : List (List ℕ)) →
       length (cleared_rows columns c pivots reduced rows) ≡ length rows
@@ -78,7 +93,7 @@ module _ (K : NumberField) where
       ∙ ap F.neg (one-mul F (multiply F (length reduced) (matrix_of K entries) (matrix_of K reduced) i j)
       ∙ ap (λ (x : Vector F). x j)
       (times_same F (length reduced) (matrix_of K entries i) (λ t. matrix_of K rows i (get_or pivots t 0)) (matrix_of K reduced) (matrix_of K reduced)
-      (λ t inside. ap (element K) (table_entry (length rows) (length pivots) (λ i t. entry rows i (get_or pivots t 0)) i t below (omega arith)))
+      (λ t inside. ap (element K) (at_pivots_entry pivots rows i t below (omega arith)))
       (λ t inside. refl))))
     where
       entries : List (List ℕ)

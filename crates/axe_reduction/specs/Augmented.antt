@@ -4,7 +4,7 @@ use Rattle.axe_algebra.specs.Lists.{entry, listed, table, IsMatrixOver}
 use Rattle.axe_field.specs.Order.{Order}
 use Rattle.axe_field.specs.NumberFields.{number_field}
 use Rattle.axe_matrix.specs.Limits.{most_rows, most_columns}
-use Rattle.axe_matrix.specs.Matrices.{MatrixValue, IsMatrix}
+use Rattle.axe_matrix.specs.Matrices.{MatrixValue, IsMatrix, columns_at}
 use Rattle.axe_matrix.specs.Products.{rows_with_product}
 
 -- an augmented matrix: the order of its field, how many of its columns stand left of the bar, how many there are in
@@ -52,13 +52,9 @@ right_part a cols = record {
 abbrev pub some_rows : AugmentedValue → ℕ → ℕ → AugmentedValue
 some_rows a start count = record a { rows = listed count (λ i. get_or a.rows (start + i) []) }
 
--- the entries at these columns: entry i, t is the entry of row i at column t of the list
+-- the matrix of these columns
 abbrev pub entries_at_columns : AugmentedValue → List ℕ → MatrixValue
-entries_at_columns a columns = record {
-  order = a.order;
-  cols = length columns;
-  rows = table (length a.rows) (length columns) (λ i t. entry a.rows i (get_or columns t 0));
-}
+entries_at_columns a columns = columns_at columns (record { order = a.order; cols = a.cols; rows = a.rows })
 
 -- the rows of a and then those of b
 abbrev pub with_rows : AugmentedValue → AugmentedValue → AugmentedValue

@@ -72,12 +72,7 @@ impl Augmented {
         ensures entries { Answers None (λ entries. entries ≡ entries_at_columns self.now columns.now) result }
         ensures well_formed { IfOk result IsMatrix }
     {
-        let mut entries = Matrix::with_capacity(alloc, *self.field(), columns.len(), self.rows())?;
-        for index in 0..self.rows() {
-            let row = self.left.row(index).select(alloc, columns)?;
-            entries.append(row)?;
-        }
-        Ok(entries)
+        self.left.columns_at(alloc, columns)
     }
 
     /// The first `count` rows, and those after them. The rows move, and none is copied.

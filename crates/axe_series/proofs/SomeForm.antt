@@ -6,9 +6,10 @@ use Rattle.axe_row.specs.Rows.{RowValue}
 use Rattle.axe_spin.specs.Modules.{ModuleValue, IsModule}
 use Rattle.axe_spin.specs.SpinLaws.{IsVectorOf}
 use Rattle.axe_norton.specs.declared.verdicts.Verdict.TheVariants.{Irreducible}
-use Rattle.axe_norton.specs.Spaces.{GeneratesModule, Tested}
-use Rattle.axe_norton.specs.Verdicts.{ShowsIrreducible, Decides, word_of_seed}
-use Rattle.axe_iso.specs.Forms.{FormValue, IsNullVectorOf, HasFewNullPoints, IsFormFrom}
+use Rattle.axe_word.specs.declared.tested.Tested.{Tested}
+use Rattle.axe_norton.specs.Spaces.{GeneratesModule}
+use Rattle.axe_norton.specs.Verdicts.{ShowsIrreducible, Decides}
+use Rattle.axe_iso.specs.Forms.{FormValue, IsNullVectorOf, HasFewNullPointsOf, IsNullSpaceOf, IsFormFrom}
 use Rattle.axe_iso.proofs.Forming.{form_is_kept}
 use Rattle.axe_iso.proofs.SomeForm.{some_form}
 use Rattle.axe_iso.proofs.PointForms.{few_null_points, point_is_null_vector, point_is_vector}
@@ -21,19 +22,22 @@ pub record IsShownBy (m : ModuleValue) (seed number : ℕ) (v : RowValue) : Type
   pub of_module : IsVectorOf m v
   pub generates : GeneratesEverything (number_field m.order) m.dim m.generators v.entries
   pub null : IsNullVectorOf m seed number v.entries
-  pub few : HasFewNullPoints m seed number
+  pub few : HasFewNullPointsOf m seed number
 
 -- an irreducible verdict shows such a vector
 pub irreducible_is_shown : (m : ModuleValue) (seed words number : ℕ) (v : RowValue) → Decides m seed words (Irreducible number v) → IsShownBy m seed number v
 irreducible_is_shown m seed words number v decides = record {
-  of_module = point_is_vector m seed number t.matrix t.null_space t.is_value t.is_null_space t.well_formed 0 shows.some_point v shows.first shows.field;
+  of_module = point_is_vector m seed number t.null_space space 0 shows.some_point v shows.first shows.field;
   generates = subst (GeneratesModule m) (sym shows.first) (shows.generate 0 (record { below = shows.some_point; first_or_few = inl refl }));
-  null = point_is_null_vector m seed number t.matrix t.null_space t.is_value t.is_null_space t.well_formed 0 shows.some_point v shows.first;
-  few = few_null_points m seed number t.matrix t.null_space t.is_value t.is_null_space t.well_formed shows.few;
+  null = point_is_null_vector m seed number t.null_space space 0 shows.some_point v shows.first;
+  few = few_null_points m seed number t.null_space space shows.few;
 }
   where
-    t : Tested m (word_of_seed m seed number)
+    t : Tested
     t = decides.says.tested
+
+    space : IsNullSpaceOf m seed number t.null_space
+    space = record { matrix = t.matrix; is_tested = decides.says.is_tested }
 
     shows : ShowsIrreducible m t.matrix t.null_space v
     shows = decides.says.tells

@@ -25,9 +25,9 @@ use Rattle.axe_word.specs.Words.{WordValue, IsValueOf}
 use Rattle.axe_word.specs.PointsOfMatrix.{points_of, point_count, most_points}
 use Rattle.axe_norton.specs.Spaces.{GeneratesModule, GeneratesProper, point_of, HasFewPoints, TransposedPoint}
 use Rattle.axe_norton.specs.Searches.{IsReducedIn, FindsProper, FindsFirst, FindsFirstOf, FindsTransposed}
-use Rattle.axe_norton.proofs.TestedLaws.{IsNullSpaceOver, transposed_over, null_point}
+use Rattle.axe_norton.proofs.TestedLaws.{IsNullSpaceOver, value_square, transposed_over, null_point}
 use Rattle.axe_norton.proofs.TruthLaws.{dual_is_module}
-use Rattle.axe_norton.proofs.OpenLaws.{own_square, value_square}
+use Rattle.axe_norton.proofs.OpenLaws.{own_square}
 use Rattle.axe_norton.proofs.SearchLaws.{everything_generated, proper_generated, proper_reduced, point_in, some_point_in, found_of_all, found_of_first, transposed_point_is}
 use Rattle.axe_series.proofs.SomeAnnihilator.{some_annihilator}
 use mathlib.Core.Logic.{inl, inr}
@@ -190,7 +190,8 @@ module _ (m : ModuleValue) (is : IsModule m) (word : WordValue) (matrix : Matrix
       point = some_transposed_point singular
 
       null : IsNullSpaceOver m.order m.dim (transpose m.dim matrix.rows) point.null_space
-      null = transposed_over m word matrix point.null_space value point.is_null_space point.well_formed
+      null =
+          transposed_over m matrix point.null_space (value_square m word matrix value) point.is_null_space point.well_formed
 
       over : IsVectorOver (number_field m.order) m.dim (point_of point.null_space 0)
       over = (null_point m.order m.dim (transpose m.dim matrix.rows) point.null_space null 0 point.some_point).over

@@ -9,6 +9,7 @@ use Rattle.axe_echelon.proofs.SomeMatrix.{some_null_space}
 use Rattle.axe_spin.specs.Modules.{ModuleValue, IsModule}
 use Rattle.axe_word.specs.Words.{WordValue, IsWordIn, IsValueOf}
 use Rattle.axe_word.specs.PointsOfMatrix.{point_count, most_points}
+use Rattle.axe_word.proofs.TestedLaws.{tested_by}
 use Rattle.axe_word.proofs.ValueLaws.{drawn_word-in}
 use Rattle.axe_norton.specs.declared.verdicts.Verdict
 use Rattle.axe_norton.specs.declared.verdicts.At.{At}
@@ -16,7 +17,7 @@ use Rattle.axe_norton.specs.declared.verdicts.At.TheVariants.{Irreducible, Reduc
 use Rattle.axe_norton.specs.Spaces.{point_of, TriedGenerate}
 use Rattle.axe_norton.specs.Searches.{FindsFirst, FindsTransposed, IsSquareIn}
 use Rattle.axe_norton.specs.Verdicts.{Tells, Says, Decides, LeaveOpenBefore, word_of_seed}
-use Rattle.axe_norton.proofs.OpenLaws.{value_square}
+use Rattle.axe_norton.proofs.TestedLaws.{value_square}
 use Rattle.axe_norton.proofs.DecisionLaws.{null_in_module, left_without_rows, singular_with_rows, irreducible_told, left_told, none_before, open_more, undecided}
 use Rattle.axe_iso.proofs.SomeForm.{some_value}
 use Rattle.axe_series.proofs.SomeSearch.{SomeFound, SomeMatrix, some_first, some_transposed}
@@ -96,13 +97,8 @@ some_said m word is over = of_value (some_value m word is over)
         from (answer, tells) = (
           answer,
           record {
-            tested = record {
-              matrix = x;
-              is_value = value;
-              null_space = null;
-              is_null_space = is_null;
-              well_formed = formed;
-            };
+            tested = record { matrix = x; null_space = null };
+            is_tested = tested_by m word x null value is_null formed;
             tells = tells;
           },
         )

@@ -6,3 +6,4 @@ pub mod PointSums
 pub mod ValueLaws
 pub mod MembershipLaws
 pub mod ReducedNullSpaces
+pub mod TestedLaws

@@ -6,3 +6,4 @@ pub mod StoredWords
 pub mod Terms
 pub mod PointsOfMatrix
 pub mod Products
+pub mod Tested

@@ -6,6 +6,7 @@ mod laws;
 mod limits;
 mod points;
 mod stored;
+mod tested;
 mod value;
 mod word;
 
@@ -13,6 +14,7 @@ pub use drawing::nth_word;
 pub use laws::{drawn_words_are_words, words_have_one_value};
 pub use limits::limits_are_named;
 pub use points::{MAX_POINTS, Points, few_points, first_point};
+pub use tested::Tested;
 pub use word::{Term, Word};
 
 /// The most terms that a word has. It may have none.

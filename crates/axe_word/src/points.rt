@@ -16,10 +16,10 @@ use std::marker::Model;
 /// The most points that [`Points`] goes over.
 pub const MAX_POINTS: usize = 4_095;
 
-/// Whether a space of a dimension, over a field of an order, has no more points than a bound. It takes no memory.
+/// Whether a space of a dimension, over a field of an order, has no more points than a bound, whatever the two are. It
+/// takes no memory, and counts no further than to the bound.
 pub fn few_points(order: u8, dimension: usize, bound: usize) -> bool
     requires order { IsOrder order }
-    requires dimension { dimension ≤ 4096 }
     ensures { IsTrue result ↔ (point_count order dimension ≤ bound) }
 {
     let mut count: usize = 0;

@@ -6,11 +6,8 @@ use Rattle.axe_echelon.proofs.coordinates_of.Goals as goal
 not_both : (b : Bool) → b ≡ true → b ≡ false → ⊥
 not_both b t f = cc
 
-pub solve-requires : goal.solve-requires
-solve-requires c = record { steps = c.requires }
-
 pub negated_start-requires : goal.negated_start-requires
-negated_start-requires c = omega (arith, steps_fit _ _ _ c.requires, c.solve.ensures.over.length_is)
+negated_start-requires c = omega (arith, steps_fit _ _ c.requires.steps, c.solve.ensures.over.length_is)
 
 pub returns-then-not-is_zero : goal.returns-then-not-is_zero
 returns-then-not-is_zero c = λ zeros. not_both c.is_zero.result (c.is_zero.ensures.1 zeros) c.if-not-is_zero.true

@@ -1,6 +1,5 @@
-use Rattle.std.proofs.Common.{length}
 use Rattle.axe_echelon.proofs.SolvingLaws.{IsSolvedFrom}
 use Rattle.axe_echelon.proofs.solve.Given as goal
 
 abbrev pub invariant-loop-index : goal.invariant-loop-index
-invariant-loop-index l = IsSolvedFrom l.fn.multipliers.order (length l.fn.multipliers.entries) l.steps l.index l.fn.multipliers l.multipliers
+invariant-loop-index l = IsSolvedFrom l.space l.steps l.index l.fn.multipliers l.multipliers

@@ -1,10 +1,10 @@
-use Rattle.std.proofs.Common.{ap}
+use Rattle.std.proofs.Common.{◌∙◌, ap}
 use Rattle.axe_echelon.specs.Echelons.{EchelonValue}
 use Rattle.axe_echelon.proofs.StepLaws.{echelon_of_steps}
 use Rattle.axe_echelon.proofs.Echelon.field.Goals as goal
 
 pub returns-clause-well_formed : goal.returns-clause-well_formed
-returns-clause-well_formed c = rw (← c.self.view_is) (echelon_of_steps _ _ _ c.self.invariant.are_steps)
+returns-clause-well_formed c = rw (← c.self.view_is) (echelon_of_steps _ _ c.self.invariant)
 
 pub returns-clause-order : goal.returns-clause-order
-returns-clause-order c = ap (λ (e : EchelonValue). e.order) c.self.view_is
+returns-clause-order c = c.field.ensures.order ∙ ap (λ (e : EchelonValue). e.order) c.self.view_is

@@ -1,90 +1,23 @@
-use Rattle.std.proofs.Common.{◌<◌, sym, ◌∙◌, ap, arith}
+use Rattle.std.proofs.Common.{sym, ◌∙◌, ap}
 use Rattle.axe_echelon.specs.Echelons.{EchelonValue}
-use Rattle.axe_echelon.specs.Steps.{IsStep}
-use Rattle.axe_echelon.proofs.StepLaws.{over_of_row, is_row_of_over, step_at, pivot_of_steps, echelon_of_steps}
-use Rattle.axe_echelon.proofs.ClearingLaws.{IsFoundStep, IsClearing, reduced_before_none, found_step, room_of_found, place_of_found, clearing_of, zeros_before_pivot, reduce_next, reduced_all}
-use Rattle.axe_echelon.proofs.Echelon.reduce.Goals.{In-Some, After-row_of, After-index-step}
+use Rattle.axe_echelon.proofs.InsertedRows.{represents_by_inserted}
+use Rattle.axe_echelon.proofs.StepLaws.{echelon_of_steps}
 use Rattle.axe_echelon.proofs.Echelon.reduce.Goals as goal
 
-pub loop-pivot-init : goal.loop-pivot-init
-loop-pivot-init c =
-    let field = c.requires.field ∙ sym (ap (λ (e : EchelonValue). e.order) c.self.view_is) in
-    let fits = c.requires.fits ∙ sym (ap (λ (e : EchelonValue). e.cols) c.self.view_is) in
-    record {
-      fits = omega arith;
-      so_far = reduced_before_none _ _ _ _ field (over_of_row _ _ _ field c.len.ensures.well_formed fits);
-    }
+pub reduce-requires-clause-field : goal.reduce-requires-clause-field
+reduce-requires-clause-field c = c.requires.field ∙ sym (ap (λ (e : EchelonValue). e.order) c.self.view_is)
 
-place : (c : goal.In-Some) → c.in-Some.pivot < c.self.inside.cols
-place c = omega (arith, place_of_found _ c.loop-pivot.row.entries _ _ c.in-Some.ensures, c.loop-pivot.invariant.so_far.clear.over.length_is)
-
-pub row_of-requires : goal.row_of-requires
-row_of-requires c =
-    let room = room_of_found _ _ _ _ c.loop-pivot.row.entries _ _ c.self.invariant c.in-Some.ensures in
-    omega (arith, place (goal.at.row_of-requires c).In-Some, room.rows)
-
-found : (c : goal.After-row_of) → IsFoundStep c.self.inside.steps.items c.in-Some.pivot c.row_of.result
-found c = found_step _ _ c.self.inside.steps.items c.self.inside.pivots c.loop-pivot.row.entries _ _ _ c.self.invariant c.in-Some.ensures c.row_of.ensures
-
-pub index-step-requires : goal.index-step-requires
-index-step-requires c = omega (arith, (found (goal.at.index-step-requires c).After-row_of).within, c.self.inside.steps.ok.0)
-
-at : (c : goal.After-index-step) → IsStep c.self.inside.field c.self.inside.cols c.index-step.result.now
-at c = step_at _ _ c.self.inside.steps.items c.row_of.result c.index-step.result.now c.self.invariant.are_steps (found c.before).within c.index-step.ensures
-
-pub cancel_from-requires-clause-index : goal.cancel_from-requires-clause-index
-cancel_from-requires-clause-index c = place_of_found _ c.loop-pivot.row.entries _ _ c.in-Some.ensures
-
-pub cancel_from-requires-clause-field : goal.cancel_from-requires-clause-field
-cancel_from-requires-clause-field c = (at (goal.at.cancel_from-requires-clause-field c).After-index-step).row_field ∙ sym c.loop-pivot.invariant.so_far.clear.field
-
-pub cancel_from-requires-clause-fits : goal.cancel_from-requires-clause-fits
-cancel_from-requires-clause-fits c =
-    (at (goal.at.cancel_from-requires-clause-fits c).After-index-step).row_over.length_is ∙ sym c.loop-pivot.invariant.so_far.clear.over.length_is
-
-pub cancel_from-requires-clause-zeros : goal.cancel_from-requires-clause-zeros
-cancel_from-requires-clause-zeros c =
-    let there = found (goal.at.cancel_from-requires-clause-zeros c).After-row_of in
-    zeros_before_pivot _ _ c.self.inside.steps.items c.row_of.result c.index-step.result.now c.self.invariant.are_steps there.within
-    c.index-step.ensures c.in-Some.pivot there.pivot
-
-pub overflow_add-start : goal.overflow_add-start
-overflow_add-start c = omega (arith, place (goal.at.overflow_add-start c).In-Some, c.self.invariant.are_steps.columns_fit)
-
-pub loop-pivot-smaller : goal.loop-pivot-smaller
-loop-pivot-smaller c =
-    omega (arith, place (goal.at.loop-pivot-smaller c).In-Some, c.in-Some.ensures.not_before, c.requires.fits, ap (λ (e : EchelonValue). e.cols) c.self.view_is)
-
-pub loop-pivot-preserved : goal.loop-pivot-preserved
-loop-pivot-preserved c = record {
-  fits = omega (arith, place_of_found _ c.loop-pivot.row.entries _ _ c.in-Some.ensures, c.cancel_from.ensures.as_long);
-  so_far = reduce_next _ _ c.self.inside.steps.items c.self.inside.pivots c.loop-pivot.start c.in-Some.pivot c.row_of.result c.index-step.result.now
-      c.args.row.now c.loop-pivot.row c.cancel_from.new.self c.cancel_from.result c.self.invariant c.loop-pivot.invariant.so_far c.in-Some.ensures there
-      c.index-step.ensures clearing;
-}
-  where
-    there : IsFoundStep c.self.inside.steps.items c.in-Some.pivot c.row_of.result
-    there = found (goal.at.loop-pivot-preserved c).After-row_of
-
-    clearing : IsClearing c.self.inside.field c.self.inside.cols c.index-step.result.now c.loop-pivot.row c.cancel_from.new.self c.cancel_from.result
-    clearing = clearing_of _ c.loop-pivot.row.order _ c.index-step.result.now _ _ _ c.in-Some.pivot c.loop-pivot.invariant.so_far.clear.field
-        c.loop-pivot.invariant.so_far.clear.over
-        (sym (pivot_of_steps c.self.inside.steps.items c.row_of.result c.index-step.result.now there.within c.index-step.ensures) ∙ there.pivot)
-        c.loop-pivot.invariant.so_far.clear.field c.cancel_from.ensures.element c.cancel_from.ensures.factor
-        c.cancel_from.ensures.sum c.cancel_from.ensures.as_long c.cancel_from.ensures.well_formed
+pub reduce-requires-clause-fits : goal.reduce-requires-clause-fits
+reduce-requires-clause-fits c = c.requires.fits ∙ sym (ap (λ (e : EchelonValue). e.cols) c.self.view_is)
 
 pub returns-clause-representative : goal.returns-clause-representative
-returns-clause-representative c =
-    rw (← c.self.view_is) (reduced_all _ _ _ c.self.inside.pivots c.loop-pivot.start _ _ c.self.invariant c.loop-pivot.invariant.so_far c.in_default.ensures)
+returns-clause-representative c = rw (← c.self.view_is) (represents_by_inserted _ _ c.self.invariant _ _ c.reduce.ensures.representative)
 
 pub returns-clause-same_field : goal.returns-clause-same_field
-returns-clause-same_field c = c.loop-pivot.invariant.so_far.clear.field ∙ ap (λ (e : EchelonValue). e.order) c.self.view_is
+returns-clause-same_field c = c.reduce.ensures.same_field ∙ ap (λ (e : EchelonValue). e.order) c.self.view_is
 
 pub returns-clause-as_long : goal.returns-clause-as_long
-returns-clause-as_long c = c.loop-pivot.invariant.so_far.clear.over.length_is ∙ ap (λ (e : EchelonValue). e.cols) c.self.view_is
-
-pub returns-clause-row_well_formed : goal.returns-clause-row_well_formed
-returns-clause-row_well_formed c = is_row_of_over _ _ _ c.loop-pivot.invariant.so_far.clear.field c.loop-pivot.invariant.so_far.clear.over
+returns-clause-as_long c = c.reduce.ensures.as_long ∙ ap (λ (e : EchelonValue). e.cols) c.self.view_is
 
 pub returns-clause-well_formed : goal.returns-clause-well_formed
-returns-clause-well_formed c = rw (← c.self.view_is) (echelon_of_steps _ _ _ c.self.invariant.are_steps)
+returns-clause-well_formed c = rw (← c.self.view_is) (echelon_of_steps _ _ c.self.invariant)

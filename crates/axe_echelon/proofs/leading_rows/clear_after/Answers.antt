@@ -1,5 +1,4 @@
 use Rattle.std.proofs.Common.{◌≡◌, ◌<◌, length, refl, sym, ◌∙◌, arith}
-use Rattle.axe_echelon.specs.Subspaces.{step_of}
 use Rattle.axe_echelon.specs.LeadingRows.{IsLeadingRow, HasPivotAt}
 use Rattle.axe_echelon.specs.declared.subspace.PivotRow.{PivotRow}
 use Rattle.axe_echelon.proofs.StepLaws.{over_of_row}
@@ -64,9 +63,9 @@ loop-pivot-preserved c =
     let at_row = (goal.at.loop-pivot-preserved c).After-index-rows-row_of in
     let so_far = c.loop-pivot.invariant.so_far in
     let p : PivotRow = c.index-rows-row_of.result in
-    let clearing : IsClearing c.args.row.now.order (length c.args.row.now.entries) (step_of c.args.row.now.order (length c.args.row.now.entries) 0 p) c.loop-pivot.row
+    let clearing : IsClearing c.args.row.now.order (length c.args.row.now.entries) p c.loop-pivot.row
     c.cancel_from.new.self c.cancel_from.result =
-    clearing_of _ c.loop-pivot.row.order _ (step_of c.args.row.now.order (length c.args.row.now.entries) 0 p) _ _ _ c.in-Some.pivot so_far.field so_far.over
+    clearing_of _ c.loop-pivot.row.order _ p _ _ _ c.in-Some.pivot so_far.field so_far.over
     (pivot at_row) so_far.field c.cancel_from.ensures.element c.cancel_from.ensures.factor c.cancel_from.ensures.sum c.cancel_from.ensures.as_long
     c.cancel_from.ensures.well_formed in
     record {

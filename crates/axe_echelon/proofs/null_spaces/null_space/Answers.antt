@@ -1,5 +1,6 @@
-use Rattle.std.proofs.Common.{◌≡◌, ◌≢◌, length, arith}
+use Rattle.std.proofs.Common.{◌≡◌, ◌≢◌, length, sym, ◌∙◌, arith}
 use Rattle.std.proofs.lemmas.Result.{IfOk-from_err}
+use Rattle.axe_matrix.proofs.OnlyZeros.{all_rows_of_zeros}
 use Rattle.axe_matrix.proofs.TransposeLaws.{transpose_refusal-none}
 use Rattle.axe_echelon.specs.Echelons.{null_space_refusal, IsNullSpaceMatrix}
 use Rattle.axe_echelon.proofs.Exits.{answers_early, answers_more, no_memory, value_if_answered}
@@ -22,27 +23,27 @@ returns-clause-basis c =
 pub returns-clause-well_formed : goal.returns-clause-well_formed
 returns-clause-well_formed c = value_if_answered c.orthogonal_to.result _ c.orthogonal_to.ensures.well_formed
 
-pub returns-then-is_zero-clause-basis : goal.returns-then-is_zero-clause-basis
-returns-then-is_zero-clause-basis c =
+pub returns-then-has_only_zeros-clause-basis : goal.returns-then-has_only_zeros-clause-basis
+returns-then-has_only_zeros-clause-basis c =
     let count : c.rows.result ≡ length c.args.matrix.now.rows = c.rows.ensures.count in
     let some : length c.args.matrix.now.rows ≢ 0 = omega (arith, count, c.if-rows-eq0.false) in
     answers_early (null_space_refusal c.args.matrix.now) (IsNullSpaceMatrix c.args.matrix.now) c.identity.result
     (transpose_refusal-none c.args.matrix.now some)
     (answers_more c.identity.result _ _ c.identity.ensures.identity (λ basis is.
     identity_is_null_space c.args.matrix.now basis _ _ (omega (arith, some)) (omega (arith, c.rows.ensures.well_formed.rows_fit))
-    (c.is_zero.ensures.0 c.if-is_zero.true) c.field.ensures.order c.rows-then-is_zero.ensures.count is))
+    (all_rows_of_zeros c.args.matrix.now.rows (sym c.has_only_zeros.ensures ∙ c.if-has_only_zeros.true)) c.field.ensures.order c.rows-then-has_only_zeros.ensures.count is))
 
 pub identity-requires-clause-some_row : goal.identity-requires-clause-some_row
-identity-requires-clause-some_row c = omega (arith, c.rows-then-is_zero.ensures.count, c.rows.ensures.count, c.if-rows-eq0.false)
+identity-requires-clause-some_row c = omega (arith, c.rows-then-has_only_zeros.ensures.count, c.rows.ensures.count, c.if-rows-eq0.false)
 
 pub identity-requires-clause-rows_fit : goal.identity-requires-clause-rows_fit
-identity-requires-clause-rows_fit c = omega (arith, c.rows-then-is_zero.ensures.count, c.rows.ensures.well_formed.rows_fit)
+identity-requires-clause-rows_fit c = omega (arith, c.rows-then-has_only_zeros.ensures.count, c.rows.ensures.well_formed.rows_fit)
 
 pub identity-requires-clause-columns_fit : goal.identity-requires-clause-columns_fit
-identity-requires-clause-columns_fit c = omega (arith, c.rows-then-is_zero.ensures.count, c.rows.ensures.well_formed.rows_fit)
+identity-requires-clause-columns_fit c = omega (arith, c.rows-then-has_only_zeros.ensures.count, c.rows.ensures.well_formed.rows_fit)
 
-pub returns-then-is_zero-clause-well_formed : goal.returns-then-is_zero-clause-well_formed
-returns-then-is_zero-clause-well_formed c = c.identity.ensures.well_formed
+pub returns-then-has_only_zeros-clause-well_formed : goal.returns-then-has_only_zeros-clause-well_formed
+returns-then-has_only_zeros-clause-well_formed c = c.identity.ensures.well_formed
 
 pub returns-in_err-mirrored_columns-clause-basis : goal.returns-in_err-mirrored_columns-clause-basis
 returns-in_err-mirrored_columns-clause-basis c =

@@ -1,4 +1,5 @@
-use Rattle.std.proofs.Common.{◌≡◌, ◌-◌, arith}
+use Rattle.std.proofs.Common.{◌≡◌, ◌-◌, sym, ◌∙◌, arith}
+use Rattle.axe_matrix.proofs.OnlyZeros.{all_rows_of_zeros}
 use Rattle.axe_echelon.proofs.OrthogonalPoints.{point_is, no_point}
 use Rattle.axe_echelon.proofs.ZeroMatrices.{point_of_zeros}
 use Rattle.axe_echelon.proofs.orthogonal_points.orthogonal_point.Goals as goal
@@ -20,8 +21,8 @@ returns c =
     no_point c.args.rows.now c.in_ok-mirrored_matrix.field-0 c.in_ok-space.space c.in_ok-mirrored_matrix.ensures.well_formed
     c.in_ok-mirrored_matrix.ensures.mirrored c.in_ok-space.ensures c.in-None.ensures
 
-pub returns-then-is_zero : goal.returns-then-is_zero
-returns-then-is_zero c =
-    let last : c.cols-then-is_zero.result - 1 ≡ c.args.rows.now.cols - 1 = omega (arith, c.cols-then-is_zero.ensures.count) in
-    point_of_zeros c.args.rows.now _ _ _ c.in_ok-point.point c.cols.ensures.well_formed (c.is_zero.ensures.0 c.if-is_zero.true) c.field.ensures.order
+pub returns-then-has_only_zeros : goal.returns-then-has_only_zeros
+returns-then-has_only_zeros c =
+    let last : c.cols-then-has_only_zeros.result - 1 ≡ c.args.rows.now.cols - 1 = omega (arith, c.cols-then-has_only_zeros.ensures.count) in
+    point_of_zeros c.args.rows.now _ _ _ c.in_ok-point.point c.cols.ensures.well_formed (all_rows_of_zeros c.args.rows.now.rows (sym c.has_only_zeros.ensures ∙ c.if-has_only_zeros.true)) c.field.ensures.order
     c.cols.ensures.count last c.in_ok-point.ensures.unit

@@ -7,13 +7,13 @@ use Rattle.axe_execute.proofs.chopping.read_module.Goals as goal
 pub returns-in_err-matrices : goal.returns-in_err-matrices
 returns-in_err-matrices g c = λ tells.
     let p = err_from_is_err_and c.from_residual.result c.from_residual.ensures.1 in
-    rw (p.1, p.2) (reads_as g.F.Folder.files g.F.Folder.failures _ _ _ _ _ (ModuleReading c.args.generators c.args.name.now) _
+    rw (p.1, p.2) (reads_as g.F.Folder.files g.F.Folder.tally _ _ _ _ _ (ModuleReading c.args.generators c.args.name.now) _
     (module_reading c.args.generators c.args.name.now)
-    (reads_no_more g.F.Folder.files g.F.Folder.failures _ _ _ _ _ _ _ _ _ (among_same _) (c.in_err-matrices.ensures.reads tells)))
+    (reads_no_more g.F.Folder.files g.F.Folder.tally _ _ _ _ _ _ _ _ _ (among_same _) (c.in_err-matrices.ensures.reads tells)))
 
 pub returns : goal.returns
 returns g c = λ tells.
-    reads_as g.F.Folder.files g.F.Folder.failures _ _ _ _ _ (ModuleReading c.args.generators c.args.name.now) _
+    reads_as g.F.Folder.files g.F.Folder.tally _ _ _ _ _ (ModuleReading c.args.generators c.args.name.now) _
     (module_reading c.args.generators c.args.name.now)
-    (reads_all g.F.Folder.files g.F.Folder.failures _ _ _ _ _ _ _ _ _ (c.in_ok-matrices.ensures.reads tells)
+    (reads_all g.F.Folder.files g.F.Folder.tally _ _ _ _ _ _ _ _ _ (c.in_ok-matrices.ensures.reads tells)
     (record { agrees = c.module_of.ensures.made }))

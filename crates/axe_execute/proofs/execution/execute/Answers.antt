@@ -1,11 +1,12 @@
 use Rattle.std.proofs.Common.{Err, refl, subst, ap, ◌∙◌, map}
+use Rattle.std.specs.Prelude.{⊤}
 use Rattle.std.proofs.lemmas.Result.{err_from_is_err_and}
 use Rattle.axe_folder.specs.Files.{Files}
 use Rattle.axe_fault.specs.Causes.{cause_of}
 use Rattle.axe_plan.specs.Drafts.{plan_in, step_in}
 use Rattle.axe_plan.specs.Plans.{applied}
 use Rattle.axe_plan.specs.Outcome.{Carries, CountsCause}
-use Rattle.axe_execute.proofs.Executing.{stopped, broken}
+use Rattle.axe_execute.proofs.Executing.{stopped, broken, counts_as}
 use Rattle.axe_execute.proofs.execution.execute.Goals as goal
 
 pub returns-in_err-changes-clause-outcome : goal.returns-in_err-changes-clause-outcome
@@ -17,7 +18,8 @@ returns-in_err-changes-clause-outcome g c = λ tells.
 pub returns-in_err-changes-clause-counted : goal.returns-in_err-changes-clause-counted
 returns-in_err-changes-clause-counted g c = λ tells.
     let p = err_from_is_err_and c.from_residual.result c.from_residual.ensures.1 in
-    rw (p.1, p.2) (c.in_err-changes.ensures tells).counted
+    let reads = c.in_err-changes.ensures tells in
+    rw (p.1, p.2) (counts_as ⊤ _ (cause_of c.in_err-changes.field-0.0) _ _ (λ any. reads.kept) reads.counted)
 
 pub returns-in_err-make_all-clause-outcome : goal.returns-in_err-make_all-clause-outcome
 returns-in_err-make_all-clause-outcome g c = λ tells.
@@ -30,8 +32,8 @@ returns-in_err-make_all-clause-outcome g c = λ tells.
 pub returns-in_err-make_all-clause-counted : goal.returns-in_err-make_all-clause-counted
 returns-in_err-make_all-clause-counted g c = λ tells.
     let p = err_from_is_err_and c.from_residual-in_err-make_all.result c.from_residual-in_err-make_all.ensures.1 in
-    rw (p.1, p.2)
-    (subst (λ count. CountsCause (cause_of c.in_err-make_all.field-0.0) count (g.F.Folder.failures c.make_all.new.folder)) (c.in_ok-changes.ensures tells).counted (c.in_err-make_all.ensures.counted tells))
+    rw (p.1, p.2) (counts_as ⊥ _ (cause_of c.in_err-make_all.field-0.0) _ _ (λ never. absurd never)
+    (subst (λ tally. CountsCause ⊥ (cause_of c.in_err-make_all.field-0.0) tally (g.F.Folder.tally c.make_all.new.folder)) (c.in_ok-changes.ensures tells).counted (c.in_err-make_all.ensures.counted tells)))
 
 pub returns-clause-outcome : goal.returns-clause-outcome
 returns-clause-outcome g c = λ tells.

@@ -6,8 +6,8 @@ use Rattle.axe_execute.proofs.planning.conversion_draft.Goals as goal
 pub returns-in_err-matrix : goal.returns-in_err-matrix
 returns-in_err-matrix g c = λ tells.
     let p = err_from_is_err_and c.from_residual.result c.from_residual.ensures.1 in
-    rw (p.1, p.2) (conversion_refused g.F.Folder.files g.F.Folder.failures plan_in _ _ c.args.input.now c.args.out.now _ (c.in_err-matrix.ensures.reads tells))
+    rw (p.1, p.2) (conversion_refused g.F.Folder.files g.F.Folder.tally plan_in _ _ c.args.input.now c.args.out.now _ (c.in_err-matrix.ensures.reads tells))
 
 pub returns : goal.returns
 returns g c = λ tells.
-    conversion_made g.F.Folder.files g.F.Folder.failures plan_in _ _ c.args.input.now c.args.out.now _ _ (c.in_ok-matrix.ensures.reads tells) c.of_packed.ensures
+    conversion_made g.F.Folder.files g.F.Folder.tally plan_in _ _ c.args.input.now c.args.out.now _ _ (c.in_ok-matrix.ensures.reads tells) c.of_packed.ensures

@@ -9,17 +9,17 @@ pub returns-in_err-matrix : goal.returns-in_err-matrix
 unfolding PlanOfOne
 returns-in_err-matrix g c = λ tells.
     let p = err_from_is_err_and c.from_residual.result c.from_residual.ensures.1 in
-    rw (p.1, p.2) (reads_no_more g.F.Folder.files g.F.Folder.failures _ _ _ _ _ _ _ _ _ (among_same _) (c.in_err-matrix.ensures.reads tells))
+    rw (p.1, p.2) (reads_no_more g.F.Folder.files g.F.Folder.tally _ _ _ _ _ _ _ _ _ (among_same _) (c.in_err-matrix.ensures.reads tells))
 
 pub returns-in_err-made : goal.returns-in_err-made
 unfolding PlanOfOne
 returns-in_err-made g c = λ tells.
     let p = err_from_is_err_and c.from_residual-in_err-made.result c.from_residual-in_err-made.ensures.1 in
-    rw (p.1, p.2) (reads_all g.F.Folder.files g.F.Folder.failures _ _ _ _ _ _ _ _ _ (c.in_ok-matrix.ensures.reads tells)
+    rw (p.1, p.2) (reads_all g.F.Folder.files g.F.Folder.tally _ _ _ _ _ _ _ _ _ (c.in_ok-matrix.ensures.reads tells)
     (fault_computes (λ (m : MatrixValue). m) _ _ _ _ (record { agrees = c.in_err-made.ensures })))
 
 pub returns : goal.returns
 unfolding PlanOfOne
 returns g c = λ tells.
-    reads_all g.F.Folder.files g.F.Folder.failures _ _ _ _ _ _ _ _ _ (c.in_ok-matrix.ensures.reads tells)
+    reads_all g.F.Folder.files g.F.Folder.tally _ _ _ _ _ _ _ _ _ (c.in_ok-matrix.ensures.reads tells)
     (then_computes (λ (m : MatrixValue). m) _ c.in_ok-made.made _ _ _ c.in_ok-made.ensures (record { agrees = c.of_packed.ensures }))

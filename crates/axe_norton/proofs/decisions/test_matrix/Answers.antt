@@ -8,45 +8,45 @@ use Rattle.axe_norton.proofs.decisions.test_matrix.Goals as goal
 
 pub returns-then-rows-eq0-clause-tells : goal.returns-then-rows-eq0-clause-tells
 returns-then-rows-eq0-clause-tells c =
-    left_without_rows c.args.module.now c.args.value c.args.null c.requires.square c.requires.null c.requires.null_well_formed
+    left_without_rows c.args.module.now c.args.tested.matrix c.args.tested.null_space c.requires.square c.requires.tested.null_space c.requires.tested.well_formed
     (sym c.rows-2.ensures.count ∙ c.if-rows-eq0.true)
 
 pub tried_space-requires-clause-basis : goal.tried_space-requires-clause-basis
 tried_space-requires-clause-basis c =
-    null_in_module c.args.module.now c.args.value c.args.null c.requires.square c.requires.null c.requires.null_well_formed
+    null_in_module c.args.module.now c.args.tested.matrix c.args.tested.null_space c.requires.square c.requires.tested.null_space c.requires.tested.well_formed
 
 pub tried_space-requires-clause-few : goal.tried_space-requires-clause-few
 tried_space-requires-clause-few c =
-    few_is_few c.args.null c.order.result c.rows.result c.few_points-few.result
-    (c.order.ensures.value ∙ ap order_number (c.field.ensures.order ∙ sym (c.requires.null.field ∙ c.requires.square.field)))
+    few_is_few c.args.tested.null_space c.order.result c.rows.result c.few_points-few.result
+    (c.order.ensures.value ∙ ap order_number (c.field.ensures.order ∙ sym (c.requires.tested.null_space.field ∙ c.requires.square.field)))
     c.rows.ensures.count c.few_points-few.ensures
 
 pub transposed_space-requires-clause-singular : goal.transposed_space-requires-clause-singular
 transposed_space-requires-clause-singular c =
-    let some : 0 < length c.args.null.rows = omega (arith, c.rows-2.ensures.count, c.if-rows-eq0.false) in
-    singular_with_rows c.args.module.now c.args.value c.args.null c.requires.square c.requires.null c.requires.null_well_formed some
+    let some : 0 < length c.args.tested.null_space.rows = omega (arith, c.rows-2.ensures.count, c.if-rows-eq0.false) in
+    singular_with_rows c.args.module.now c.args.tested.matrix c.args.tested.null_space c.requires.square c.requires.tested.null_space c.requires.tested.well_formed some
 
 pub returns-then-few-clause-tells : goal.returns-then-few-clause-tells
 returns-then-few-clause-tells c =
-    let some : 0 < length c.args.null.rows = omega (arith, c.rows-2.ensures.count, c.if-rows-eq0.false) in
-    let few : IsTrue c.few_points-few.result ↔ HasFewPoints c.args.null =
-    few_is_few c.args.null c.order.result c.rows.result c.few_points-few.result
-    (c.order.ensures.value ∙ ap order_number (c.field.ensures.order ∙ sym (c.requires.null.field ∙ c.requires.square.field)))
+    let some : 0 < length c.args.tested.null_space.rows = omega (arith, c.rows-2.ensures.count, c.if-rows-eq0.false) in
+    let few : IsTrue c.few_points-few.result ↔ HasFewPoints c.args.tested.null_space =
+    few_is_few c.args.tested.null_space c.order.result c.rows.result c.few_points-few.result
+    (c.order.ensures.value ∙ ap order_number (c.field.ensures.order ∙ sym (c.requires.tested.null_space.field ∙ c.requires.square.field)))
     c.rows.ensures.count c.few_points-few.ensures in
-    irreducible_told c.args.module.now c.args.value c.args.null c.requires.square c.requires.null c.requires.null_well_formed some
+    irreducible_told c.args.module.now c.args.tested.matrix c.args.tested.null_space c.requires.square c.requires.tested.null_space c.requires.tested.well_formed some
     c.in_ok-first.first (few.0 c.if-few.true) (rw c.in_default.is at c.in_ok-space.ensures) (rw c.in_default-2.is at c.in_ok-space-2.ensures)
     c.in_ok-first.ensures.first
 
 pub returns-else-few-clause-tells : goal.returns-else-few-clause-tells
 returns-else-few-clause-tells c =
-    let some : 0 < length c.args.null.rows = omega (arith, c.rows-2.ensures.count, c.if-rows-eq0.false) in
-    let few : IsTrue c.few_points-few.result ↔ HasFewPoints c.args.null =
-    few_is_few c.args.null c.order.result c.rows.result c.few_points-few.result
-    (c.order.ensures.value ∙ ap order_number (c.field.ensures.order ∙ sym (c.requires.null.field ∙ c.requires.square.field)))
+    let some : 0 < length c.args.tested.null_space.rows = omega (arith, c.rows-2.ensures.count, c.if-rows-eq0.false) in
+    let few : IsTrue c.few_points-few.result ↔ HasFewPoints c.args.tested.null_space =
+    few_is_few c.args.tested.null_space c.order.result c.rows.result c.few_points-few.result
+    (c.order.ensures.value ∙ ap order_number (c.field.ensures.order ∙ sym (c.requires.tested.null_space.field ∙ c.requires.square.field)))
     c.rows.ensures.count c.few_points-few.ensures in
-    left_told c.args.module.now c.args.value c.args.null c.requires.square c.requires.null c.requires.null_well_formed some
+    left_told c.args.module.now c.args.tested.matrix c.args.tested.null_space c.requires.square c.requires.tested.null_space c.requires.tested.well_formed some
     (λ is_few. not_both c.few_points-few.result (few.1 is_few) c.if-few.false) (rw c.in_default.is at c.in_ok-space.ensures)
     (rw c.in_default-2.is at c.in_ok-space-2.ensures)
 
 pub first_point-requires-clause-reduced : goal.first_point-requires-clause-reduced
-first_point-requires-clause-reduced c = null_is_reduced c.args.value c.args.null c.requires.null
+first_point-requires-clause-reduced c = null_is_reduced c.args.tested.matrix c.args.tested.null_space c.requires.tested.null_space

@@ -10,7 +10,7 @@ pub returns-in_err-matrix-clause-reads : goal.returns-in_err-matrix-clause-reads
 returns-in_err-matrix-clause-reads g c = λ tells.
     let p = err_from_is_err_and c.from_residual-in_err-matrix.result c.from_residual-in_err-matrix.ensures.1 in
     let below : c.loop-index.index < c.args.count = omega (arith, c.loop-index-test.true, c.from-index-end.ensures, c.get.ensures.number) in
-    rw (p.1, p.2) (reads_after g.F.Folder.files g.F.Folder.failures _ _ _ _ _ _ (λ (matrices : Vec Matrix Global). matrices.items) _ _ _
+    rw (p.1, p.2) (reads_after g.F.Folder.files g.F.Folder.tally _ _ _ _ _ _ (λ (matrices : Vec Matrix Global). matrices.items) _ _ _
     (c.loop-index.invariant.kept tells) (c.loop-index.invariant.counted tells)
     (fault_of_next {U = Vec Matrix Global} _ _ c.loop-index.matrices.items c.args.name.now _ c.loop-index.index c.args.count
     (λ matrices. matrices.items) _ below (c.loop-index.invariant.kept tells)

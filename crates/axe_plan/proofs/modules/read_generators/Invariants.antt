@@ -9,6 +9,6 @@ invariant-loop-index g l = record {
       matrices_in (g.F.Folder.files l.fn.folder) (numbered_names l.name l.fn.count) ≡
       read_after (g.F.Folder.files l.fn.folder) l.matrices.items (names_from l.name (l.index + 1) (l.fn.count - l.index));
   kept : IsTrue g.F.Folder.tells → g.F.Folder.files l.folder ≡ g.F.Folder.files l.fn.folder;
-  counted : IsTrue g.F.Folder.tells → g.F.Folder.failures l.folder ≡ g.F.Folder.failures l.fn.folder;
+  counted : IsTrue g.F.Folder.tells → g.F.Folder.tally l.folder ≡ g.F.Folder.tally l.fn.folder;
   many : length l.matrices.items ≡ l.index;
 }

@@ -1,10 +1,10 @@
 use Rattle.std.proofs.Common.{ap}
 use Rattle.axe_echelon.specs.Echelons.{EchelonValue}
-use Rattle.axe_echelon.proofs.StepLaws.{echelon_of_steps}
+use Rattle.axe_echelon.proofs.PivotRowLaws.{echelon_of_rows}
 use Rattle.axe_echelon.proofs.subspace.Subspace.cols.Goals as goal
 
 pub returns-clause-well_formed : goal.returns-clause-well_formed
-returns-clause-well_formed c = rw (← c.self.view_is) (echelon_of_steps _ _ _ c.self.invariant.are_steps)
+returns-clause-well_formed c = rw (← c.self.view_is) (echelon_of_rows _ _ _ c.self.invariant.are_rows)
 
 pub returns-clause-count : goal.returns-clause-count
 returns-clause-count c = ap (λ (e : EchelonValue). e.cols) c.self.view_is

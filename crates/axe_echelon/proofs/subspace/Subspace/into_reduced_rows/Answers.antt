@@ -1,6 +1,6 @@
 use Rattle.std.proofs.Common.{◌≤◌, ◌≢◌, get_or, [], ap₂, sym, ◌∙◌, arith, true≢false}
 use Rattle.axe_echelon.specs.PivotTables.{marks_of}
-use Rattle.axe_echelon.specs.Steps.{IsPivotRow}
+use Rattle.axe_echelon.specs.Subspaces.{IsPivotRow}
 use Rattle.axe_echelon.proofs.Exits.{no_memory}
 use Rattle.axe_echelon.proofs.EliminationLaws.{room_of_rank}
 use Rattle.axe_echelon.proofs.ReducedLaws.{reduced_whole}

@@ -1,6 +1,6 @@
 use Rattle.std.proofs.Common.{◌<◌, length, ap, subst, arith}
 use Rattle.axe_echelon.specs.Echelons.{EchelonValue}
-use Rattle.axe_echelon.proofs.SubspaceLaws.{length-rows}
+use Rattle.axe_echelon.proofs.PivotRowLaws.{length-rows}
 use Rattle.axe_echelon.proofs.PivotsOfRows.{pivot_of_row, pivot_within}
 use Rattle.axe_echelon.proofs.subspace.Subspace.pivot.Goals as goal
 
@@ -12,10 +12,10 @@ index-requires c = omega (arith, length-rows _ _ c.self.inside.rows.items _ c.se
 
 pub returns-clause-place : goal.returns-clause-place
 returns-clause-place c =
-    pivot_of_row _ _ c.self.inside.rows.items c.self.invariant.are_steps c.args.index c.index.result.now (below c) c.index.ensures
+    pivot_of_row _ _ c.self.inside.rows.items c.self.invariant.are_rows c.args.index c.index.result.now (below c) c.index.ensures
     c.args.self.now c.self.view_is
 
 pub returns-clause-within : goal.returns-clause-within
 returns-clause-within c =
-    let within = pivot_within _ _ c.self.inside.rows.items c.self.invariant.are_steps c.args.index c.index.result.now (below c) c.index.ensures in
+    let within = pivot_within _ _ c.self.inside.rows.items c.self.invariant.are_rows c.args.index c.index.result.now (below c) c.index.ensures in
     subst (λ n. c.index.result.now.pivot < n) (ap (λ (x : EchelonValue). x.cols) c.self.view_is) within

@@ -1,11 +1,9 @@
-use Rattle.std.proofs.Common.{◌≡◌, ◌<◌, length, get_or, sym, ◌∙◌, ap, arith}
+use Rattle.std.proofs.Common.{◌<◌, sym, ◌∙◌, ap, arith}
 use Rattle.axe_echelon.specs.Echelons.{EchelonValue}
-use Rattle.axe_echelon.specs.Steps.{IsStep}
-use Rattle.axe_echelon.specs.Subspaces.{step_of, steps_of}
-use Rattle.axe_echelon.specs.declared.Step.{Step}
-use Rattle.axe_echelon.proofs.StepLaws.{over_of_row, is_row_of_over, step_at, pivot_of_steps, echelon_of_steps}
-use Rattle.axe_echelon.proofs.ClearingLaws.{IsFoundStep, IsClearing, reduced_before_none, found_step, room_of_found, place_of_found, clearing_of, zeros_before_pivot, reduce_next, reduced_all}
-use Rattle.axe_echelon.proofs.SubspaceLaws.{length-steps_from, step_of_row}
+use Rattle.axe_echelon.specs.Subspaces.{IsRowOfForm}
+use Rattle.axe_echelon.proofs.PivotRowLaws.{form_row_at, pivot_at, echelon_of_rows}
+use Rattle.axe_echelon.proofs.StepLaws.{over_of_row, is_row_of_over}
+use Rattle.axe_echelon.proofs.ClearingLaws.{IsFoundRow, IsClearing, reduced_before_none, found_row, room_of_found, place_of_found, clearing_of, zeros_before_pivot, reduce_next, reduced_all}
 use Rattle.axe_echelon.proofs.subspace.Subspace.reduce.Goals.{In-Some, After-row_of, After-index-pivot_row}
 use Rattle.axe_echelon.proofs.subspace.Subspace.reduce.Goals as goal
 
@@ -26,24 +24,15 @@ row_of-requires c =
     let room = room_of_found _ _ _ _ c.loop-pivot.row.entries _ _ c.self.invariant c.in-Some.ensures in
     omega (arith, place (goal.at.row_of-requires c).In-Some, room.rows)
 
-found : (c : goal.After-row_of) → IsFoundStep (steps_of c.self.inside.field c.self.inside.cols c.self.inside.rows.items) c.in-Some.pivot c.row_of.result
-found c = found_step _ _ (steps_of c.self.inside.field c.self.inside.cols c.self.inside.rows.items) c.self.inside.pivots c.loop-pivot.row.entries _ _ _ c.self.invariant c.in-Some.ensures c.row_of.ensures
-
-inside : (c : goal.After-row_of) → c.row_of.result < length c.self.inside.rows.items
-inside c = omega (arith, (found c).within, length-steps_from c.self.inside.field c.self.inside.cols 0 c.self.inside.rows.items)
+found : (c : goal.After-row_of) → IsFoundRow c.self.inside.rows.items c.in-Some.pivot c.row_of.result
+found c = found_row _ _ c.self.inside.rows.items c.self.inside.pivots c.loop-pivot.row.entries _ _ _ c.self.invariant c.in-Some.ensures c.row_of.ensures
 
 pub index-pivot_row-requires : goal.index-pivot_row-requires
-index-pivot_row-requires c = omega (arith, inside (goal.at.index-pivot_row-requires c).After-row_of, c.self.inside.rows.ok.0)
+index-pivot_row-requires c = omega (arith, (found (goal.at.index-pivot_row-requires c).After-row_of).within, c.self.inside.rows.ok.0)
 
-abbrev step : (c : goal.After-index-pivot_row) → Step
-step c = step_of c.self.inside.field c.self.inside.cols c.row_of.result c.index-pivot_row.result.now
-
-step_is : (c : goal.After-index-pivot_row) → step c ≡ get_or (steps_of c.self.inside.field c.self.inside.cols c.self.inside.rows.items) c.row_of.result (step c)
-step_is c = step_of_row _ _ c.self.inside.rows.items c.row_of.result c.index-pivot_row.result.now (inside c.before) c.index-pivot_row.ensures
-
-at : (c : goal.After-index-pivot_row) → IsStep c.self.inside.field c.self.inside.cols (step c)
-at c = step_at _ _ (steps_of c.self.inside.field c.self.inside.cols c.self.inside.rows.items) c.row_of.result (step c) c.self.invariant.are_steps
-    (found c.before).within (step_is c)
+at : (c : goal.After-index-pivot_row) → IsRowOfForm c.self.inside.field c.self.inside.cols c.index-pivot_row.result.now
+at c = form_row_at _ _ c.self.inside.rows.items c.row_of.result c.index-pivot_row.result.now c.self.invariant.are_rows (found c.before).within
+    c.index-pivot_row.ensures
 
 pub cancel_from-requires-clause-index : goal.cancel_from-requires-clause-index
 cancel_from-requires-clause-index c = place_of_found _ c.loop-pivot.row.entries _ _ c.in-Some.ensures
@@ -57,13 +46,12 @@ cancel_from-requires-clause-fits c =
 
 pub cancel_from-requires-clause-zeros : goal.cancel_from-requires-clause-zeros
 cancel_from-requires-clause-zeros c =
-    let at_row = (goal.at.cancel_from-requires-clause-zeros c).After-index-pivot_row in
     let there = found (goal.at.cancel_from-requires-clause-zeros c).After-row_of in
-    zeros_before_pivot _ _ (steps_of c.self.inside.field c.self.inside.cols c.self.inside.rows.items) c.row_of.result (step at_row) c.self.invariant.are_steps
-    there.within (step_is at_row) c.in-Some.pivot there.pivot
+    zeros_before_pivot _ _ c.self.inside.rows.items c.row_of.result c.index-pivot_row.result.now c.self.invariant.are_rows
+    there.within c.index-pivot_row.ensures c.in-Some.pivot there.pivot
 
 pub overflow_add-start : goal.overflow_add-start
-overflow_add-start c = omega (arith, place (goal.at.overflow_add-start c).In-Some, c.self.invariant.are_steps.columns_fit)
+overflow_add-start c = omega (arith, place (goal.at.overflow_add-start c).In-Some, c.self.invariant.are_rows.columns_fit)
 
 pub loop-pivot-smaller : goal.loop-pivot-smaller
 loop-pivot-smaller c =
@@ -71,18 +59,16 @@ loop-pivot-smaller c =
 
 pub loop-pivot-preserved : goal.loop-pivot-preserved
 loop-pivot-preserved c =
-    let steps = steps_of c.self.inside.field c.self.inside.cols c.self.inside.rows.items in
-    let at_row = (goal.at.loop-pivot-preserved c).After-index-pivot_row in
-    let there : IsFoundStep steps c.in-Some.pivot c.row_of.result = found (goal.at.loop-pivot-preserved c).After-row_of in
-    let pivot = sym (pivot_of_steps steps c.row_of.result (step at_row) there.within (step_is at_row)) ∙ there.pivot in
+    let there : IsFoundRow c.self.inside.rows.items c.in-Some.pivot c.row_of.result = found (goal.at.loop-pivot-preserved c).After-row_of in
+    let pivot = sym (pivot_at c.self.inside.rows.items c.row_of.result c.index-pivot_row.result.now there.within c.index-pivot_row.ensures) ∙ there.pivot in
     let so_far = c.loop-pivot.invariant.so_far in
-    let clearing : IsClearing c.self.inside.field c.self.inside.cols (step at_row) c.loop-pivot.row c.cancel_from.new.self c.cancel_from.result =
-    clearing_of _ c.loop-pivot.row.order _ (step at_row) _ _ _ c.in-Some.pivot so_far.clear.field so_far.clear.over pivot so_far.clear.field
+    let clearing : IsClearing c.self.inside.field c.self.inside.cols c.index-pivot_row.result.now c.loop-pivot.row c.cancel_from.new.self c.cancel_from.result =
+    clearing_of _ c.loop-pivot.row.order _ c.index-pivot_row.result.now _ _ _ c.in-Some.pivot so_far.clear.field so_far.clear.over pivot so_far.clear.field
     c.cancel_from.ensures.element c.cancel_from.ensures.factor c.cancel_from.ensures.sum c.cancel_from.ensures.as_long c.cancel_from.ensures.well_formed in
     record {
       fits = omega (arith, place_of_found _ c.loop-pivot.row.entries _ _ c.in-Some.ensures, c.cancel_from.ensures.as_long);
-      so_far = reduce_next _ _ steps c.self.inside.pivots c.loop-pivot.start c.in-Some.pivot c.row_of.result (step at_row) c.args.row.now c.loop-pivot.row
-          c.cancel_from.new.self c.cancel_from.result c.self.invariant so_far c.in-Some.ensures there (step_is at_row) clearing;
+      so_far = reduce_next _ _ c.self.inside.rows.items c.self.inside.pivots c.loop-pivot.start c.in-Some.pivot c.row_of.result c.index-pivot_row.result.now c.args.row.now c.loop-pivot.row
+          c.cancel_from.new.self c.cancel_from.result c.self.invariant so_far c.in-Some.ensures there c.index-pivot_row.ensures clearing;
     }
 
 pub returns-clause-representative : goal.returns-clause-representative
@@ -99,4 +85,4 @@ pub returns-clause-row_well_formed : goal.returns-clause-row_well_formed
 returns-clause-row_well_formed c = is_row_of_over _ _ _ c.loop-pivot.invariant.so_far.clear.field c.loop-pivot.invariant.so_far.clear.over
 
 pub returns-clause-well_formed : goal.returns-clause-well_formed
-returns-clause-well_formed c = rw (← c.self.view_is) (echelon_of_steps _ _ _ c.self.invariant.are_steps)
+returns-clause-well_formed c = rw (← c.self.view_is) (echelon_of_rows _ _ _ c.self.invariant.are_rows)

@@ -1,12 +1,11 @@
 use Rattle.std.proofs.Common.{◌≤◌, ◌-◌, length}
-use Rattle.axe_echelon.specs.Subspaces.{steps_of}
 use Rattle.axe_echelon.proofs.ClearingLaws.{IsReducedBefore}
 use Rattle.axe_echelon.proofs.subspace.Subspace.reduce.Given as goal
 
 abbrev pub invariant-loop-pivot : goal.invariant-loop-pivot
 invariant-loop-pivot l = record {
   fits : l.start ≤ length l.row.entries;
-  so_far : IsReducedBefore l.self-inside.field l.self-inside.cols (steps_of l.self-inside.field l.self-inside.cols l.self-inside.rows.items) l.start l.fn.row l.row;
+  so_far : IsReducedBefore l.self-inside.field l.self-inside.cols l.self-inside.rows.items l.start l.fn.row l.row;
 }
 
 abbrev pub decreases-loop-pivot : goal.decreases-loop-pivot

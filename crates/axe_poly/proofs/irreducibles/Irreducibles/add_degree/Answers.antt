@@ -1,4 +1,5 @@
-use Rattle.std.proofs.Common.{◌+◌, ◌*◌, ◌^◌, sym}
+use Rattle.std.proofs.Common.{◌+◌, ◌*◌, ◌^◌, ◌<◌, sym}
+use Rattle.axe_poly.specs.Limits.{greatest_degree}
 use Rattle.axe_field.specs.Order.{order_number}
 use Rattle.axe_poly.specs.Tables.{IrreduciblesValue, AreFoundBelow}
 use Rattle.axe_poly.proofs.FoundLaws.{tabled_more}
@@ -12,6 +13,7 @@ invariant_of-self-2 c =
     (subst (λ (t : IrreduciblesValue). AreFoundBelow t
     (2 * order_number t.order ^ (t.degree + 1)) c.in_ok-found.found.items)
     (sym c.self.view_is) c.in_ok-found.ensures)
+    (subst (λ (t : IrreduciblesValue). t.degree < greatest_degree t.order) (sym c.self.view_is) c.requires)
     c.in_ok-append.ensures.items
 
 pub returns-clause-well_formed : goal.returns-clause-well_formed
@@ -21,4 +23,5 @@ returns-clause-well_formed c =
     (subst (λ (t : IrreduciblesValue). AreFoundBelow t
     (2 * order_number t.order ^ (t.degree + 1)) c.in_ok-found.found.items)
     (sym c.self.view_is) c.in_ok-found.ensures)
+    (subst (λ (t : IrreduciblesValue). t.degree < greatest_degree t.order) (sym c.self.view_is) c.requires)
     c.in_ok-append.ensures.items).irreducibles

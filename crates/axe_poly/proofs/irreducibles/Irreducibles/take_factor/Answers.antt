@@ -1,8 +1,9 @@
-use Rattle.std.proofs.Common.{◌<◌, ℕ, List, [], length, get_or, ap, sym, ◌∙◌}
+use Rattle.std.proofs.Common.{◌≡◌, ◌<◌, ℕ, List, [], length, get_or, ap, sym, ◌∙◌, arith}
 use Rattle.std.proofs.lemmas.Bool.{false≢true}
 use Rattle.axe_field.specs.NumberFields.{number_field}
 use Rattle.axe_field.specs.Order.{IsElement}
 use Rattle.axe_polynomial_algebra.specs.PolynomialsOfLists.{degree_of, IsMonicOver, Divides}
+use Rattle.axe_poly.specs.Limits.{greatest_degree}
 use Rattle.axe_poly.specs.Polys.{PolyValue}
 use Rattle.axe_poly.proofs.PolyLaws.{below_are_elements, divides_tells}
 use Rattle.axe_poly.proofs.FactorLaws.{among_more, among_other_degree, among_no_divisor}
@@ -12,37 +13,43 @@ use mathlib.Core.Path.{subst}
 pub divides-requires-clause-monic : goal.divides-requires-clause-monic
 divides-requires-clause-monic c =
     subst (λ o. IsMonicOver (number_field o) c.coefficients.result.now)
-    (ap (λ (p : PolyValue). p.order) c.polynomial-divisor.ensures.value ∙ sym c.requires.rest_field)
+    (ap (λ (p : PolyValue). p.order) c.polynomial-divisor.ensures.value ∙ sym c.requires.lanes_field)
     (subst (IsMonicOver (number_field c.polynomial-divisor.result.now.order))
     (sym c.coefficients.ensures.list) c.coefficients.ensures.well_formed)
 
+pub divides-requires-clause-degree : goal.divides-requires-clause-degree
+divides-requires-clause-degree c =
+    let same : degree_of c.coefficients.result.now ≡ c.args.degree =
+    ap degree_of (c.coefficients.ensures.list) ∙ sym c.degree.ensures.value ∙ c.if-degree.false in
+    omega (arith, same, c.requires.found, c.count.ensures.bounded, ap greatest_degree c.requires.lanes_field)
+
 pub divides-requires-clause-elements : goal.divides-requires-clause-elements
 divides-requires-clause-elements c =
-    subst (λ (xs : List ℕ). (k : ℕ) → (d : ℕ) → k < length xs → IsElement c.args.rest.now.order (get_or xs k d))
+    subst (λ (xs : List ℕ). (k : ℕ) → (d : ℕ) → k < length xs → IsElement c.args.lanes.now (get_or xs k d))
     (sym c.coefficients-2.ensures.list)
     (subst (λ o. (k : ℕ) → (d : ℕ) → k < length c.args.poly.now.coefficients → IsElement o
     (get_or c.args.poly.now.coefficients k d))
-    (c.requires.field ∙ sym c.requires.rest_field)
+    (c.requires.field ∙ sym c.requires.lanes_field)
     (below_are_elements c.args.poly.now.order c.args.poly.now.coefficients
     c.coefficients-2.ensures.well_formed.elements))
 
-pub returns-then-degree-clause-taken : goal.returns-then-degree-clause-taken
-returns-then-degree-clause-taken c =
+pub returns-then-degree : goal.returns-then-degree
+returns-then-degree c =
     among_other_degree c.args.self.now c.args.poly.now c.args.degree c.count.ensures.well_formed c.requires.field
     c.args.index c.args.factors.now.items c.requires.index
     (λ same. c.if-degree.true
     (c.degree.ensures.value ∙ ap (λ (p : PolyValue). degree_of p.coefficients) c.polynomial-divisor.ensures.value
     ∙ same)) c.requires.taken
 
-pub returns-in_ok-push-clause-taken : goal.returns-in_ok-push-clause-taken
-returns-in_ok-push-clause-taken c =
+pub returns-in_ok-push : goal.returns-in_ok-push
+returns-in_ok-push c =
     let t = c.args.self.now in
     let f = c.args.poly.now in
     let value = c.polynomial-divisor.ensures.value in
-    let tells = divides_tells c.args.rest.now.order t.order c.coefficients.result.now
+    let tells = divides_tells c.args.lanes.now t.order c.coefficients.result.now
     (get_or t.polynomials c.args.index []) c.coefficients-2.result.now c.divides.result
-    c.requires.rest_field
-    (c.coefficients.ensures.list ∙ ap (λ (p : PolyValue). p.coefficients) value) c.divides.ensures.tells in
+    c.requires.lanes_field
+    (c.coefficients.ensures.list ∙ ap (λ (p : PolyValue). p.coefficients) value) c.divides.ensures in
     among_more t f c.args.degree c.count.ensures.well_formed c.requires.field c.args.index c.args.factors.now.items
     c.push.new.self.items c.in_ok-factor.factor
     c.requires.index
@@ -51,15 +58,15 @@ returns-in_ok-push-clause-taken c =
     (get_or t.polynomials c.args.index []) xs) c.coefficients-2.ensures.list (tells.0 c.if-divides.true))
     (c.in_ok-factor.ensures.copied ∙ value) c.in_ok-push.ensures.items c.requires.taken
 
-pub returns-else-divides-clause-taken : goal.returns-else-divides-clause-taken
-returns-else-divides-clause-taken c =
+pub returns-else-divides : goal.returns-else-divides
+returns-else-divides c =
     let t = c.args.self.now in
     let f = c.args.poly.now in
     let value = c.polynomial-divisor.ensures.value in
-    let tells = divides_tells c.args.rest.now.order t.order c.coefficients.result.now
+    let tells = divides_tells c.args.lanes.now t.order c.coefficients.result.now
     (get_or t.polynomials c.args.index []) c.coefficients-2.result.now c.divides.result
-    c.requires.rest_field
-    (c.coefficients.ensures.list ∙ ap (λ (p : PolyValue). p.coefficients) value) c.divides.ensures.tells in
+    c.requires.lanes_field
+    (c.coefficients.ensures.list ∙ ap (λ (p : PolyValue). p.coefficients) value) c.divides.ensures in
     among_no_divisor t f c.args.degree c.count.ensures.well_formed c.requires.field c.args.index
     c.args.factors.now.items c.requires.index
     (λ divides. false≢true (sym c.if-divides.false ∙ tells.1

@@ -2,7 +2,7 @@ use Rattle.std.proofs.Common.{rules, ◌≡◌, arith, ap, sym, ◌∙◌, lengt
 use Rattle.std.proofs.lemmas.Bool.{eqb-true}
 use Rattle.axe_matrix.specs.Matrices.{MatrixValue}
 use Rattle.axe_reduction.proofs.ClearLaws.{cleared_of_none}
-use Rattle.axe_algebra.proofs.ListEntries.{table_length}
+use Rattle.axe_algebra.proofs.ListEntries.{listed_length}
 use Rattle.axe_reduction.proofs.reduction.Reduction.clear.Goals as goal
 
 pub returns-then-is_empty-clause-cleared : goal.returns-then-is_empty-clause-cleared
@@ -14,7 +14,7 @@ returns-then-is_empty-clause-cleared c =
 
 pub plus_product-requires-clause-rows_fit : goal.plus_product-requires-clause-rows_fit
 plus_product-requires-clause-rows_fit c =
-    ap (λ (m : MatrixValue). length m.rows) c.in_ok-entries.ensures.entries ∙ table_length _ _ _
+    ap (λ (m : MatrixValue). length m.rows) c.in_ok-entries.ensures.entries ∙ listed_length _ _
 
 pub plus_product-requires-clause-element : goal.plus_product-requires-clause-element
 plus_product-requires-clause-element c = search rules

@@ -1,0 +1,90 @@
+use Rattle.std.proofs.Common.{◌<◌, replicate, sym, ◌∙◌, ap, arith}
+use Rattle.axe_echelon.specs.Echelons.{EchelonValue}
+use Rattle.axe_echelon.specs.Subspaces.{IsRowOfForm}
+use Rattle.axe_echelon.proofs.PivotRowLaws.{form_row_at, pivot_at, rows_fit, echelon_of_rows}
+use Rattle.axe_echelon.proofs.StepLaws.{over_of_row}
+use Rattle.axe_echelon.proofs.ClearingLaws.{IsFoundRow, IsClearing, cleared_by_none, found_row, room_of_found, place_of_found, clearing_of, zeros_before_pivot, clear_next, cleared_by_all}
+use Rattle.axe_echelon.proofs.subspace.Subspace.reduce_with.Goals.{In-Some, After-row_of-index, After-index-pivot_row}
+use Rattle.axe_echelon.proofs.subspace.Subspace.reduce_with.Goals as goal
+
+pub loop-pivot-init : goal.loop-pivot-init
+loop-pivot-init c =
+    let field = c.requires.field ∙ sym (ap (λ (e : EchelonValue). e.order) c.self.view_is) in
+    let fits = c.requires.fits ∙ sym (ap (λ (e : EchelonValue). e.cols) c.self.view_is) in
+    record {
+      fits = omega arith;
+      so_far = cleared_by_none _ _ _ _ _ field (over_of_row _ _ _ field c.len.ensures.well_formed fits)
+          (c.requires.zeros ∙ (λ i. record { order = field i; entries = replicate (fits i) 0 }));
+    }
+
+place : (c : goal.In-Some) → c.in-Some.pivot < c.self.inside.cols
+place c = omega (arith, place_of_found _ c.loop-pivot.row.entries _ _ c.in-Some.ensures, c.loop-pivot.invariant.so_far.clear.over.length_is)
+
+pub row_of-index-requires : goal.row_of-index-requires
+row_of-index-requires c =
+    let room = room_of_found _ _ _ _ c.loop-pivot.row.entries _ _ c.self.invariant c.in-Some.ensures in
+    omega (arith, place (goal.at.row_of-index-requires c).In-Some, room.rows)
+
+found : (c : goal.After-row_of-index) → IsFoundRow c.self.inside.rows.items c.in-Some.pivot c.row_of-index.result
+found c = found_row _ _ c.self.inside.rows.items c.self.inside.pivots c.loop-pivot.row.entries _ _ _ c.self.invariant c.in-Some.ensures c.row_of-index.ensures
+
+pub index-pivot_row-requires : goal.index-pivot_row-requires
+index-pivot_row-requires c = omega (arith, (found (goal.at.index-pivot_row-requires c).After-row_of-index).within, c.self.inside.rows.ok.0)
+
+at : (c : goal.After-index-pivot_row) → IsRowOfForm c.self.inside.field c.self.inside.cols c.index-pivot_row.result.now
+at c = form_row_at _ _ c.self.inside.rows.items c.row_of-index.result c.index-pivot_row.result.now c.self.invariant.are_rows (found c.before).within
+    c.index-pivot_row.ensures
+
+pub cancel_from-multiplier-requires-clause-index : goal.cancel_from-multiplier-requires-clause-index
+cancel_from-multiplier-requires-clause-index c = place_of_found _ c.loop-pivot.row.entries _ _ c.in-Some.ensures
+
+pub cancel_from-multiplier-requires-clause-field : goal.cancel_from-multiplier-requires-clause-field
+cancel_from-multiplier-requires-clause-field c =
+    (at (goal.at.cancel_from-multiplier-requires-clause-field c).After-index-pivot_row).row_field ∙ sym c.loop-pivot.invariant.so_far.clear.field
+
+pub cancel_from-multiplier-requires-clause-fits : goal.cancel_from-multiplier-requires-clause-fits
+cancel_from-multiplier-requires-clause-fits c =
+    (at (goal.at.cancel_from-multiplier-requires-clause-fits c).After-index-pivot_row).row_over.length_is ∙ sym c.loop-pivot.invariant.so_far.clear.over.length_is
+
+pub cancel_from-multiplier-requires-clause-zeros : goal.cancel_from-multiplier-requires-clause-zeros
+cancel_from-multiplier-requires-clause-zeros c =
+    let there = found (goal.at.cancel_from-multiplier-requires-clause-zeros c).After-row_of-index in
+    zeros_before_pivot _ _ c.self.inside.rows.items c.row_of-index.result c.index-pivot_row.result.now c.self.invariant.are_rows there.within
+    c.index-pivot_row.ensures c.in-Some.pivot there.pivot
+
+pub set-requires-clause-index : goal.set-requires-clause-index
+set-requires-clause-index c =
+    let fit = rows_fit _ _ _ c.self.invariant.are_rows in
+    omega (arith, fit, (found (goal.at.set-requires-clause-index c).After-row_of-index).within, c.loop-pivot.invariant.so_far.multipliers_over.length_is)
+
+pub overflow_add-column : goal.overflow_add-column
+overflow_add-column c = omega (arith, place (goal.at.overflow_add-column c).In-Some, c.self.invariant.are_rows.columns_fit)
+
+pub loop-pivot-smaller : goal.loop-pivot-smaller
+loop-pivot-smaller c =
+    omega (arith, place (goal.at.loop-pivot-smaller c).In-Some, c.in-Some.ensures.not_before, c.requires.fits, ap (λ (e : EchelonValue). e.cols) c.self.view_is)
+
+pub loop-pivot-preserved : goal.loop-pivot-preserved
+loop-pivot-preserved c =
+    let there : IsFoundRow c.self.inside.rows.items c.in-Some.pivot c.row_of-index.result = found (goal.at.loop-pivot-preserved c).After-row_of-index in
+    let pivot = sym (pivot_at c.self.inside.rows.items c.row_of-index.result c.index-pivot_row.result.now there.within c.index-pivot_row.ensures) ∙ there.pivot in
+    let so_far = c.loop-pivot.invariant.so_far in
+    let clearing : IsClearing c.self.inside.field c.self.inside.cols c.index-pivot_row.result.now c.loop-pivot.row c.cancel_from-multiplier.new.self
+    c.cancel_from-multiplier.result =
+    clearing_of _ c.loop-pivot.row.order _ c.index-pivot_row.result.now _ _ _ c.in-Some.pivot so_far.clear.field so_far.clear.over pivot so_far.clear.field
+    c.cancel_from-multiplier.ensures.element c.cancel_from-multiplier.ensures.factor c.cancel_from-multiplier.ensures.sum
+    c.cancel_from-multiplier.ensures.as_long c.cancel_from-multiplier.ensures.well_formed in
+    record {
+      fits = omega (arith, place_of_found _ c.loop-pivot.row.entries _ _ c.in-Some.ensures, c.cancel_from-multiplier.ensures.as_long);
+      so_far = clear_next _ _ c.self.inside.rows.items c.self.inside.pivots c.loop-pivot.column c.in-Some.pivot c.row_of-index.result
+          c.index-pivot_row.result.now c.args.row.now c.loop-pivot.row c.cancel_from-multiplier.new.self c.loop-pivot.multipliers c.set.new.self
+          c.cancel_from-multiplier.result c.self.invariant so_far c.in-Some.ensures there c.index-pivot_row.ensures clearing c.set.ensures.replaced
+          c.set.ensures.well_formed;
+    }
+
+pub returns-clause-cleared : goal.returns-clause-cleared
+returns-clause-cleared c = rw (← c.self.view_is) (
+    cleared_by_all _ _ c.self.inside.rows.items c.self.inside.pivots c.loop-pivot.column _ _ _ c.self.invariant c.loop-pivot.invariant.so_far c.in_default.ensures)
+
+pub returns-clause-well_formed : goal.returns-clause-well_formed
+returns-clause-well_formed c = rw (← c.self.view_is) (echelon_of_rows _ _ _ c.self.invariant.are_rows)
