@@ -24,7 +24,8 @@ use Rattle.axe_plan.specs.Inputs.{numbered_names}
 use Rattle.axe_plan.specs.Outputs.{put_generator, put_generators}
 use Rattle.axe_execute.specs.ChopCommand.{put_factors, series_plan, chop_answer, ChopPlan, FoundPlan, WritesSeries}
 use Rattle.axe_execute.specs.Execution.{HasPlan, StopsCommand}
-use Rattle.axe_execute.specs.AfterChop.{ChopFails, report_file, IsLeftByChop, IsBeforeOrAfterChop}
+use Rattle.axe_execute.specs.AfterChop.{ChopFails, IsLeftByChop, IsBeforeOrAfterChop}
+use Rattle.axe_execute.specs.SeriesFiles.{report_file, basis_file, factor_name}
 use Rattle.axe_plan.proofs.ReadModules.{module_is_module}
 use Rattle.axe_execute.proofs.ChopLaws.{plan_of_series}
 use Rattle.axe_plan.proofs.BrokenSteps.{Spare, spare_append, Left, unchanged, absent, torn, left_by_broken, left_by_halted, all_if_whole}
@@ -57,14 +58,14 @@ constituent_file_differs name constituent rest some e =
     some (dot_is_first constituent rest (append_cancel_left name (constituent ++ 46 ∷ rest) (codes ".rep")
     (sym (append_assoc name constituent (46 ∷ rest)) ∙ e)))
 
-basis_file_differs : (name : List ℕ) → name ++ codes ".bas" ≢ report_file name
+pub basis_file_differs : (name : List ℕ) → basis_file name ≢ report_file name
 basis_file_differs name e = differ (ap (λ (text : List ℕ). get_or text 1 0) (append_cancel_left name (codes ".bas") (codes ".rep") e))
   where
     differ : ◌≡◌ {A = ℕ} 98 114 → ⊥
     differ same = omega (arith, same)
 
 -- no name is empty
-abbrev AreNonempty : List (List ℕ) → Type 0
+abbrev pub AreNonempty : List (List ℕ) → Type 0
 AreNonempty [] = Unit {0}
 AreNonempty (first ∷ names) = (first ≢ []) × AreNonempty names
 
@@ -80,12 +81,12 @@ unfolding names_after constituent_name
 names_nonempty earlier [] = tt
 names_nonempty earlier (dim ∷ dims) = (nonempty_end (decimal dim) (letters _) (some_letters _), names_nonempty (earlier ++ dim ∷ []) dims)
 
-all_names_nonempty : (dims : List ℕ) → AreNonempty (names_of dims)
+pub all_names_nonempty : (dims : List ℕ) → AreNonempty (names_of dims)
 unfolding names_of
 all_names_nonempty dims = names_nonempty [] dims
 
 generators_spare : (name constituent : List ℕ) (factor : ModuleValue) (indices : List ℕ) → constituent ≢ [] →
-    Spare (report_file name) (map (put_generator (name ++ constituent) factor) indices)
+    Spare (report_file name) (map (put_generator (factor_name name constituent) factor) indices)
 generators_spare name constituent factor [] some = tt
 generators_spare name constituent factor (i ∷ indices) some =
     (constituent_file_differs name constituent (decimal (i + 1)) some, generators_spare name constituent factor indices some)
@@ -95,7 +96,7 @@ factors_spare : (name : List ℕ) (constituents : List (List ℕ)) (factors : Li
 factors_spare name [] factors some = tt
 factors_spare name (constituent ∷ constituents) [] some = tt
 factors_spare name (constituent ∷ constituents) (factor ∷ factors) some =
-    spare_append (report_file name) (put_generators (name ++ constituent) factor) (put_factors name constituents factors)
+    spare_append (report_file name) (put_generators (factor_name name constituent) factor) (put_factors name constituents factors)
     (generators_spare name constituent factor (range_with_len 0 (length factor.generators)) some.0)
     (factors_spare name constituents factors some.1)
 
@@ -111,7 +112,7 @@ series_puts_report_last : (name : List ℕ) (header : ReportHeader) (basis : Mat
     PutsReportLast name (series_plan name header basis factors places)
 unfolding series_plan
 series_puts_report_last name header basis factors places = record {
-  middle = Put (name ++ codes ".bas") (packed basis) ∷ put_factors name (names_of (dims_of_factors factors)) factors;
+  middle = Put (basis_file name) (packed basis) ∷ put_factors name (names_of (dims_of_factors factors)) factors;
   spared = (basis_file_differs name, factors_spare name (names_of (dims_of_factors factors)) factors (all_names_nonempty (dims_of_factors factors)));
   steps_are = refl;
 }

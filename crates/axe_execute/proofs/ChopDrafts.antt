@@ -1,5 +1,5 @@
 -- The draft of `chop`: its steps, and what it says of what the words find.
-use Rattle.std.proofs.Common.{◌≡◌, sym, ◌∙◌, ap, ℕ, List, [], ◌∷◌, ◌++◌, append_assoc, append-nil, codes, map, string_bytes, String, Result, Ok, Err}
+use Rattle.std.proofs.Common.{◌≡◌, sym, ◌∙◌, ap, ℕ, List, [], ◌∷◌, ◌++◌, append_assoc, append-nil, map, string_bytes, String, Result, Ok, Err}
 use Rattle.std.specs.declared.alloc.Global.{Global}
 use Rattle.std.specs.Map.{keys_of, values_of}
 use mathlib.Core.List.{map-map}
@@ -24,7 +24,8 @@ use Rattle.axe_plan.specs.Inputs.{matrices_in, numbered_names, checked_module, m
 use Rattle.axe_plan.specs.Outputs.{put_generators}
 use Rattle.axe_plan.specs.Drafts.{with_step, with_steps, with_text}
 use Rattle.axe_plan.proofs.ModulePlans.{read_after}
-use Rattle.axe_execute.specs.ChopCommand.{put_factors, series_steps, series_report_bytes, series_plan, chop_answer, FoundPlan}
+use Rattle.axe_execute.specs.SeriesFiles.{report_file, basis_file, factor_name, constituents_of, series_report_bytes}
+use Rattle.axe_execute.specs.ChopCommand.{put_factors, series_steps, series_plan, chop_answer, FoundPlan}
 
 -- ---- the module
 
@@ -47,13 +48,13 @@ put_entries name entries =
 -- one of the factors that are left is put
 pub one_factor_put : (before after whole : Plan) (name stem : List ℕ) (m : ModuleValue) (entry : String Global × Factor)
     (left rest : List (String Global × Factor)) → with_steps before (put_entries name left) ≡ whole → left ≡ entry ∷ rest →
-    stem ≡ name ++ string_bytes entry.0 → m ≡ entry.1.form.matrices → after ≡ with_steps before (put_generators stem m) →
+    stem ≡ factor_name name (string_bytes entry.0) → m ≡ entry.1.form.matrices → after ≡ with_steps before (put_generators stem m) →
     with_steps after (put_entries name rest) ≡ whole
 one_factor_put before after whole name stem m entry left rest so_far first named is put =
     ap (λ plan. with_steps plan (put_entries name rest)) put
     ∙ (λ j. with_steps (with_steps before (put_generators (named j) (is j))) (put_entries name rest))
     ∙ ap (λ (steps : List Step). record { steps = steps; shown = before.shown })
-    (append_assoc before.steps (put_generators (name ++ string_bytes entry.0) entry.1.form.matrices) (put_entries name rest))
+    (append_assoc before.steps (put_generators (factor_name name (string_bytes entry.0)) entry.1.form.matrices) (put_entries name rest))
     ∙ ap (λ entries. with_steps before (put_entries name entries)) (sym first) ∙ so_far
 
 -- none is left
@@ -73,7 +74,7 @@ module _ (m : ModuleValue) (seed words : ℕ) (chopped : Chopped) (is : IsChoppe
       ∙ ap (map (λ (form : FormValue). form.matrices)) is.named.factors.forms_are
 
   -- the factors' keys are their names by the rule
-  pub keys_are_names : map string_bytes (keys chopped.factors) ≡ names_of (dims_of_factors (factor_modules chopped))
+  pub keys_are_names : map string_bytes (keys chopped.factors) ≡ constituents_of (factor_modules chopped)
   keys_are_names =
       is.named.factors.names_are
       ∙ ap names_of (sym (map-map (λ (n : ModuleValue). n.dim) (λ (form : FormValue). form.matrices) is.found.forms)
@@ -100,18 +101,18 @@ found_open_section name m seed words basis b offset o dim d is_basis is_offset i
 
 -- the steps of a series, added one after the other
 pub steps_put : (name : List ℕ) (basis : MatrixValue) (names : List (List ℕ)) (factors : List ModuleValue) (report : List ℕ) (a b c d e : Plan) →
-    b ≡ with_step a (Remove (name ++ codes ".rep")) → c ≡ with_step b (Put (name ++ codes ".bas") (packed basis)) →
-    d ≡ with_steps c (put_factors name names factors) → e ≡ with_step d (Put (name ++ codes ".rep") report) →
+    b ≡ with_step a (Remove (report_file name)) → c ≡ with_step b (Put (basis_file name) (packed basis)) →
+    d ≡ with_steps c (put_factors name names factors) → e ≡ with_step d (Put (report_file name) report) →
     e ≡ with_steps a (series_steps name basis names factors report)
 steps_put name basis names factors report a b c d e of_b of_c of_d of_e =
-    of_e ∙ ap (λ plan. with_step plan (Put (name ++ codes ".rep") report))
+    of_e ∙ ap (λ plan. with_step plan (Put (report_file name) report))
     (of_d ∙ ap (λ plan. with_steps plan (put_factors name names factors))
-    (of_c ∙ ap (λ plan. with_step plan (Put (name ++ codes ".bas") (packed basis))) of_b))
+    (of_c ∙ ap (λ plan. with_step plan (Put (basis_file name) (packed basis))) of_b))
     ∙ ap (λ (steps : List Step). record { steps = steps; shown = a.shown }) (simp append_assoc)
 
 pub series_drafted : (name stem : List ℕ) (header : ReportHeader) (basis : MatrixValue) (factors : List ModuleValue) (places : List ℕ)
     (names : List (List ℕ)) (copy text : List ℕ) (before after : Plan) → before ≡ record { steps = []; shown = [] } →
-    after ≡ with_steps before (series_steps stem basis names factors copy) → stem ≡ name → names ≡ names_of (dims_of_factors factors) →
+    after ≡ with_steps before (series_steps stem basis names factors copy) → stem ≡ name → names ≡ constituents_of factors →
     copy ≡ text → text ≡ series_report_bytes header factors places → with_text after text ≡ series_plan name header basis factors places
 unfolding series_plan
 series_drafted name stem header basis factors places names copy text before after is_new is_put is_stem are_names is_copy is_text =

@@ -1,5 +1,5 @@
 -- What `chop` means is one plan or one problem, and it is true of the module that is read.
-use Rattle.std.proofs.Common.{◌≡◌, refl, sym, subst, ℕ, List, Result, Ok, Err, IfOk}
+use Rattle.std.proofs.Common.{◌≡◌, refl, sym, ◌∙◌, subst, ℕ, List, Result, Ok, Err, IfOk}
 use Rattle.std.specs.Prelude.{⊤}
 use Rattle.axe_matrix.specs.Matrices.{MatrixValue}
 use Rattle.axe_spin.specs.Modules.{ModuleValue, IsModule}
@@ -7,14 +7,18 @@ use Rattle.axe_series.specs.Runs.{Outcome, complete, open_section, RunOf}
 use Rattle.axe_series.proofs.RunLaws.{runs_are_true}
 use Rattle.axe_series.proofs.OneOutcome.{outcome_is_one}
 use Rattle.axe_series.proofs.SomeRun.{some_run}
+use Rattle.axe_series.proofs.FewPoints.{small_has_a_series}
 use Rattle.axe_series.specs.Series.{IsOpenSection, basis_of_rows, factors_of_forms}
+use Rattle.axe_chop.specs.Reported.{module_header}
 use Rattle.axe_folder.specs.Files.{Files}
 use Rattle.axe_arguments.specs.Counts.{IsGeneratorCount}
+use Rattle.axe_fault.specs.declared.fault.Fault.TheVariants.{Undecided}
 use Rattle.axe_fault.specs.Causes.{Problem, StaysOpen}
 use Rattle.axe_plan.specs.Plans.{Plan}
 use Rattle.axe_plan.specs.Meanings.{Answered, AtMostOne, Is, Has}
 use Rattle.axe_plan.specs.Inputs.{module_in}
-use Rattle.axe_execute.specs.ChopCommand.{chop_answer, ChopPlan, FoundPlan, WritesSeries, FindsOpenSection}
+use Rattle.axe_execute.specs.ChopCommand.{series_plan, chop_answer, ChopPlan, FoundPlan, WritesSeries, FindsOpenSection, IsSmallModule}
+use Rattle.axe_execute.specs.AfterChop.{ChopFails}
 use Rattle.axe_plan.proofs.OneAnswer.{is_one, has_one, then_one}
 use Rattle.axe_plan.proofs.SomeAnswer.{then_some}
 use Rattle.axe_plan.proofs.ReadModules.{module_if_read}
@@ -86,3 +90,32 @@ open_section_of_problem count seed words name files basis offset dim counted (Ok
   open_section = subst (AnswersOpen m seed words) right
       (answers_open m seed words name outcome (module_if_read count name files counted (Ok m) is) run);
 }
+
+-- ---- small modules
+
+small_module_has_plan_by : (count seed words : ℕ) (name : List ℕ) (files : Files) (m : ModuleValue) (outcome : Outcome) → IsModule m →
+    module_in count name files ≡ Ok m → IsSmallModule m → RunOf m seed words outcome → (plan : Plan) × ChopPlan count seed words name files (Ok plan)
+unfolding ChopPlan FoundPlan
+small_module_has_plan_by count seed words name files m (complete found) is is_module small run = (
+  series_plan name (module_header m seed words) (basis_of_rows m found.rows) (factors_of_forms found.forms) found.places,
+  (Ok m, is_module, (Ok (complete found), run, refl)),
+)
+small_module_has_plan_by count seed words name files m (open_section rows offset dim) is is_module small run =
+    absurd (small_has_a_series m seed words rows offset dim is small run)
+
+pub small_module_has_plan : (count seed words : ℕ) (name : List ℕ) (files : Files) (m : ModuleValue) → IsGeneratorCount count →
+    module_in count name files ≡ Ok m → IsSmallModule m → (plan : Plan) × ChopPlan count seed words name files (Ok plan)
+small_module_has_plan count seed words name files m counted is_module small =
+    let is = module_if_read count name files counted (Ok m) is_module in
+    let found = some_run m seed words is in
+    small_module_has_plan_by count seed words name files m found.0 is is_module small found.1
+
+pub small_module_is_decided : (count seed words : ℕ) (name : List ℕ) (basis : MatrixValue) (offset dim : ℕ) (old new : Files) (m : ModuleValue) →
+    IsGeneratorCount count → module_in count name old ≡ Ok m → IsSmallModule m → ¬ (ChopFails count seed words name (Undecided basis offset dim) old new)
+small_module_is_decided count seed words name basis offset dim old new m counted is_module small fails =
+    let right = small_module_has_plan count seed words name old m counted is_module small in
+    let same = chop_plan_one count seed words name old counted (Ok right.0) (Err (StaysOpen basis offset dim)) right.1 fails.0 in
+    absurd (differ right.0 same)
+  where
+    differ : (plan : Plan) → Ok plan ≡ Err (StaysOpen basis offset dim) → ⊥
+    differ plan e = cc

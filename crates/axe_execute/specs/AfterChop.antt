@@ -1,5 +1,5 @@
 -- What a fault of `chop` leaves of the files.
-use Rattle.std.specs.Prelude.{◌≡◌, ◌⊎◌, ℕ, List, ◌++◌, take, codes, Some, None, Err}
+use Rattle.std.specs.Prelude.{◌≡◌, ◌⊎◌, ℕ, List, take, Some, None, Err}
 use Rattle.axe_folder.specs.Files.{Files, file_at}
 use Rattle.axe_folder.specs.Outcomes.{KeepsOthers}
 use Rattle.axe_arguments.specs.declared.command.Command.TheVariants.{Chop}
@@ -7,16 +7,13 @@ use Rattle.axe_fault.specs.declared.fault.Fault.{Fault}
 use Rattle.axe_plan.specs.Plans.{applied, Plan}
 use Rattle.axe_execute.specs.Means.{Means, names_read}
 use Rattle.axe_execute.specs.Execution.{Executes, HasPlan}
+use Rattle.axe_execute.specs.SeriesFiles.{report_file}
 
 -- `chop` of the module of this name may end with this fault, from the one files to the others
 abbrev pub ChopFails : ℕ → ℕ → ℕ → List ℕ → Fault → Files → Files → Type 0
 ChopFails generators seed words name fault old new =
     (let command = Chop generators seed words name in
-    Executes (Err fault) (names_read command) (Means command old) old new)
-
--- the file of the report on the module of this name
-abbrev pub report_file : List ℕ → List ℕ
-report_file name = name ++ codes ".rep"
+    Executes (Err fault) (names_read command old) (Means command old) old new)
 
 -- the file of the report has the first bytes of the report that the plan shows, and each other file is as after all
 -- steps of the plan

@@ -1,45 +1,43 @@
 -- What `chop` means: a composition series of a module is looked for, and its basis, its factors and its report are put.
-use Rattle.std.specs.Prelude.{◌≡◌, ℕ, List, [], ◌∷◌, ◌++◌, codes, Result, Ok, Err}
+use Rattle.std.specs.Prelude.{◌≡◌, ℕ, ◌≤◌, List, [], ◌∷◌, ◌++◌, Some, Result, Ok, Err}
+use Rattle.axe_field.specs.Order.{order_number}
 use Rattle.axe_matrix.specs.Matrices.{MatrixValue}
 use Rattle.axe_spin.specs.Modules.{ModuleValue}
+use Rattle.axe_word.specs.PointsOfMatrix.{point_count, most_points}
 use Rattle.axe_series.specs.Runs.{Outcome, complete, open_section, RunOf}
 use Rattle.axe_series.specs.Series.{IsSeries, IsOpenSection, basis_of_rows, factors_of_forms}
-use Rattle.axe_report.specs.Names.{names_of}
-use Rattle.axe_report.specs.Spelling.{report_bytes}
 use Rattle.axe_report.specs.declared.report.ReportHeader.{ReportHeader}
-use Rattle.axe_chop.specs.Reported.{dims_of_factors, module_header, series_report}
+use Rattle.axe_chop.specs.Reported.{module_header}
 use Rattle.axe_file.specs.Packed.{packed}
-use Rattle.axe_folder.specs.Files.{Files}
+use Rattle.axe_folder.specs.Files.{Files, file_at}
 use Rattle.axe_fault.specs.Causes.{Problem, StaysOpen}
-use Rattle.axe_plan.specs.Plans.{Step, Put, Remove, Plan}
+use Rattle.axe_plan.specs.Plans.{Step, Put, Remove, applied, Plan}
 use Rattle.axe_plan.specs.Meanings.{Meaning, Is, Has, ◌>>=◌}
 use Rattle.axe_plan.specs.Inputs.{module_in}
+use Rattle.axe_plan.specs.Outcome.{IsOneOf}
 use Rattle.axe_plan.specs.Outputs.{put_generators}
+use Rattle.axe_execute.specs.SeriesFiles.{report_file, basis_file, factor_name, constituents_of, series_files}
+use Rattle.axe_execute.specs.SeriesFiles.{series_report_bytes, HoldsSeries}
 
 -- the steps that put the generators of factors in order, each factor's under the module's name and then the factor's
 abbrev pub put_factors : List ℕ → List (List ℕ) → List ModuleValue → List Step
 put_factors name [] factors = []
 put_factors name (constituent ∷ constituents) [] = []
 put_factors name (constituent ∷ constituents) (factor ∷ factors) =
-    put_generators (name ++ constituent) factor ++ put_factors name constituents factors
-
--- the bytes of the report of a composition series
-abbrev pub series_report_bytes : ReportHeader → List ModuleValue → List ℕ → List ℕ
-series_report_bytes header factors places = report_bytes (series_report header factors places)
+    put_generators (factor_name name constituent) factor ++ put_factors name constituents factors
 
 -- what a composition series changes under a name: an earlier report is taken away, the basis is put, then each factor
 -- under its name, and last the report
 abbrev pub series_steps : List ℕ → MatrixValue → List (List ℕ) → List ModuleValue → List ℕ → List Step
 series_steps name basis constituents factors report =
-    Remove (name ++ codes ".rep") ∷ Put (name ++ codes ".bas") (packed basis) ∷ put_factors name constituents factors
-    ++ Put (name ++ codes ".rep") report ∷ []
+    Remove (report_file name) ∷ Put (basis_file name) (packed basis) ∷ put_factors name constituents factors
+    ++ Put (report_file name) report ∷ []
 
 -- the plan that a composition series gives: what it changes, where the factors have their names by the rule, with its
 -- report, which is shown, too
 unfoldable pub series_plan : List ℕ → ReportHeader → MatrixValue → List ModuleValue → List ℕ → Plan
 series_plan name header basis factors places = record {
-  steps = series_steps name basis (names_of (dims_of_factors factors)) factors
-      (series_report_bytes header factors places);
+  steps = series_steps name basis (constituents_of factors) factors (series_report_bytes header factors places);
   shown = series_report_bytes header factors places;
 }
 
@@ -64,6 +62,17 @@ ChopPlan count seed words name files = do
 
 -- ---- what is true of it (Parker 1984; Holt and Rees 1994)
 
+-- after all steps of the plan the files under the name hold a composition series of the module with these packed
+-- generators; its report, on this seed and so many words, is what is shown; and each other file is as it was
+pub record LeavesSeries (count seed words : ℕ) (name : List ℕ) (files : Files) (plan : Plan) : Type 0 where
+  pub m : ModuleValue
+  pub is_module : module_in count name files ≡ Ok m
+  pub holds : HoldsSeries m name (applied plan.steps files)
+  pub header_is : holds.header ≡ module_header m seed words
+  pub shown : file_at (applied plan.steps files) (report_file name) ≡ Some plan.shown
+  pub others : (other : List ℕ) → ¬ (IsOneOf (series_files count name (constituents_of holds.factors)) other) →
+      file_at (applied plan.steps files) other ≡ file_at files other
+
 -- the plan is that of a composition series of the module with these packed generators
 pub record WritesSeries (count seed words : ℕ) (name : List ℕ) (files : Files) (plan : Plan) : Type 0 where
   pub m : ModuleValue
@@ -82,3 +91,7 @@ pub record FindsOpenSection (count seed words : ℕ) (name : List ℕ) (files : 
   pub m : ModuleValue
   pub is_module : module_in count name files ≡ Ok m
   pub open_section : IsOpenSection m seed words basis offset dim
+
+-- the module has at most 1,000 points, `most_points`: vectors whose first nonzero entry is 1 (Holt and Rees 1994)
+abbrev pub IsSmallModule : ModuleValue → Type 0
+IsSmallModule m = point_count (order_number m.order) m.dim ≤ most_points

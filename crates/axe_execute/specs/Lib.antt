@@ -1,5 +1,6 @@
 pub mod MatrixCommands
 pub mod ModuleCommands
+pub mod SeriesFiles
 pub mod ChopCommand
 pub mod Means
 pub mod Operations

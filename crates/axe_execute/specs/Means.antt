@@ -11,18 +11,19 @@ use Rattle.axe_execute.specs.MatrixCommands.{InversePlan, NullSpacePlan}
 use Rattle.axe_execute.specs.ModuleCommands.{SpinPlan, QuotientPlan}
 use Rattle.axe_execute.specs.ChopCommand.{ChopPlan}
 
--- the files that a command reads, in order
-abbrev pub names_read : Command → List (List ℕ)
-names_read (Zcv input out) = input ∷ []
-names_read (Zpr input out) = input ∷ []
-names_read (Zmu left right out) = left ∷ right ∷ []
-names_read (Zad left right out) = left ∷ right ∷ []
-names_read (Ztr input out) = input ∷ []
-names_read (Ziv input out) = input ∷ []
-names_read (Znu input out) = input ∷ []
-names_read (Zsp generators standard action name seed out) = numbered_names name generators ++ seed ∷ []
-names_read (Zqt generators subspace name out) = subspace ∷ numbered_names name generators
-names_read (Chop generators seed words name) = numbered_names name generators
+-- the files that a command reads, in order, where the folder has these files: what it reads first may tell what it reads
+-- next
+abbrev pub names_read : Command → Files → List (List ℕ)
+names_read (Zcv input out) files = input ∷ []
+names_read (Zpr input out) files = input ∷ []
+names_read (Zmu left right out) files = left ∷ right ∷ []
+names_read (Zad left right out) files = left ∷ right ∷ []
+names_read (Ztr input out) files = input ∷ []
+names_read (Ziv input out) files = input ∷ []
+names_read (Znu input out) files = input ∷ []
+names_read (Zsp generators standard action name seed out) files = numbered_names name generators ++ seed ∷ []
+names_read (Zqt generators subspace name out) files = subspace ∷ numbered_names name generators
+names_read (Chop generators seed words name) files = numbered_names name generators
 
 -- the meaning of a command
 abbrev pub Means : Command → Files → Meaning Plan

@@ -1,5 +1,5 @@
 //! `chop`: a composition series of a module.
-ghost use Rattle.std.specs.Prelude.{◌≡◌, ◌++◌, IsTrue, [], map, Ok, IfOk, IfErr, OnOk, string_bytes};
+ghost use Rattle.std.specs.Prelude.{◌≡◌, IsTrue, [], map, Ok, IfOk, IfErr, OnOk, string_bytes};
 ghost use Rattle.indexmap.specs.IndexMap.{keys, values};
 ghost use Rattle.axe_arguments.specs.Counts.{IsWordCount};
 ghost use Rattle.axe_chop.specs.Answers.{factor_modules};
@@ -13,9 +13,11 @@ ghost use Rattle.axe_plan.specs.Inputs.{numbered_names, module_in};
 ghost use Rattle.axe_plan.specs.Outcome.{Agrees, Reads};
 ghost use Rattle.axe_plan.specs.Plans.{Put, Remove};
 ghost use Rattle.axe_plan.specs.Drafts.{plan_in, with_step, with_steps};
-ghost use Rattle.axe_execute.specs.ChopCommand.{put_factors, series_steps, series_report_bytes, series_plan};
+ghost use Rattle.axe_execute.specs.SeriesFiles.{report_file, basis_file, series_report_bytes};
+ghost use Rattle.axe_execute.specs.ChopCommand.{put_factors, series_steps, series_plan};
 ghost use Rattle.axe_execute.specs.ChopCommand.{FoundPlan, ChopPlan};
 
+use crate::series_files::{basis_file, factor_name, report_file};
 use axe_arguments::{GeneratorCount, Name, WordCount};
 use axe_chop::{ChopFault, Chopped, Factor, chop_owned, header_of, report_under};
 use axe_fault::Fault;
@@ -25,7 +27,7 @@ use axe_plan::{Draft, module_of, read_generators};
 use axe_report::{ReportFault, ReportHeader, write_report};
 use axe_spin::Module;
 use indexmap::IndexMap;
-use std::alloc::{AllocError, Global};
+use std::alloc::Global;
 
 /// The draft of `chop`: a composition series of a module, by the words of a seed.
 pub(crate) fn chop_draft<F: Folder>(
@@ -114,55 +116,42 @@ fn put_series(
         chopped.now.basis (map string_bytes (keys chopped.now.factors)) (factor_modules chopped.now) report.now)) }
     ensures memory { IfErr result (λ fault. fault ≡ Memory) }
 {
-    remove_under(alloc, draft, name, ".rep")?;
-    put_matrix_under(alloc, draft, name, ".bas", &chopped.basis)?;
+    remove_report(alloc, draft, name)?;
+    put_basis(alloc, draft, name, &chopped.basis)?;
     put_factors(alloc, draft, name, &chopped.factors)?;
-    put_copy_under(alloc, draft, name, ".rep", report)?;
+    put_report(alloc, draft, name, report)?;
     Ok(())
 }
 
-/// Adds that the file of a name with more after it is taken away.
-fn remove_under(alloc: Global, draft: &mut Draft, name: &str, more: &str) -> Result<(), Fault>
+/// Adds that the file of the report is taken away.
+fn remove_report(alloc: Global, draft: &mut Draft, name: &str) -> Result<(), Fault>
     ensures removed { OnOk result
-        (plan_in draft.new ≡ with_step (plan_in draft.old) (Remove (name.now ++ more.now))) }
+        (plan_in draft.new ≡ with_step (plan_in draft.old) (Remove (report_file name.now))) }
     ensures memory { IfErr result (λ fault. fault ≡ Memory) }
 {
-    let file = joined(alloc, name, more)?;
-    draft.remove(file)?;
+    draft.remove(report_file(alloc, name)?)?;
     Ok(())
 }
 
-/// Adds that the file of a name with more after it is given the packed spelling of a matrix.
-fn put_matrix_under(
-    alloc: Global,
-    draft: &mut Draft,
-    name: &str,
-    more: &str,
-    matrix: &Matrix,
-) -> Result<(), Fault>
+/// Adds that the file of the basis is given its packed spelling.
+fn put_basis(alloc: Global, draft: &mut Draft, name: &str, basis: &Matrix) -> Result<(), Fault>
     ensures put { OnOk result
-        (plan_in draft.new ≡ with_step (plan_in draft.old) (Put (name.now ++ more.now) (packed matrix.now))) }
+        (plan_in draft.new ≡ with_step (plan_in draft.old) (Put (basis_file name.now) (packed basis.now))) }
     ensures memory { IfErr result (λ fault. fault ≡ Memory) }
 {
-    let file = joined(alloc, name, more)?;
-    draft.put_packed_file(alloc, file, matrix)?;
+    let file = basis_file(alloc, name)?;
+    draft.put_packed_file(alloc, file, basis)?;
     Ok(())
 }
 
-/// Adds that the file of a name with more after it is given a copy of these bytes.
-fn put_copy_under(
-    alloc: Global,
-    draft: &mut Draft,
-    name: &str,
-    more: &str,
-    bytes: &[u8],
-) -> Result<(), Fault>
+/// Adds that the file of the report is given a copy of its text.
+fn put_report(alloc: Global, draft: &mut Draft, name: &str, report: &[u8]) -> Result<(), Fault>
     ensures put { OnOk result
-        (plan_in draft.new ≡ with_step (plan_in draft.old) (Put (name.now ++ more.now) bytes.now)) }
+        (plan_in draft.new ≡ with_step (plan_in draft.old) (Put (report_file name.now) report.now)) }
     ensures memory { IfErr result (λ fault. fault ≡ Memory) }
 {
-    let file = joined(alloc, name, more)?;
-    let copy = Vec::from_slice(alloc, bytes)?;
+    let file = report_file(alloc, name)?;
+    let copy = Vec::from_slice(alloc, report)?;
     draft.put(file, copy)?;
     Ok(())
 }
@@ -182,15 +171,6 @@ fn report_text(
     write_report(alloc, &report)
 }
 
-/// A name with more after it.
-fn joined(alloc: Global, name: &str, more: &str) -> Result<String, AllocError>
-    ensures { IfOk result (λ file. string_bytes file ≡ name.now ++ more.now) }
-{
-    let mut file = String::from_str(alloc, name)?;
-    file.push_str(more)?;
-    Ok(file)
-}
-
 /// Adds that the generators of each factor, in order, are put under the module's name and then the factor's.
 fn put_factors(
     alloc: Global,
@@ -204,7 +184,7 @@ fn put_factors(
     ensures memory { IfErr result (λ fault. fault ≡ Memory) }
 {
     for (constituent, factor) in factors.iter() {
-        let stem = joined(alloc, name, constituent)?;
+        let stem = factor_name(alloc, name, constituent)?;
         draft.put_generators(alloc, &stem, factor.form.matrices())?;
     }
     Ok(())

@@ -31,7 +31,8 @@ pub struct Shown {
 pub fn execute<F: Folder>(alloc: Global, command: &Command, folder: &mut F) -> Result<Shown, Fault>
     ensures outcome { IsTrue F.tells →
         (let meaning = Means command.now (F.files folder.old) in
-        Executes result (names_read command.now) meaning (F.files folder.old) (F.files folder.new)) }
+        Executes result (names_read command.now (F.files folder.old)) meaning (F.files folder.old)
+        (F.files folder.new)) }
     ensures counted { IsTrue F.tells → (let unchanged = F.files folder.new ≡ F.files folder.old in
         Counted unchanged result (F.tally folder.old) (F.tally folder.new)) }
 {

@@ -10,7 +10,11 @@ mod laws;
 mod operations;
 mod planning;
 mod quotients;
+mod series_files;
 mod spinning;
 
 pub use execution::{Shown, execute};
-pub use laws::{chop_leaves_no_wrong_report, chop_writes_a_series, commands_have_one_meaning};
+pub use laws::{
+    chop_decides_small_modules, chop_leaves_no_wrong_report, chop_writes_a_series,
+    commands_have_one_meaning,
+};

@@ -24,8 +24,8 @@ pub(crate) fn draft_of<F: Folder>(
     command: &Command,
     folder: &mut F,
 ) -> Result<Draft, Fault>
-    ensures { IsTrue F.tells → Reads F.files F.tally folder.old folder.new (names_read command.now)
-        plan_in result (Means command.now) }
+    ensures { IsTrue F.tells → Reads F.files F.tally folder.old folder.new
+        (names_read command.now (F.files folder.old)) plan_in result (Means command.now) }
 {
     match command {
         Command::Zcv { input, out } => conversion_draft(alloc, input, out, folder),

@@ -99,6 +99,25 @@ many_are_made (first ∷ rest) = cases (generators_refusal first.order first.col
     cases None = length-map (first ∷ rest) (λ (m : MatrixValue). m.rows)
     cases (Some refusal) = tt
 
+-- a module has as many generators as files are read
+pub generators_are_counted : (count : ℕ) (name : List ℕ) (files : Files) → IfOk (module_in count name files) (λ m. length m.generators ≡ count)
+unfolding module_in
+generators_are_counted count name files = cases (matrices_in files names) (many_are_read files names)
+  where
+    names : List (List ℕ)
+    names = numbered_names name count
+
+    made : (matrices : List MatrixValue) (answer : Result ModuleValue Problem) → length matrices ≡ count → IfOk answer (λ m. length m.generators ≡ length matrices) →
+        IfOk answer (λ m. length m.generators ≡ count)
+    made matrices (Ok m) many generators = generators ∙ many
+    made matrices (Err problem) many generators = tt
+
+    cases : (matrices : Result (List MatrixValue) Problem) → IfOk matrices (λ read. length read ≡ length names) →
+        IfOk (and_then matrices checked_module) (λ m. length m.generators ≡ count)
+    cases (Ok matrices) many =
+        made matrices (checked_module matrices) (many ∙ length-map-range_with_len (numbered name) 1 count) (many_are_made matrices)
+    cases (Err problem) many = tt
+
 -- with a number of generators that a module may have, it is one
 whole_module : (m : ModuleValue) (count : ℕ) → IsGeneratorCount count → IsReadModule m → length m.generators ≡ count → IsModule m
 whole_module m count counted is many = record {

@@ -1,7 +1,7 @@
 use Rattle.std.proofs.Common.{◌∙◌}
 use Rattle.axe_plan.specs.Plans.{Put}
 use Rattle.axe_plan.specs.Drafts.{plan_in, with_step}
-use Rattle.axe_execute.proofs.chopping.put_copy_under.Goals as goal
+use Rattle.axe_execute.proofs.chopping.put_report.Goals as goal
 
 pub returns-clause-put : goal.returns-clause-put
 returns-clause-put c =
