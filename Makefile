@@ -9,6 +9,8 @@
 #                (bench/modules), composition series (bench/chop); and shows its peak memory (bench/memory)
 # make install   puts the program into PREFIX/bin (PREFIX=/usr/local), man page, completions and the GAP package where such
 #                files go
+# make dist      packs the program with all of these, the pages and the examples into out/axe-VERSION-linux-x86-64.tar.gz,
+#                for machines without the kit
 PREFIX ?= /usr/local
 # the processors that `make build` builds for, as `rt run --cpu` names them; none: every 64-bit one
 CPU ?=
@@ -17,7 +19,7 @@ AXE = crates/axe/out/axe
 EXAMPLE = m24two
 SHOWN = chop $(EXAMPLE)
 
-.PHONY: try build demo test planted cases bench install
+.PHONY: try build demo test planted cases bench install dist
 
 try:
 	@command -v rt >/dev/null || \
@@ -53,6 +55,7 @@ cases: build
 	tests/changes
 	tests/documents
 	tests/installed
+	tests/packed
 
 bench: build
 	-AXE=$(abspath $(AXE)) bench/inverses
@@ -73,3 +76,6 @@ install: build
 	install -m 644 gap/lib/* $(DESTDIR)$(PREFIX)/share/gap/pkg/axe/lib
 	install -m 644 gap/tst/* $(DESTDIR)$(PREFIX)/share/gap/pkg/axe/tst
 	install -m 644 docs/GAP.md $(DESTDIR)$(PREFIX)/share/gap/pkg/axe/doc
+
+dist: build
+	share/pack $(AXE) out
