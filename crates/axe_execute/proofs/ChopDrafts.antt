@@ -1,5 +1,5 @@
 -- The draft of `chop`: its steps, and what it says of what the words find.
-use Rattle.std.proofs.Common.{◌≡◌, sym, ◌∙◌, ap, ℕ, List, [], ◌∷◌, ◌++◌, append_assoc, append-nil, map, string_bytes, String, Result, Ok, Err}
+use Rattle.std.proofs.Common.{◌≡◌, sym, ◌∙◌, ap, ℕ, List, [], ◌∷◌, append_assoc, append-nil, map, string_bytes, String, Result, Ok, Err}
 use Rattle.std.specs.declared.alloc.Global.{Global}
 use Rattle.std.specs.Map.{keys_of, values_of}
 use mathlib.Core.List.{map-map}

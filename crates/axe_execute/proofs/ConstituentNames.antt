@@ -1,5 +1,5 @@
 -- Names of constituents have no dot and are all different, so that their files have names of their own.
-use Rattle.std.proofs.Common.{◌≡◌, ◌≢◌, refl, sym, ap, subst, ◌∙◌, ℕ, ◌+◌, ◌^◌, ◌<◌, ◌≤◌, true, not, eqb, leb, ltb, cond, List, [], ◌∷◌, ◌++◌, append_assoc, decimal, arith}
+use Rattle.std.proofs.Common.{◌≡◌, ◌≢◌, refl, sym, ap, subst, ◌∙◌, ℕ, ◌^◌, ◌<◌, ◌≤◌, true, not, eqb, leb, ltb, cond, List, [], ◌∷◌, ◌++◌, append_assoc, decimal, arith}
 use Rattle.std.specs.List.{AllByRecursion}
 use Rattle.std.proofs.lemmas.Bool.{and_parts, ne_eqb, leb-true, ltb-true}
 use Rattle.std.proofs.lemmas.Fmt.{decimal_injective}

@@ -1,5 +1,5 @@
 -- After all steps of `chop` the files under a name hold the composition series that it found.
-use Rattle.std.proofs.Common.{◌≡◌, refl, sym, ap, subst, ◌∙◌, ℕ, ◌^◌, ◌<◌, ◌≤◌, List, [], ◌∷◌, length, get_or, Some, Ok, IfOk, arith}
+use Rattle.std.proofs.Common.{◌≡◌, refl, sym, subst, ◌∙◌, ℕ, ◌^◌, ◌<◌, ◌≤◌, List, [], ◌∷◌, length, get_or, Ok, IfOk, arith}
 use Rattle.std.specs.List.{AllByRecursion}
 use Rattle.std.proofs.lemmas.List.{length-map}
 use Rattle.std.proofs.lemmas.List.Elements.{recursion_from_All}
@@ -8,16 +8,15 @@ use Rattle.axe_matrix.specs.Matrices.{MatrixValue}
 use Rattle.axe_spin.specs.Modules.{ModuleValue, IsModule}
 use Rattle.axe_series.specs.Series.{IsSeries}
 use Rattle.axe_report.specs.Limits.{most_words}
-use Rattle.axe_report.specs.declared.report.ReportHeader.{ReportHeader}
 use Rattle.axe_report.proofs.Plain.{length_of}
 use Rattle.axe_chop.specs.Reported.{dims_of_factors, module_header}
 use Rattle.axe_chop.proofs.SeriesReports.{header_fits}
-use Rattle.axe_folder.specs.Files.{Files, file_at}
+use Rattle.axe_folder.specs.Files.{Files}
 use Rattle.axe_arguments.specs.Counts.{IsGeneratorCount, IsWordCount}
 use Rattle.axe_plan.specs.Plans.{Plan, applied}
 use Rattle.axe_plan.specs.Inputs.{module_in}
 use Rattle.axe_plan.proofs.ReadModules.{module_is_module, generators_are_counted}
-use Rattle.axe_execute.specs.SeriesFiles.{report_file, constituents_of, series_report_bytes, HoldsSeries}
+use Rattle.axe_execute.specs.SeriesFiles.{constituents_of, series_report_bytes, HoldsSeries}
 use Rattle.axe_execute.specs.ChopCommand.{series_steps, series_plan, ChopPlan, WritesSeries, LeavesSeries}
 use Rattle.axe_execute.proofs.ConstituentNames.{HasNoDot, AreDifferent, AreSmall, names_without_dot, names_differ}
 use Rattle.axe_execute.proofs.SeriesSteps.{AreFactorModules, report_put, basis_put, constituents_put, module_stays, others_stay}

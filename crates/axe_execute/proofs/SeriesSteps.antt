@@ -8,7 +8,7 @@ use Rattle.axe_spin.specs.Modules.{ModuleValue, IsModule, generator_of}
 use Rattle.axe_file.specs.Packed.{packed}
 use Rattle.axe_folder.specs.Files.{Files, file_at, with_file, without_file}
 use Rattle.axe_folder.proofs.FileLaws.{file_at-with_file}
-use Rattle.axe_plan.specs.Plans.{Step, Put, Remove, step_applied, applied}
+use Rattle.axe_plan.specs.Plans.{Step, Put, step_applied, applied}
 use Rattle.axe_plan.specs.Inputs.{matrix_in, numbered, numbered_names, module_in}
 use Rattle.axe_plan.specs.Outputs.{put_generator, put_generators}
 use Rattle.axe_plan.specs.Outcome.{IsOneOf}

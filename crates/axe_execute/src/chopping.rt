@@ -129,7 +129,8 @@ fn remove_report(alloc: Global, draft: &mut Draft, name: &str) -> Result<(), Fau
         (plan_in draft.new ≡ with_step (plan_in draft.old) (Remove (report_file name.now))) }
     ensures memory { IfErr result (λ fault. fault ≡ Memory) }
 {
-    draft.remove(report_file(alloc, name)?)?;
+    let report = report_file(alloc, name)?;
+    draft.remove(report)?;
     Ok(())
 }
 
