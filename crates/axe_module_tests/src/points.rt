@@ -50,6 +50,8 @@ few_points | 5 | 4096 | 18446744073709551615 | no
 few_points | 7 | 4096 | 18446744073709551615 | no
 few_points | 8 | 4096 | 18446744073709551615 | no
 few_points | 9 | 4096 | 18446744073709551615 | no
+few_points | 2 | 4097 | 1000 | no
+few_points | 9 | 18446744073709551615 | 18446744073709551615 | no
 # There are 2^64 - 1 points.
 few_points | 2 | 64 | 18446744073709551615 | yes
 few_points | 2 | 64 | 18446744073709551614 | no
@@ -94,12 +96,11 @@ fn gives_first_point(rt: &impl Abort, alloc: Global, line: &str) -> Result<bool,
     is_row_answer(alloc, first_point(alloc, &basis), wanted)
 }
 
-fn tells_few(rt: &impl Abort, line: &str) -> Result<bool, TableFault> {
+fn tells_few(line: &str) -> Result<bool, TableFault> {
     let (order, dimension, bound, wanted) = four_fields(line)?;
     let dimension = number_of(dimension)?;
     let bound = number_of(bound)?;
     let wanted = truth_of(wanted)?;
-    assert!(rt; dimension <= 4_096);
     let field = field_of(order)?;
     Ok(few_points(field.order(), dimension, bound) == wanted)
 }
@@ -114,7 +115,7 @@ pub(crate) fn answers(
     match call {
         "points" => gives_points(rt, alloc, line),
         "first_point" => gives_first_point(rt, alloc, line),
-        "few_points" => tells_few(rt, line),
+        "few_points" => tells_few(line),
         _ => Err(TableFault::NotWritten),
     }
 }
