@@ -1,1 +1,2 @@
 pub mod ActedSpans
+pub mod FittingPolynomials
