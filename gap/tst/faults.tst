@@ -34,7 +34,7 @@ gap> AxeSpinnedBasis( [ 0, 0, 0 ] * Z( 2 ), module );
 Error, axe: ZeroSeed
 gap> AxeDualModule( GModuleByMats( [ zero ], GF( 3 ) ) );
 Error, axe: Singular
-gap> AxeProduct( List( [ 1 .. 2049 ], i -> [ Z( 2 ) ] ), [ [ Z( 2 ) ] ] );
+gap> AxeProduct( List( [ 1 .. 4097 ], i -> [ Z( 2 ) ] ), [ [ Z( 2 ) ] ] );
 Error, axe: left: BadRows
 gap> AxeChop( rec( generators := [] ) );
 Error, this is no module, as GModuleByMats makes them
