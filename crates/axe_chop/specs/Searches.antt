@@ -3,6 +3,7 @@ use Rattle.std.specs.Prelude.{◌≡◌, ℕ, ◌+◌, ◌≤◌, List, [], ◌�
 use Rattle.axe_row.specs.Rows.{RowValue}
 use Rattle.axe_matrix.specs.Limits.{most_rows}
 use Rattle.axe_matrix.specs.Matrices.{MatrixValue, IsMatrix}
+use Rattle.axe_poly.specs.Polys.{PolyValue}
 use Rattle.axe_spin.specs.Modules.{ModuleValue}
 use Rattle.axe_norton.specs.Spaces.{IsProperSubmodule}
 use Rattle.axe_norton.specs.Verdicts.{Decides}
@@ -27,12 +28,13 @@ FindsKnown forms m None = AreOfOthers forms m
 FindsKnown forms m (Some found) = IsKnownAs forms m found.0 found.1
 
 -- one more place, for an irreducible section: that of a known factor, or that of a new one
-pub data IsPlacedIn (found : FoundValue) (section : SectionValue) (seed word : ℕ) (v : RowValue) : FoundValue →
-    Type 0 where
+pub data IsPlacedIn (found : FoundValue) (section : SectionValue) (seed word : ℕ) (poly : Option PolyValue)
+    (v : RowValue) : FoundValue → Type 0 where
   as_known : (number : ℕ) (t : MatrixValue) → IsKnownAs found.forms section.action number t →
-      IsPlacedIn found section seed word v (with_place found (lifted_rows section t).rows number)
-  as_new : (form : FormValue) → AreOfOthers found.forms section.action → IsNewForm section.action seed word v form →
-      IsPlacedIn found section seed word v (with_factor found (lifted_rows section form.basis).rows form)
+      IsPlacedIn found section seed word poly v (with_place found (lifted_rows section t).rows number)
+  as_new : (form : FormValue) → AreOfOthers found.forms section.action →
+      IsNewForm section.action seed word poly v form →
+      IsPlacedIn found section seed word poly v (with_factor found (lifted_rows section form.basis).rows form)
 
 -- the two parts into which a submodule cuts a section stand before the other sections, the submodule's first
 pub record ArePartsBefore (section : SectionValue) (space : MatrixValue) (others all : List SectionValue) : Type 0 where
@@ -45,9 +47,9 @@ pub record ArePartsBefore (section : SectionValue) (space : MatrixValue) (others
 -- next place, the parts of a reducible one stand before the others, and one that stays undecided is left
 pub data IsDecided (seed words : ℕ) (section : SectionValue) (found : Found.Found) (others : List SectionValue) :
     Found.Found → List SectionValue → Option SectionValue → Type 0 where
-  as_irreducible : (word : ℕ) (v : RowValue) (next : Found.Found) →
-      Decides section.action seed words (Irreducible word v) →
-      IsPlacedIn (found_value found) section seed word v (found_value next) →
+  as_irreducible : (word : ℕ) (poly : Option PolyValue) (v : RowValue) (next : Found.Found) →
+      Decides section.action seed words (Irreducible word poly v) →
+      IsPlacedIn (found_value found) section seed word poly v (found_value next) →
       next.basis ≡ record found.basis { rows = next.basis.rows } → IsMatrix next.basis →
       IsDecided seed words section found others next others None
   as_reducible : (space : MatrixValue) (all : List SectionValue) →

@@ -1,4 +1,5 @@
--- What a module is matched with: the form of another, by the points of the null space of the form's word (Parker 1984).
+-- What a module is matched with: the form of another, by the points of the null space of the form's deciding matrix
+-- (Parker 1984).
 use Rattle.std.specs.Prelude.{ℕ, ◌<◌, List, [], length, get_or, Option, Some, None}
 use Rattle.axe_algebra.specs.Standard.{AreStandardMatrices}
 use Rattle.axe_algebra.specs.Bridge.{vector_of, module_of}
@@ -22,14 +23,14 @@ HasStandardMatrices m v matrices =
 abbrev pub point_row : MatrixValue → ℕ → RowValue
 point_row space j = record { order = space.order; entries = get_or (points_of space) j [] }
 
--- t is the standard basis of the first point, of the null space of the form's word in the module, that has the form's
--- matrices as its standard matrices; and it is an isomorphism: invertible, and t g' = g t for each of the module's
--- generators g' and of the form's matrices g
+-- t is the standard basis of the first point, of the null space of the form's deciding matrix in the module, that has
+-- the form's matrices as its standard matrices; and it is an isomorphism: invertible, and t g' = g t for each of the
+-- module's generators g' and of the form's matrices g
 pub record IsFirstMatch (form : FormValue) (m : ModuleValue) (t : MatrixValue) : Type 0 where
   pub well_formed : IsMatrix t
   pub isomorphism : IsIsomorphismMatrix form.matrices m t
   pub space : MatrixValue
-  pub is_space : IsNullSpaceOf m form.seed form.word space
+  pub is_space : IsNullSpaceOf m form.seed form.word form.poly space
   pub place : ℕ
   pub inside : place < length (points_of space)
   pub standard : IsStandardMatrix m (point_row space place) t

@@ -1,4 +1,5 @@
 pub mod Spaces
+pub mod SmallFactors
+pub mod OneVector
 pub mod Verdicts
 pub mod Searches
-pub mod OneVector

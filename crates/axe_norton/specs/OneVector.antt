@@ -1,13 +1,13 @@
 -- What a polynomial at the value of a word says of a module: the one-vector rule (Holt and Rees 1994).
-use Rattle.std.specs.Prelude.{◌≡◌, ◌<◌, ◌⊎◌, length}
+use Rattle.std.specs.Prelude.{◌≡◌, ◌<◌, ◌⊎◌, length, Some, None}
 use Rattle.axe_polynomial_algebra.specs.PolynomialsOfLists.{IsIrreduciblePolynomial, Fits}
 use Rattle.axe_field.specs.NumberFields.{number_field}
 use Rattle.axe_row.specs.Rows.{RowValue}
 use Rattle.axe_matrix.specs.Matrices.{MatrixValue}
-use Rattle.axe_poly.specs.Polys.{PolyValue, IsValueAt}
+use Rattle.axe_poly.specs.Polys.{PolyValue}
 use Rattle.axe_spin.specs.Modules.{ModuleValue}
 use Rattle.axe_word.specs.declared.tested.Tested.{Tested}
-use Rattle.axe_word.specs.Tested.{IsTested}
+use Rattle.axe_word.specs.Tested.{IsTestedByPoly}
 use Rattle.axe_word.specs.Words.{WordValue, IsValueOf}
 use Rattle.axe_word.specs.PointsOfMatrix.{points_of}
 use Rattle.axe_norton.specs.declared.verdicts.At.{At}
@@ -19,13 +19,6 @@ pub record FitsWord (m : ModuleValue) (word : WordValue) (p : PolyValue) : Type 
   pub field : p.order ≡ m.order
   pub irreducible : IsIrreduciblePolynomial (number_field m.order) p.coefficients
   pub fits : (x : MatrixValue) → IsValueOf m word x → Fits (number_field m.order) x.rows p.coefficients
-
--- the value p(x) of p at the word's value x on the module, and the reduced basis of its null space
-pub record IsTestedByPoly (m : ModuleValue) (word : WordValue) (p : PolyValue) (t : Tested) : Type 0 where
-  pub argument : MatrixValue
-  pub is_value : IsValueOf m word argument
-  pub value : IsValueAt p.coefficients argument t.matrix
-  pub tested : IsTested t
 
 -- the first point v of the null space generates everything, and so does the first point of the null space of the
 -- transpose under the transposes
@@ -44,14 +37,16 @@ ShowsReducibleByOne m matrix null_space space =
     GeneratesProper m (point_of null_space 0) space ⊎
     (GeneratesModule m (point_of null_space 0) × IsTransposedSpace m matrix space)
 
--- what the tested matrix p(x), with its null space, tells of the module by one vector; it never leaves it open
-abbrev pub TellsByOne : ModuleValue → MatrixValue → MatrixValue → At → Type 0
-TellsByOne m matrix null_space (Irreducible v) = ShowsIrreducibleByOne m matrix null_space v
-TellsByOne m matrix null_space (Reducible space) = ShowsReducibleByOne m matrix null_space space
-TellsByOne m matrix null_space Left = ⊥
+-- what the tested matrix p(x), with its null space, tells of the module by one vector: that p shows it to be irreducible,
+-- or a submodule; it never leaves it open
+abbrev pub TellsByOne : ModuleValue → PolyValue → MatrixValue → MatrixValue → At → Type 0
+TellsByOne m p matrix null_space (Irreducible (Some by) v) = (by ≡ p) × ShowsIrreducibleByOne m matrix null_space v
+TellsByOne m p matrix null_space (Irreducible None v) = ⊥
+TellsByOne m p matrix null_space (Reducible space) = ShowsReducibleByOne m matrix null_space space
+TellsByOne m p matrix null_space Left = ⊥
 
 -- what p says of a module by a word: what p(x) tells, where x is the word's value
 pub record SaysByPoly (m : ModuleValue) (word : WordValue) (p : PolyValue) (answer : At) : Type 0 where
   pub tested : Tested
   pub is_tested : IsTestedByPoly m word p tested
-  pub tells : TellsByOne m tested.matrix tested.null_space answer
+  pub tells : TellsByOne m p tested.matrix tested.null_space answer

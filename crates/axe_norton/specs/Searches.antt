@@ -1,15 +1,27 @@
 -- What the steps of the test find: proper spaces that points generate, or none.
-use Rattle.std.specs.Prelude.{◌≡◌, ℕ, ◌<◌, List, [], ◌∷◌, length, get_or, Option, Some, None}
+use Rattle.std.specs.Prelude.{◌≡◌, ℕ, ◌<◌, ◌≤◌, List, [], ◌∷◌, length, get_or, Option, Some, None}
 use Rattle.axe_algebra.specs.Lists.{IsSquareOver}
+use Rattle.axe_polynomial_algebra.specs.PolynomialsOfLists.{IsFactorOfDegree, polynomial_number, Fits}
+use Rattle.axe_field.specs.Order.{order_number}
 use Rattle.axe_field.specs.NumberFields.{number_field}
 use Rattle.axe_row.specs.Rows.{RowValue}
-use Rattle.axe_matrix.specs.Matrices.{MatrixValue}
+use Rattle.axe_matrix.specs.Matrices.{MatrixValue, IsMatrix}
 use Rattle.axe_echelon.specs.Echelons.{EchelonValue}
+use Rattle.axe_poly.specs.Polys.{PolyValue, coefficients_of}
 use Rattle.axe_spin.specs.Modules.{ModuleValue}
 use Rattle.axe_spin.specs.Spinning.{IsGeneratedSpace}
+use Rattle.axe_action.specs.Actions.{dual_module, IsAnnihilatorMatrix}
+use Rattle.axe_word.specs.declared.tested.Tested.{Tested}
+use Rattle.axe_word.specs.Tested.{IsTestedAt, IsTestedBy}
+use Rattle.axe_word.specs.Words.{WordValue, IsWordIn}
 use Rattle.axe_word.specs.PointsOfMatrix.{IsReduced}
+use Rattle.axe_norton.specs.declared.factors.Fitted.{Fitted}
+use Rattle.axe_norton.specs.declared.verdicts.At.{At}
+use Rattle.axe_norton.specs.declared.verdicts.At.TheVariants.{Irreducible, Reducible, Left}
 use Rattle.axe_norton.specs.Spaces.{GeneratesModule, GeneratesProper, TriedGenerate, IsFirstProperSpace, point_of}
-use Rattle.axe_norton.specs.Spaces.{TransposedPoint, TransposeGenerates, IsTransposedSpace}
+use Rattle.axe_norton.specs.Spaces.{TransposedPoint}
+use Rattle.axe_norton.specs.SmallFactors.{IsFirstFitting, NoneFits}
+use Rattle.axe_norton.specs.OneVector.{TellsByOne}
 
 -- the matrix has as rows the reduced basis of a space of vectors of the module
 pub record IsReducedIn (m : ModuleValue) (basis : MatrixValue) : Type 0 where
@@ -61,8 +73,81 @@ pub record IsTransposedPointRow (matrix : MatrixValue) (v : RowValue) : Type 0 w
   pub field : v.order ≡ matrix.order
   pub first : v.entries ≡ point_of point.null_space 0
 
--- whether that point generates a proper space under the transposes: nothing where it generates everything, and else the
+-- the vector generates a proper space under the transposes, and this is the annihilator of that space
+pub record IsAnnihilatorOf (m : ModuleValue) (v : List ℕ) (space : MatrixValue) : Type 0 where
+  pub generated : MatrixValue
+  pub proper : GeneratesProper (dual_module m) v generated
+  pub annihilator : IsAnnihilatorMatrix generated space
+  pub well_formed : IsMatrix space
+
+-- whether a vector generates a proper space under the transposes: nothing where it generates everything, and else the
 -- annihilator of that space
-abbrev pub FindsTransposed : ModuleValue → MatrixValue → Option MatrixValue → Type 0
-FindsTransposed m matrix None = TransposeGenerates m matrix
-FindsTransposed m matrix (Some space) = IsTransposedSpace m matrix space
+abbrev pub FindsTransposed : ModuleValue → List ℕ → Option MatrixValue → Type 0
+FindsTransposed m v None = GeneratesModule (dual_module m) v
+FindsTransposed m v (Some space) = IsAnnihilatorOf m v space
+
+-- the matrix, with its null space, is the value of a word of the module
+pub record IsTestedWord (m : ModuleValue) (t : Tested) : Type 0 where
+  pub word : WordValue
+  pub is_word : IsWordIn m word
+  pub is_tested : IsTestedBy m word t
+
+-- ---- the first small factor that fits a square matrix
+
+-- whether p fits the square matrix x: p(x) with its null space where it does
+abbrev pub FindsFits : MatrixValue → PolyValue → Option Tested → Type 0
+FindsFits x p None = ¬ (Fits (number_field x.order) x.rows p.coefficients)
+FindsFits x p (Some t) = Fits (number_field x.order) x.rows p.coefficients × IsTestedAt p x t
+
+-- the first of some polynomials that fits x
+pub record IsFirstIn (x : MatrixValue) (polys : List PolyValue) (found : Fitted) : Type 0 where
+  pub number : ℕ
+  pub below : number < length polys
+  pub before : (i : ℕ) → i < number → ¬ (Fits (number_field x.order) x.rows (get_or (coefficients_of polys) i []))
+  pub is : found.poly.coefficients ≡ get_or (coefficients_of polys) number []
+  pub field : found.poly.order ≡ x.order
+  pub fits : Fits (number_field x.order) x.rows found.poly.coefficients
+  pub is_tested : IsTestedAt found.poly x found.tested
+
+-- whether one of them does
+abbrev pub FindsFittingIn : MatrixValue → List PolyValue → Option Fitted → Type 0
+FindsFittingIn x polys None =
+    (i : ℕ) → i < length polys → ¬ (Fits (number_field x.order) x.rows (get_or (coefficients_of polys) i []))
+FindsFittingIn x polys (Some found) = IsFirstIn x polys found
+
+-- p is an irreducible divisor of f, of degree d, and fits x
+pub record IsFittingOfDegree (x : MatrixValue) (f : PolyValue) (d : ℕ) (p : List ℕ) : Type 0 where
+  pub factor : IsFactorOfDegree (number_field x.order) f.coefficients d p
+  pub fits : Fits (number_field x.order) x.rows p
+
+-- the first of these, by their coefficients read as a number
+pub record IsFirstOfDegree (x : MatrixValue) (f : PolyValue) (d : ℕ) (found : Fitted) : Type 0 where
+  pub field : found.poly.order ≡ x.order
+  pub fitting : IsFittingOfDegree x f d found.poly.coefficients
+  pub first : (other : List ℕ) → IsFittingOfDegree x f d other →
+      polynomial_number (order_number x.order) found.poly.coefficients ≤ polynomial_number (order_number x.order) other
+  pub is_tested : IsTestedAt found.poly x found.tested
+
+-- whether there is one
+abbrev pub FindsFittingOf : MatrixValue → PolyValue → ℕ → Option Fitted → Type 0
+FindsFittingOf x f d None = (p : List ℕ) → ¬ (IsFittingOfDegree x f d p)
+FindsFittingOf x f d (Some found) = IsFirstOfDegree x f d found
+
+-- the first small factor that fits x, if one does
+abbrev pub FindsFitting : MatrixValue → Option Fitted → Type 0
+FindsFitting x None = NoneFits x
+FindsFitting x (Some found) = IsFirstFitting x found.poly × IsTestedAt found.poly x found.tested
+
+-- the first small factor that fits x tells this of the module by one vector
+pub record IsToldByFirst (m : ModuleValue) (x : MatrixValue) (answer : At) : Type 0 where
+  pub poly : PolyValue
+  pub first : IsFirstFitting x poly
+  pub tested : Tested
+  pub is_tested : IsTestedAt poly x tested
+  pub tells : TellsByOne m poly tested.matrix tested.null_space answer
+
+-- what it tells, or that none fits
+abbrev pub TellsByFirst : ModuleValue → MatrixValue → At → Type 0
+TellsByFirst m x Left = NoneFits x
+TellsByFirst m x (Irreducible p v) = IsToldByFirst m x (Irreducible p v)
+TellsByFirst m x (Reducible space) = IsToldByFirst m x (Reducible space)

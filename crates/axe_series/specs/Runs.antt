@@ -1,9 +1,10 @@
 -- How a composition series is found: sections are decided in turn, from the bottom; a reducible one is cut in two, and
 -- an irreducible one is a known factor or a new one (Parker 1984).
-use Rattle.std.specs.Prelude.{◌≡◌, ℕ, List, [], ◌∷◌, ◌++◌, length, Some, None}
+use Rattle.std.specs.Prelude.{◌≡◌, ℕ, List, [], ◌∷◌, ◌++◌, length, Option, Some, None}
 use Rattle.std.specs.List.{All}
 use Rattle.axe_row.specs.Rows.{RowValue}
 use Rattle.axe_matrix.specs.Matrices.{MatrixValue}
+use Rattle.axe_poly.specs.Polys.{PolyValue}
 use Rattle.axe_spin.specs.Modules.{ModuleValue}
 use Rattle.axe_norton.specs.declared.verdicts.Verdict.TheVariants.{Irreducible, Reducible, Undecided}
 use Rattle.axe_norton.specs.Verdicts.{Decides}
@@ -56,10 +57,12 @@ pub record IsKnownAs (forms : List FormValue) (m : ModuleValue) (number : ℕ) (
   pub others : AreOfOthers earlier m
   pub matches : IsMatch form m (Some t)
 
--- the form is that of the module from the vector by which word `number` of the seed showed it to be irreducible
-pub record IsNewForm (m : ModuleValue) (seed number : ℕ) (v : RowValue) (form : FormValue) : Type 0 where
+-- the form is that of the module from the vector by which word `number` of the seed, and a polynomial where one decided
+-- by it, showed it to be irreducible
+pub record IsNewForm (m : ModuleValue) (seed number : ℕ) (poly : Option PolyValue) (v : RowValue) (form : FormValue) :
+    Type 0 where
   pub is_form : IsForm form
-  pub from : IsFormFrom m seed number v form
+  pub from : IsFormFrom m seed number poly v form
 
 -- what becomes of sections that are still to be decided, by the words 0 to `words` of a seed, after what is found so
 -- far: without a section all is found. Else the first section is decided. Where it stays undecided this is the end.
@@ -77,14 +80,14 @@ pub data Runs (seed words : ℕ) : List SectionValue → FoundValue → Outcome 
       Decides section.action seed words (Reducible space) → IsCut section space sub quotient →
       Runs seed words (sub ∷ quotient ∷ rest) found outcome → Runs seed words (section ∷ rest) found outcome
   known : {section : SectionValue} {rest : List SectionValue} {found : FoundValue} {outcome : Outcome}
-      (word : ℕ) (v : RowValue) (number : ℕ) (t : MatrixValue) →
-      Decides section.action seed words (Irreducible word v) → IsKnownAs found.forms section.action number t →
+      (word : ℕ) (poly : Option PolyValue) (v : RowValue) (number : ℕ) (t : MatrixValue) →
+      Decides section.action seed words (Irreducible word poly v) → IsKnownAs found.forms section.action number t →
       Runs seed words rest (with_place found (lifted_rows section t).rows number) outcome →
       Runs seed words (section ∷ rest) found outcome
   new : {section : SectionValue} {rest : List SectionValue} {found : FoundValue} {outcome : Outcome}
-      (word : ℕ) (v : RowValue) (form : FormValue) →
-      Decides section.action seed words (Irreducible word v) → AreOfOthers found.forms section.action →
-      IsNewForm section.action seed word v form →
+      (word : ℕ) (poly : Option PolyValue) (v : RowValue) (form : FormValue) →
+      Decides section.action seed words (Irreducible word poly v) → AreOfOthers found.forms section.action →
+      IsNewForm section.action seed word poly v form →
       Runs seed words rest (with_factor found (lifted_rows section form.basis).rows form) outcome →
       Runs seed words (section ∷ rest) found outcome
 

@@ -1,6 +1,6 @@
 -- What a stored term and a stored word hold: lists in arrays, with the places after the last entry filled up.
-use Rattle.std.specs.Prelude.{◌≡◌, ℕ, ◌-◌, ◌≤◌, List, [], ◌++◌, length, replicate, take}
-use Rattle.axe_word.specs.Limits.{most_terms, most_numbers}
+use Rattle.std.specs.Prelude.{◌≡◌, ℕ, ◌-◌, ◌≤◌, List, ◌++◌, length, replicate, take}
+use Rattle.axe_word.specs.Limits.{most_numbers}
 use Rattle.axe_word.specs.declared.stored.StoredTerm.TheInside.{Inside as TermInside}
 
 -- a list in an array of so many places, the ones after its last entry filled up

@@ -1,5 +1,5 @@
 -- What a word holds: its terms in an array, with the places after the last one filled up.
-use Rattle.std.specs.Prelude.{◌≡◌, ℕ, ◌≤◌, List, [], length, take}
+use Rattle.std.specs.Prelude.{◌≡◌, [], length, take}
 use Rattle.axe_word.specs.Limits.{most_terms}
 use Rattle.axe_word.specs.declared.word.Word.TheInside.{Inside}
 use Rattle.axe_word.specs.Words.{WordValue, IsWord}
