@@ -1,5 +1,5 @@
 -- How an iterator of points stands at a place: what is left there, at the next place, and past the end.
-use Rattle.std.proofs.Common.{◌≡◌, ◌≢◌, ℕ, zero, suc, ◌+◌, ◌-◌, ◌*◌, ◌^◌, ◌<◌, ◌≤◌, Bool, true, false, cond, List, [], ◌∷◌, ◌++◌, map, length, get_or, drop, refl, sym, ap, subst, ◌∙◌, arith}
+use Rattle.std.proofs.Common.{◌≡◌, ◌≢◌, ℕ, suc, ◌+◌, ◌-◌, ◌*◌, ◌^◌, ◌<◌, ◌≤◌, Bool, true, false, cond, List, [], ◌∷◌, ◌++◌, map, length, get_or, drop, refl, sym, ap, subst, ◌∙◌, arith}
 use Rattle.std.specs.List.{filter, range_with_len}
 use Rattle.std.proofs.lemmas.List.Elements.{filter-append}
 use Rattle.axe_algebra.specs.Digits.{digits}
@@ -8,13 +8,13 @@ use Rattle.axe_algebra.specs.PointsOfLists.{leads_with_one, point_coordinates, p
 use Rattle.axe_algebra.proofs.PointFilters.{filter_skips, range_append}
 use Rattle.axe_algebra.proofs.PointLists.{leads_in_block, leads_not_past_block, leads_not_zero, point_numbers, coordinates_are_digits, count_times}
 use Rattle.axe_algebra.proofs.Digits.{pow-positive}
-use Rattle.axe_field.specs.Order.{Order, order_number}
+use Rattle.axe_field.specs.Order.{order_number}
 use Rattle.axe_field.specs.NumberFields.{number_field}
 use Rattle.axe_field.proofs.NumberFields.{number_field-order}
 use Rattle.axe_field.proofs.Orders.{order_number-at_least, order_number-at_most}
 use Rattle.axe_matrix.specs.Matrices.{MatrixValue}
 use Rattle.axe_word.specs.PointsOfMatrix.{PointsLeft, point_count, points_of, point_with_number, points_from, IsPlaceOfPoint}
-use native.Mathlib.Nat.{pow-zero, pow-suc, pow-le-pow_right, mul_comm, mul-le-mul_left}
+use native.Mathlib.Nat.{pow-zero, pow-suc, pow-le-pow_right, mul-le-mul_left}
 use native.Mathlib.Decide.{ℕ_discrete, dec_lt}
 
 -- ---- numbers from one on

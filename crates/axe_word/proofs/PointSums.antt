@@ -1,12 +1,10 @@
 -- How many points there are, step by step; the first point; a point as a sum of rows.
-use Rattle.std.proofs.Common.{◌≡◌, ℕ, zero, suc, ◌+◌, ◌-◌, ◌*◌, ◌/◌, ◌%◌, ◌^◌, ◌<◌, ◌≤◌, List, [], length, get_or, refl, sym, ap, ◌∙◌, arith, add-one}
-use Rattle.axe_algebra.specs.PointsOfLists.{point_coordinates}
+use Rattle.std.proofs.Common.{◌≡◌, ℕ, suc, ◌+◌, ◌-◌, ◌*◌, ◌/◌, ◌^◌, ◌<◌, ◌≤◌, [], length, get_or, refl, sym, ap, ◌∙◌, arith, add-one}
 use Rattle.axe_algebra.proofs.Digits.{pow-positive}
 use Rattle.axe_algebra.proofs.PointLists.{no_coordinates, count_next, count_grows}
 use Rattle.axe_algebra.proofs.PointSpans.{first_point_is_last_row}
 use Rattle.axe_echelon.proofs.InverseLaws.{matrix_over}
 use Rattle.axe_field.specs.NumberFields.{number_field}
-use Rattle.axe_row.specs.Rows.{RowValue}
 use Rattle.axe_row.proofs.RowLaws.{same_row}
 use Rattle.axe_matrix.specs.Matrices.{MatrixValue, IsMatrix, row_of}
 use Rattle.axe_word.specs.PointsOfMatrix.{point_count, points_of}

@@ -1,5 +1,5 @@
 -- The basis of a null space is a reduced basis, so its points can be taken.
-use Rattle.std.proofs.Common.{◌≡◌, sym, subst, Option, Some, None, Result, Ok, Err}
+use Rattle.std.proofs.Common.{sym, subst, Option, Some, None, Result, Ok, Err}
 use Rattle.std.specs.Prelude.{IfOk}
 use Rattle.axe_algebra.specs.SpansOfLists.{IsReducedBasis}
 use Rattle.axe_field.specs.NumberFields.{number_field}

@@ -1,7 +1,6 @@
 -- Lists in arrays, the places after the last entry filled up: one more entry.
 use Rattle.std.proofs.Common.{◌≡◌, ℕ, suc, ◌+◌, ◌-◌, ◌<◌, ◌≤◌, ◌≢◌, List, [], ◌∷◌, ◌++◌, length, take, set, replicate, sym, ap, ◌∙◌, subst, arith, append_assoc, length-append}
 use Rattle.std.proofs.Math.Seq.{set-append_seam, take-append_seam}
-use Rattle.std.specs.List.{All}
 use Rattle.std.proofs.lemmas.List.Elements.{All-push}
 use Rattle.axe_word.specs.Limits.{most_terms, most_numbers}
 use Rattle.axe_word.specs.declared.stored.StoredTerm.TheInside.{Inside as TermInside}

@@ -1,11 +1,11 @@
 -- When terms make a word.
-use Rattle.std.proofs.Common.{◌≡◌, ◌≢◌, ℕ, ◌<◌, ◌≤◌, List, length, map, get_or, arith}
+use Rattle.std.proofs.Common.{◌≡◌, ◌≢◌, ℕ, ◌<◌, ◌≤◌, List, length, get_or, arith}
 use Rattle.std.specs.List.{All}
 use Rattle.std.proofs.lemmas.List.{get_or-map, length-map}
 use Rattle.std.proofs.lemmas.List.Elements.{All-map}
 use Rattle.axe_word.specs.Limits.{most_terms, most_numbers}
 use Rattle.axe_word.specs.declared.word.Term.{Term}
-use Rattle.axe_word.specs.Words.{WordValue, IsWord}
+use Rattle.axe_word.specs.Words.{IsWord}
 use Rattle.axe_word.specs.Terms.{word_of_terms, IsTerm}
 
 abbrev value_of_term : Term → ℕ × List ℕ

@@ -1,4 +1,4 @@
-use Rattle.std.proofs.Common.{◌≡◌, ◌≤◌, ◌<◌, length, refl, arith}
+use Rattle.std.proofs.Common.{◌≤◌, ◌<◌, length, refl, arith}
 use Rattle.axe_word.proofs.ValueLaws.{product-first, product-next}
 use Rattle.axe_word.proofs.value.product.Goals as goal
 

@@ -1,4 +1,4 @@
-use Rattle.std.proofs.Common.{◌<◌, length, take, arith, ap, sym}
+use Rattle.std.proofs.Common.{◌<◌, length, take}
 use Rattle.axe_word.specs.Limits.{most_numbers}
 use Rattle.axe_word.proofs.StoredLaws.{IsStoredTerm-push}
 use Rattle.axe_word.proofs.stored.StoredTerm.push.Goals as goal

@@ -1,7 +1,6 @@
 use Rattle.std.proofs.Common.{◌≡◌, ◌≤◌, true, length, take, ap, ◌∙◌, arith}
 use Rattle.std.proofs.Math.Seq.{take-length}
 use Rattle.axe_word.specs.Limits.{most_terms}
-use Rattle.axe_word.specs.Words.{WordValue}
 use Rattle.axe_word.specs.Terms.{word_of_terms}
 use Rattle.axe_word.proofs.TermLaws.{All-IsTerm, IsWord-terms, length-terms, length-word_of_terms}
 use Rattle.axe_word.proofs.word.Word.from_terms.Goals as goal

@@ -1,5 +1,5 @@
 use Rattle.std.proofs.Common.{◌≡◌, take}
-use Rattle.axe_word.specs.Terms.{word_of_terms, IsTerm}
+use Rattle.axe_word.specs.Terms.{word_of_terms}
 use Rattle.axe_word.proofs.word.Word.from_terms.Given as goal
 
 abbrev pub invariant-loop-term : goal.invariant-loop-term

@@ -1,4 +1,3 @@
-use Rattle.std.proofs.Common.{◌≡◌}
 use Rattle.axe_word.proofs.ValueLaws.{value-none}
 use Rattle.axe_word.proofs.word.Word.value.Goals as goal
 
