@@ -3,7 +3,9 @@ pub mod TestedLaws
 pub mod TruthLaws
 pub mod OpenLaws
 pub mod SearchLaws
+pub mod FactorLaws
 pub mod DecisionLaws
 pub mod PointRuns
 pub mod UniqueLaws
 pub mod OneVectorLaws
+pub mod SaidLaws

@@ -1,12 +1,12 @@
 -- What an irreducible polynomial says of a module by one vector is true of it.
-use Rattle.std.specs.Prelude.{◌≡◌, ℕ, ◌<◌, List, length, None, Result}
+use Rattle.std.specs.Prelude.{◌≡◌, ℕ, ◌<◌, List, length, Some, None, Result}
 use Rattle.axe_algebra.specs.NumberField.{NumberField}
 use Rattle.axe_algebra.specs.Bridge.{vector_of}
-use Rattle.axe_algebra.specs.Lists.{IsMatrixOver, IsSquareOver}
+use Rattle.axe_algebra.specs.Lists.{IsMatrixOver}
 use Rattle.axe_algebra.specs.ListArithmetic.{transpose}
 use Rattle.axe_algebra.specs.SpansOfLists.{IsNullVector}
 use Rattle.axe_algebra.specs.PointTheorems.{IsNonzeroSpanned}
-use Rattle.axe_polynomial_algebra.specs.PolynomialsOfLists.{degree_of, IsPolynomialValue}
+use Rattle.axe_polynomial_algebra.specs.PolynomialsOfLists.{degree_of, IsIrreduciblePolynomial, IsPolynomialValue, Fits}
 use Rattle.axe_polynomial_algebra.proofs.RuleLists.{list_one_vector_rule}
 use Rattle.axe_polynomial_algebra.proofs.VectorFits.{fits_exactly}
 use Rattle.axe_field.specs.NumberFields.{number_field}
@@ -16,52 +16,41 @@ use Rattle.axe_row.specs.Refusals.{Answers}
 use Rattle.axe_row.specs.declared.refusals.Refusal.{Refusal}
 use Rattle.axe_matrix.specs.Matrices.{MatrixValue}
 use Rattle.axe_echelon.proofs.Exits.{answers_more}
-use Rattle.axe_poly.specs.Polys.{PolyValue, IsValueAt}
+use Rattle.axe_poly.specs.Polys.{PolyValue}
 use Rattle.axe_spin.specs.Modules.{ModuleValue, IsModule}
 use Rattle.axe_word.specs.Words.{WordValue, IsWordIn, IsValueOf}
 use Rattle.axe_word.specs.declared.tested.Tested.{Tested}
-use Rattle.axe_word.specs.Tested.{IsTested}
+use Rattle.axe_word.specs.Tested.{IsTested, IsTestedAt, IsTestedByPoly}
 use Rattle.axe_word.specs.PointsOfMatrix.{points_of}
+use Rattle.axe_word.proofs.TestedLaws.{poly_value}
+use Rattle.axe_word.proofs.ValueLaws.{value-is_unique}
 use Rattle.axe_norton.specs.declared.verdicts.At.{At}
 use Rattle.axe_norton.specs.declared.verdicts.At.TheVariants.{Irreducible, Reducible, Left}
 use Rattle.axe_norton.specs.Spaces.{IsIrreducibleModule, IsProperSubmodule, GeneratesModule, GeneratesProper, point_of, TransposeGenerates, IsTransposedSpace}
 use Rattle.axe_norton.specs.Searches.{IsReducedIn, IsSquareIn}
+use Rattle.axe_norton.specs.SmallFactors.{IsFittingFactor}
 use Rattle.axe_norton.specs.Verdicts.{IsTrueOf}
-use Rattle.axe_norton.specs.OneVector.{FitsWord, IsTestedByPoly, ShowsIrreducibleByOne, ShowsReducibleByOne, TellsByOne, SaysByPoly}
+use Rattle.axe_norton.specs.OneVector.{FitsWord, ShowsIrreducibleByOne, ShowsReducibleByOne, TellsByOne, SaysByPoly}
 use Rattle.axe_norton.proofs.PointLaws.{some_point}
-use Rattle.axe_norton.proofs.DecisionLaws.{null_in_module}
 use Rattle.axe_norton.proofs.SearchLaws.{some_point_in, point_fits, point_nonzero}
-use Rattle.axe_norton.proofs.TestedLaws.{IsNullSpaceOver, tested_over, transposed_over, null_point}
+use Rattle.axe_norton.proofs.TestedLaws.{IsNullSpaceOver, poly_value_square, null_in_module, tested_over, transposed_over, null_point}
 use Rattle.axe_norton.proofs.TruthLaws.{generated_is_proper_submodule, transposed_is_proper_submodule}
 use mathlib.Core.Logic.{inl, inr}
 use mathlib.Core.Path.{sym, ◌∙◌, ap, subst}
 use native.Mathlib.Omega.{arith}
-
--- the value of p at the value of a word, over the module's field
-module _ (m : ModuleValue) (word : WordValue) (p : PolyValue) (x matrix : MatrixValue) (is_value : IsValueOf m word x)
-    (is_value_at : IsValueAt p.coefficients x matrix) where
-  pub poly_value : IsPolynomialValue (number_field m.order) p.coefficients x.rows matrix.rows
-  poly_value = subst (λ o. IsPolynomialValue (number_field o) p.coefficients x.rows matrix.rows) is_value.field is_value_at.value_is
-
-  pub poly_value_square : IsSquareIn m matrix
-  poly_value_square = record {
-    field = is_value_at.field ∙ is_value.field;
-    columns = is_value_at.columns ∙ is_value.columns;
-    square = subst (λ n. IsSquareOver (number_field m.order) n matrix.rows) is_value.value.square.length_is poly_value.square;
-  }
 
 module _ (m : ModuleValue) (word : WordValue) (p : PolyValue) (fits : FitsWord m word p) (t : Tested) (is : IsTestedByPoly m word p t) where
   abbrev K : NumberField
   K = number_field m.order
 
   value : IsPolynomialValue K p.coefficients is.argument.rows t.matrix.rows
-  value = poly_value m word p is.argument t.matrix is.is_value is.value
+  value = poly_value m word p is.argument t.matrix is.is_value is.tested_at.value
 
   pub square : IsSquareIn m t.matrix
-  square = poly_value_square m word p is.argument t.matrix is.is_value is.value
+  square = poly_value_square m word p is.argument t.matrix is.is_value is.tested_at.value
 
   null : IsNullSpaceOver m.order m.dim t.matrix.rows t.null_space
-  null = tested_over m t square is.tested
+  null = tested_over m t square is.tested_at.tested
 
   -- its null space has as many dimensions as p has degrees, so it is not zero
   pub some_null_row : 0 < length t.null_space.rows
@@ -103,21 +92,37 @@ module _ (m : ModuleValue) (word : WordValue) (p : PolyValue) (fits : FitsWord m
     reducible_is_true space (inr (all, found)) = transposed_is_proper_submodule m is_module t.matrix space square found
 
     -- what p says of a module is true of it
-    pub told_is_true : (answer : At) → TellsByOne m t.matrix t.null_space answer → IsTrueOf m answer
-    told_is_true (Irreducible v) tells = irreducible_is_true v tells
+    pub told_is_true : (answer : At) → TellsByOne m p t.matrix t.null_space answer → IsTrueOf m answer
+    told_is_true (Irreducible (Some by) v) tells = irreducible_is_true v tells.1
+    told_is_true (Irreducible None v) tells = absurd tells
     told_is_true (Reducible space) tells = reducible_is_true space tells
-    told_is_true Left tells = tt
+    told_is_true Left tells = absurd tells
 
-  pub said_by_poly : (result : Result At Refusal) → Answers None (TellsByOne m t.matrix t.null_space) result → Answers None (SaysByPoly m word p) result
-  said_by_poly result told = answers_more result (TellsByOne m t.matrix t.null_space) (SaysByPoly m word p) told
+  pub said_by_poly : (result : Result At Refusal) → Answers None (TellsByOne m p t.matrix t.null_space) result → Answers None (SaysByPoly m word p) result
+  said_by_poly result told = answers_more result (TellsByOne m p t.matrix t.null_space) (SaysByPoly m word p) told
       (λ answer tells. record { tested = t; is_tested = is; tells = tells })
+
+-- ---- a small factor p of the value x of a word that fits it
+
+module _ (m : ModuleValue) (word : WordValue) (x : MatrixValue) (is_value : IsValueOf m word x) (p : PolyValue) where
+  -- it fits the word, which has no other value
+  pub fitting_fits_word : IsFittingFactor x p → FitsWord m word p
+  fitting_fits_word fitting = record {
+    field = fitting.factor.field ∙ is_value.field;
+    irreducible = subst (λ o. IsIrreduciblePolynomial (number_field o) p.coefficients) is_value.field fitting.factor.factor.irreducible;
+    fits = λ y is_y. subst (λ (z : MatrixValue). Fits (number_field m.order) z.rows p.coefficients) (value-is_unique m word x y is_value is_y)
+        (subst (λ o. Fits (number_field o) x.rows p.coefficients) is_value.field fitting.fits);
+  }
+
+  pub tested_at_value : (t : Tested) → IsTestedAt p x t → IsTestedByPoly m word p t
+  tested_at_value t is = record { argument = x; is_value = is_value; tested_at = is }
 
 -- ---- what the first points of a singular tested matrix tell
 
 module _ (m : ModuleValue) (t : Tested) (is_square : IsSquareIn m t.matrix) (is_tested : IsTested t) (some : 0 < length t.null_space.rows) (point : RowValue)
     (first : point ≡ record { order = t.null_space.order; entries = point_of t.null_space 0 }) where
   in_module : IsReducedIn m t.null_space
-  in_module = null_in_module m t.matrix t.null_space is_square is_tested.null_space is_tested.well_formed
+  in_module = null_in_module m t.matrix t.null_space is_square is_tested.null_space
 
   entries : point.entries ≡ point_of t.null_space 0
   entries = ap (λ (r : RowValue). r.entries) first
@@ -134,19 +139,23 @@ module _ (m : ModuleValue) (t : Tested) (is_square : IsSquareIn m t.matrix) (is_
   pub first_nonzero : ¬ (IsZeroVector point.entries)
   first_nonzero = point_nonzero m t.null_space in_module is_tested.well_formed 0 point below entries
 
-  pub one_irreducible : (v : RowValue) → v ≡ point → GeneratesModule m point.entries → TransposeGenerates m t.matrix →
-      TellsByOne m t.matrix t.null_space (Irreducible v)
-  one_irreducible v same all transpose = record {
-    some_point = below;
-    field = ap (λ (r : RowValue). r.order) same ∙ first_field;
-    first = ap (λ (r : RowValue). r.entries) same ∙ entries;
-    generates = subst (GeneratesModule m) entries all;
-    transpose = transpose;
-  }
+  module _ (p : PolyValue) where
+    pub one_irreducible : (by : PolyValue) (v : RowValue) → by ≡ p → v ≡ point → GeneratesModule m point.entries → TransposeGenerates m t.matrix →
+        TellsByOne m p t.matrix t.null_space (Irreducible (Some by) v)
+    one_irreducible by v is same all transpose = (
+      is,
+      record {
+        some_point = below;
+        field = ap (λ (r : RowValue). r.order) same ∙ first_field;
+        first = ap (λ (r : RowValue). r.entries) same ∙ entries;
+        generates = subst (GeneratesModule m) entries all;
+        transpose = transpose;
+      },
+    )
 
-  pub one_proper : (space : MatrixValue) → GeneratesProper m point.entries space → TellsByOne m t.matrix t.null_space (Reducible space)
-  one_proper space proper = inl (subst (λ (v : List ℕ). GeneratesProper m v space) entries proper)
+    pub one_proper : (space : MatrixValue) → GeneratesProper m point.entries space → TellsByOne m p t.matrix t.null_space (Reducible space)
+    one_proper space proper = inl (subst (λ (v : List ℕ). GeneratesProper m v space) entries proper)
 
-  pub one_transposed : (space : MatrixValue) → GeneratesModule m point.entries → IsTransposedSpace m t.matrix space →
-      TellsByOne m t.matrix t.null_space (Reducible space)
-  one_transposed space all found = inr (subst (GeneratesModule m) entries all, found)
+    pub one_transposed : (space : MatrixValue) → GeneratesModule m point.entries → IsTransposedSpace m t.matrix space →
+        TellsByOne m p t.matrix t.null_space (Reducible space)
+    one_transposed space all found = inr (subst (GeneratesModule m) entries all, found)

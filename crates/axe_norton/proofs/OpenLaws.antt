@@ -52,7 +52,7 @@ null_space_of_no_terms m t is =
 
 -- so this word leaves a module open only where the module has many points
 pub many_where_open : (m : ModuleValue) → IsModule m → LeavesOpen m [] → most_points < point_count (order_number m.order) m.dim
-many_where_open m is open_ = cases open_.tells
+many_where_open m is open_ = cases open_.tells.0
   where
     rows : length open_.tested.null_space.rows ≡ m.dim
     rows = null_space_of_no_terms m open_.tested open_.is_tested

@@ -39,7 +39,7 @@ use Rattle.axe_word.specs.PointsOfMatrix.{points_of}
 use Rattle.axe_word.proofs.PointSums.{last_row_is_first_point}
 use Rattle.axe_word.proofs.ReducedNullSpaces.{null_is_reduced}
 use Rattle.axe_norton.specs.Spaces.{IsIrreducibleModule, GeneratesModule, GeneratesProper, one_row, point_of, HasFewPoints, IsTried, TriedGenerate, TransposedPoint, TransposeGenerates, IsTransposedSpace}
-use Rattle.axe_norton.specs.Searches.{IsReducedIn, IsSquareIn, FindsProper, IsProperSpaceOf, FindsFirstOf, FindsFirst, IsTransposedPointRow}
+use Rattle.axe_norton.specs.Searches.{IsReducedIn, IsSquareIn, FindsProper, IsProperSpaceOf, FindsFirstOf, FindsFirst, IsTransposedPointRow, IsAnnihilatorOf}
 use Rattle.axe_norton.proofs.PointLaws.{point_is, some_point}
 use Rattle.axe_norton.proofs.TruthLaws.{rows_over_field}
 use mathlib.Core.Logic.{inl, inr}
@@ -216,22 +216,37 @@ module _ (m : ModuleValue) (matrix : MatrixValue) (is : IsSquareIn m matrix) (v 
   pub transposed_point_nonzero : ¬ (IsZeroVector v.entries)
   transposed_point_nonzero = point_nonzero m found.point.null_space null_in found.point.well_formed 0 v found.point.some_point found.first
 
-  pub transpose_generates : (dual : ModuleValue) → dual ≡ dual_module m → GeneratesModule dual v.entries → TransposeGenerates m matrix
-  transpose_generates dual same generates = record {
+  pub transposed_point_field : v.order ≡ m.order
+  transposed_point_field = found.field ∙ is.field
+
+  -- what it generates under the transposes
+  pub transpose_generates : GeneratesModule (dual_module m) v.entries → TransposeGenerates m matrix
+  transpose_generates generates = record {
     point = found.point;
-    generates = subst (GeneratesModule (dual_module m)) found.first (subst (λ (d : ModuleValue). GeneratesModule d v.entries) same generates);
+    generates = subst (GeneratesModule (dual_module m)) found.first generates;
   }
 
-  pub transposed_space_is : (dual : ModuleValue) (generated space : MatrixValue) → dual ≡ dual_module m → GeneratesProper dual v.entries generated →
-      IsAnnihilatorMatrix generated space → IsMatrix space → IsTransposedSpace m matrix space
-  transposed_space_is dual generated space same proper annihilator well_formed = record {
+  pub transposed_space_is : (space : MatrixValue) → IsAnnihilatorOf m v.entries space → IsTransposedSpace m matrix space
+  transposed_space_is space of_point = record {
     point = found.point;
-    generated = generated;
-    proper = subst (λ (x : List ℕ). GeneratesProper (dual_module m) x generated) found.first
-        (subst (λ (d : ModuleValue). GeneratesProper d v.entries generated) same proper);
-    annihilator = annihilator;
-    well_formed = well_formed;
+    generated = of_point.generated;
+    proper = subst (λ (x : List ℕ). GeneratesProper (dual_module m) x of_point.generated) found.first of_point.proper;
+    annihilator = of_point.annihilator;
+    well_formed = of_point.well_formed;
   }
+
+-- what a vector generates under the transposes, in a module that is the transposed one
+pub dual_generates : (m dual : ModuleValue) (v : List ℕ) → dual ≡ dual_module m → GeneratesModule dual v → GeneratesModule (dual_module m) v
+dual_generates m dual v same generates = subst (λ (d : ModuleValue). GeneratesModule d v) same generates
+
+pub annihilator_is : (m dual : ModuleValue) (v : List ℕ) (generated space : MatrixValue) → dual ≡ dual_module m → GeneratesProper dual v generated →
+    IsAnnihilatorMatrix generated space → IsMatrix space → IsAnnihilatorOf m v space
+annihilator_is m dual v generated space same proper annihilator well_formed = record {
+  generated = generated;
+  proper = subst (λ (d : ModuleValue). GeneratesProper d v generated) same proper;
+  annihilator = annihilator;
+  well_formed = well_formed;
+}
 
 -- ---- the null space of the transpose of a matrix
 

@@ -12,13 +12,16 @@ use Rattle.axe_field.specs.NumberFields.{number_field, gf}
 use Rattle.axe_matrix.specs.Matrices.{MatrixValue, IsMatrix, transposed_matrix}
 use Rattle.axe_echelon.specs.Echelons.{IsNullSpaceMatrix}
 use Rattle.axe_echelon.proofs.InverseLaws.{matrix_over}
+use Rattle.axe_poly.specs.Polys.{PolyValue, IsValueAt}
 use Rattle.axe_spin.specs.Modules.{ModuleValue}
 use Rattle.axe_word.specs.Words.{WordValue, IsValueOf}
 use Rattle.axe_word.specs.declared.tested.Tested.{Tested}
 use Rattle.axe_word.specs.Tested.{IsTested, IsTestedBy}
 use Rattle.axe_word.specs.PointsOfMatrix.{points_of}
+use Rattle.axe_word.proofs.ReducedNullSpaces.{null_is_reduced}
+use Rattle.axe_word.proofs.TestedLaws.{poly_value_field, poly_value_columns, poly_value_over}
 use Rattle.axe_norton.specs.Spaces.{point_of}
-use Rattle.axe_norton.specs.Searches.{IsSquareIn}
+use Rattle.axe_norton.specs.Searches.{IsReducedIn, IsSquareIn}
 use Rattle.axe_norton.proofs.PointLaws.{point_is}
 use mathlib.Core.Path.{sym, ◌∙◌, subst}
 
@@ -47,6 +50,23 @@ null_space_over o n matrix null field square is well_formed =
 -- the value of a word is square
 pub value_square : (m : ModuleValue) (word : WordValue) (matrix : MatrixValue) → IsValueOf m word matrix → IsSquareIn m matrix
 value_square m word matrix is_value = record { field = is_value.field; columns = is_value.columns; square = is_value.value.square }
+
+-- and so is that of a polynomial at the value of a word
+pub poly_value_square : (m : ModuleValue) (word : WordValue) (p : PolyValue) (x matrix : MatrixValue) → IsValueOf m word x →
+    IsValueAt p.coefficients x matrix → IsSquareIn m matrix
+poly_value_square m word p x matrix is_value is_value_at = record {
+  field = poly_value_field m word p x matrix is_value is_value_at;
+  columns = poly_value_columns m word p x matrix is_value is_value_at;
+  square = poly_value_over m word p x matrix is_value is_value_at;
+}
+
+-- the null space of a square matrix is a space of vectors of the module
+pub null_in_module : (m : ModuleValue) (matrix null : MatrixValue) → IsSquareIn m matrix → IsNullSpaceMatrix matrix null → IsReducedIn m null
+null_in_module m matrix null square is = record {
+  field = is.field ∙ square.field;
+  columns = is.columns ∙ square.square.length_is;
+  reduced = null_is_reduced matrix null is;
+}
 
 -- that of a tested matrix
 pub tested_over : (m : ModuleValue) (t : Tested) → IsSquareIn m t.matrix → IsTested t → IsNullSpaceOver m.order m.dim t.matrix.rows t.null_space

@@ -1,4 +1,4 @@
--- What a word says of a module is true of it: Norton's criterion, and the submodules that are found.
+-- What points tell of a module is true of it: Norton's criterion, and the submodules that are found.
 use Rattle.std.specs.Prelude.{◌≡◌, ◌≢◌, ℕ, ◌<◌, ◌⊎◌, List, length, get_or}
 use Rattle.std.proofs.lemmas.List.{length-map, get_or-map}
 use Rattle.axe_algebra.specs.NumberField.{NumberField}
@@ -30,9 +30,7 @@ use Rattle.axe_word.specs.Tested.{IsTested, IsTestedBy}
 use Rattle.axe_word.specs.PointsOfMatrix.{points_of}
 use Rattle.axe_norton.specs.Spaces.{IsIrreducibleModule, IsProperSubmodule, GeneratesModule, GeneratesProper, point_of, TriedGenerate, IsFirstProperSpace, IsTransposedSpace}
 use Rattle.axe_norton.specs.Searches.{IsSquareIn}
-use Rattle.axe_norton.specs.Verdicts.{ShowsIrreducible, ShowsReducible, Says, IsTrueOf}
-use Rattle.axe_norton.specs.declared.verdicts.At.{At}
-use Rattle.axe_norton.specs.declared.verdicts.At.TheVariants.{Irreducible, Reducible, Left}
+use Rattle.axe_norton.specs.Verdicts.{ShowsIrreducible, ShowsReducible}
 use Rattle.axe_norton.proofs.PointLaws.{points_over, point_at, multiple_of_point}
 use Rattle.axe_norton.proofs.TestedLaws.{IsNullSpaceOver, value_square, tested_over, value_over, transposed_over, null_point}
 use mathlib.Core.Logic.{inl, inr}
@@ -197,10 +195,3 @@ module _ (m : ModuleValue) (is : IsModule m) where
           null_point m.order m.dim t.matrix.rows t.null_space null found.number found.tried.below in
           generated_is_proper_submodule m is (point_of t.null_space found.number) space point.over point.nonzero found.proper
       cases (inr (generate, found)) = transposed_is_proper_submodule t.matrix space square found
-
-  -- what a word says of a module is true of it
-  pub said_is_true : (word : WordValue) (answer : At) → IsWordIn m word → Says m word answer → IsTrueOf m answer
-  said_is_true word (Irreducible v) is_word says = irreducible_is_true m is word says.tested v is_word says.is_tested says.tells
-  said_is_true word (Reducible space) is_word says =
-      reducible_is_true says.tested space (value_square m word says.tested.matrix says.is_tested.value) says.is_tested.tested says.tells
-  said_is_true word Left is_word says = tt

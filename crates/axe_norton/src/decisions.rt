@@ -2,36 +2,46 @@
 
 ghost use Rattle.std.specs.Prelude.{◌≡◌, ◌<◌, ◌≤◌, length, IsTrue, None};
 ghost use Rattle.axe_row.specs.Refusals.{Answers};
+ghost use Rattle.axe_matrix.specs.Matrices.{IsMatrix};
+ghost use Rattle.axe_echelon.specs.Echelons.{IsNullSpaceMatrix};
 ghost use Rattle.axe_spin.specs.Modules.{IsModule};
 ghost use Rattle.axe_word.specs.Words.{IsWordIn};
 ghost use Rattle.axe_word.specs.Tested.{IsTested};
 ghost use Rattle.axe_norton.specs.Searches.{IsSquareIn};
 ghost use Rattle.axe_norton.specs.Spaces.{IsIrreducibleModule};
-ghost use Rattle.axe_norton.specs.Verdicts.{last_word, Tells, Says, IsTrueOf, Decides, IsTrueVerdict};
+ghost use Rattle.axe_norton.specs.Verdicts.{last_word, TellsByPoints, Tells, Says, IsTrueOf, Decides, IsTrueVerdict};
 
 use crate::MOST_POINTS;
+use crate::one_vector::test_by_factor;
 use crate::others::is_known_irreducible;
-use crate::spaces::{transposed_space, tried_space};
+use crate::spaces::{transposed_point, transposed_space, tried_space};
 use crate::verdicts::{At, Verdict};
-use axe_matrix::Refusal;
+use axe_matrix::{Matrix, Refusal};
+use axe_poly::Irreducibles;
 use axe_spin::Module;
 use axe_word::{Tested, Word, few_points, first_point, nth_word};
 use std::alloc::Global;
 
 /// What a word says of a module, of which it is one as [`Word::is_word_in`] says, by its value x (Norton's test: Parker
-/// 1984; Holt and Rees 1994). Where x is invertible the word leaves the module open. Else the points of the null space
-/// of x are tried in order, or the first alone where there are more than [`MOST_POINTS`]: the first that generates a
-/// proper space shows the module to be reducible, by the reduced basis of that space. Where none does, so does the
-/// first point of the null space of the transpose of x, where it generates a proper space in the transposed module, by
-/// the annihilator of that space. Where that generates everything, too, the module is irreducible if all points were
-/// tried, and else left open.
+/// 1984; Holt and Rees 1994). First what the points of null spaces tell. Where x is invertible they leave the module
+/// open. Else the points of the null space of x are tried in order, or the first alone where there are more than
+/// [`MOST_POINTS`]: the first that generates a proper space shows the module to be reducible, by the reduced basis of
+/// that space. Where none does, so does the first point of the null space of the transpose of x, where it generates a
+/// proper space in the transposed module, by the annihilator of that space. Where that generates everything, too, the
+/// module is irreducible if all points were tried, and else left open.
+///
+/// Where the points leave the module open, the irreducible divisors of the minimal polynomial of the first unit vector
+/// under x that have at most the greatest degree are gone over, by degree and then by number. The first p that fits x,
+/// so that the degree of p is the dimension of the null space of p(x), says what [`crate::decide_poly`] tells by it.
+/// Where none fits, the word leaves the module open.
 pub fn decide_at(alloc: Global, module: &Module, word: &Word) -> Result<At, Refusal>
     requires word { IsWordIn «module».now word.now }
     ensures says { Answers None (Says «module».now word.now) result }
     ensures holds { Answers None (IsTrueOf «module».now) result }
 {
+    let mut table = Irreducibles::new(alloc, *module.field());
     let tested = word.tested(alloc, module)?;
-    test_matrix(alloc, module, tested, false)
+    test_matrix(alloc, module, &mut table, tested, false)
 }
 
 /// What the words 0 to `words` of a seed decide of a module: what the first of them says that doesn't leave the module
@@ -45,12 +55,15 @@ pub fn decide(alloc: Global, module: &Module, seed: u64, words: u32) -> Result<V
 {
     let order = module.field().order();
     let gens = module.gens() as u8;
+    // The irreducible polynomials are found once for all words.
+    let mut table = Irreducibles::new(alloc, *module.field());
     for number in 0..words + 1 {
         let word = nth_word(seed, number, order, gens);
-        match test_word_of_seed(alloc, module, &word, seed, number)? {
-            At::Irreducible(vector) => {
+        match test_word_of_seed(alloc, module, &mut table, &word, seed, number)? {
+            At::Irreducible { poly, vector } => {
                 return Ok(Verdict::Irreducible {
                     word: number,
+                    poly,
                     vector,
                 })
             }
@@ -61,40 +74,69 @@ pub fn decide(alloc: Global, module: &Module, seed: u64, words: u32) -> Result<V
     Ok(Verdict::Undecided)
 }
 
-/// What a word of a seed says of a module, as [`decide_at`] tells it. The words after its number may be asked first
-/// whether the module is irreducible, so that not all of many points need be tried.
+/// What a word of a seed says of a module, as [`decide_at`] tells it. A factor of its value, and the words after its
+/// number, may be asked first whether the module is irreducible, so that not all of many points need be tried.
 fn test_word_of_seed(
     alloc: Global,
     module: &Module,
+    table: &mut Irreducibles,
     word: &Word,
     seed: u64,
     number: u32,
 ) -> Result<At, Refusal>
     requires word { IsWordIn «module».now word.now }
     requires number { number ≤ last_word }
+    requires field { table.old.order ≡ «module».now.order }
     ensures says { Answers None (Says «module».now word.now) result }
     ensures holds { Answers None (IsTrueOf «module».now) result }
+    ensures same_field { table.new.order ≡ «module».now.order }
 {
     let tested = word.tested(alloc, module)?;
-    let irreducible = is_known_irreducible(alloc, module, &tested.null_space, seed, number)?;
-    test_matrix(alloc, module, tested, irreducible)
+    let irreducible = is_known_irreducible(alloc, module, table, &tested, seed, number)?;
+    test_matrix(alloc, module, table, tested, irreducible)
 }
 
 /// What a square matrix, as the value of a word, and its null space tell of a module, which may be known to be
-/// irreducible.
+/// irreducible: what the points tell, and where these leave the module open, what the first small factor that fits the
+/// matrix tells.
 pub(crate) fn test_matrix(
     alloc: Global,
     module: &Module,
+    table: &mut Irreducibles,
     tested: Tested,
     irreducible: bool,
 ) -> Result<At, Refusal>
     requires irreducible { IsTrue irreducible → IsIrreducibleModule «module».now }
     requires square { IsSquareIn «module».now tested.matrix }
     requires tested { IsTested tested }
+    requires field { table.old.order ≡ «module».now.order }
     ensures tells { Answers None (Tells «module».now tested.matrix tested.null_space) result }
     ensures well_formed { IsModule «module».now }
+    ensures same_field { table.new.order ≡ «module».now.order }
 {
     let Tested { matrix, null_space } = tested;
+    match test_points(alloc, module, &matrix, null_space, irreducible)? {
+        At::Left => test_by_factor(alloc, module, table, &matrix),
+        told => Ok(told),
+    }
+}
+
+/// What the points of the null spaces of a square matrix and of its transpose tell of a module, which may be known to
+/// be irreducible.
+fn test_points(
+    alloc: Global,
+    module: &Module,
+    matrix: &Matrix,
+    null_space: Matrix,
+    irreducible: bool,
+) -> Result<At, Refusal>
+    requires irreducible { IsTrue irreducible → IsIrreducibleModule «module».now }
+    requires square { IsSquareIn «module».now matrix.now }
+    requires null_space { IsNullSpaceMatrix matrix.now null_space }
+    requires null_formed { IsMatrix null_space }
+    ensures tells { Answers None (TellsByPoints «module».now matrix.now null_space) result }
+    ensures well_formed { IsModule «module».now }
+{
     let few = few_points(module.field().order(), null_space.rows(), MOST_POINTS);
     if null_space.rows() == 0 {
         return Ok(At::Left);
@@ -103,11 +145,15 @@ pub(crate) fn test_matrix(
     if let Some(space) = tried_space(alloc, module, null_space, few, irreducible)? {
         return Ok(At::Reducible(space));
     }
-    if let Some(space) = transposed_space(alloc, module, matrix)? {
+    let transposed = transposed_point(alloc, matrix)?;
+    if let Some(space) = transposed_space(alloc, module, transposed)? {
         return Ok(At::Reducible(space));
     }
     if few {
-        Ok(At::Irreducible(first))
+        Ok(At::Irreducible {
+            poly: None,
+            vector: first,
+        })
     } else {
         Ok(At::Left)
     }

@@ -1,11 +1,14 @@
 //! What holds of words that are said to show something of a module, and the theorems on which that rests.
 
-ghost use Rattle.std.specs.Prelude.{◌≡◌, ◌≤◌, ℕ};
+ghost use Rattle.std.specs.Prelude.{◌≡◌, ◌≢◌, ◌≤◌, ℕ};
 ghost use Rattle.axe_field.specs.Order.{order_number};
+ghost use Rattle.axe_poly.specs.Polys.{PolyValue};
 ghost use Rattle.axe_spin.specs.Modules.{ModuleValue, IsModule};
 ghost use Rattle.axe_word.specs.Words.{WordValue, IsWordIn};
 ghost use Rattle.axe_word.specs.PointsOfMatrix.{point_count, most_points};
-ghost use Rattle.axe_norton.specs.Verdicts.{last_word, Says, IsTrueOf, Decides, IsTrueVerdict};
+ghost use Rattle.axe_norton.specs.OneVector.{SaysByPoly};
+ghost use Rattle.axe_norton.specs.Verdicts.{last_word, SaysByPoints, Says, IsTrueOf, word_of_seed, LeaveOpenBefore};
+ghost use Rattle.axe_norton.specs.Verdicts.{Decides, IsTrueVerdict};
 
 use crate::verdicts::{At, Verdict};
 use crate::{MAX_WORDS, MOST_POINTS};
@@ -36,6 +39,22 @@ pub fn words_say_one_thing()
     ensures word { (m : ModuleValue) (word : WordValue) (a b : At) → Says m word a → Says m word b → a ≡ b }
     ensures words { (m : ModuleValue) (seed words : ℕ) (a b : Verdict) →
         Decides m seed words a → Decides m seed words b → a ≡ b }
+{}
+
+/// A polynomial says no more than one thing of a module by a word.
+pub fn a_polynomial_says_one_thing()
+    ensures { (m : ModuleValue) (word : WordValue) (p : PolyValue) (a b : At) →
+        SaysByPoly m word p a → SaysByPoly m word p b → a ≡ b }
+{}
+
+/// The polynomials change nothing where points alone decide: what the points of a word's value tell, other than that
+/// they leave the module open, the word says; so where they decide a module by a word of a seed, the words of the seed
+/// decide it by this word or by an earlier one.
+pub fn points_decide_as_before()
+    ensures says { (m : ModuleValue) (word : WordValue) (answer : At) → answer ≢ At.Left →
+        SaysByPoints m word answer → Says m word answer }
+    ensures decides { (m : ModuleValue) (seed j k : ℕ) (answer : At) → answer ≢ At.Left →
+        SaysByPoints m (word_of_seed m seed j) answer → LeaveOpenBefore m seed k → k ≤ j }
 {}
 
 /// The words of a seed decide every module that has no more than [`MOST_POINTS`] points, whatever the seed and the

@@ -2,6 +2,7 @@
 #![tactic(auto)]
 
 mod decisions;
+mod factors;
 pub mod laws;
 mod one_vector;
 mod others;

@@ -1,19 +1,19 @@
 //! What a polynomial at the value of a word says of a module, by one vector.
 
-ghost use Rattle.std.specs.Prelude.{◌<◌, length, None};
+ghost use Rattle.std.specs.Prelude.{◌≡◌, ◌<◌, length, None};
 ghost use Rattle.axe_row.specs.Refusals.{Answers};
 ghost use Rattle.axe_spin.specs.Modules.{IsModule};
 ghost use Rattle.axe_word.specs.Words.{IsWordIn};
 ghost use Rattle.axe_word.specs.Tested.{IsTested};
-ghost use Rattle.axe_norton.specs.Searches.{IsSquareIn};
+ghost use Rattle.axe_norton.specs.Searches.{IsSquareIn, TellsByFirst};
 ghost use Rattle.axe_norton.specs.Verdicts.{IsTrueOf};
-ghost use Rattle.axe_norton.specs.OneVector.{FitsWord, IsTestedByPoly, TellsByOne, SaysByPoly};
+ghost use Rattle.axe_norton.specs.OneVector.{FitsWord, TellsByOne, SaysByPoly};
 
-use crate::spaces::{proper_space, transposed_space};
+use crate::factors::first_fitting;
+use crate::spaces::{proper_space, transposed_point, transposed_space};
 use crate::verdicts::At;
-use axe_echelon::null_space;
-use axe_matrix::Refusal;
-use axe_poly::Poly;
+use axe_matrix::{Matrix, Refusal};
+use axe_poly::{Irreducibles, Poly};
 use axe_spin::Module;
 use axe_word::{Tested, Word, first_point};
 use std::alloc::Global;
@@ -29,33 +29,40 @@ pub fn decide_poly(alloc: Global, module: &Module, word: &Word, poly: &Poly) -> 
     ensures says { Answers None (SaysByPoly «module».now word.now poly.now) result }
     ensures holds { Answers None (IsTrueOf «module».now) result }
 {
-    let tested = tested_by_poly(alloc, module, word, poly)?;
-    test_by_one(alloc, module, tested)
+    let tested = word.tested_by_poly(alloc, module, poly)?;
+    let poly = poly.copy(alloc)?;
+    test_by_one(alloc, module, poly, tested)
 }
 
-/// The value of a polynomial at the value of a word in a module, with its null space.
-fn tested_by_poly(
+/// What the first small factor that fits a square matrix tells of a module by one vector; the module is left open where
+/// none fits.
+pub(crate) fn test_by_factor(
     alloc: Global,
     module: &Module,
-    word: &Word,
-    poly: &Poly,
-) -> Result<Tested, Refusal>
-    requires word { IsWordIn «module».now word.now }
-    requires poly { FitsWord «module».now word.now poly.now }
-    ensures { Answers None (IsTestedByPoly «module».now word.now poly.now) result }
+    table: &mut Irreducibles,
+    matrix: &Matrix,
+) -> Result<At, Refusal>
+    requires square { IsSquareIn «module».now matrix.now }
+    requires field { table.old.order ≡ «module».now.order }
+    ensures tells { Answers None (TellsByFirst «module».now matrix.now) result }
+    ensures well_formed { IsModule «module».now }
+    ensures same_field { table.new.order ≡ «module».now.order }
 {
-    let value = word.value(alloc, module)?;
-    let matrix = poly.value_at(alloc, &value)?;
-    let null_space = null_space(alloc, &matrix)?;
-    Ok(Tested { matrix, null_space })
+    // `dim` is called for what it ensures beside the number: that the module is one.
+    prove!(matrix.cols() == module.dim());
+    match first_fitting(alloc, table, matrix)? {
+        Some(found) => test_by_one(alloc, module, found.poly, found.tested),
+        None => Ok(At::Left),
+    }
 }
 
-/// What a singular square matrix and its null space tell of a module by their first points.
-fn test_by_one(alloc: Global, module: &Module, tested: Tested) -> Result<At, Refusal>
+/// What a polynomial p that fits a square matrix x tells of a module by the first points of the null spaces of p(x) and
+/// of its transpose. The matrix is p(x), which is singular.
+fn test_by_one(alloc: Global, module: &Module, poly: Poly, tested: Tested) -> Result<At, Refusal>
     requires square { IsSquareIn «module».now tested.matrix }
     requires tested { IsTested tested }
     requires some_row { 0 < length tested.null_space.rows }
-    ensures tells { Answers None (TellsByOne «module».now tested.matrix tested.null_space) result }
+    ensures tells { Answers None (TellsByOne «module».now poly tested.matrix tested.null_space) result }
     ensures well_formed { IsModule «module».now }
 {
     let Tested { matrix, null_space } = tested;
@@ -68,8 +75,14 @@ fn test_by_one(alloc: Global, module: &Module, tested: Tested) -> Result<At, Ref
     if let Some(space) = proper_space(alloc, module, point)? {
         return Ok(At::Reducible(space));
     }
-    if let Some(space) = transposed_space(alloc, module, matrix)? {
+    let transposed = transposed_point(alloc, &matrix)?;
+    // Its memory is free again before the transposed module is made.
+    drop(matrix);
+    if let Some(space) = transposed_space(alloc, module, transposed)? {
         return Ok(At::Reducible(space));
     }
-    Ok(At::Irreducible(vector))
+    Ok(At::Irreducible {
+        poly: Some(poly),
+        vector,
+    })
 }

@@ -123,25 +123,36 @@ fn first_proper_of_all(
     Ok(None)
 }
 
-/// The reduced basis of the annihilator of the space that the first point of the null space of the transpose of a
-/// singular matrix generates in the transposed module, or `None` where that point generates everything there. The
-/// transposed module is made for this alone: to keep it for further words would take as much memory as the module.
-pub(crate) fn transposed_space(
-    alloc: Global,
-    module: &Module,
-    matrix: Matrix,
-) -> Result<Option<Matrix>, Refusal>
-    requires square { IsSquareIn «module».now matrix }
-    requires singular { ¬ (IsInvertibleMatrix matrix) }
-    ensures { Answers None (FindsTransposed «module».now matrix) result }
+/// The first point of the null space of the transpose of a singular matrix.
+pub(crate) fn transposed_point(alloc: Global, matrix: &Matrix) -> Result<Row, Refusal>
+    requires square { IsSquareOver (number_field matrix.now.order) matrix.now.cols matrix.now.rows }
+    requires singular { ¬ (IsInvertibleMatrix matrix.now) }
+    ensures { Answers None (IsTransposedPointRow matrix.now) result }
 {
     // `cols` is called for what it ensures beside the number: that the matrix is one.
     prove!(matrix.cols() >= 1);
-    let point = transposed_point(alloc, &matrix)?;
-    // Its memory is free again before the transposed module is made.
-    drop(matrix);
+    match orthogonal_point(alloc, matrix)? {
+        Some(point) => Ok(point),
+        // Some vector other than zero is orthogonal to the rows of a singular matrix.
+        None => unreachable!(),
+    }
+}
+
+/// The reduced basis of the annihilator of the space that a vector other than zero generates in the transposed module,
+/// or `None` where it generates everything there. The transposed module is made for this alone: to keep it for further
+/// words would take as much memory as the module.
+pub(crate) fn transposed_space(
+    alloc: Global,
+    module: &Module,
+    vector: Row,
+) -> Result<Option<Matrix>, Refusal>
+    requires field { vector.order ≡ «module».now.order }
+    requires fits { length vector.entries ≡ «module».now.dim }
+    requires nonzero { ¬ (IsZeroVector vector.entries) }
+    ensures { Answers None (FindsTransposed «module».now vector.entries) result }
+{
     let transposed = dual(alloc, module)?;
-    let generated = proper_subspace(alloc, &transposed, point)?;
+    let generated = proper_subspace(alloc, &transposed, vector)?;
     // Its memory is free again before the rows of the space are moved into a basis.
     drop(transposed);
     let Some(space) = generated else {
@@ -149,18 +160,4 @@ pub(crate) fn transposed_space(
     };
     let basis = space.into_reduced(alloc)?;
     Ok(Some(annihilator(alloc, &basis)?))
-}
-
-/// The first point of the null space of the transpose of a singular matrix.
-fn transposed_point(alloc: Global, matrix: &Matrix) -> Result<Row, Refusal>
-    requires square { IsSquareOver (number_field matrix.now.order) matrix.now.cols matrix.now.rows }
-    requires some_row { 0 < matrix.now.cols }
-    requires singular { ¬ (IsInvertibleMatrix matrix.now) }
-    ensures { Answers None (IsTransposedPointRow matrix.now) result }
-{
-    match orthogonal_point(alloc, matrix)? {
-        Some(point) => Ok(point),
-        // Some vector other than zero is orthogonal to the rows of a singular matrix.
-        None => unreachable!(),
-    }
 }

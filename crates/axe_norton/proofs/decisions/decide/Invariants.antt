@@ -1,5 +1,9 @@
+use Rattle.std.proofs.Common.{◌≡◌}
 use Rattle.axe_norton.specs.Verdicts.{LeaveOpenBefore}
 use Rattle.axe_norton.proofs.decisions.decide.Given as goal
 
 abbrev pub invariant-loop-number : goal.invariant-loop-number
-invariant-loop-number l = LeaveOpenBefore l.module l.seed l.number
+invariant-loop-number l = record {
+  field : l.table.order ≡ l.module.order;
+  before : LeaveOpenBefore l.module l.seed l.number;
+}

@@ -1,15 +1,16 @@
-use Rattle.axe_norton.proofs.DecisionLaws.{null_in_module, said_by, truth_told}
+use Rattle.axe_norton.proofs.DecisionLaws.{said_by, truth_told}
 use Rattle.axe_norton.proofs.TestedLaws.{value_square}
 use Rattle.axe_norton.proofs.decisions.test_word_of_seed.Goals as goal
 
-pub is_known_irreducible-requires-clause-basis : goal.is_known_irreducible-requires-clause-basis
-is_known_irreducible-requires-clause-basis c =
-    null_in_module c.args.module.now c.in_ok-tested.tested.matrix c.in_ok-tested.tested.null_space
-    (value_square c.args.module.now c.args.word.now c.in_ok-tested.tested.matrix c.in_ok-tested.ensures.value)
-    c.in_ok-tested.ensures.tested.null_space c.in_ok-tested.ensures.tested.well_formed
+pub is_known_irreducible-requires-clause-value : goal.is_known_irreducible-requires-clause-value
+is_known_irreducible-requires-clause-value c = record {
+  word = c.args.word.now;
+  is_word = c.requires.word;
+  is_tested = c.in_ok-tested.ensures;
+}
 
 pub test_matrix-requires-clause-irreducible : goal.test_matrix-requires-clause-irreducible
-test_matrix-requires-clause-irreducible c = c.in_ok-irreducible.ensures
+test_matrix-requires-clause-irreducible c = c.in_ok-irreducible.ensures.known
 
 pub test_matrix-requires-clause-square : goal.test_matrix-requires-clause-square
 test_matrix-requires-clause-square c = value_square c.args.module.now c.args.word.now c.in_ok-tested.tested.matrix c.in_ok-tested.ensures.value

@@ -1,4 +1,4 @@
-use Rattle.axe_norton.proofs.TruthLaws.{said_is_true}
+use Rattle.axe_norton.proofs.SaidLaws.{said_is_true}
 use Rattle.axe_norton.proofs.laws.what_a_word_says_is_true.Goals as goal
 
 pub returns : goal.returns
