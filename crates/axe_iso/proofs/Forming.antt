@@ -1,8 +1,8 @@
 -- The form of a module from a vector keeps what a form has to.
-use Rattle.std.proofs.Common.{◌≡◌, ℕ, length, refl, sym, subst, ◌∙◌}
+use Rattle.std.proofs.Common.{◌≡◌, ℕ, ◌≤◌, length, All, Option, refl, sym, ap, subst, ◌∙◌}
 use Rattle.axe_algebra.specs.NumberField.{NumberField}
 use Rattle.axe_algebra.specs.Field.{Field}
-use Rattle.axe_algebra.specs.Vectors.{HasLength, HasShape, unit_vector}
+use Rattle.axe_algebra.specs.Vectors.{Matrix, HasLength, HasShape, unit_vector}
 use Rattle.axe_algebra.specs.Spans.{IsNullVector, IsInvertible}
 use Rattle.axe_algebra.specs.Modules.{Module}
 use Rattle.axe_algebra.specs.Modules
@@ -10,32 +10,29 @@ use Rattle.axe_algebra.specs.Actions
 use Rattle.axe_algebra.specs.Standard
 use Rattle.axe_algebra.specs.Standard.{AreStandardMatrices}
 use Rattle.axe_algebra.specs.Irreducible.{IsIsomorphism}
-use Rattle.axe_algebra.specs.NortonTheorems.{SpansNullSpace}
-use Rattle.axe_algebra.specs.Words.{IsWordOf, word_value}
-use Rattle.axe_algebra.specs.Bridge.{vector_of, matrix_of, module_of, word_of}
+use Rattle.axe_algebra.specs.Words.{Word, IsWordOf, word_value}
+use Rattle.axe_algebra.specs.Bridge.{vector_of, matrix_of, module_of}
 use Rattle.axe_algebra.specs.Lists.{IsMatrixOver, IsSquareOver}
 use Rattle.axe_algebra.specs.ModulesOfLists.{GeneratesEverything, AreIsomorphic}
 use Rattle.axe_algebra.proofs.ListEntries.{vector_length, square_shape}
 use Rattle.axe_algebra.proofs.ListModules.{module_shape}
-use Rattle.axe_algebra.proofs.ListWords.{is_word}
 use Rattle.axe_algebra.proofs.Isomorphisms.{standard_basis_is_square, standard_basis_is_isomorphism}
 use Rattle.axe_algebra.proofs.Matching.{standard_matrices_of_unit, unit_is_null_vector}
 use Rattle.axe_algebra.proofs.FormMatches.{standard_matrices_keep_null_space}
 use Rattle.axe_echelon.proofs.InverseLaws.{matrix_over}
-use Rattle.axe_field.specs.Order.{order_number}
 use Rattle.axe_field.specs.NumberFields.{number_field, gf}
 use Rattle.axe_row.specs.Rows.{RowValue}
 use Rattle.axe_matrix.specs.Matrices.{MatrixValue}
 use Rattle.axe_matrix.specs.Matrices
+use Rattle.axe_poly.specs.Polys.{PolyValue}
 use Rattle.axe_spin.specs.Modules.{ModuleValue}
 use Rattle.axe_spin.specs.Modules as Values
 use Rattle.axe_spin.specs.Spinning.{IsStandardMatrix}
 use Rattle.axe_spin.specs.SpinLaws.{IsVectorOf}
 use Rattle.axe_action.specs.Actions.{IsBasisAction}
-use Rattle.axe_word.specs.Words.{WordValue}
-use Rattle.axe_word.specs.Drawing.{drawn_word}
-use Rattle.axe_word.proofs.DrawingLaws.{drawn_word-over}
-use Rattle.axe_iso.specs.Forms.{FormValue, HasFewNullPointsOf, IsNullVectorOf, IsFormOver, IsForm, IsFormFrom}
+use Rattle.axe_iso.specs.Forms.{FormValue, HasNullity, HasSmallNullSpaceOf, IsNullVectorOf, IsFormOver, IsForm, IsFormFrom, deciding_matrix}
+use Rattle.axe_iso.proofs.DecidingWords.{deciding_word, is_deciding_word, deciding_value}
+use Rattle.axe_iso.proofs.SmallSpaces.{small_dimension, small_nullity, small_elsewhere}
 
 module _ (m : ModuleValue) (v : RowValue) (basis : MatrixValue) (is_module : Values.IsModule m) (of : IsVectorOf m v)
     (standard : IsStandardMatrix m v basis) (well : Matrices.IsMatrix basis)
@@ -90,9 +87,9 @@ module _ (m : ModuleValue) (v : RowValue) (basis : MatrixValue) (is_module : Val
     action_is_isomorphic = record { matrix = matrix_of K basis.rows; isomorphism = iso }
 
     -- the form that is made of them is the form of the module from v
-    pub form_made : (seed number : ℕ) → Values.IsModule action →
-        IsFormFrom m seed number v (record { matrices = action; basis = basis; word = number; seed = seed })
-    form_made seed number is_action = record {
+    pub form_made : (seed number : ℕ) (poly copy : Option PolyValue) → copy ≡ poly → Values.IsModule action →
+        IsFormFrom m seed number poly v (record { matrices = action; basis = basis; word = number; poly = copy; seed = seed })
+    form_made seed number poly copy same is_action = record {
       standard = standard;
       well_formed = well;
       square = basis_is_square;
@@ -100,52 +97,77 @@ module _ (m : ModuleValue) (v : RowValue) (basis : MatrixValue) (is_module : Val
       acts = acts;
       matrices_well_formed = is_action;
       word_is = refl;
+      poly_is = same;
       seed_is = refl;
     }
 
-    module _ (seed number : ℕ) (null : IsNullVectorOf m seed number v.entries) (few : HasFewNullPointsOf m seed number) where
-      abbrev word : WordValue
-      word = drawn_word seed number (order_number m.order) (length m.generators)
+    -- the deciding matrices of the module and of the action are values of one word
+    module _ (seed number : ℕ) (poly : Option PolyValue) where
+      word : Word F
+      word = deciding_word m.order (length m.generators) seed number poly
 
-      of_word : IsWordOf F M (word_of K word)
-      of_word = is_word K m.dim m.generators word
-          (drawn_word-over seed number (order_number m.order) (length m.generators) m.order refl is_module.some_generator)
+      of_word : IsWordOf F M word
+      unfolding word
+      of_word = is_deciding_word m.order m.dim m.generators is_module.some_generator seed number poly
 
-      -- over the module's field, with the module's count of generators
-      null_at : IsNullVector F action.dim (word_value F A (word_of K word)) (unit_vector F 0)
-      null_at = unit_is_null_vector F M (vector_of K v.entries) M_is_module long (matrix_of K basis.rows) A shape whole acts_on (word_of K word) of_word null
+      value_in_M : word_value F M word ≡ deciding_matrix m.order m.dim m.generators seed number poly
+      unfolding word
+      value_in_M = deciding_value m.order m.dim m.generators is_module.some_generator seed number is_module.over.square poly
 
-      form_over : IsFormOver m.order action.dim action.generators seed number
-      form_over =
-          let (e, e_spans, e_independent) = standard_matrices_keep_null_space F M A (vector_of K v.entries) (matrix_of K basis.rows) M_is_module long shape whole acts_on
-          (word_of K word) of_word few.nullity few.is_nullity.basis few.is_nullity.spans few.is_nullity.independent in
-          record {
-            standard = standard_matrices_of_unit F M (vector_of K v.entries) M_is_module long (matrix_of K basis.rows) A shape whole acts_on;
-            null = subst (λ k. IsNullVector F action.dim (word_value F A (word_of K (drawn_word seed number (order_number m.order) k))) (unit_vector F 0))
-                (sym acts.acts.count) null_at;
-            few = record {
-              nullity = few.nullity;
-              is_nullity = record {
-                basis = e;
-                spans = subst (λ k. SpansNullSpace F action.dim (word_value F A (word_of K (drawn_word seed number (order_number m.order) k))) few.nullity e)
-                    (sym acts.acts.count) e_spans;
-                independent = e_independent;
-              };
-              few = few.few;
-            };
-          }
+      value_in_A : All (IsSquareOver K action.dim) action.generators →
+          word_value F A word ≡ deciding_matrix m.order action.dim action.generators seed number poly
+      unfolding word
+      value_in_A squares =
+          ap (λ k. word_value F A (deciding_word m.order k seed number poly)) (sym acts.acts.count)
+          ∙ deciding_value m.order action.dim action.generators (subst (λ k. 1 ≤ k) (sym acts.acts.count) is_module.some_generator) seed number squares poly
 
-      form_over_action : IsFormOver action.order action.dim action.generators seed number
-      form_over_action = subst (λ o. IsFormOver o action.dim action.generators seed number) (sym acts.field) form_over
+      module _ (squares : All (IsSquareOver K action.dim) action.generators) (null : IsNullVectorOf m seed number poly v.entries)
+          (small : HasSmallNullSpaceOf m seed number poly) where
+        null_over : IsNullVector F action.dim (deciding_matrix m.order action.dim action.generators seed number poly) (unit_vector F 0)
+        null_over =
+            subst (λ (x : Matrix F). IsNullVector F action.dim x (unit_vector F 0)) (value_in_A squares)
+            (unit_is_null_vector F M (vector_of K v.entries) M_is_module long (matrix_of K basis.rows) A shape whole acts_on word of_word
+            (subst (λ (x : Matrix F). IsNullVector F m.dim x (vector_of K v.entries)) (sym value_in_M) null))
+
+        -- the null spaces have one dimension
+        abbrev dimension : ℕ
+        dimension = small_dimension m.order seed number m.dim m.generators poly small
+
+        nullity : HasNullity m.order m.dim (word_value F M word) dimension
+        nullity =
+            subst (λ (x : Matrix F). HasNullity m.order m.dim x dimension) (sym value_in_M)
+            (small_nullity m.order seed number m.dim m.generators poly small)
+
+        nullity_over : HasNullity m.order action.dim (deciding_matrix m.order action.dim action.generators seed number poly) dimension
+        nullity_over =
+            let (e, e_spans, e_independent) = standard_matrices_keep_null_space F M A (vector_of K v.entries) (matrix_of K basis.rows) M_is_module long shape
+            whole acts_on word of_word dimension nullity.basis nullity.spans nullity.independent in
+            subst (λ (x : Matrix F). HasNullity m.order action.dim x dimension) (value_in_A squares)
+            (record { basis = e; spans = e_spans; independent = e_independent })
+
+        form_over : IsFormOver m.order action.dim action.generators seed number poly
+        form_over = record {
+          standard = standard_matrices_of_unit F M (vector_of K v.entries) M_is_module long (matrix_of K basis.rows) A shape whole acts_on;
+          null = null_over;
+          small = small_elsewhere m.order seed number m.dim m.generators poly small action.dim action.generators nullity_over;
+        }
+
+      form_over_action : Values.HasSquareGenerators action → IsNullVectorOf m seed number poly v.entries → HasSmallNullSpaceOf m seed number poly →
+          IsFormOver action.order action.dim action.generators seed number poly
+      form_over_action squares null small =
+          subst (λ o. IsFormOver o action.dim action.generators seed number poly) (sym acts.field)
+          (form_over (subst (λ o. All (IsSquareOver (number_field o) action.dim) action.generators) acts.field squares) null small)
 
 -- what a form's type keeps holds of the form of a module from a vector
-pub form_is_kept : (m : ModuleValue) (seed number : ℕ) (v : RowValue) (form : FormValue) → Values.IsModule m → IsVectorOf m v →
-    GeneratesEverything (number_field m.order) m.dim m.generators v.entries → IsNullVectorOf m seed number v.entries → HasFewNullPointsOf m seed number →
-    IsFormFrom m seed number v form → IsForm form
-form_is_kept m seed number v form is_module of_module generates null few from = record {
+pub form_is_kept : (m : ModuleValue) (seed number : ℕ) (poly : Option PolyValue) (v : RowValue) (form : FormValue) → Values.IsModule m → IsVectorOf m v →
+    GeneratesEverything (number_field m.order) m.dim m.generators v.entries → IsNullVectorOf m seed number poly v.entries →
+    HasSmallNullSpaceOf m seed number poly → IsFormFrom m seed number poly v form → IsForm form
+form_is_kept m seed number poly v form is_module of_module generates null small from = record {
   well_formed = from.matrices_well_formed;
   over =
-      subst (λ k. IsFormOver form.matrices.order form.matrices.dim form.matrices.generators k form.word) (sym from.seed_is)
-      (subst (λ k. IsFormOver form.matrices.order form.matrices.dim form.matrices.generators seed k) (sym from.word_is)
-      (form_over_action m v form.basis is_module of_module from.standard from.well_formed generates form.matrices from.acts seed number null few));
+      subst (λ k. IsFormOver form.matrices.order form.matrices.dim form.matrices.generators k form.word form.poly) (sym from.seed_is)
+      (subst (λ k. IsFormOver form.matrices.order form.matrices.dim form.matrices.generators seed k form.poly) (sym from.word_is)
+      (subst (λ p. IsFormOver form.matrices.order form.matrices.dim form.matrices.generators seed number p) (sym from.poly_is)
+      (form_over_action m v form.basis is_module of_module from.standard from.well_formed generates form.matrices from.acts seed number poly
+      from.matrices_well_formed.over.square null small)));
 }

@@ -1,6 +1,9 @@
 pub mod StillToCome
 pub mod Followed
 pub mod FollowLaws
+pub mod PolynomialWords
+pub mod DecidingWords
+pub mod SmallSpaces
 pub mod MatchLaws
 pub mod FormLaws
 pub mod Forming

@@ -1,33 +1,31 @@
 -- What holds of the point that an iterator gives: it is a vector of the module, and its standard basis matches the form or doesn't.
-use Rattle.std.proofs.Common.{◌≡◌, ℕ, List, [], length, get_or, Some, Ok, Result, refl, sym, subst, ◌∙◌}
+use Rattle.std.proofs.Common.{◌≡◌, ℕ, List, [], length, get_or, Some, Ok, Result, sym, subst, ◌∙◌}
 use Rattle.axe_algebra.specs.NumberField.{NumberField}
 use Rattle.axe_algebra.specs.Lists.{IsMatrixOver}
 use Rattle.axe_algebra.specs.ModulesOfLists.{IsIsomorphism, IsStandardBasis}
 use Rattle.axe_algebra.specs.PointTheorems.{IsNonzeroSpanned}
 use Rattle.axe_algebra.proofs.ListEntries.{vector_length}
 use Rattle.axe_echelon.proofs.InverseLaws.{matrix_over}
-use Rattle.axe_field.specs.Order.{order_number}
 use Rattle.axe_field.specs.NumberFields.{number_field}
 use Rattle.axe_row.specs.Rows.{RowValue}
 use Rattle.axe_row.specs.declared.refusals.Refusal.{Refusal}
 use Rattle.axe_matrix.specs.Matrices.{MatrixValue}
 use Rattle.axe_spin.specs.Modules.{ModuleValue, IsModule}
-use Rattle.axe_word.specs.Drawing.{drawn_word}
 use Rattle.axe_word.specs.PointsOfMatrix.{PointsLeft, points_of, GivesNext}
 use Rattle.axe_iso.specs.Forms.{FormValue, IsNullSpaceOf}
 use Rattle.axe_iso.specs.Matches.{HasStandardMatrices, IsFirstMatch}
 use Rattle.axe_iso.specs.Following.{IsBasisWithMatrices}
-use Rattle.axe_iso.proofs.FormLaws.{IsSpaceOfWord, space_of_word, point_in_module, AreTried, AreTriedOfWord, tried_inside, tried_point, tried_more}
+use Rattle.axe_iso.proofs.FormLaws.{IsDecidingSpace, deciding_space, point_in_module, AreTried, AreTriedOfWord, tried_inside, tried_point, tried_more}
 use Rattle.axe_iso.proofs.MatchLaws.{rows_of_standard_matrices, action_of_standard_matrices, isomorphism_of_action}
 
-module _ (form : FormValue) (m : ModuleValue) (space : MatrixValue) (is_module : IsModule m) (is_space : IsNullSpaceOf m form.seed form.word space)
+module _ (form : FormValue) (m : ModuleValue) (space : MatrixValue) (is_module : IsModule m) (is_space : IsNullSpaceOf m form.seed form.word form.poly space)
     (field : m.order ≡ form.matrices.order) (dimension : m.dim ≡ form.matrices.dim)
     (s t : PointsLeft) (point : RowValue) (before : AreTried form m space s) (gives : GivesNext s (Some (Ok point)) t) where
   abbrev K : NumberField
   K = number_field m.order
 
-  facts : IsSpaceOfWord m (drawn_word form.seed form.word (order_number m.order) (length m.generators)) space
-  facts = space_of_word m form.seed form.word (length m.generators) space refl is_space
+  facts : IsDecidingSpace m form.seed form.word form.poly space
+  facts = deciding_space m form.seed form.word form.poly space is_space
 
   entries : get_or (points_of space) before.place [] ≡ point.entries
   entries = tried_point form m space s t point before gives
@@ -36,6 +34,9 @@ module _ (form : FormValue) (m : ModuleValue) (space : MatrixValue) (is_module :
   nonzero_spanned = subst (IsNonzeroSpanned K m.dim space.rows) entries
       (point_in_module m _ space facts before.place
       (tried_inside form m space s t point before gives))
+
+  pub point_field : point.order ≡ m.order
+  point_field = gives.1 ∙ before.field ∙ facts.field
 
   pub point_fits : length point.entries ≡ m.dim
   point_fits = nonzero_spanned.over.length_is
@@ -85,6 +86,9 @@ module _ (form : FormValue) (m : ModuleValue) (is_module : IsModule m) (field : 
     (gives : GivesNext s (Some item) t) where
   given : GivesNext s (Some (Ok point)) t
   given = subst (λ r. GivesNext s (Some r) t) was gives
+
+  pub item_field : point.order ≡ m.order
+  item_field = point_field form m before.space is_module before.is_space field dimension s t point before.tried given
 
   pub item_fits : length point.entries ≡ m.dim
   item_fits = point_fits form m before.space is_module before.is_space field dimension s t point before.tried given

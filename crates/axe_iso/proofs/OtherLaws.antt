@@ -1,5 +1,5 @@
--- What the null spaces of words, and the form of one module by them, show of another module.
-use Rattle.std.proofs.Common.{◌≡◌, ℕ, ◌<◌, ◌≤◌, ◌↔◌, Bool, false, not, IsTrue, List, [], length, get_or, refl, sym, ap, subst, ◌∙◌}
+-- What null spaces, and the form of one module by them, show of another module.
+use Rattle.std.proofs.Common.{◌≡◌, ℕ, ◌<◌, ◌≤◌, ◌↔◌, Bool, false, not, IsTrue, List, [], length, get_or, sym, ap, subst, ◌∙◌}
 use Rattle.std.specs.Prelude.{Option, Some, None, is_some}
 use Rattle.std.proofs.lemmas.Bool.{false≢true}
 use Rattle.axe_algebra.specs.NumberField.{NumberField}
@@ -19,14 +19,14 @@ use Rattle.axe_field.specs.NumberFields.{number_field, gf}
 use Rattle.axe_row.specs.Rows.{RowValue}
 use Rattle.axe_row.specs.Operations.{IsZeroVector}
 use Rattle.axe_matrix.specs.Matrices.{MatrixValue, IsMatrix}
+use Rattle.axe_poly.specs.Polys.{PolyValue}
 use Rattle.axe_spin.specs.Modules.{ModuleValue, IsModule}
 use Rattle.axe_spin.specs.Spinning.{IsStandardMatrix}
 use Rattle.axe_spin.specs.SpinLaws.{IsVectorOf}
-use Rattle.axe_word.specs.Drawing.{drawn_word}
 use Rattle.axe_word.specs.PointsOfMatrix.{point_count, most_points, points_of}
-use Rattle.axe_iso.specs.Forms.{FormValue, IsNullVectorOf, HasFewNullPointsOf, IsNullSpaceOf, IsFormFrom}
+use Rattle.axe_iso.specs.Forms.{FormValue, IsNullVectorOf, HasSmallNullSpaceOf, IsNullSpaceOf, IsFormFrom}
 use Rattle.axe_iso.specs.Matches.{IsMatch}
-use Rattle.axe_iso.proofs.FormLaws.{IsSpaceOfWord, space_of_word, points_in_module, point_in_module, nullity_of_space}
+use Rattle.axe_iso.proofs.FormLaws.{IsDecidingSpace, deciding_space, points_in_module, point_in_module, nullity_of_space}
 use Rattle.axe_iso.proofs.Forming.{action_is_isomorphic}
 use Rattle.axe_iso.proofs.PointForms.{point_is_null_vector, point_is_vector}
 
@@ -44,18 +44,19 @@ pub not_few : (o : Order) (rows : ℕ) (order number bound : ℕ) (few : Bool) �
 not_few o rows order number bound few order_is rows_is exactly fails holds =
     false≢true (sym fails ∙ (few_said o rows order number bound few order_is rows_is exactly).1 holds)
 
-pub space_field : (m : ModuleValue) (seed number : ℕ) (space : MatrixValue) → IsNullSpaceOf m seed number space → space.order ≡ m.order
-space_field m seed number space is = is.is_tested.tested.null_space.field ∙ is.is_tested.value.field
+pub space_field : (m : ModuleValue) (seed number : ℕ) (poly : Option PolyValue) (space : MatrixValue) → IsNullSpaceOf m seed number poly space →
+    space.order ≡ m.order
+space_field m seed number poly space is = (deciding_space m seed number poly space is).field
 
 -- ---- the first point of a null space with few points
 
-module _ (m : ModuleValue) (seed number : ℕ) (space : MatrixValue) (is : IsNullSpaceOf m seed number space) where
-  pub few_null : point_count (order_number m.order) (length space.rows) ≤ most_points → HasFewNullPointsOf m seed number
-  few_null few = record { nullity = length space.rows; is_nullity = nullity_of_space m seed number space is; few = few }
+module _ (m : ModuleValue) (seed number : ℕ) (space : MatrixValue) (is : IsNullSpaceOf m seed number None space) where
+  pub few_null : point_count (order_number m.order) (length space.rows) ≤ most_points → HasSmallNullSpaceOf m seed number None
+  few_null few = record { nullity = length space.rows; is_nullity = nullity_of_space m seed number None space is; few = few }
 
   module _ (v : RowValue) (some : 0 < length space.rows) (v_is : v ≡ record { order = space.order; entries = get_or (points_of space) 0 [] }) where
-    facts : IsSpaceOfWord m (drawn_word seed number (order_number m.order) (length m.generators)) space
-    facts = space_of_word m seed number (length m.generators) space refl is
+    facts : IsDecidingSpace m seed number None space
+    facts = deciding_space m seed number None space is
 
     entries : v.entries ≡ get_or (points_of space) 0 []
     entries = ap (λ (r : RowValue). r.entries) v_is
@@ -66,11 +67,11 @@ module _ (m : ModuleValue) (seed number : ℕ) (space : MatrixValue) (is : IsNul
         (first_point_is_last_row (number_field m.order) m.dim space.rows facts.over some).0
 
     pub first_is_vector : IsVectorOf m v
-    first_is_vector = point_is_vector m seed number space is 0 inside v entries
+    first_is_vector = point_is_vector m seed number None space is 0 inside v entries
         (ap (λ (r : RowValue). r.order) v_is ∙ facts.field)
 
-    pub first_is_null : IsNullVectorOf m seed number v.entries
-    first_is_null = point_is_null_vector m seed number space is 0 inside v entries
+    pub first_is_null : IsNullVectorOf m seed number None v.entries
+    first_is_null = point_is_null_vector m seed number None space is 0 inside v entries
 
     pub first_nonzero : ¬ (IsZeroVector v.entries)
     first_nonzero zeros =
@@ -95,8 +96,8 @@ square_basis_generates m v basis is_module of standard well square x long =
         (subst (λ n. IsMatrixOver (number_field basis.order) n basis.rows) standard.columns (matrix_over basis well))
 
 -- what is not isomorphic to the matrices of a form of a module is not isomorphic to the module
-module _ (a m : ModuleValue) (v : RowValue) (seed number : ℕ) (form : FormValue) (is_module : IsModule a) (of : IsVectorOf a v)
-    (generates : GeneratesEverything (number_field a.order) a.dim a.generators v.entries) (from : IsFormFrom a seed number v form) where
+module _ (a m : ModuleValue) (v : RowValue) (seed number : ℕ) (poly : Option PolyValue) (form : FormValue) (is_module : IsModule a) (of : IsVectorOf a v)
+    (generates : GeneratesEverything (number_field a.order) a.dim a.generators v.entries) (from : IsFormFrom a seed number poly v form) where
   not_by_form : ¬ (AreIsomorphic (number_field form.matrices.order) form.matrices.dim form.matrices.generators m.dim m.generators) →
       ¬ (AreIsomorphic (number_field a.order) a.dim a.generators m.dim m.generators)
   not_by_form none iso =

@@ -19,10 +19,14 @@ use Rattle.axe_algebra.proofs.StandardBases.{standard_basis_is_invariant}
 use Rattle.axe_algebra.proofs.WordValues.{word_value_is_matrix}
 use Rattle.axe_echelon.specs.Echelons.{IsNullSpaceMatrix}
 use Rattle.axe_echelon.proofs.SomeMatrix.{matrix_of_rows_over, some_null_space}
-use Rattle.axe_field.specs.Order.{order_number}
+use Rattle.axe_polynomial_algebra.specs.PolynomialsOfLists.{IsPolynomialValue}
+use Rattle.axe_polynomial_algebra.proofs.ValueLists.{list_value_exists, value_square}
+use Rattle.axe_field.specs.Order.{Order, order_number}
 use Rattle.axe_field.specs.NumberFields.{number_field, gf}
 use Rattle.axe_row.specs.Rows.{RowValue}
+use Rattle.axe_matrix.specs.Limits.{most_columns}
 use Rattle.axe_matrix.specs.Matrices.{MatrixValue, IsMatrix}
+use Rattle.axe_poly.specs.Polys.{PolyValue, IsValueAt}
 use Rattle.axe_spin.specs.Limits.{most_generators}
 use Rattle.axe_spin.specs.Modules.{ModuleValue, IsModule, HasSquareGenerators}
 use Rattle.axe_spin.specs.Spinning.{IsStandardMatrix}
@@ -34,11 +38,11 @@ use Rattle.axe_word.specs.Words.{WordValue, IsWordIn, IsValueOf}
 use Rattle.axe_word.specs.Drawing.{drawn_word}
 use Rattle.axe_word.specs.PointsOfMatrix.{points_of, PointsLeft, GivesNext}
 use Rattle.axe_word.proofs.ValueLaws.{drawn_word-in}
-use Rattle.axe_word.proofs.TestedLaws.{tested_by}
+use Rattle.axe_word.proofs.TestedLaws.{tested_by, poly_value_over}
 use Rattle.axe_iso.specs.Forms.{FormValue, IsNullSpaceOf, IsForm, IsFormFrom}
 use Rattle.axe_iso.specs.Matches.{HasStandardMatrices, point_row, IsFirstMatch, IsMatch}
 use Rattle.axe_iso.proofs.FormAnswers.{generator_is_nonzero}
-use Rattle.axe_iso.proofs.FormLaws.{IsSpaceOfWord, space_of_word, point_in_module, other_dimension, no_match}
+use Rattle.axe_iso.proofs.FormLaws.{IsDecidingSpace, deciding_space, point_in_module, other_dimension, no_match}
 use Rattle.axe_iso.proofs.Forming.{basis_is_square, form_made}
 use Rattle.axe_iso.proofs.MatchLaws.{standard_matrices_of_action, rows_of_standard_matrices, action_of_standard_matrices}
 use Rattle.axe_iso.proofs.Matched.{matched}
@@ -80,19 +84,70 @@ some_value m word is_module of_module = (
     square : IsSquareOver K m.dim rows
     square = record { length_is = table_length m.dim m.dim (λ i j. (value i j).0); matrix = rows_over K m.dim m.dim value }
 
-pub some_space : (m : ModuleValue) (seed number : ℕ) → IsModule m → (space : MatrixValue) × IsNullSpaceOf m seed number space
-some_space m seed number is_module =
-    of_value (some_value m word is_module (drawn_word-in m seed number (order_number m.order) (length m.generators) refl refl is_module.some_generator))
+-- the value of a polynomial at a square matrix, and the null spaces of deciding matrices
+some_value_at : (o : Order) (n : ℕ) (coefficients : List ℕ) (x : MatrixValue) → 0 < n → n ≤ most_columns → x.order ≡ o → x.cols ≡ n →
+    IsSquareOver (number_field o) n x.rows → (value : MatrixValue) × (IsValueAt coefficients x value × IsMatrix value)
+some_value_at o n coefficients x positive fits field columns square = of_rows (list_value_exists (number_field o) n coefficients x.rows square)
   where
-    word : WordValue
-    word = drawn_word seed number (order_number m.order) (length m.generators)
+    of_rows : (rows : List (List ℕ)) × IsPolynomialValue (number_field o) coefficients x.rows rows →
+        (value : MatrixValue) × (IsValueAt coefficients x value × IsMatrix value)
+    of_rows (rows, is) =
+        let over : IsSquareOver (number_field o) n rows = value_square (number_field o) n x.rows square coefficients rows is in (
+          record { order = o; cols = n; rows = rows },
+          (
+            record {
+              field = sym field;
+              columns = sym columns;
+              value_is = subst (λ order. IsPolynomialValue (number_field order) coefficients x.rows rows) (sym field) is;
+            },
+            matrix_of_rows_over o n rows positive fits (omega (arith, fits, over.length_is)) over.matrix,
+          ),
+        )
 
-    of_value : (x : MatrixValue) × (IsValueOf m word x × IsMatrix x) → (space : MatrixValue) × IsNullSpaceOf m seed number space
-    of_value (x, (is_value, well)) = of_null (some_null_space x well (omega (arith, is_value.value.square.length_is, is_module.over.positive)))
+module _ (m : ModuleValue) (seed number : ℕ) (is_module : IsModule m) where
+  abbrev word : WordValue
+  word = drawn_word seed number (order_number m.order) (length m.generators)
+
+  abbrev SomeSpace : Option PolyValue → Type 0
+  SomeSpace poly = (space : MatrixValue) × IsNullSpaceOf m seed number poly space
+
+  drawn_has_value : (x : MatrixValue) × (IsValueOf m word x × IsMatrix x)
+  drawn_has_value =
+      some_value m word is_module (drawn_word-in m seed number (order_number m.order) (length m.generators) refl refl is_module.some_generator)
+
+  space_of_value : (x : MatrixValue) × (IsValueOf m word x × IsMatrix x) → SomeSpace None
+  space_of_value (x, (is_value, well)) = of_null (some_null_space x well (omega (arith, is_value.value.square.length_is, is_module.over.positive)))
+    where
+      of_null : (space : MatrixValue) × (IsNullSpaceMatrix x space × IsMatrix space) → SomeSpace None
+      of_null (space, (is_null_space, of_space)) =
+          (space, record { matrix = x; is_tested = tested_by m word x space is_value is_null_space of_space })
+
+  module _ (p : PolyValue) (x : MatrixValue) (is_value : IsValueOf m word x) where
+    space_at : (a : MatrixValue) × (IsValueAt p.coefficients x a × IsMatrix a) → SomeSpace (Some p)
+    space_at (a, (is, well)) =
+        of_null (some_null_space a well (omega (arith, (poly_value_over m word p x a is_value is).length_is, is_module.over.positive)))
       where
-        of_null : (space : MatrixValue) × (IsNullSpaceMatrix x space × IsMatrix space) → (space : MatrixValue) × IsNullSpaceOf m seed number space
-        of_null (space, (is_null_space, of_space)) =
-            (space, record { matrix = x; is_tested = tested_by m word x space is_value is_null_space of_space })
+        of_null : (space : MatrixValue) × (IsNullSpaceMatrix a space × IsMatrix space) → SomeSpace (Some p)
+        of_null (space, (is_null_space, of_space)) = (
+          space,
+          record {
+            matrix = a;
+            is_tested = record {
+              argument = x;
+              is_value = is_value;
+              tested_at = record { value = is; tested = record { null_space = is_null_space; well_formed = of_space } };
+            };
+          },
+        )
+
+  space_by : (p : PolyValue) → (x : MatrixValue) × (IsValueOf m word x × IsMatrix x) → SomeSpace (Some p)
+  space_by p (x, (is_value, well)) =
+      space_at p x is_value
+      (some_value_at m.order m.dim p.coefficients x is_module.over.positive is_module.dim_fits is_value.field is_value.columns is_value.value.square)
+
+  pub some_space : (poly : Option PolyValue) → SomeSpace poly
+  some_space None = space_of_value drawn_has_value
+  some_space (Some p) = space_by p drawn_has_value
 
 -- ---- standard bases, and the actions on them
 
@@ -126,25 +181,26 @@ some_standard_action m v basis standard =
 
 -- ---- forms
 
-pub some_form : (m : ModuleValue) (seed number : ℕ) (v : RowValue) → IsModule m → IsVectorOf m v →
-    GeneratesEverything (number_field m.order) m.dim m.generators v.entries → (form : FormValue) × IsFormFrom m seed number v form
-some_form m seed number v is_module of_module generates =
+pub some_form : (m : ModuleValue) (seed number : ℕ) (poly : Option PolyValue) (v : RowValue) → IsModule m → IsVectorOf m v →
+    GeneratesEverything (number_field m.order) m.dim m.generators v.entries → (form : FormValue) × IsFormFrom m seed number poly v form
+some_form m seed number poly v is_module of_module generates =
     of_basis (some_standard_matrix m v is_module of_module.fits
     (generator_is_nonzero (gf m.order) (module_of K m.dim m.generators) (vector_of K v.entries) is_module.over.positive generates))
   where
     K : NumberField
     K = number_field m.order
 
-    of_basis : (basis : MatrixValue) × (IsStandardMatrix m v basis × IsMatrix basis) → (form : FormValue) × IsFormFrom m seed number v form
+    of_basis : (basis : MatrixValue) × (IsStandardMatrix m v basis × IsMatrix basis) → (form : FormValue) × IsFormFrom m seed number poly v form
     of_basis (basis, (standard, well)) = of_action (some_standard_action m v basis standard)
       where
         square : length basis.rows ≡ m.dim
         square = basis_is_square m v basis is_module of_module standard well generates
 
-        of_action : (action : ModuleValue) × (IsBasisAction m basis action × HasSquareGenerators action) → (form : FormValue) × IsFormFrom m seed number v form
+        of_action : (action : ModuleValue) × (IsBasisAction m basis action × HasSquareGenerators action) →
+            (form : FormValue) × IsFormFrom m seed number poly v form
         of_action (action, (acts, squares)) = (
-          record { matrices = action; basis = basis; word = number; seed = seed },
-          form_made m v basis is_module of_module standard well generates action acts seed number (record {
+          record { matrices = action; basis = basis; word = number; poly = poly; seed = seed },
+          form_made m v basis is_module of_module standard well generates action acts seed number poly poly refl (record {
             over = record { positive = omega (arith, acts.dimension, square, is_module.over.positive); square = squares };
             dim_fits = omega (arith, acts.dimension, square, is_module.dim_fits);
             some_generator = subst (λ k. 1 ≤ k) (sym acts.acts.count) is_module.some_generator;
@@ -219,9 +275,10 @@ module _ (form : FormValue) (m : ModuleValue) (is_form : IsForm form) (is_module
               decided v basis standard action acts squares (ℕ_discrete (length basis.rows) m.dim)
               (List-discrete (List-discrete (List-discrete ℕ_discrete)) action.generators form.matrices.generators)
 
-  module _ (count : length m.generators ≡ length form.matrices.generators) (space : MatrixValue) (is_space : IsNullSpaceOf m form.seed form.word space) where
-    facts : IsSpaceOfWord m (drawn_word form.seed form.word (order_number m.order) (length m.generators)) space
-    facts = space_of_word m form.seed form.word (length m.generators) space refl is_space
+  module _ (count : length m.generators ≡ length form.matrices.generators) (space : MatrixValue)
+      (is_space : IsNullSpaceOf m form.seed form.word form.poly space) where
+    facts : IsDecidingSpace m form.seed form.word form.poly space
+    facts = deciding_space m form.seed form.word form.poly space is_space
 
     abbrev Matches : ℕ → Type 0
     Matches j = HasStandardMatrices m (point_row space j).entries form.matrices
@@ -244,7 +301,7 @@ module _ (form : FormValue) (m : ModuleValue) (is_form : IsForm form) (is_module
           drop-cons (points_of space) j [] inside,
           refl,
           refl,
-          (point_is_vector m form.seed form.word space is_space j inside
+          (point_is_vector m form.seed form.word form.poly space is_space j inside
               (point_row space j) refl facts.field).well_formed,
         )
 
@@ -273,4 +330,6 @@ some_match form m is_form is_module field count = cases (ℕ_discrete m.dim form
   where
     cases : Dec (m.dim ≡ form.matrices.dim) → (answer : Option MatrixValue) × IsMatch form m answer
     cases (no other) = (None, other_dimension form.matrices m is_form.well_formed is_module field count other)
-    cases (yes dimension) = let (space, is_space) = some_space m form.seed form.word is_module in match_of_space form m is_form is_module field dimension count space is_space
+    cases (yes dimension) =
+        let (space, is_space) = some_space m form.seed form.word is_module form.poly in
+        match_of_space form m is_form is_module field dimension count space is_space

@@ -24,7 +24,7 @@ const MANY_POINTS: usize = 32;
 
 /// The isomorphism T from a module to a form's matrices that the form gives: T is invertible, and `T g' = g T` for each
 /// generator g' of the module and of the form's matrices g. It is the standard basis of the first point, of the null
-/// space of the value of the form's word in the module, whose standard matrices are the form's. `None` where the module
+/// space of the form's deciding matrix in the module, whose standard matrices are the form's. `None` where the module
 /// is not isomorphic to the form's matrices; for another dimension at once. The module is over the form's field and has
 /// as many generators. Where more than 32 points would have to be followed, null spaces of other words are asked
 /// first whether the two differ. The form's matrices tell which images of rows are the next rows of a point's standard
@@ -39,7 +39,7 @@ pub fn matches(alloc: Global, form: &Form, module: &Module) -> Result<Option<Mat
     if module.dim() != form.matrices().dim() {
         return Ok(None);
     }
-    let space = null_space_of(alloc, module, form.seed(), form.word())?;
+    let space = null_space_of(alloc, module, form.seed(), form.word(), form.poly())?;
     if !few_points(module.field().order(), space.rows(), MANY_POINTS)
         && is_other(alloc, form, module, &space)?
     {
@@ -48,8 +48,8 @@ pub fn matches(alloc: Global, form: &Form, module: &Module) -> Result<Option<Mat
     first_match(alloc, form, module, &space)
 }
 
-/// The isomorphism that a form gives, as [`matches`] answers it, by the null space of the form's word in the module.
-/// The points of the null space are followed in order.
+/// The isomorphism that a form gives, as [`matches`] answers it, by the null space of the form's deciding matrix in the
+/// module. The points of the null space are followed in order.
 pub(crate) fn first_match(
     alloc: Global,
     form: &Form,
@@ -59,11 +59,11 @@ pub(crate) fn first_match(
     requires field { «module».now.order ≡ form.now.matrices.order }
     requires generators { length «module».now.generators ≡ length form.now.matrices.generators }
     requires dimension { «module».now.dim ≡ form.now.matrices.dim }
-    requires space { IsNullSpaceOf «module».now form.now.seed form.now.word space.now }
+    requires space { IsNullSpaceOf «module».now form.now.seed form.now.word form.now.poly space.now }
     ensures { Answers None (IsMatch form.now «module».now) result }
 {
     prove!(module.dim() == form.matrices().dim());
-    // The form's word has a null space with fewer points in the form's matrices.
+    // The form's deciding matrix has a null space with fewer points in the form's matrices.
     if !few_points(module.field().order(), space.rows(), MAX_POINTS) {
         return Ok(None);
     }

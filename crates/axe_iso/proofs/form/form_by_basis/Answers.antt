@@ -18,7 +18,7 @@ basis_action-requires c = record {
 
 pub returns-in_err-matrices-clause-form : goal.returns-in_err-matrices-clause-form
 returns-in_err-matrices-clause-form c =
-    no_memory _ c.from_residual.result _ c.from_residual.ensures.1
+    no_memory _ c.from_residual-in_err-matrices.result _ c.from_residual-in_err-matrices.ensures.1
     (action_refused c.args.module.now c.args.basis
     (basis_accepted c.args.module.now c.args.vector.now c.dim.ensures.well_formed c.requires.generates c.args.basis c.requires.basis) _
     (basis_invariant c.args.module.now c.args.vector.now c.dim.ensures.well_formed c.requires.generates c.args.basis c.requires.basis)
@@ -30,10 +30,10 @@ of_parts-requires c =
     action_given c.args.module.now c.args.basis
     (basis_accepted c.args.module.now c.args.vector.now c.dim.ensures.well_formed c.requires.generates c.args.basis c.requires.basis)
     c.in_ok-matrices.matrices c.in_ok-matrices.ensures.action in
-    form_is_kept c.args.module.now c.args.seed c.args.word c.args.vector.now _ c.dim.ensures.well_formed c.requires.vector c.requires.generates c.requires.null
-    c.requires.few
+    form_is_kept c.args.module.now c.args.seed c.args.word _ c.args.vector.now _ c.dim.ensures.well_formed c.requires.vector c.requires.generates c.requires.null
+    c.requires.small
     (form_made c.args.module.now c.args.vector.now c.args.basis c.dim.ensures.well_formed c.requires.vector c.requires.basis c.requires.well_formed
-    c.requires.generates c.in_ok-matrices.matrices acts c.args.seed c.args.word c.in_ok-matrices.ensures.well_formed)
+    c.requires.generates c.in_ok-matrices.matrices acts c.args.seed c.args.word _ _ c.in_ok-poly.ensures c.in_ok-matrices.ensures.well_formed)
 
 pub returns-clause-form : goal.returns-clause-form
 returns-clause-form c =
@@ -41,6 +41,6 @@ returns-clause-form c =
     action_given c.args.module.now c.args.basis
     (basis_accepted c.args.module.now c.args.vector.now c.dim.ensures.well_formed c.requires.generates c.args.basis c.requires.basis)
     c.in_ok-matrices.matrices c.in_ok-matrices.ensures.action in
-    subst (IsFormFrom c.args.module.now c.args.seed c.args.word c.args.vector.now) (sym c.of_parts.ensures)
+    subst (IsFormFrom c.args.module.now c.args.seed c.args.word _ c.args.vector.now) (sym c.of_parts.ensures)
     (form_made c.args.module.now c.args.vector.now c.args.basis c.dim.ensures.well_formed c.requires.vector c.requires.basis c.requires.well_formed
-    c.requires.generates c.in_ok-matrices.matrices acts c.args.seed c.args.word c.in_ok-matrices.ensures.well_formed)
+    c.requires.generates c.in_ok-matrices.matrices acts c.args.seed c.args.word _ _ c.in_ok-poly.ensures c.in_ok-matrices.ensures.well_formed)

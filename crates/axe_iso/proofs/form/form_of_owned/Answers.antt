@@ -28,15 +28,15 @@ change_basis-requires-clause-independent c =
 
 pub of_parts-requires : goal.of_parts-requires
 of_parts-requires c =
-    form_is_kept c.args.module c.args.seed c.args.word c.args.vector.now _ c.dim.ensures.well_formed c.requires.vector c.requires.generates c.requires.null
-    c.requires.few
+    form_is_kept c.args.module c.args.seed c.args.word _ c.args.vector.now _ c.dim.ensures.well_formed c.requires.vector c.requires.generates c.requires.null
+    c.requires.small
     (form_made c.args.module c.args.vector.now c.in_ok-basis.basis c.dim.ensures.well_formed c.requires.vector c.in_ok-basis.ensures.basis
-    c.in_ok-basis.ensures.well_formed c.requires.generates c.in_ok-matrices.matrices c.in_ok-matrices.ensures.action c.args.seed c.args.word
-    c.in_ok-matrices.ensures.well_formed)
+    c.in_ok-basis.ensures.well_formed c.requires.generates c.in_ok-matrices.matrices c.in_ok-matrices.ensures.action c.args.seed c.args.word _ _
+    c.in_ok-poly.ensures c.in_ok-matrices.ensures.well_formed)
 
 pub returns-clause-form : goal.returns-clause-form
 returns-clause-form c =
-    subst (IsFormFrom c.args.module c.args.seed c.args.word c.args.vector.now) (sym c.of_parts.ensures)
+    subst (IsFormFrom c.args.module c.args.seed c.args.word _ c.args.vector.now) (sym c.of_parts.ensures)
     (form_made c.args.module c.args.vector.now c.in_ok-basis.basis c.dim.ensures.well_formed c.requires.vector c.in_ok-basis.ensures.basis
-    c.in_ok-basis.ensures.well_formed c.requires.generates c.in_ok-matrices.matrices c.in_ok-matrices.ensures.action c.args.seed c.args.word
-    c.in_ok-matrices.ensures.well_formed)
+    c.in_ok-basis.ensures.well_formed c.requires.generates c.in_ok-matrices.matrices c.in_ok-matrices.ensures.action c.args.seed c.args.word _ _
+    c.in_ok-poly.ensures c.in_ok-matrices.ensures.well_formed)
