@@ -1,5 +1,5 @@
 -- An irreducible section is a known factor, or its form is a new one.
-use Rattle.std.specs.Prelude.{◌≡◌, ℕ, ◌<◌, List, [], ◌∷◌, ◌++◌, length, get_or, slice_get, Some}
+use Rattle.std.specs.Prelude.{◌≡◌, ℕ, ◌<◌, List, [], ◌∷◌, ◌++◌, length, get_or, slice_get, Option, Some}
 use Rattle.std.proofs.lemmas.List.{length-map, map-append, get_or-map}
 use Rattle.std.proofs.lemmas.Option.{slice_get_within, get_or_from_slice_get}
 use Rattle.axe_algebra.specs.NumberField.{NumberField}
@@ -15,6 +15,7 @@ use Rattle.axe_algebra.proofs.ListEntries.{square_shape}
 use Rattle.axe_field.specs.NumberFields.{number_field, gf}
 use Rattle.axe_row.specs.Rows.{RowValue}
 use Rattle.axe_matrix.specs.Matrices.{MatrixValue}
+use Rattle.axe_poly.specs.Polys.{PolyValue}
 use Rattle.axe_spin.specs.Modules.{ModuleValue}
 use Rattle.axe_spin.specs.SpinLaws.{IsIsomorphismMatrix}
 use Rattle.axe_action.proofs.OneAction.{squares_of}
@@ -78,9 +79,9 @@ module _ (m : ModuleValue) (before : List (List ℕ)) (s : SectionValue) (of_mod
 
   -- ---- a new one
 
-  module _ (seed word : ℕ) (v : RowValue) (form : FormValue) (irreducible : IsIrreducibleModule s.action) (others : AreOfOthers forms s.action)
-      (new : IsNewForm s.action seed word v form) where
-    from : IsFormFrom s.action seed word v form
+  module _ (seed word : ℕ) (poly : Option PolyValue) (v : RowValue) (form : FormValue) (irreducible : IsIrreducibleModule s.action)
+      (others : AreOfOthers forms s.action) (new : IsNewForm s.action seed word poly v form) where
+    from : IsFormFrom s.action seed word poly v form
     from = new.from
 
     form_field : form.matrices.order ≡ m.order

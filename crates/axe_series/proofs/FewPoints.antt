@@ -84,9 +84,9 @@ module _ (seed words : ℕ) (o : Order) (n : ℕ) (few : point_count (order_numb
       (parts_within section rest space sub quotient
       (reducible_is_submodule section.action seed words space within.0.is decides)
       (reducible_is_matrix section.action seed words space decides) cut within) rows offset dim same
-  none_stays_open (known word v number t decides is later) within rows offset dim same =
+  none_stays_open (known word poly v number t decides is later) within rows offset dim same =
       none_stays_open later within.1 rows offset dim same
-  none_stays_open (new word v form decides others is later) within rows offset dim same =
+  none_stays_open (new word poly v form decides others is later) within rows offset dim same =
       none_stays_open later within.1 rows offset dim same
 
 -- no section of a module with few points stays undecided

@@ -4,6 +4,8 @@ pub mod OneMatch
 pub mod OneOutcome
 pub mod SomeAnnihilator
 pub mod SomeSearch
+pub mod LeastWith
+pub mod SomeFactor
 pub mod SomeVerdict
 pub mod SomeCut
 pub mod SomeForm

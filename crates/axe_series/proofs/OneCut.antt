@@ -1,5 +1,5 @@
 -- A submodule cuts a section in one way.
-use Rattle.std.specs.Prelude.{◌≡◌, ℕ, ◌⊎◌, List, ◌++◌, map, length, get_or}
+use Rattle.std.specs.Prelude.{◌≡◌, ℕ, List, ◌++◌, map, length, get_or}
 use Rattle.std.proofs.lemmas.List.{ext_get_or}
 use Rattle.axe_algebra.specs.NumberField.{NumberField}
 use Rattle.axe_algebra.specs.Actions.{IsFree}
@@ -16,9 +16,11 @@ use Rattle.axe_action.proofs.OneAction.{basis_action_is_one, quotient_is_one}
 use Rattle.axe_word.proofs.ValueLaws.{drawn_word-in}
 use Rattle.axe_norton.specs.declared.verdicts.At
 use Rattle.axe_norton.specs.declared.verdicts.Verdict.TheVariants.{Reducible}
-use Rattle.axe_norton.specs.Spaces.{IsProperSubmodule, TriedGenerate, IsFirstProperSpace, IsTransposedSpace}
-use Rattle.axe_norton.specs.Verdicts.{Decides, word_of_seed}
-use Rattle.axe_norton.proofs.TruthLaws.{rows_over_field, said_is_true}
+use Rattle.axe_norton.specs.Spaces.{IsProperSubmodule}
+use Rattle.axe_norton.specs.OneVector.{ShowsReducibleByOne}
+use Rattle.axe_norton.specs.Verdicts.{ShowsReducible, Tells, Decides, word_of_seed}
+use Rattle.axe_norton.proofs.TruthLaws.{rows_over_field}
+use Rattle.axe_norton.proofs.SaidLaws.{said_is_true}
 use Rattle.axe_series.specs.Sections.{SectionValue, IsCut, lifted_rows}
 use mathlib.Core.Logic.{inl, inr}
 use mathlib.Core.Path.{refl, sym, ◌∙◌, ap}
@@ -53,15 +55,26 @@ reducible_is_submodule m seed words space is (j, decides) =
     (drawn_word-in m seed j _ _ refl refl is.some_generator) decides.says
 
 -- and a matrix
+shown_is_matrix : (m : ModuleValue) (matrix null space : MatrixValue) → ShowsReducible m matrix null space →
+    IsMatrix space
+shown_is_matrix m matrix null space (inl found) = found.proper.well_formed
+shown_is_matrix m matrix null space (inr (all, found)) = found.well_formed
+
+shown_by_one_is_matrix : (m : ModuleValue) (matrix null space : MatrixValue) →
+    ShowsReducibleByOne m matrix null space → IsMatrix space
+shown_by_one_is_matrix m matrix null space (inl proper) = proper.well_formed
+shown_by_one_is_matrix m matrix null space (inr (all, found)) = found.well_formed
+
+told_is_matrix : (m : ModuleValue) (matrix null space : MatrixValue) →
+    Tells m matrix null (At.TheVariants.Reducible space) → IsMatrix space
+told_is_matrix m matrix null space (inl shows) = shown_is_matrix m matrix null space shows
+told_is_matrix m matrix null space (inr told) =
+    shown_by_one_is_matrix m told.tested.matrix told.tested.null_space space told.tells
+
 pub reducible_is_matrix : (m : ModuleValue) (seed words : ℕ) (space : MatrixValue) →
     Decides m seed words (Reducible space) → IsMatrix space
-reducible_is_matrix m seed words space (j, decides) = shown decides.says.tells
-  where
-    shown : IsFirstProperSpace m decides.says.tested.null_space space
-        ⊎ (TriedGenerate m decides.says.tested.null_space × IsTransposedSpace m decides.says.tested.matrix space) →
-        IsMatrix space
-    shown (inl found) = found.proper.well_formed
-    shown (inr (all, found)) = found.well_formed
+reducible_is_matrix m seed words space (j, decides) =
+    told_is_matrix m decides.says.tested.matrix decides.says.tested.null_space space decides.says.tells
 
 -- sections with the same parts are the same
 pub same_section : (a b : SectionValue) → a.action ≡ b.action → a.rows ≡ b.rows → a ≡ b

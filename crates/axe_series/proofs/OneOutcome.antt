@@ -1,7 +1,8 @@
 -- A module has no more than one outcome: by induction on one run, and cases on the other.
-use Rattle.std.specs.Prelude.{◌≡◌, ◌≢◌, ℕ, List, [], ◌∷◌, ◌++◌, length, ⊤}
+use Rattle.std.specs.Prelude.{◌≡◌, ◌≢◌, ℕ, List, [], ◌∷◌, ◌++◌, length, ⊤, Option}
 use Rattle.axe_row.specs.Rows.{RowValue}
 use Rattle.axe_matrix.specs.Matrices.{MatrixValue, IsMatrix}
+use Rattle.axe_poly.specs.Polys.{PolyValue}
 use Rattle.axe_spin.specs.Modules.{ModuleValue, IsModule}
 use Rattle.axe_norton.specs.declared.verdicts.Verdict.{Verdict}
 use Rattle.axe_norton.specs.declared.verdicts.Verdict.TheVariants.{Irreducible, Reducible, Undecided}
@@ -35,14 +36,14 @@ pub data FirstStep (seed words : ℕ) (section : SectionValue) (rest : List Sect
   cuts : (space : MatrixValue) (sub quotient : SectionValue) → Decides section.action seed words (Reducible space) →
       IsCut section space sub quotient →
       Runs seed words (sub ∷ quotient ∷ rest) found outcome → FirstStep seed words section rest found outcome
-  knows : (word : ℕ) (v : RowValue) (number : ℕ) (t : MatrixValue) →
-      Decides section.action seed words (Irreducible word v) →
+  knows : (word : ℕ) (poly : Option PolyValue) (v : RowValue) (number : ℕ) (t : MatrixValue) →
+      Decides section.action seed words (Irreducible word poly v) →
       IsKnownAs found.forms section.action number t →
       Runs seed words rest (with_place found (lifted_rows section t).rows number) outcome →
       FirstStep seed words section rest found outcome
-  adds : (word : ℕ) (v : RowValue) (form : FormValue) → Decides section.action seed words (Irreducible word v) →
+  adds : (word : ℕ) (poly : Option PolyValue) (v : RowValue) (form : FormValue) → Decides section.action seed words (Irreducible word poly v) →
       AreOfOthers found.forms section.action →
-      IsNewForm section.action seed word v form →
+      IsNewForm section.action seed word poly v form →
       Runs seed words rest (with_factor found (lifted_rows section form.basis).rows form) outcome →
       FirstStep seed words section rest found outcome
 
@@ -53,8 +54,8 @@ pub first_step : {seed words : ℕ} (section : SectionValue) (rest : List Sectio
 first_step section rest found _ (undecided decides) = stays decides refl
 first_step section rest found outcome (reducible space sub quotient decides cut run) =
     cuts space sub quotient decides cut run
-first_step section rest found outcome (known word v number t decides is run) = knows word v number t decides is run
-first_step section rest found outcome (new word v form decides others is run) = adds word v form decides others is run
+first_step section rest found outcome (known word poly v number t decides is run) = knows word poly v number t decides is run
+first_step section rest found outcome (new word poly v form decides others is run) = adds word poly v form decides others is run
 
 -- a run without a section has found all
 pub no_step : {seed words : ℕ} (found : FoundValue) (outcome : Outcome) → Runs seed words [] found outcome →
@@ -65,20 +66,23 @@ no_step found _ all_found = refl
 undecided_or_reducible : (space : MatrixValue) → Undecided ≢ Reducible space
 undecided_or_reducible space same = cc
 
-undecided_or_irreducible : (word : ℕ) (v : RowValue) → Undecided ≢ Irreducible word v
-undecided_or_irreducible word v same = cc
+undecided_or_irreducible : (word : ℕ) (poly : Option PolyValue) (v : RowValue) → Undecided ≢ Irreducible word poly v
+undecided_or_irreducible word poly v same = cc
 
-reducible_or_irreducible : (space : MatrixValue) (word : ℕ) (v : RowValue) → Reducible space ≢ Irreducible word v
-reducible_or_irreducible space word v same = cc
+reducible_or_irreducible : (space : MatrixValue) (word : ℕ) (poly : Option PolyValue) (v : RowValue) → Reducible space ≢ Irreducible word poly v
+reducible_or_irreducible space word poly v same = cc
 
 one_space : (a b : MatrixValue) → Reducible a ≡ Reducible b → a ≡ b
 one_space a b same = cc
 
-one_word : (j k : ℕ) (v w : RowValue) → Irreducible j v ≡ Irreducible k w → j ≡ k
-one_word j k v w same = cc
+one_word : (j k : ℕ) (p q : Option PolyValue) (v w : RowValue) → Irreducible j p v ≡ Irreducible k q w → j ≡ k
+one_word j k p q v w same = cc
 
-one_vector : (j k : ℕ) (v w : RowValue) → Irreducible j v ≡ Irreducible k w → v ≡ w
-one_vector j k v w same = cc
+one_poly : (j k : ℕ) (p q : Option PolyValue) (v w : RowValue) → Irreducible j p v ≡ Irreducible k q w → p ≡ q
+one_poly j k p q v w same = cc
+
+one_vector : (j k : ℕ) (p q : Option PolyValue) (v w : RowValue) → Irreducible j p v ≡ Irreducible k q w → v ≡ w
+one_vector j k p q v w same = cc
 
 -- ---- two first steps of one section
 
@@ -96,10 +100,10 @@ module _ (seed words : ℕ) (section : SectionValue) (rest : List SectionValue) 
   after_undecided decides b (stays other ends) = sym ends
   after_undecided decides b (cuts space sub quotient other cut run) =
       absurd (undecided_or_reducible space (same_verdict Undecided (Reducible space) decides other))
-  after_undecided decides b (knows word v number t other is_known run) =
-      absurd (undecided_or_irreducible word v (same_verdict Undecided (Irreducible word v) decides other))
-  after_undecided decides b (adds word v form other others is_new run) =
-      absurd (undecided_or_irreducible word v (same_verdict Undecided (Irreducible word v) decides other))
+  after_undecided decides b (knows word poly v number t other is_known run) =
+      absurd (undecided_or_irreducible word poly v (same_verdict Undecided (Irreducible word poly v) decides other))
+  after_undecided decides b (adds word poly v form other others is_new run) =
+      absurd (undecided_or_irreducible word poly v (same_verdict Undecided (Irreducible word poly v) decides other))
 
   -- the other cuts the section in the same two
   module _ (a : Outcome) (space : MatrixValue) (sub quotient : SectionValue)
@@ -129,59 +133,63 @@ module _ (seed words : ℕ) (section : SectionValue) (rest : List SectionValue) 
         (subst (λ (x : MatrixValue). IsCut section x other_sub other_quotient)
         (one_space other_space space (same_verdict (Reducible other_space) (Reducible space) other decides)) other_cut)
         run
-    after_reducible b (knows word v number t other is_known run) =
-        absurd (reducible_or_irreducible space word v (same_verdict (Reducible space) (Irreducible word v) decides other))
-    after_reducible b (adds word v form other others is_new run) =
-        absurd (reducible_or_irreducible space word v (same_verdict (Reducible space) (Irreducible word v) decides other))
+    after_reducible b (knows word poly v number t other is_known run) =
+        absurd (reducible_or_irreducible space word poly v (same_verdict (Reducible space) (Irreducible word poly v) decides other))
+    after_reducible b (adds word poly v form other others is_new run) =
+        absurd (reducible_or_irreducible space word poly v (same_verdict (Reducible space) (Irreducible word poly v) decides other))
 
   -- the other knows it as the same factor
-  module _ (a : Outcome) (word : ℕ) (v : RowValue) (number : ℕ) (t : MatrixValue)
-      (decides : Decides m seed words (Irreducible word v))
+  module _ (a : Outcome) (word : ℕ) (poly : Option PolyValue) (v : RowValue) (number : ℕ) (t : MatrixValue)
+      (decides : Decides m seed words (Irreducible word poly v))
       (is_known : IsKnownAs found.forms m number t)
       (later : (b : Outcome) → Runs seed words rest (with_place found (lifted_rows section t).rows number) b →
       a ≡ b) where
     after_known : (b : Outcome) → FirstStep seed words section rest found b → a ≡ b
     after_known b (stays other ends) =
-        absurd (undecided_or_irreducible word v (same_verdict Undecided (Irreducible word v) other decides))
+        absurd (undecided_or_irreducible word poly v (same_verdict Undecided (Irreducible word poly v) other decides))
     after_known b (cuts space sub quotient other cut run) =
-        absurd (reducible_or_irreducible space word v (same_verdict (Reducible space) (Irreducible word v) other decides))
-    after_known b (knows other_word w other_number s other other_known run) =
+        absurd (reducible_or_irreducible space word poly v (same_verdict (Reducible space) (Irreducible word poly v) other decides))
+    after_known b (knows other_word q w other_number s other other_known run) =
         let same = known_is_one found.forms m other_number number s t other_known is_known in
         later b
         (subst (λ k. Runs seed words rest (with_place found (lifted_rows section t).rows k) b) same.0
         (subst
         (λ (x : MatrixValue). Runs seed words rest (with_place found (lifted_rows section x).rows other_number) b)
         same.1 run))
-    after_known b (adds other_word w form other others is_new run) =
+    after_known b (adds other_word q w form other others is_new run) =
         absurd (known_or_other found.forms m number t is_known others)
 
   -- the other adds the same form
-  module _ (a : Outcome) (word : ℕ) (v : RowValue) (form : FormValue)
-      (decides : Decides m seed words (Irreducible word v))
-      (others : AreOfOthers found.forms m) (is_new : IsNewForm m seed word v form)
+  module _ (a : Outcome) (word : ℕ) (poly : Option PolyValue) (v : RowValue) (form : FormValue)
+      (decides : Decides m seed words (Irreducible word poly v))
+      (others : AreOfOthers found.forms m) (is_new : IsNewForm m seed word poly v form)
       (later : (b : Outcome) → Runs seed words rest (with_factor found (lifted_rows section form.basis).rows form) b →
       a ≡ b) where
     after_new : (b : Outcome) → FirstStep seed words section rest found b → a ≡ b
     after_new b (stays other ends) =
-        absurd (undecided_or_irreducible word v (same_verdict Undecided (Irreducible word v) other decides))
+        absurd (undecided_or_irreducible word poly v (same_verdict Undecided (Irreducible word poly v) other decides))
     after_new b (cuts space sub quotient other cut run) =
-        absurd (reducible_or_irreducible space word v (same_verdict (Reducible space) (Irreducible word v) other decides))
-    after_new b (knows other_word w number t other is_known run) =
+        absurd (reducible_or_irreducible space word poly v (same_verdict (Reducible space) (Irreducible word poly v) other decides))
+    after_new b (knows other_word q w number t other is_known run) =
         absurd (known_or_other found.forms m number t is_known others)
-    after_new b (adds other_word w other_form other other_others other_new run) =
+    after_new b (adds other_word q w other_form other other_others other_new run) =
         later b
         (subst (λ (x : FormValue). Runs seed words rest (with_factor found (lifted_rows section x.basis).rows x) b)
         forms run)
       where
-        shown : Irreducible other_word w ≡ Irreducible word v
-        shown = same_verdict (Irreducible other_word w) (Irreducible word v) other decides
+        shown : Irreducible other_word q w ≡ Irreducible word poly v
+        shown = same_verdict (Irreducible other_word q w) (Irreducible word poly v) other decides
 
-        moved : IsNewForm m seed word v other_form
-        moved = subst (λ (x : RowValue). IsNewForm m seed word x other_form) (one_vector other_word word w v shown)
-            (subst (λ k. IsNewForm m seed k w other_form) (one_word other_word word w v shown) other_new)
+        moved : IsNewForm m seed word poly v other_form
+        moved =
+            subst (λ (x : RowValue). IsNewForm m seed word poly x other_form)
+            (one_vector other_word word q poly w v shown)
+            (subst (λ (x : Option PolyValue). IsNewForm m seed word x w other_form)
+            (one_poly other_word word q poly w v shown)
+            (subst (λ k. IsNewForm m seed k q w other_form) (one_word other_word word q poly w v shown) other_new))
 
         forms : other_form ≡ form
-        forms = form_is_one m seed word v other_form form moved.from is_new.from
+        forms = form_is_one m seed word poly v other_form form moved.from is_new.from
 
 -- ---- two runs
 
@@ -196,11 +204,11 @@ module _ (seed words : ℕ) where
       after_reducible seed words section rest found modules.0 outcome space sub quotient decides cut
       (λ c other. runs_agree later (cut.sub_module, (cut.quotient_module, modules.1)) c other) b
       (first_step section rest found b run)
-  runs_agree (known {section} {rest} {found} {outcome} word v number t decides is later) modules b run =
-      after_known seed words section rest found modules.0 outcome word v number t decides is
+  runs_agree (known {section} {rest} {found} {outcome} word poly v number t decides is later) modules b run =
+      after_known seed words section rest found modules.0 outcome word poly v number t decides is
       (λ c other. runs_agree later modules.1 c other) b (first_step section rest found b run)
-  runs_agree (new {section} {rest} {found} {outcome} word v form decides others is later) modules b run =
-      after_new seed words section rest found modules.0 outcome word v form decides others is
+  runs_agree (new {section} {rest} {found} {outcome} word poly v form decides others is later) modules b run =
+      after_new seed words section rest found modules.0 outcome word poly v form decides others is
       (λ c other. runs_agree later modules.1 c other) b (first_step section rest found b run)
 
 -- a module has no more than one outcome

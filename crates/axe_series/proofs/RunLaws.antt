@@ -1,5 +1,5 @@
 -- What a run finds is true; and no section of a module with few points stays undecided.
-use Rattle.std.specs.Prelude.{◌≡◌, ℕ, List, [], ◌∷◌, ◌++◌, length, slice_get, Some, suc}
+use Rattle.std.specs.Prelude.{◌≡◌, ℕ, List, [], ◌∷◌, ◌++◌, length, slice_get, Option, Some, suc}
 use Rattle.std.proofs.lemmas.List.{length-append, append-nil, map-append, length-map}
 use Rattle.axe_algebra.specs.SpansOfLists.{IsIndependent, SpansEverything}
 use Rattle.axe_algebra.specs.ModulesOfLists.{IsInvariant}
@@ -8,6 +8,7 @@ use Rattle.axe_field.specs.Order.{order_number}
 use Rattle.axe_field.specs.NumberFields.{number_field}
 use Rattle.axe_row.specs.Rows.{RowValue}
 use Rattle.axe_matrix.specs.Matrices.{MatrixValue}
+use Rattle.axe_poly.specs.Polys.{PolyValue}
 use Rattle.axe_spin.specs.Modules.{ModuleValue, IsModule}
 use Rattle.axe_word.specs.Words.{IsWordIn}
 use Rattle.axe_word.proofs.DrawingLaws.{drawn_word-over}
@@ -15,7 +16,8 @@ use Rattle.axe_norton.specs.declared.verdicts.At.TheVariants
 use Rattle.axe_norton.specs.declared.verdicts.Verdict.TheVariants.{Irreducible, Reducible, Undecided}
 use Rattle.axe_norton.specs.Spaces.{IsProperSubmodule, IsIrreducibleModule}
 use Rattle.axe_norton.specs.Verdicts.{Decides, word_of_seed}
-use Rattle.axe_norton.proofs.TruthLaws.{said_is_true, rows_over_field}
+use Rattle.axe_norton.proofs.TruthLaws.{rows_over_field}
+use Rattle.axe_norton.proofs.SaidLaws.{said_is_true}
 use Rattle.axe_iso.specs.Forms.{FormValue}
 use Rattle.axe_series.specs.Sections.{SectionValue, IsCut, rows_of_sections, lifted_rows}
 use Rattle.axe_series.specs.Runs.{FoundValue, Outcome, Runs, all_found, undecided, reducible, known, new, IsKnownAs, IsNewForm, AreOfOthers, with_place, with_factor}
@@ -38,9 +40,10 @@ use native.Mathlib.Omega.{arith}
 drawn_is_word : (m : ModuleValue) (seed j : ℕ) → IsModule m → IsWordIn m (word_of_seed m seed j)
 drawn_is_word m seed j is = record { over = drawn_word-over seed j (order_number m.order) (length m.generators) m.order refl is.some_generator }
 
-decided_irreducible : (m : ModuleValue) (seed words word : ℕ) (v : RowValue) → IsModule m → Decides m seed words (Irreducible word v) → IsIrreducibleModule m
-decided_irreducible m seed words word v is decides =
-    said_is_true m is (word_of_seed m seed word) (TheVariants.Irreducible v) (drawn_is_word m seed word is) decides.says
+decided_irreducible : (m : ModuleValue) (seed words word : ℕ) (poly : Option PolyValue) (v : RowValue) → IsModule m →
+    Decides m seed words (Irreducible word poly v) → IsIrreducibleModule m
+decided_irreducible m seed words word poly v is decides =
+    said_is_true m is (word_of_seed m seed word) (TheVariants.Irreducible poly v) (drawn_is_word m seed word is) decides.says
 
 -- ---- the steps
 
@@ -70,18 +73,19 @@ module _ (m : ModuleValue) (is : IsModule m) (seed words : ℕ) (s : SectionValu
       (known_appears (length (factors_of_forms found.forms)) number found.places
       (known_below m found.rows s of_module state.chain.1 found.forms state.factors number t is_known) state.order)
 
-  pub state_after_new : (word : ℕ) (v : RowValue) (form : FormValue) → Decides s.action seed words (Irreducible word v) → AreOfOthers found.forms s.action →
-      IsNewForm s.action seed word v form → IsState m rest (with_factor found (lifted_rows s form.basis).rows form)
-  state_after_new word v form decides others is_new =
+  pub state_after_new : (word : ℕ) (poly : Option PolyValue) (v : RowValue) (form : FormValue) →
+      Decides s.action seed words (Irreducible word poly v) → AreOfOthers found.forms s.action →
+      IsNewForm s.action seed word poly v form → IsState m rest (with_factor found (lifted_rows s form.basis).rows form)
+  state_after_new word poly v form decides others is_new =
       state_after_place m s rest found state (lifted_section s form.matrices form.basis) (found.forms ++ form ∷ []) (found.places ++ length found.forms ∷ [])
-      (new_takes_place m found.rows s of_module state.chain.1 found.forms state.factors seed word v form irreducible others is_new)
+      (new_takes_place m found.rows s of_module state.chain.1 found.forms state.factors seed word poly v form irreducible others is_new)
       (subst (λ (factors : List ModuleValue). ArePlaced factors (state.done ++ lifted_section s form.matrices form.basis ∷ []) (found.places ++ length found.forms ∷ []))
       (sym factors_are)
       (one_more_placed (old ++ form.matrices ∷ []) state.done found.places (lifted_section s form.matrices form.basis) (length found.forms)
       (placed_by_more old (form.matrices ∷ []) state.done found.places state.placed)
       (subst (λ k. slice_get (old ++ form.matrices ∷ []) k ≡ Some form.matrices) count (last_there old form.matrices []))))
       (subst (AreFactors m) (sym factors_are)
-      (new_factors m found.rows s of_module state.chain.1 found.forms state.factors seed word v form irreducible others is_new))
+      (new_factors m found.rows s of_module state.chain.1 found.forms state.factors seed word poly v form irreducible others is_new))
       (subst (λ k. AreInOrderOfAppearance k (found.places ++ length found.forms ∷ [])) more
       (subst (λ k. AreInOrderOfAppearance (suc k) (found.places ++ k ∷ [])) count (new_appears (length old) found.places state.order)))
     where
@@ -89,7 +93,7 @@ module _ (m : ModuleValue) (is : IsModule m) (seed words : ℕ) (s : SectionValu
       old = factors_of_forms found.forms
 
       irreducible : IsIrreducibleModule s.action
-      irreducible = decided_irreducible s.action seed words word v of_module.is_module decides
+      irreducible = decided_irreducible s.action seed words word poly v of_module.is_module decides
 
       factors_are : factors_of_forms (found.forms ++ form ∷ []) ≡ old ++ form.matrices ∷ []
       factors_are = map-append (λ (f : FormValue). f.matrices) found.forms (form ∷ [])
@@ -127,10 +131,10 @@ run_is_true m is seed words {found = found} all_found state = end_is_series m is
 run_is_true m is seed words {found = found} (undecided {section} {rest} decides) state = end_is_open m is seed words section rest found state decides
 run_is_true m is seed words {found = found} (reducible {section} {rest} space sub quotient decides cut run) state =
     run_is_true m is seed words run (state_after_reducible m is seed words section rest found state space sub quotient decides cut)
-run_is_true m is seed words {found = found} (known {section} {rest} word v number t decides is_known run) state =
+run_is_true m is seed words {found = found} (known {section} {rest} word poly v number t decides is_known run) state =
     run_is_true m is seed words run (state_after_known m is seed words section rest found state number t is_known)
-run_is_true m is seed words {found = found} (new {section} {rest} word v form decides others is_new run) state =
-    run_is_true m is seed words run (state_after_new m is seed words section rest found state word v form decides others is_new)
+run_is_true m is seed words {found = found} (new {section} {rest} word poly v form decides others is_new run) state =
+    run_is_true m is seed words run (state_after_new m is seed words section rest found state word poly v form decides others is_new)
 
 pub runs_are_true : RunsFindWhatIsTrue
 runs_are_true m seed words outcome is run = run_is_true m is seed words run (first_state m is)

@@ -5,6 +5,7 @@ use Rattle.std.proofs.lemmas.List.Elements.{All-nil, All-cons, All-head, All-tai
 use Rattle.axe_field.specs.Order.{Order}
 use Rattle.axe_row.specs.Rows.{RowValue}
 use Rattle.axe_matrix.specs.Matrices.{MatrixValue}
+use Rattle.axe_poly.specs.Polys.{PolyValue}
 use Rattle.axe_spin.specs.Modules.{ModuleValue, IsModule}
 use Rattle.axe_norton.specs.declared.verdicts.Verdict
 use Rattle.axe_norton.specs.declared.verdicts.Verdict.TheVariants.{Irreducible, Reducible, Undecided}
@@ -141,19 +142,19 @@ module _ (seed words : ℕ) (o : Order) (count : ℕ) where
         (some_cut section space kind.is (reducible_is_submodule section.action seed words space kind.is decides)
         (reducible_is_matrix section.action seed words space decides))
 
-    run_of_known : (word : ℕ) (v : RowValue) → Decides section.action seed words (Irreducible word v) →
+    run_of_known : (word : ℕ) (poly : Option PolyValue) (v : RowValue) → Decides section.action seed words (Irreducible word poly v) →
         (number : ℕ) (t : MatrixValue) → IsKnownAs found.forms section.action number t → HasRun (section ∷ rest) found
-    run_of_known word v decides number t is_known =
+    run_of_known word poly v decides number t is_known =
         from (shorter rest (with_place found (lifted_rows section t).rows number)
         (omega (arith, within, kind.is.over.positive)) others forms)
       where
         from : HasRun rest (with_place found (lifted_rows section t).rows number) → HasRun (section ∷ rest) found
-        from (outcome, run) = (outcome, known word v number t decides is_known run)
+        from (outcome, run) = (outcome, known word poly v number t decides is_known run)
 
-    run_of_new : (word : ℕ) (v : RowValue) → Decides section.action seed words (Irreducible word v) →
+    run_of_new : (word : ℕ) (poly : Option PolyValue) (v : RowValue) → Decides section.action seed words (Irreducible word poly v) →
         AreOfOthers found.forms section.action →
-        (form : FormValue) × IsNewForm section.action seed word v form → HasRun (section ∷ rest) found
-    run_of_new word v decides of_others (form, is_new) =
+        (form : FormValue) × IsNewForm section.action seed word poly v form → HasRun (section ∷ rest) found
+    run_of_new word poly v decides of_others (form, is_new) =
         from (shorter rest (with_factor found (lifted_rows section form.basis).rows form)
         (omega (arith, within, kind.is.over.positive)) others
         (All-append (IsFormOfKind o count) found.forms (form ∷ []) forms
@@ -164,20 +165,20 @@ module _ (seed words : ℕ) (o : Order) (count : ℕ) where
         }) (All-nil (IsFormOfKind o count)))))
       where
         from : HasRun rest (with_factor found (lifted_rows section form.basis).rows form) → HasRun (section ∷ rest) found
-        from (outcome, run) = (outcome, new word v form decides of_others is_new run)
+        from (outcome, run) = (outcome, new word poly v form decides of_others is_new run)
 
-    run_of_irreducible : (word : ℕ) (v : RowValue) → Decides section.action seed words (Irreducible word v) →
+    run_of_irreducible : (word : ℕ) (poly : Option PolyValue) (v : RowValue) → Decides section.action seed words (Irreducible word poly v) →
         AreOfOthers found.forms section.action ⊎ IsKnown found.forms section.action → HasRun (section ∷ rest) found
-    run_of_irreducible word v decides (inl of_others) =
-        run_of_new word v decides of_others (some_new_form section.action seed words word v kind.is decides)
-    run_of_irreducible word v decides (inr (number, t, is_known)) = run_of_known word v decides number t is_known
+    run_of_irreducible word poly v decides (inl of_others) =
+        run_of_new word poly v decides of_others (some_new_form section.action seed words word poly v kind.is decides)
+    run_of_irreducible word poly v decides (inr (number, t, is_known)) = run_of_known word poly v decides number t is_known
 
     run_of_verdict : (verdict : Verdict.Verdict) × Decides section.action seed words verdict →
         HasRun (section ∷ rest) found
     run_of_verdict (Undecided, decides) = (_, undecided decides)
     run_of_verdict (Reducible space, decides) = run_of_space space decides
-    run_of_verdict (Irreducible word v, decides) =
-        run_of_irreducible word v decides (known_or_others o count section.action kind found.forms forms)
+    run_of_verdict (Irreducible word poly v, decides) =
+        run_of_irreducible word poly v decides (known_or_others o count section.action kind found.forms forms)
 
   runs_up_to : (n : ℕ) → HaveRunsUpTo n
   unfolding budget

@@ -21,11 +21,11 @@ use Rattle.axe_echelon.proofs.SomeMatrix.{matrix_of_rows_over, some_null_space}
 use Rattle.axe_spin.specs.Modules.{ModuleValue, IsModule}
 use Rattle.axe_spin.specs.Spinning.{IsGeneratedSpace}
 use Rattle.axe_action.specs.Actions.{dual_module, IsAnnihilatorMatrix}
-use Rattle.axe_word.specs.Words.{WordValue, IsValueOf}
 use Rattle.axe_word.specs.PointsOfMatrix.{points_of, point_count, most_points}
 use Rattle.axe_norton.specs.Spaces.{GeneratesModule, GeneratesProper, point_of, HasFewPoints, TransposedPoint}
-use Rattle.axe_norton.specs.Searches.{IsReducedIn, FindsProper, FindsFirst, FindsFirstOf, FindsTransposed}
-use Rattle.axe_norton.proofs.TestedLaws.{IsNullSpaceOver, value_square, transposed_over, null_point}
+use Rattle.axe_norton.specs.Spaces.{TransposeGenerates, IsTransposedSpace}
+use Rattle.axe_norton.specs.Searches.{IsReducedIn, IsSquareIn, FindsProper, FindsFirst, FindsFirstOf}
+use Rattle.axe_norton.proofs.TestedLaws.{IsNullSpaceOver, transposed_over, null_point}
 use Rattle.axe_norton.proofs.TruthLaws.{dual_is_module}
 use Rattle.axe_norton.proofs.OpenLaws.{own_square}
 use Rattle.axe_norton.proofs.SearchLaws.{everything_generated, proper_generated, proper_reduced, point_in, some_point_in, found_of_all, found_of_first, transposed_point_is}
@@ -38,6 +38,12 @@ use native.Mathlib.Decide.{dec_lt, ℕ_discrete}
 -- some space, or none, of which a relation tells
 abbrev pub SomeFound : (Option MatrixValue → Type 0) → Type 0
 SomeFound P = (found : Option MatrixValue) × P found
+
+-- whether the first point of the null space of a transpose generates a proper space under the transposes: nothing where
+-- it generates everything, and else the annihilator of that space
+abbrev pub FindsInTranspose : ModuleValue → MatrixValue → Option MatrixValue → Type 0
+FindsInTranspose m matrix None = TransposeGenerates m matrix
+FindsInTranspose m matrix (Some space) = IsTransposedSpace m matrix space
 
 -- a matrix that has a property, and is well-formed
 abbrev pub SomeMatrix : (MatrixValue → Type 0) → Type 0
@@ -159,10 +165,10 @@ module _ (m : ModuleValue) (is : IsModule m) where
 
 -- ---- the transposed module
 
-module _ (m : ModuleValue) (is : IsModule m) (word : WordValue) (matrix : MatrixValue) (value : IsValueOf m word matrix)
+module _ (m : ModuleValue) (is : IsModule m) (matrix : MatrixValue) (in_module : IsSquareIn m matrix)
     (well : IsMatrix matrix) where
   square : IsSquareOver (number_field matrix.order) matrix.cols matrix.rows
-  square = own_square m matrix (value_square m word matrix value)
+  square = own_square m matrix in_module
 
   transposed : IsSquareOver (number_field matrix.order) matrix.cols (transpose matrix.cols matrix.rows)
   transposed = transpose_square (number_field matrix.order) matrix.cols matrix.rows square
@@ -183,26 +189,25 @@ module _ (m : ModuleValue) (is : IsModule m) (word : WordValue) (matrix : Matrix
       from (null, (is_null, formed)) = transposed_point_is matrix null square singular is_null formed
 
   -- the first point of the transpose's null space generates everything under the transposes, or a proper space
-  pub some_transposed : ¬ (IsInvertibleMatrix matrix) → SomeFound (FindsTransposed m matrix)
+  pub some_transposed : ¬ (IsInvertibleMatrix matrix) → SomeFound (FindsInTranspose m matrix)
   some_transposed singular = from (some_proper (dual_module m) (dual_is_module m is) (point_of point.null_space 0) over)
     where
       point : TransposedPoint matrix
       point = some_transposed_point singular
 
       null : IsNullSpaceOver m.order m.dim (transpose m.dim matrix.rows) point.null_space
-      null =
-          transposed_over m matrix point.null_space (value_square m word matrix value) point.is_null_space point.well_formed
+      null = transposed_over m matrix point.null_space in_module point.is_null_space point.well_formed
 
       over : IsVectorOver (number_field m.order) m.dim (point_of point.null_space 0)
       over = (null_point m.order m.dim (transpose m.dim matrix.rows) point.null_space null 0 point.some_point).over
 
       annihilated : (generated : MatrixValue) → GeneratesProper (dual_module m) (point_of point.null_space 0) generated →
-          SomeMatrix (IsAnnihilatorMatrix generated) → SomeFound (FindsTransposed m matrix)
+          SomeMatrix (IsAnnihilatorMatrix generated) → SomeFound (FindsInTranspose m matrix)
       annihilated generated proper (space, (annihilator, formed)) = (
         Some space,
         record { point = point; generated = generated; proper = proper; annihilator = annihilator; well_formed = formed },
       )
 
-      from : SomeFound (FindsProper (dual_module m) (point_of point.null_space 0)) → SomeFound (FindsTransposed m matrix)
+      from : SomeFound (FindsProper (dual_module m) (point_of point.null_space 0)) → SomeFound (FindsInTranspose m matrix)
       from (None, generates) = (None, record { point = point; generates = generates })
       from (Some generated, proper) = annihilated generated proper (some_annihilator generated proper.well_formed)
