@@ -1,7 +1,10 @@
 -- One more place: the rows of an irreducible section, lifted by the isomorphism to a known factor or by a new form's basis.
-use Rattle.std.proofs.Common.{◌≡◌, ℕ, List, [], ◌∷◌, ◌<◌, ◌++◌, length, sym, ap, subst, ◌∙◌, arith, length-append}
+use Rattle.std.proofs.Common.{◌≡◌, ℕ, List, [], ◌∷◌, ◌<◌, ◌++◌, length, Option, None, Result, sym, ap, subst, ◌∙◌, arith, length-append}
 use Rattle.axe_row.specs.Rows.{RowValue}
+use Rattle.axe_row.specs.Refusals.{Answers}
+use Rattle.axe_row.specs.declared.refusals.Refusal.{Refusal}
 use Rattle.axe_matrix.specs.Matrices.{MatrixValue}
+use Rattle.axe_poly.specs.Polys.{PolyValue}
 use Rattle.axe_spin.specs.Modules.{ModuleValue}
 use Rattle.axe_iso.specs.Forms.{FormValue, IsFormFrom}
 use Rattle.axe_series.specs.Sections.{SectionValue, lifted_rows}
@@ -23,14 +26,23 @@ known_lift m number t known =
     }
 
 -- the basis of a form is one
-pub form_lift : (m : ModuleValue) (seed word : ℕ) (v : RowValue) (form : FormValue) → IsFormFrom m seed word v form → IsLift m form.basis
-form_lift m seed word v form from = record { field = from.standard.field; columns = from.standard.columns; count = from.square }
+pub form_lift : (m : ModuleValue) (seed word : ℕ) (poly : Option PolyValue) (v : RowValue) (form : FormValue) →
+    IsFormFrom m seed word poly v form → IsLift m form.basis
+form_lift m seed word poly v form from = record { field = from.standard.field; columns = from.standard.columns; count = from.square }
 
--- what a verdict shows of the section's action
-pub shown_in : (m other : ModuleValue) (seed word : ℕ) (v : RowValue) → other ≡ m → (words : ℕ) × Decides m seed words (Irreducible word v) →
-    IsShownBy other seed word v
-shown_in m other seed word v same (words, decides) =
-    subst (λ n. IsShownBy n seed word v) (sym same) (irreducible_is_shown m seed words word v decides)
+-- what a verdict shows of the section's action, and of a polynomial that is lent
+pub shown_in : (m other : ModuleValue) (seed word : ℕ) (poly lent : Option PolyValue) (v : RowValue) → other ≡ m → lent ≡ poly →
+    (words : ℕ) × Decides m seed words (Irreducible word poly v) → IsShownBy other seed word lent v
+shown_in m other seed word poly lent v same same_poly (words, decides) =
+    subst (λ p. IsShownBy other seed word p v) (sym same_poly)
+    (subst (λ n. IsShownBy n seed word poly v) (sym same) (irreducible_is_shown m seed words word poly v decides))
+
+-- the form of that action
+pub form_in : (m other : ModuleValue) (seed word : ℕ) (poly lent : Option PolyValue) (v : RowValue) (result : Result FormValue Refusal) →
+    other ≡ m → lent ≡ poly → Answers None (IsFormFrom other seed word lent v) result → Answers None (IsFormFrom m seed word poly v) result
+form_in m other seed word poly lent v result same same_poly form =
+    subst (λ (n : ModuleValue). Answers None (IsFormFrom n seed word poly v) result) same
+    (subst (λ (p : Option PolyValue). Answers None (IsFormFrom other seed word p v) result) same_poly form)
 
 -- a factor that is known of the same forms and the same module
 pub known_in : (forms others : List FormValue) (m n : ModuleValue) (number : ℕ) (t : MatrixValue) → others ≡ forms → n ≡ m →
@@ -39,23 +51,24 @@ known_in forms others m n number t same_forms same known =
     subst (λ (fs : List FormValue). IsKnownAs fs m number t) same_forms (subst (λ (x : ModuleValue). IsKnownAs others x number t) same known)
 
 -- the place of a known factor
-pub placed_as_known : (old next : FoundValue) (section : SectionValue) (seed word : ℕ) (v : RowValue) (number : ℕ) (t : MatrixValue) →
+pub placed_as_known : (old next : FoundValue) (section : SectionValue) (seed word : ℕ) (poly : Option PolyValue) (v : RowValue) (number : ℕ)
+    (t : MatrixValue) →
     IsKnownAs old.forms section.action number t → next ≡ with_place old (lifted_rows section t).rows number →
-    IsPlacedIn old section seed word v next
-placed_as_known old next section seed word v number t known next_is =
-    subst (λ (found : FoundValue). IsPlacedIn old section seed word v found) (sym next_is) (IsPlacedIn.as_known number t known)
+    IsPlacedIn old section seed word poly v next
+placed_as_known old next section seed word poly v number t known next_is =
+    subst (λ (found : FoundValue). IsPlacedIn old section seed word poly v found) (sym next_is) (IsPlacedIn.as_known number t known)
 
 -- the place of a new factor, and its form
 abbrev placed_with_form : FoundValue → FormValue → FoundValue
 placed_with_form found form = record { rows = found.rows; forms = found.forms ++ form ∷ []; places = found.places }
 
-placed_as_new : (old next : FoundValue) (section : SectionValue) (seed word : ℕ) (v : RowValue) (form : FormValue) (forms : List FormValue)
-    (t : MatrixValue) (number : ℕ) → AreOfOthers old.forms section.action → IsNewForm section.action seed word v form →
+placed_as_new : (old next : FoundValue) (section : SectionValue) (seed word : ℕ) (poly : Option PolyValue) (v : RowValue) (form : FormValue)
+    (forms : List FormValue) (t : MatrixValue) (number : ℕ) → AreOfOthers old.forms section.action → IsNewForm section.action seed word poly v form →
     t ≡ form.basis → number ≡ length old.forms →
     next ≡ with_place old (lifted_rows section t).rows number → forms ≡ next.forms ++ form ∷ [] →
-    IsPlacedIn old section seed word v (record { rows = next.rows; forms = forms; places = next.places })
-placed_as_new old next section seed word v form forms t number others new t_is number_is next_is forms_is =
-    subst (λ (found : FoundValue). IsPlacedIn old section seed word v found) (sym same) (IsPlacedIn.as_new form others new)
+    IsPlacedIn old section seed word poly v (record { rows = next.rows; forms = forms; places = next.places })
+placed_as_new old next section seed word poly v form forms t number others new t_is number_is next_is forms_is =
+    subst (λ (found : FoundValue). IsPlacedIn old section seed word poly v found) (sym same) (IsPlacedIn.as_new form others new)
   where
     here : next ≡ with_place old (lifted_rows section form.basis).rows (length old.forms)
     here = next_is ∙ (λ i. with_place old (lifted_rows section (t_is i)).rows (number_is i))
@@ -89,9 +102,9 @@ module _ (old next : FoundValue) (section : SectionValue) (t rows : MatrixValue)
   next_by_lift = next_is ∙ ap (λ (r : MatrixValue). with_place old r.rows number) rows_are
 
   -- by the basis of a new form
-  pub lifted_as_new : (seed word : ℕ) (v : RowValue) (form : FormValue) (forms : List FormValue) →
-      AreOfOthers old.forms section.action → IsNewForm section.action seed word v form → t ≡ form.basis → number ≡ length old.forms →
+  pub lifted_as_new : (seed word : ℕ) (poly : Option PolyValue) (v : RowValue) (form : FormValue) (forms : List FormValue) →
+      AreOfOthers old.forms section.action → IsNewForm section.action seed word poly v form → t ≡ form.basis → number ≡ length old.forms →
       forms ≡ next.forms ++ form ∷ [] →
-      IsPlacedIn old section seed word v (record { rows = next.rows; forms = forms; places = next.places })
-  lifted_as_new seed word v form forms others new t_is number_is forms_is =
-      placed_as_new old next section seed word v form forms t number others new t_is number_is next_by_lift forms_is
+      IsPlacedIn old section seed word poly v (record { rows = next.rows; forms = forms; places = next.places })
+  lifted_as_new seed word poly v form forms others new t_is number_is forms_is =
+      placed_as_new old next section seed word poly v form forms t number others new t_is number_is next_by_lift forms_is

@@ -14,6 +14,7 @@ use Rattle.axe_row.specs.Refusals.{Answers}
 use Rattle.axe_row.specs.Rows.{RowValue}
 use Rattle.axe_matrix.specs.Limits.{most_rows, most_columns}
 use Rattle.axe_matrix.specs.Matrices.{MatrixValue, IsMatrix}
+use Rattle.axe_poly.specs.Polys.{PolyValue}
 use Rattle.axe_spin.specs.Modules.{ModuleValue, IsModule}
 use Rattle.axe_norton.specs.declared.verdicts.Verdict
 use Rattle.axe_norton.specs.declared.verdicts.Verdict.TheVariants.{Irreducible, Reducible, Undecided}
@@ -74,9 +75,9 @@ true_as action m verdict found is is_verdict holds =
 
 -- ---- one more place
 
-module _ (found : FoundValue) (section : SectionValue) (seed word : ℕ) (v : RowValue) where
+module _ (found : FoundValue) (section : SectionValue) (seed word : ℕ) (poly : Option PolyValue) (v : RowValue) where
   -- an irreducible section gives as many rows as its dimension
-  placed_rows : (next : FoundValue) → IsPlacedIn found section seed word v next →
+  placed_rows : (next : FoundValue) → IsPlacedIn found section seed word poly v next →
       length next.rows ≡ length found.rows + section.action.dim
   placed_rows next (as_known number t is_known) =
       length-append found.rows (lifted_rows section t).rows
@@ -89,13 +90,13 @@ module _ (found : FoundValue) (section : SectionValue) (seed word : ℕ) (v : Ro
       ∙ ap (λ n. length found.rows + n) (lifted_rows_count section form.basis ∙ is_new.from.square)
 
   -- and no more than one form
-  placed_forms : (next : FoundValue) → IsPlacedIn found section seed word v next →
+  placed_forms : (next : FoundValue) → IsPlacedIn found section seed word poly v next →
       length next.forms ≤ length found.forms + 1
   placed_forms next (as_known number t is_known) = omega arith
   placed_forms next (as_new form others is_new) = omega (arith, length-append found.forms (form ∷ []))
 
   -- over the field of the module, and with as many generators
-  placed_like : (m : ModuleValue) (next : FoundValue) → IsPlacedIn found section seed word v next →
+  placed_like : (m : ModuleValue) (next : FoundValue) → IsPlacedIn found section seed word poly v next →
       IsActionLike m section.action → All (λ (form : FormValue). IsActionLike m form.matrices) found.forms →
       All (λ (form : FormValue). IsActionLike m form.matrices) next.forms
   placed_like m next (as_known number t is_known) like each = each
@@ -108,12 +109,12 @@ module _ (found : FoundValue) (section : SectionValue) (seed word : ℕ) (v : Ro
 
   -- a run goes on from it
   placed_run : (words : ℕ) (rest : List SectionValue) (next : FoundValue) (outcome : Outcome) →
-      IsPlacedIn found section seed word v next → Decides section.action seed words (Irreducible word v) →
+      IsPlacedIn found section seed word poly v next → Decides section.action seed words (Irreducible word poly v) →
       Runs seed words rest next outcome → Runs seed words (section ∷ rest) found outcome
   placed_run words rest next outcome (as_known number t is_known) decides run =
-      known word v number t decides is_known run
+      known word poly v number t decides is_known run
   placed_run words rest next outcome (as_new form others is_new) decides run =
-      new word v form decides others is_new run
+      new word poly v form decides others is_new run
 
 -- ---- the stages
 
@@ -327,25 +328,25 @@ module _ (m : ModuleValue) (seed words : ℕ) (found : Found.Found) (sections : 
       less_after_cut next is = omega (arith, less_left, ap most_left left, ap most_left is)
 
     -- it has the next place
-    module _ (word : ℕ) (v : RowValue) (decides : Decides section.action seed words (Irreducible word v))
-        (next : Found.Found) (placed : IsPlacedIn (found_value found) section seed word v (found_value next))
+    module _ (word : ℕ) (poly : Option PolyValue) (v : RowValue) (decides : Decides section.action seed words (Irreducible word poly v))
+        (next : Found.Found) (placed : IsPlacedIn (found_value found) section seed word poly v (found_value next))
         (basis_is : next.basis ≡ record found.basis { rows = next.basis.rows }) (formed : IsMatrix next.basis) where
       rows_then : length next.basis.rows ≡ length found.basis.rows + section.action.dim
-      rows_then = placed_rows (found_value found) section seed word v (found_value next) placed
+      rows_then = placed_rows (found_value found) section seed word poly v (found_value next) placed
 
       pub reached_placed : IsReached m seed words next rest
       reached_placed = record {
         stage = record {
           field = ap (λ (b : MatrixValue). b.order) basis_is ∙ reached.stage.field;
           columns = ap (λ (b : MatrixValue). b.cols) basis_is ∙ reached.stage.columns;
-          forms_like = placed_like (found_value found) section seed word v m (found_value next) placed first_of_module.like
+          forms_like = placed_like (found_value found) section seed word poly v m (found_value next) placed first_of_module.like
               reached.stage.forms_like;
           sections_of = rest_of_module;
           total = omega (arith, total_left, rows_then);
         };
         few_forms = omega (
           arith,
-          placed_forms (found_value found) section seed word v (found_value next) placed,
+          placed_forms (found_value found) section seed word poly v (found_value next) placed,
           rows_then,
           reached.few_forms,
           first_of_module.action_formed.over.positive,
@@ -353,7 +354,7 @@ module _ (m : ModuleValue) (seed words : ℕ) (found : Found.Found) (sections : 
         formed = formed;
         dim_fits = reached.dim_fits;
         run = λ outcome run. run_left outcome
-            (placed_run (found_value found) section seed word v words rest (found_value next) outcome placed decides run);
+            (placed_run (found_value found) section seed word poly v words rest (found_value next) outcome placed decides run);
       }
 
       less_after_place : most_left rest < most_left sections
@@ -362,16 +363,16 @@ module _ (m : ModuleValue) (seed words : ℕ) (found : Found.Found) (sections : 
     -- it is decided, and not left: what is reached then
     pub reached_next : (next : Found.Found) (all : List SectionValue) →
         IsDecided seed words section found rest next all None → IsReached m seed words next all
-    reached_next next all (as_irreducible word v after decides placed basis_is formed) =
-        reached_placed word v decides next placed basis_is formed
+    reached_next next all (as_irreducible word poly v after decides placed basis_is formed) =
+        reached_placed word poly v decides next placed basis_is formed
     reached_next next all (as_reducible space after decides proper parts) =
         reached_cut space decides proper parts.sub parts.quotient parts.cut all parts.order
 
     -- and less is left
     pub less_next : (next : Found.Found) (all : List SectionValue) →
         IsDecided seed words section found rest next all None → most_left all < most_left sections
-    less_next next all (as_irreducible word v after decides placed basis_is formed) =
-        less_after_place word v decides next placed basis_is formed
+    less_next next all (as_irreducible word poly v after decides placed basis_is formed) =
+        less_after_place word poly v decides next placed basis_is formed
     less_next next all (as_reducible space after decides proper parts) =
         less_after_cut space decides proper parts.sub parts.quotient parts.cut all parts.order
 

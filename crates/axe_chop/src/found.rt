@@ -12,9 +12,9 @@ ghost use Rattle.axe_series.specs.Runs.{with_place, AreOfOthers, IsKnownAs};
 ghost use Rattle.axe_chop.specs.Stages.{IsActionLike};
 ghost use Rattle.axe_chop.specs.Searches.{FindsKnown, IsPlacedIn, found_value};
 
-use crate::section::Section;
+use crate::section::{Section, Witness};
 use axe_iso::{Form, matches};
-use axe_matrix::{Matrix, Refusal, Row};
+use axe_matrix::{Matrix, Refusal};
 use axe_spin::Module;
 use std::alloc::Global;
 
@@ -49,56 +49,58 @@ impl Found {
         self.basis
     }
 
-    /// One more place, for a section that a word of a seed showed to be irreducible, by a vector: that of the first
-    /// known factor that the section's action is isomorphic to, or else of a new factor.
+    /// One more place, for a section that a seed showed to be irreducible, by the witness: that of the first known
+    /// factor that the section's action is isomorphic to, or else of a new factor.
     fn place(
         &mut self,
         alloc: Global,
         section: Section,
         seed: u64,
-        word: u32,
-        vector: &Row,
+        witness: &Witness,
     ) -> Result<(), Refusal>
-        requires decided { (words : ℕ) × Decides section.action seed words (Irreducible word vector.now) }
+        requires decided { (words : ℕ) × Decides section.action seed words
+            (Irreducible witness.now.word witness.now.poly witness.now.vector) }
         requires like { All (λ (form : FormValue). IsActionLike section.action form.matrices) self.old.forms.items }
         requires field { self.old.basis.order ≡ section.rows.order }
         requires fits { self.old.basis.cols ≡ section.rows.cols }
         requires room { length self.old.basis.rows + section.action.dim ≤ most_rows }
         requires few_forms { length self.old.forms.items ≤ length self.old.basis.rows }
         ensures placed { Answers None
-            (λ _. IsPlacedIn (found_value self.old) section.entry seed word vector.now (found_value self.new)) result }
+            (λ _. IsPlacedIn (found_value self.old) section.entry seed
+            witness.now.word witness.now.poly witness.now.vector (found_value self.new)) result }
         ensures basis { Answers None
             (λ _. self.new.basis ≡ record self.old.basis { rows = self.new.basis.rows }) result }
         ensures well_formed { Answers None (λ _. IsMatrix self.new.basis) result }
     {
         match known_form(alloc, &self.forms, section.action())? {
             Some((number, isomorphism)) => self.place_known(alloc, section, number, isomorphism),
-            None => self.place_new(alloc, section, seed, word, vector),
+            None => self.place_new(alloc, section, seed, witness),
         }
     }
 
-    /// What [`Found::place`] does for a vector that is given away.
+    /// What [`Found::place`] does for a witness that is given away.
     pub(crate) fn place_owned(
         &mut self,
         alloc: Global,
         section: Section,
         seed: u64,
-        word: u32,
-        vector: Row,
+        witness: Witness,
     ) -> Result<(), Refusal>
-        requires decided { (words : ℕ) × Decides section.action seed words (Irreducible word vector) }
+        requires decided { (words : ℕ) × Decides section.action seed words
+            (Irreducible witness.word witness.poly witness.vector) }
         requires like { All (λ (form : FormValue). IsActionLike section.action form.matrices) self.old.forms.items }
         requires field { self.old.basis.order ≡ section.rows.order }
         requires fits { self.old.basis.cols ≡ section.rows.cols }
         requires room { length self.old.basis.rows + section.action.dim ≤ most_rows }
         requires few_forms { length self.old.forms.items ≤ length self.old.basis.rows }
         ensures placed { Answers None
-            (λ _. IsPlacedIn (found_value self.old) section.entry seed word vector (found_value self.new)) result }
+            (λ _. IsPlacedIn (found_value self.old) section.entry seed
+            witness.word witness.poly witness.vector (found_value self.new)) result }
         ensures basis { Answers None
             (λ _. self.new.basis ≡ record self.old.basis { rows = self.new.basis.rows }) result }
         ensures well_formed { Answers None (λ _. IsMatrix self.new.basis) result }
     {
-        self.place(alloc, section, seed, word, &vector)
+        self.place(alloc, section, seed, &witness)
     }
 
     /// One more place as [`Found::place`] tells it, for a section whose action is isomorphic to a known factor: that of
@@ -132,22 +134,23 @@ impl Found {
         alloc: Global,
         section: Section,
         seed: u64,
-        word: u32,
-        vector: &Row,
+        witness: &Witness,
     ) -> Result<(), Refusal>
-        requires decided { (words : ℕ) × Decides section.action seed words (Irreducible word vector.now) }
+        requires decided { (words : ℕ) × Decides section.action seed words
+            (Irreducible witness.now.word witness.now.poly witness.now.vector) }
         requires others { AreOfOthers self.old.forms.items section.action }
         requires field { self.old.basis.order ≡ section.rows.order }
         requires fits { self.old.basis.cols ≡ section.rows.cols }
         requires room { length self.old.basis.rows + section.action.dim ≤ most_rows }
         requires few_forms { length self.old.forms.items ≤ length self.old.basis.rows }
         ensures placed { Answers None
-            (λ _. IsPlacedIn (found_value self.old) section.entry seed word vector.now (found_value self.new)) result }
+            (λ _. IsPlacedIn (found_value self.old) section.entry seed
+            witness.now.word witness.now.poly witness.now.vector (found_value self.new)) result }
         ensures basis { Answers None
             (λ _. self.new.basis ≡ record self.old.basis { rows = self.new.basis.rows }) result }
         ensures well_formed { Answers None (λ _. IsMatrix self.new.basis) result }
     {
-        let (form, rows) = section.into_form(alloc, seed, word, vector)?;
+        let (form, rows) = section.into_form(alloc, seed, witness)?;
         let number = self.forms.len();
         self.append_place(rows, number)?;
         self.forms.push(form)?;

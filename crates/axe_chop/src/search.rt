@@ -14,7 +14,7 @@ ghost use Rattle.axe_chop.specs.Searches.{ArePartsBefore, AreDecided, IsDecided,
 ghost use Rattle.axe_chop.specs.declared.search.Searched.TheVariants.{Open};
 
 use crate::found::Found;
-use crate::section::{Action, Section};
+use crate::section::{Action, Section, Witness};
 use axe_matrix::{Matrix, Refusal};
 use axe_norton::{Verdict, decide};
 use std::alloc::Global;
@@ -113,8 +113,9 @@ fn decide_section<'a>(
         (IsDecided seed words section.entry found.old sections.old.items found.new sections.new.items) result }
 {
     match decide(alloc, section.action(), seed, words)? {
-        Verdict::Irreducible { word, vector } => {
-            found.place_owned(alloc, section, seed, word, vector)?;
+        Verdict::Irreducible { word, poly, vector } => {
+            let witness = Witness { word, poly, vector };
+            found.place_owned(alloc, section, seed, witness)?;
             Ok(None)
         }
         Verdict::Reducible(space) => {

@@ -19,6 +19,7 @@ use crate::lifted::LiftedRows;
 use axe_action::{Split, split_by_submodule};
 use axe_iso::{Form, form_of, form_of_owned};
 use axe_matrix::{Matrix, Refusal, Row};
+use axe_poly::Poly;
 use axe_spin::Module;
 use std::alloc::Global;
 use std::marker::Model;
@@ -29,6 +30,15 @@ use std::marker::Model;
 pub(crate) struct Section<'a> {
     action: Action<'a>,
     rows: LiftedRows,
+}
+
+/// By what a seed showed a section to be irreducible: the number of the word, the polynomial p that did so at the
+/// word's value x, where one did, and the first point of the null space of p(x), or of x where there is no p.
+#[derive(Drop)]
+pub(crate) struct Witness {
+    pub(crate) word: u32,
+    pub(crate) poly: Option<Poly>,
+    pub(crate) vector: Row,
 }
 
 /// The module that acts on a section.
@@ -96,23 +106,24 @@ impl<'a> Section<'a> {
         rows.lift(alloc, coordinates)
     }
 
-    /// The standard form of the action on an irreducible section, by the vector that a word of a seed decided it by,
-    /// and the vectors of the module that have the rows of its basis as coordinates. The action is taken apart.
+    /// The standard form of the action on a section that a seed showed to be irreducible, by the witness, and the
+    /// vectors of the module that have the rows of its basis as coordinates. The action is taken apart.
     pub(crate) fn into_form(
         self,
         alloc: Global,
         seed: u64,
-        word: u32,
-        vector: &Row,
+        witness: &Witness,
     ) -> Result<(Form, Matrix), Refusal>
-        requires decided { (words : ℕ) × Decides self.action seed words (Irreducible word vector.now) }
-        ensures form { Answers None (λ parts. IsFormFrom self.entry.action seed word vector.now parts.0) result }
+        requires decided { (words : ℕ) × Decides self.action seed words
+            (Irreducible witness.now.word witness.now.poly witness.now.vector) }
+        ensures form { Answers None (λ parts. IsFormFrom self.entry.action seed
+            witness.now.word witness.now.poly witness.now.vector parts.0) result }
         ensures lifted { Answers None (λ parts. parts.1 ≡ lifted_rows self.entry parts.0.basis) result }
         ensures of_section { IsSection self.entry }
         ensures well_formed { IfOk result (λ parts. IsForm parts.0 × IsMatrix parts.1) }
     {
         let Section { action, rows } = self;
-        let form = action.into_form(alloc, seed, word, vector)?;
+        let form = action.into_form(alloc, seed, witness)?;
         let lifted = rows.lift_copy(alloc, form.basis())?;
         Ok((form, lifted))
     }
@@ -161,15 +172,19 @@ impl<'a> Action<'a> {
         }
     }
 
-    /// The standard form of the module, which a word of a seed showed to be irreducible, by a vector.
-    fn into_form(self, alloc: Global, seed: u64, word: u32, vector: &Row) -> Result<Form, Refusal>
-        requires { (words : ℕ) × Decides (acting_module self) seed words (Irreducible word vector.now) }
-        ensures form { Answers None (IsFormFrom (acting_module self.entry) seed word vector.now) result }
+    /// The standard form of the module, which a seed showed to be irreducible, by the witness.
+    fn into_form(self, alloc: Global, seed: u64, witness: &Witness) -> Result<Form, Refusal>
+        requires { (words : ℕ) × Decides (acting_module self) seed words
+            (Irreducible witness.now.word witness.now.poly witness.now.vector) }
+        ensures form { Answers None (IsFormFrom (acting_module self.entry) seed
+            witness.now.word witness.now.poly witness.now.vector) result }
         ensures well_formed { IfOk result IsForm }
     {
+        let poly = witness.poly.as_ref();
+        let vector = &witness.vector;
         match self {
-            Action::Lent(module) => form_of(alloc, module, seed, word, vector),
-            Action::Owned(module) => form_of_owned(alloc, module, seed, word, vector),
+            Action::Lent(module) => form_of(alloc, module, seed, witness.word, poly, vector),
+            Action::Owned(module) => form_of_owned(alloc, module, seed, witness.word, poly, vector),
         }
     }
 

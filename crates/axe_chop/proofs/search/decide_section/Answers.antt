@@ -31,7 +31,7 @@ put_parts-requires c = record {
 
 pub returns-in_ok-place_owned-in-Irreducible : goal.returns-in_ok-place_owned-in-Irreducible
 returns-in_ok-place_owned-in-Irreducible c =
-    as_irreducible _ _ _
+    as_irreducible _ _ _ _
     (decided_as c.action.result.now _ c.args.seed c.args.words _ _ c.action.ensures.value c.in-Irreducible.is c.in_ok-word.ensures.decides)
     c.in_ok-place_owned-in-Irreducible.ensures.placed c.in_ok-place_owned-in-Irreducible.ensures.basis c.in_ok-place_owned-in-Irreducible.ensures.well_formed
 

@@ -24,7 +24,7 @@ pub returns-in-Some-clause-placed : goal.returns-in-Some-clause-placed
 returns-in-Some-clause-placed c =
     answers_more c.place_known.result _ _ c.place_known.ensures.placed
     (λ _ placed. placed_as_known (found_value c.args.self.now) (found_value c.place_known.new.self) c.args.section c.args.seed
-    c.args.word c.args.vector.now c.in-Some.number c.in-Some.isomorphism
+    c.args.witness.now.word c.args.witness.now.poly c.args.witness.now.vector c.in-Some.number c.in-Some.isomorphism
     (known_in c.args.self.now.forms.items c.deref.result.now c.args.section.action c.action.result.now c.in-Some.number c.in-Some.isomorphism
     c.deref.ensures.value c.action.ensures.value (rw c.in-Some.is at c.in_ok-number.ensures))
     placed)

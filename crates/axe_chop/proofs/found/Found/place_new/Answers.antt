@@ -10,28 +10,31 @@ pub append_place-requires-clause-field : goal.append_place-requires-clause-field
 append_place-requires-clause-field c =
     let lifted : IsLifted c.args.section c.in_ok-form.form.basis c.in_ok-form.rows =
     lifted_by c.args.section c.in_ok-form.form.basis c.in_ok-form.rows c.into_form.ensures.of_section
-    (form_lift c.args.section.action c.args.seed c.args.word c.args.vector.now c.in_ok-form.form c.in_ok-form.ensures.form) c.in_ok-form.ensures.lifted in
+    (form_lift c.args.section.action c.args.seed c.args.witness.now.word c.args.witness.now.poly c.args.witness.now.vector
+    c.in_ok-form.form c.in_ok-form.ensures.form) c.in_ok-form.ensures.lifted in
     lifted.field ∙ sym c.requires.field
 
 pub append_place-requires-clause-fits : goal.append_place-requires-clause-fits
 append_place-requires-clause-fits c =
     let lifted : IsLifted c.args.section c.in_ok-form.form.basis c.in_ok-form.rows =
     lifted_by c.args.section c.in_ok-form.form.basis c.in_ok-form.rows c.into_form.ensures.of_section
-    (form_lift c.args.section.action c.args.seed c.args.word c.args.vector.now c.in_ok-form.form c.in_ok-form.ensures.form) c.in_ok-form.ensures.lifted in
+    (form_lift c.args.section.action c.args.seed c.args.witness.now.word c.args.witness.now.poly c.args.witness.now.vector
+    c.in_ok-form.form c.in_ok-form.ensures.form) c.in_ok-form.ensures.lifted in
     lifted.columns ∙ sym c.requires.fits
 
 pub append_place-requires-clause-room : goal.append_place-requires-clause-room
 append_place-requires-clause-room c =
     let lifted : IsLifted c.args.section c.in_ok-form.form.basis c.in_ok-form.rows =
     lifted_by c.args.section c.in_ok-form.form.basis c.in_ok-form.rows c.into_form.ensures.of_section
-    (form_lift c.args.section.action c.args.seed c.args.word c.args.vector.now c.in_ok-form.form c.in_ok-form.ensures.form) c.in_ok-form.ensures.lifted in
+    (form_lift c.args.section.action c.args.seed c.args.witness.now.word c.args.witness.now.poly c.args.witness.now.vector
+    c.in_ok-form.form c.in_ok-form.ensures.form) c.in_ok-form.ensures.lifted in
     omega (arith, lifted.count, c.requires.room)
 
 pub returns-clause-placed : goal.returns-clause-placed
 returns-clause-placed c =
     lifted_as_new (found_value c.args.self.now) (found_value c.append_place.new.self) c.args.section c.in_ok-form.form.basis
-    c.in_ok-form.rows c.len-number.result c.in_ok-form.ensures.lifted c.in_ok-append_place.ensures.placed c.args.seed c.args.word
-    c.args.vector.now c.in_ok-form.form c.push.new.self.items c.requires.others
+    c.in_ok-form.rows c.len-number.result c.in_ok-form.ensures.lifted c.in_ok-append_place.ensures.placed c.args.seed
+    c.args.witness.now.word c.args.witness.now.poly c.args.witness.now.vector c.in_ok-form.form c.push.new.self.items c.requires.others
     (record { is_form = c.in_ok-form.ensures.well_formed.0; from = c.in_ok-form.ensures.form }) refl
     (omega (arith, c.len-number.ensures)) c.in_ok-push.ensures.items
 

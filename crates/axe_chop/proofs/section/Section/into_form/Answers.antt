@@ -15,26 +15,34 @@ use Rattle.axe_chop.proofs.section.Section.into_form.Goals as goal
 pub into_form-requires : goal.into_form-requires
 into_form-requires c =
     let same : acting_module c.self.inside.action ≡ c.args.self.action = ap (λ (s : SectionValue). s.action) c.self.view_is in
-    subst (λ (m : ModuleValue). (words : ℕ) × Decides m c.args.seed words (Irreducible c.args.word c.args.vector.now)) (sym same) c.requires.decided
+    subst
+    (λ (m : ModuleValue).
+    (words : ℕ) × Decides m c.args.seed words (Irreducible c.args.witness.now.word c.args.witness.now.poly c.args.witness.now.vector))
+    (sym same) c.requires.decided
 
 pub lift_copy-requires-clause-field : goal.lift_copy-requires-clause-field
 lift_copy-requires-clause-field c =
     let lift : IsLift (acting_module c.self.inside.action) c.basis.result.now =
     subst (IsLift (acting_module c.self.inside.action)) (sym c.basis.ensures.value)
-    (form_lift (acting_module c.self.inside.action) c.args.seed c.args.word c.args.vector.now c.in_ok-form.form c.in_ok-form.ensures.form) in
+    (form_lift (acting_module c.self.inside.action) c.args.seed c.args.witness.now.word c.args.witness.now.poly c.args.witness.now.vector
+    c.in_ok-form.form c.in_ok-form.ensures.form) in
     lift.field ∙ sym c.self.invariant.field
 
 pub lift_copy-requires-clause-fits : goal.lift_copy-requires-clause-fits
 lift_copy-requires-clause-fits c =
     let lift : IsLift (acting_module c.self.inside.action) c.basis.result.now =
     subst (IsLift (acting_module c.self.inside.action)) (sym c.basis.ensures.value)
-    (form_lift (acting_module c.self.inside.action) c.args.seed c.args.word c.args.vector.now c.in_ok-form.form c.in_ok-form.ensures.form) in
+    (form_lift (acting_module c.self.inside.action) c.args.seed c.args.witness.now.word c.args.witness.now.poly c.args.witness.now.vector
+    c.in_ok-form.form c.in_ok-form.ensures.form) in
     lift.columns ∙ sym c.self.invariant.count
 
 pub returns-clause-form : goal.returns-clause-form
 returns-clause-form c =
     let same : acting_module c.self.inside.action ≡ c.args.self.action = ap (λ (s : SectionValue). s.action) c.self.view_is in
-    subst (λ (m : ModuleValue). IsFormFrom m c.args.seed c.args.word c.args.vector.now c.in_ok-form.form) same c.in_ok-form.ensures.form
+    subst
+    (λ (m : ModuleValue).
+    IsFormFrom m c.args.seed c.args.witness.now.word c.args.witness.now.poly c.args.witness.now.vector c.in_ok-form.form)
+    same c.in_ok-form.ensures.form
 
 pub returns-clause-lifted : goal.returns-clause-lifted
 returns-clause-lifted c =
