@@ -12,7 +12,12 @@ const PACKED: &[u8] = b"AXP1\x03\0\0\0\x02\0\0\0\x02\0\0\0\x87\x1B";
 const HEADER: usize = 16;
 
 /// The bytes with this one in a place.
-fn with_byte(alloc: Global, bytes: &[u8], place: usize, byte: u8) -> Result<Vec<u8>, AllocError> {
+pub(crate) fn with_byte(
+    alloc: Global,
+    bytes: &[u8],
+    place: usize,
+    byte: u8,
+) -> Result<Vec<u8>, AllocError> {
     bytes
         .iter()
         .enumerate()

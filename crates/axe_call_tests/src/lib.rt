@@ -18,6 +18,8 @@ mod folders;
 #[cfg(test)]
 mod matrices;
 #[cfg(test)]
+mod module_files;
+#[cfg(test)]
 mod polynomials;
 #[cfg(test)]
 mod reports;

@@ -3,7 +3,7 @@
 //! A further case of a call is a line. A further call is an arm in `answers` of its module, and a function that makes
 //! it where none is given the same values. A table without a call fails its test.
 
-use crate::{echelons, files, matrices, polynomials};
+use crate::{echelons, files, matrices, module_files, polynomials};
 use axe_test_values::{TableFault, first_field, is_remark};
 use std::alloc::Global;
 use std::process::Abort;
@@ -14,6 +14,7 @@ pub(crate) enum Topic {
     Echelons,
     Files,
     Matrices,
+    ModuleFiles,
     Polynomials,
 }
 
@@ -24,6 +25,7 @@ fn answers(rt: &impl Abort, alloc: Global, topic: Topic, line: &str) -> Result<b
         Topic::Echelons => echelons::answers(alloc, call, line),
         Topic::Files => files::answers(alloc, call, line),
         Topic::Matrices => matrices::answers(rt, alloc, call, line),
+        Topic::ModuleFiles => module_files::answers(alloc, call, line),
         Topic::Polynomials => polynomials::answers(rt, alloc, call, line),
     }
 }

@@ -26,6 +26,7 @@ file_number file.BadMode = 12
 file_number (file.BadDigit offset) = 13
 file_number file.TooFewDigits = 14
 file_number (file.TrailingText offset) = 15
+file_number file.BadGens = 16
 file_number file.Memory = 50
 
 -- the number of a refusal
@@ -86,6 +87,7 @@ abbrev pub file_text : FileFault → List ℕ
 file_text file.ShortHeader = codes "ShortHeader"
 file_text file.BadMagic = codes "BadMagic"
 file_text file.BadField = codes "BadField"
+file_text file.BadGens = codes "BadGens"
 file_text file.BadReserved = codes "BadReserved"
 file_text file.BadRows = codes "BadRows"
 file_text file.BadCols = codes "BadCols"

@@ -91,6 +91,7 @@ fn file_number(fault: FileFault) -> u8
         FileFault::BadDigit(_) => 13,
         FileFault::TooFewDigits => 14,
         FileFault::TrailingText(_) => 15,
+        FileFault::BadGens => 16,
         FileFault::Memory => 50,
     }
 }
@@ -193,6 +194,7 @@ fn file_text(fault: FileFault) -> &'static str
         FileFault::ShortHeader => "ShortHeader",
         FileFault::BadMagic => "BadMagic",
         FileFault::BadField => "BadField",
+        FileFault::BadGens => "BadGens",
         FileFault::BadReserved => "BadReserved",
         FileFault::BadRows => "BadRows",
         FileFault::BadCols => "BadCols",

@@ -1,13 +1,13 @@
 -- Which fault is the first, when some rules hold and the next one is broken.
-use Rattle.std.proofs.Common.{◌≡◌, ℕ, zero, suc, ◌+◌, ◌<◌, ◌≤◌, true, false, not, ◌||◌, eqb, ltb, leb, List, [], ◌∷◌, ◌++◌, length, get_or, Option, Some, None, Result, Ok, Err, refl, sym, ap, ◌∙◌, arith}
+use Rattle.std.proofs.Common.{◌≡◌, ℕ, zero, suc, ◌+◌, ◌<◌, ◌≤◌, true, false, eqb, ltb, leb, List, [], ◌∷◌, ◌++◌, length, get_or, Option, Some, None, Result, Ok, Err, refl, sym, ap, ◌∙◌, arith}
 use Rattle.std.specs.Prelude.{slice_get, IfOk, IfErr}
 use Rattle.std.specs.List.{flat_map, find, range_with_len}
-use Rattle.std.proofs.lemmas.Bool.{lt-ltb, le-ltb, le-leb, lt-leb, ne_eqb, eq-eqb, or_left, or_right, not_from_false}
+use Rattle.std.proofs.lemmas.Bool.{lt-ltb, le-ltb, le-leb, lt-leb, ne_eqb}
 use Rattle.axe_field.specs.Order.{Order, Two, Three, Four, Five, Seven, Eight, Nine, order_number}
 use Rattle.axe_matrix.specs.Limits.{most_rows, most_columns}
 use Rattle.axe_matrix.specs.Matrices.{MatrixValue, IsMatrix}
 use Rattle.axe_file.specs.Marks.{byte_limit}
-use Rattle.axe_file.specs.Packed.{header_length, order_offset, order_with_number, header_order, header_rows, header_columns, data_length, has_other_magic, has_reserved, has_padding, byte_faults, header_faults, data_faults, packed_fault, packed, unpacked}
+use Rattle.axe_file.specs.Packed.{matrix_magic, header_length, order_offset, matrix_reserved, order_with_number, header_order, header_rows, header_columns, data_length, has_other_magic, is_out_of_range, has_reserved, has_padding, byte_faults, beginning_faults, header_faults, data_faults, packed_fault, packed, unpacked}
 use Rattle.axe_file.specs.declared.fault.FileFault.{FileFault}
 use Rattle.axe_file.specs.declared.fault.FileFault.TheVariants.{ShortHeader, BadMagic, BadField, BadReserved, BadRows, BadCols, Truncated, BadByte, BadPadding, TrailingBytes, Memory}
 use Rattle.axe_file.specs.Headers.{SaysShape}
@@ -17,28 +17,38 @@ use Rattle.axe_file.proofs.Unpacking.{unpacked_packed}
 use Rattle.axe_file.proofs.Spellings.{packed_faultless}
 use Rattle.axe_file.proofs.Ranges.{both_nil}
 
--- ---- the header
-
-abbrev First : List FileFault → FileFault → Type 0
+abbrev pub First : List FileFault → FileFault → Type 0
 First faults fault = slice_get faults 0 ≡ Some fault
 
-pub short_header : (bytes : List ℕ) → length bytes < header_length → First (header_faults bytes) ShortHeader
-unfolding header_faults
-short_header bytes h =
+pub first_stays : (xs ys : List FileFault) (fault : FileFault) → First xs fault → First (xs ++ ys) fault
+first_stays [] ys fault e = absurd cc
+first_stays (x ∷ xs) ys fault e = e
+
+-- a first fault with three lists after it
+pub first_stays_3 : (xs a b c : List FileFault) (fault : FileFault) → First xs fault → First (xs ++ a ++ b ++ c) fault
+first_stays_3 xs a b c fault e = first_stays (xs ++ a ++ b) c fault (first_stays (xs ++ a) b fault (first_stays xs a fault e))
+
+-- ---- the beginning of a header
+
+pub short_header : (magic bytes : List ℕ) → length bytes < header_length → First (beginning_faults magic bytes) ShortHeader
+unfolding beginning_faults
+short_header magic bytes h =
     let short : ltb (length bytes) header_length ≡ true = lt-ltb _ _ h in
     rw short refl
 
-pub bad_magic : (bytes : List ℕ) → header_length ≤ length bytes → has_other_magic bytes ≡ true → First (header_faults bytes) BadMagic
-unfolding header_faults
-bad_magic bytes h magic =
+pub bad_magic : (magic bytes : List ℕ) → header_length ≤ length bytes → has_other_magic magic bytes ≡ true → First (beginning_faults magic bytes) BadMagic
+unfolding beginning_faults
+bad_magic magic bytes h other =
     let long : ltb (length bytes) header_length ≡ false = le-ltb _ _ h in
-    rw (long, magic) refl
+    rw (long, other) refl
 
-pub bad_field : (bytes : List ℕ) → header_length ≤ length bytes → has_other_magic bytes ≡ false → order_with_number (get_or bytes order_offset 0) ≡ None → First (header_faults bytes) BadField
-unfolding header_faults
-bad_field bytes h magic field =
+pub bad_field : (magic bytes : List ℕ) → header_length ≤ length bytes → has_other_magic magic bytes ≡ false
+    → order_with_number (get_or bytes order_offset 0) ≡ None
+    → First (beginning_faults magic bytes) BadField
+unfolding beginning_faults
+bad_field magic bytes h found field =
     let long : ltb (length bytes) header_length ≡ false = le-ltb _ _ h in
-    rw (long, magic, field) refl
+    rw (long, found, field) refl
 
 -- the order that a header names
 pub named_order : (bytes : List ℕ) (o : Order) → order_number o ≡ get_or bytes order_offset 0 → order_with_number (get_or bytes order_offset 0) ≡ Some o
@@ -48,53 +58,30 @@ pub order_named : (bytes : List ℕ) (o : Order) → order_number o ≡ get_or b
 unfolding header_order
 order_named bytes o e = rw (named_order bytes o e) refl
 
-pub bad_reserved : (bytes : List ℕ) (o : Order) → header_length ≤ length bytes → has_other_magic bytes ≡ false → order_number o ≡ get_or bytes order_offset 0 → has_reserved bytes ≡ true
+-- ---- the header of a matrix
+
+pub fault_in_beginning : (bytes : List ℕ) (fault : FileFault) → First (beginning_faults matrix_magic bytes) fault → First (header_faults bytes) fault
+unfolding header_faults
+fault_in_beginning bytes fault e = first_stays_3 (beginning_faults matrix_magic bytes) _ _ _ fault e
+
+pub bad_reserved : (bytes : List ℕ) → beginning_faults matrix_magic bytes ≡ [] → has_reserved matrix_reserved bytes ≡ true
     → First (header_faults bytes) BadReserved
 unfolding header_faults
-bad_reserved bytes o h magic number reserved =
-    let long : ltb (length bytes) header_length ≡ false = le-ltb _ _ h in
-    rw (long, magic, named_order bytes o number, reserved) refl
+bad_reserved bytes begun reserved = rw (begun, reserved) refl
 
-pub bad_rows : (bytes : List ℕ) (o : Order) → header_length ≤ length bytes → has_other_magic bytes ≡ false → order_number o ≡ get_or bytes order_offset 0 → has_reserved bytes ≡ false
-    → most_rows < header_rows bytes → First (header_faults bytes) BadRows
+pub bad_rows : (bytes : List ℕ) → beginning_faults matrix_magic bytes ≡ [] → has_reserved matrix_reserved bytes ≡ false → most_rows < header_rows bytes
+    → First (header_faults bytes) BadRows
 unfolding header_faults
-bad_rows bytes o h magic number reserved rows =
-    let long : ltb (length bytes) header_length ≡ false = le-ltb _ _ h in
+bad_rows bytes begun reserved rows =
     let many : ltb most_rows (header_rows bytes) ≡ true = lt-ltb _ _ rows in
-    rw (long, magic, named_order bytes o number, reserved, many) refl
+    rw (begun, reserved, many) refl
 
-pub bad_columns : (bytes : List ℕ) (o : Order) → header_length ≤ length bytes → has_other_magic bytes ≡ false → order_number o ≡ get_or bytes order_offset 0 → has_reserved bytes ≡ false
-    → header_rows bytes ≤ most_rows → (eqb (header_columns bytes) 0 || ltb most_columns (header_columns bytes)) ≡ true → First (header_faults bytes) BadCols
+pub bad_columns : (bytes : List ℕ) → beginning_faults matrix_magic bytes ≡ [] → has_reserved matrix_reserved bytes ≡ false → header_rows bytes ≤ most_rows
+    → is_out_of_range most_columns (header_columns bytes) ≡ true → First (header_faults bytes) BadCols
 unfolding header_faults
-bad_columns bytes o h magic number reserved rows columns =
-    let long : ltb (length bytes) header_length ≡ false = le-ltb _ _ h in
+bad_columns bytes begun reserved rows columns =
     let few : ltb most_rows (header_rows bytes) ≡ false = le-ltb _ _ rows in
-    rw (long, magic, named_order bytes o number, reserved, few, columns) refl
-
-pub no_columns : (bytes : List ℕ) → header_columns bytes ≡ 0 → (eqb (header_columns bytes) 0 || ltb most_columns (header_columns bytes)) ≡ true
-no_columns bytes e = or_left _ _ (eq-eqb _ _ e)
-
-pub many_columns : (bytes : List ℕ) → most_columns < header_columns bytes → (eqb (header_columns bytes) 0 || ltb most_columns (header_columns bytes)) ≡ true
-many_columns bytes e = or_right _ _ (lt-ltb _ _ e)
-
-nonzero : (n : ℕ) → (n ≡ 0 → ⊥) → not (eqb n 0) ≡ true
-nonzero n h = not_from_false _ (ne_eqb n 0 h)
-
-pub reserved_5 : (bytes : List ℕ) → (get_or bytes 5 0 ≡ 0 → ⊥) → has_reserved bytes ≡ true
-unfolding has_reserved
-reserved_5 bytes h = or_left _ _ (nonzero (get_or bytes 5 0) h)
-
-pub reserved_6 : (bytes : List ℕ) → (get_or bytes 6 0 ≡ 0 → ⊥) → has_reserved bytes ≡ true
-unfolding has_reserved
-reserved_6 bytes h = or_right _ _ (or_left _ _ (nonzero (get_or bytes 6 0) h))
-
-pub reserved_7 : (bytes : List ℕ) → (get_or bytes 7 0 ≡ 0 → ⊥) → has_reserved bytes ≡ true
-unfolding has_reserved
-reserved_7 bytes h = or_right _ _ (or_right _ _ (or_left _ _ (nonzero (get_or bytes 7 0) h)))
-
-pub none_reserved : (bytes : List ℕ) → get_or bytes 5 0 ≡ 0 → get_or bytes 6 0 ≡ 0 → get_or bytes 7 0 ≡ 0 → has_reserved bytes ≡ false
-unfolding has_reserved
-none_reserved bytes a b c = rw (a, b, c) refl
+    rw (begun, reserved, few, columns) refl
 
 not_found_among : (n : ℕ) (orders : List Order) → ((o : Order) → order_number o ≡ n → ⊥) → find (λ o. eqb (order_number o) n) orders ≡ None
 not_found_among n [] h = refl
@@ -121,10 +108,6 @@ unfolding byte_faults
 bad_padding o c bytes offset p h padding =
     let low : leb (byte_limit o) (get_or bytes (offset + p) 0) ≡ false = lt-leb _ _ h in
     rw (low, padding) refl
-
-pub first_stays : (xs ys : List FileFault) (fault : FileFault) → First xs fault → First (xs ++ ys) fault
-first_stays [] ys fault e = absurd cc
-first_stays (x ∷ xs) ys fault e = e
 
 -- the size is that of so many rows from an offset on
 module _ (o : Order) (r c : ℕ) (bytes : List ℕ) (offset size : ℕ) (is : size ≡ data_length o r c) where

@@ -1,9 +1,9 @@
 -- What a packed header says, and what stands after it.
-use Rattle.std.proofs.Common.{◌≡◌, ℕ, ◌+◌, ◌^◌, ◌<◌, false, List, ◌++◌, length, get_or, Some, refl, sym, ap, ◌∙◌}
-use Rattle.std.proofs.lemmas.List.{get_or-append-add, length-append}
+use Rattle.std.proofs.Common.{◌≡◌, ℕ, ◌+◌, ◌^◌, ◌<◌, false, List, ◌++◌, length, get_or, Some, refl, ap, ◌∙◌}
+use Rattle.std.proofs.lemmas.List.{length-append}
 use Rattle.std.proofs.lemmas.Nat.{from_le_bytes-to_le_bytes_4}
 use Rattle.axe_field.specs.Order.{Order, Two, Three, Four, Five, Seven, Eight, Nine, order_number}
-use Rattle.axe_file.specs.Packed.{header_length, order_offset, packed_header, order_with_number, header_order, header_rows, header_columns, has_other_magic, has_reserved}
+use Rattle.axe_file.specs.Packed.{matrix_magic, header_length, order_offset, matrix_reserved, packed_header, order_with_number, header_order, header_rows, header_columns, has_other_magic, has_reserved}
 
 pub length-packed_header : (o : Order) (r c : ℕ) → length (packed_header o r c) ≡ header_length
 unfolding packed_header
@@ -35,15 +35,11 @@ pub columns_in_header : (o : Order) (r c : ℕ) (rest : List ℕ) → c < 2 ^ 32
 unfolding header_columns packed_header
 columns_in_header o r c rest h = from_le_bytes-to_le_bytes_4 c h
 
-pub after_header : (o : Order) (r c : ℕ) (rest : List ℕ) (p : ℕ) → get_or (packed_header o r c ++ rest) (header_length + p) 0 ≡ get_or rest p 0
-after_header o r c rest p =
-    ap (λ (n : ℕ). get_or (packed_header o r c ++ rest) (n + p) 0) (sym (length-packed_header o r c)) ∙ get_or-append-add (packed_header o r c) rest p 0
-
-pub header_has_magic : (o : Order) (r c : ℕ) (rest : List ℕ) → has_other_magic (packed_header o r c ++ rest) ≡ false
+pub header_has_magic : (o : Order) (r c : ℕ) (rest : List ℕ) → has_other_magic matrix_magic (packed_header o r c ++ rest) ≡ false
 unfolding has_other_magic packed_header
 header_has_magic o r c rest = refl
 
-pub header_has_zeros : (o : Order) (r c : ℕ) (rest : List ℕ) → has_reserved (packed_header o r c ++ rest) ≡ false
+pub header_has_zeros : (o : Order) (r c : ℕ) (rest : List ℕ) → has_reserved matrix_reserved (packed_header o r c ++ rest) ≡ false
 unfolding has_reserved packed_header
 header_has_zeros o r c rest = refl
 

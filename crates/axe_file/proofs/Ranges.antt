@@ -66,14 +66,12 @@ no_faults_at faults a (suc n) e j low high =
       | inr other ↦ no_faults_at faults (a + 1) n parts.1 j (omega arith) (omega arith)
     ]
 
-pub six_parts : (a b c d e f : List FileFault) → a ++ b ++ c ++ d ++ e ++ f ≡ [] → (a ≡ []) × (b ≡ []) × (c ≡ []) × (d ≡ []) × (e ≡ []) × (f ≡ [])
-six_parts a b c d e f h =
-    let five = both_nil (a ++ b ++ c ++ d ++ e) f h in
-    let four = both_nil (a ++ b ++ c ++ d) e five.0 in
-    let three = both_nil (a ++ b ++ c) d four.0 in
+pub four_parts : (a b c d : List FileFault) → a ++ b ++ c ++ d ≡ [] → (a ≡ []) × (b ≡ []) × (c ≡ []) × (d ≡ [])
+four_parts a b c d h =
+    let three = both_nil (a ++ b ++ c) d h in
     let two = both_nil (a ++ b) c three.0 in
     let one = both_nil a b two.0 in
-    (one.0, one.1, two.1, three.1, four.1, five.1)
+    (one.0, one.1, two.1, three.1)
 
 pub three_parts : (a b c : List FileFault) → a ++ b ++ c ≡ [] → (a ≡ []) × (b ≡ []) × (c ≡ [])
 three_parts a b c h =

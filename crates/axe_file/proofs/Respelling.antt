@@ -1,37 +1,28 @@
 -- Bytes without fault are the spelling of the matrix that they give.
-use Rattle.std.proofs.Common.{◌≡◌, ℕ, ◌+◌, ◌*◌, ◌/◌, ◌%◌, ◌<◌, ◌≤◌, false, not, eqb, List, [], ◌∷◌, ◌++◌, length, get_or, take, drop, All, Option, Some, None, refl, sym, ap, ◌∙◌, inl, inr, append_assoc, arith}
-use Rattle.std.specs.Prelude.{is_none, codes}
+use Rattle.std.proofs.Common.{◌≡◌, ℕ, ◌+◌, ◌*◌, ◌/◌, ◌%◌, ◌<◌, ◌≤◌, false, eqb, List, [], ◌∷◌, ◌++◌, length, get_or, drop, All, Option, Some, None, refl, sym, ap, ◌∙◌, inl, inr, arith}
+use Rattle.std.specs.Prelude.{is_none}
 use Rattle.std.specs.Option.{unwrap_or}
 use Rattle.std.specs.List.{flat_map}
-use Rattle.std.specs.Int.{w32, to_le_bytes, from_le_bytes}
-use Rattle.std.proofs.lemmas.Bool.{cases_lt, eqb-true, not-false}
-use Rattle.std.proofs.lemmas.List.{get_or_past, ext_get_or, take-append-drop, drop-drop, length-take, length-drop, get_or-take, get_or-drop}
-use Rattle.std.proofs.lemmas.Nat.{div-mul-add, mod-mul-add, le_bytes_4}
+use Rattle.std.proofs.lemmas.Bool.{cases_lt, eqb-true}
+use Rattle.std.proofs.lemmas.List.{get_or_past, ext_get_or, length-drop, get_or-drop}
+use Rattle.std.proofs.lemmas.Nat.{div-mul-add, mod-mul-add}
 use Rattle.axe_algebra.specs.Lists.{listed, table}
 use Rattle.axe_field.specs.Order.{Order, Two, Three, Four, Five, Seven, Eight, Nine, order_number}
 use Rattle.axe_matrix.specs.Matrices.{IsMatrix}
 use Rattle.axe_matrix.specs.Limits.{most_rows, most_columns}
 use Rattle.axe_file.specs.Marks.{marks_per_byte, byte_with_marks, mark_of, bytes_per_row}
-use Rattle.axe_file.specs.Packed.{header_length, order_offset, rows_offset, columns_offset, packed, packed_header, packed_row, unpacked, order_with_number, header_order, header_rows, header_columns, data_length, mark_at, matrix_at, has_other_magic, has_reserved, packed_fault}
+use Rattle.axe_file.specs.Packed.{matrix_magic, header_length, order_offset, rows_offset, columns_offset, matrix_reserved, packed, packed_header, packed_row, unpacked, order_with_number, header_order, header_rows, header_columns, data_length, mark_at, matrix_at, packed_fault}
 use Rattle.axe_algebra.proofs.ListEntries.{listed_length, listed_at}
 use Rattle.axe_file.proofs.Lists.{length-pieces, get_or-pieces}
 use Rattle.axe_file.proofs.Bytes.{byte_of_marks, byte_same, mark_below, length-packed_row, get_or-packed_row}
-use Rattle.axe_file.proofs.Ranges.{or_false}
+use Rattle.axe_file.proofs.Fours.{IsBytes, bytes_fit, four_at, number_back, in_fours}
+use Rattle.axe_file.proofs.Magic.{first_four}
+use Rattle.axe_file.proofs.Reserved.{reserved_is_zero}
 use Rattle.axe_file.proofs.Soundness.{IsHeader, IsSoundAt, IsSoundData, sound_bytes}
 use Rattle.axe_file.proofs.Spellings.{padding_at, place_of}
 use Rattle.axe_file.proofs.TextNumbers.{found_passes}
 
 -- ---- the header
-
-abbrev IsBytes : List ℕ → Type 0
-IsBytes bytes = (i : ℕ) → get_or bytes i 0 < 256
-
-bytes_fit : (bytes : List ℕ) → All (λ byte. byte < 256) bytes → IsBytes bytes
-bytes_fit bytes h i =
-    elim (cases_lt i (length bytes)) [
-      | inl lt ↦ h i 0 lt
-      | inr le ↦ rw get_or_past (omega arith)
-    ]
 
 named : (n : ℕ) (o : Option Order) → is_none o ≡ false → order_with_number n ≡ o → order_number (unwrap_or o Two) ≡ n
 unfolding order_with_number
@@ -43,69 +34,15 @@ pub header_number : (bytes : List ℕ) → is_none (order_with_number (get_or by
 unfolding header_order
 header_number bytes e = named (get_or bytes order_offset 0) (order_with_number (get_or bytes order_offset 0)) e refl
 
-four : (xs : List ℕ) → 4 ≤ length xs → take 4 xs ≡ get_or xs 0 0 ∷ get_or xs 1 0 ∷ get_or xs 2 0 ∷ get_or xs 3 0 ∷ []
-four [] h = absurd (omega arith)
-four (a ∷ []) h = absurd (omega arith)
-four (a ∷ b ∷ []) h = absurd (omega arith)
-four (a ∷ b ∷ c ∷ []) h = absurd (omega arith)
-four (a ∷ b ∷ c ∷ d ∷ xs) h = refl
-
-same_test : (a b : ℕ) → not (eqb a b) ≡ false → a ≡ b
-same_test a b e = eqb-true a b (not-false _ e)
-
-pub first_four : (bytes : List ℕ) → 4 ≤ length bytes → has_other_magic bytes ≡ false → take 4 bytes ≡ codes "AXP1"
-unfolding has_other_magic
-first_four bytes long e =
-    let one = or_false (not (eqb (get_or bytes 0 0) 65)) _ e in
-    let two = or_false (not (eqb (get_or bytes 1 0) 88)) _ one.1 in
-    let three = or_false (not (eqb (get_or bytes 2 0) 80)) _ two.1 in
-    let last = or_false (not (eqb (get_or bytes 3 0) 49)) _ three.1 in
-    let a : get_or bytes 0 0 ≡ 65 = same_test _ _ one.0 in
-    let b : get_or bytes 1 0 ≡ 88 = same_test _ _ two.0 in
-    let c : get_or bytes 2 0 ≡ 80 = same_test _ _ three.0 in
-    let d : get_or bytes 3 0 ≡ 49 = same_test _ _ last.0 in
-    four bytes long ∙ rw (a, b, c, d) refl
-
-second_four : (bytes : List ℕ) (n : ℕ) → 8 ≤ length bytes → get_or bytes 4 0 ≡ n → has_reserved bytes ≡ false → take 4 (drop 4 bytes) ≡ n ∷ 0 ∷ 0 ∷ 0 ∷ []
-unfolding has_reserved
-second_four bytes n long number e =
-    let one = or_false (not (eqb (get_or bytes 5 0) 0)) _ e in
-    let two = or_false (not (eqb (get_or bytes 6 0) 0)) _ one.1 in
-    let three = or_false (not (eqb (get_or bytes 7 0) 0)) _ two.1 in
-    let a : get_or (drop 4 bytes) 0 0 ≡ n = get_or-drop 4 bytes 0 0 ∙ number in
-    let b : get_or (drop 4 bytes) 1 0 ≡ 0 = get_or-drop 4 bytes 1 0 ∙ same_test _ _ one.0 in
-    let c : get_or (drop 4 bytes) 2 0 ≡ 0 = get_or-drop 4 bytes 2 0 ∙ same_test _ _ two.0 in
-    let d : get_or (drop 4 bytes) 3 0 ≡ 0 = get_or-drop 4 bytes 3 0 ∙ same_test _ _ three.0 in
-    four (drop 4 bytes) (omega (arith, length-drop 4 bytes)) ∙ rw (a, b, c, d) refl
-
-number_back : (bytes : List ℕ) (at : ℕ) → at + 4 ≤ length bytes → IsBytes bytes → to_le_bytes w32 (from_le_bytes w32 (take 4 (drop at bytes))) ≡ take 4 (drop at bytes)
-number_back bytes at long fits =
-    le_bytes_4 (take 4 (drop at bytes)) _ (omega (arith, length-take 4 (drop at bytes), length-drop at bytes))
-    (λ i. elim (cases_lt i 4) [
-      | inl lt ↦ let e : get_or (take 4 (drop at bytes)) i 0 ≡ get_or bytes (at + i) 0 = get_or-take 4 (drop at bytes) i 0 lt ∙ get_or-drop at bytes i 0 in rw e (fits (at + i))
-      | inr le ↦ rw (get_or_past (take 4 (drop at bytes)) i 0 (omega (arith, length-take 4 (drop at bytes)))) (omega arith)
-    ]) refl
-
-next_four : (bytes : List ℕ) (at to : ℕ) → at + 4 ≡ to → drop at bytes ≡ take 4 (drop at bytes) ++ drop to bytes
-next_four bytes at to e =
-    sym (take-append-drop 4 (drop at bytes)) ∙ ap (λ (xs : List ℕ). take 4 (drop at bytes) ++ xs) (drop-drop 4 at bytes ∙ ap (λ (n : ℕ). drop n bytes) e)
-
-in_fours : (bytes a b c d : List ℕ) → take 4 bytes ≡ a → take 4 (drop 4 bytes) ≡ b → take 4 (drop rows_offset bytes) ≡ c → take 4 (drop columns_offset bytes) ≡ d
-    → bytes ≡ (a ++ b ++ c ++ d) ++ drop header_length bytes
-in_fours bytes a b c d ea eb ec ed =
-    let tail12 : drop columns_offset bytes ≡ d ++ drop header_length bytes = next_four bytes columns_offset header_length refl ∙ ap (λ (xs : List ℕ). xs ++ drop header_length bytes) ed in
-    let tail8 : drop rows_offset bytes ≡ c ++ (d ++ drop header_length bytes) = next_four bytes rows_offset columns_offset refl ∙ ap (λ (xs : List ℕ). xs ++ drop columns_offset bytes) ec ∙ ap (λ (xs : List ℕ). c ++ xs) tail12 in
-    let tail4 : drop 4 bytes ≡ b ++ (c ++ (d ++ drop header_length bytes)) = next_four bytes order_offset rows_offset refl ∙ ap (λ (xs : List ℕ). xs ++ drop rows_offset bytes) eb ∙ ap (λ (xs : List ℕ). b ++ xs) tail8 in
-    let all : bytes ≡ a ++ (b ++ (c ++ (d ++ drop header_length bytes))) = sym (take-append-drop 4 bytes) ∙ ap (λ (xs : List ℕ). xs ++ drop 4 bytes) ea ∙ ap (λ (xs : List ℕ). a ++ xs) tail4 in
-    all ∙ sym (simp append_assoc)
-
 header_again : (bytes : List ℕ) → IsBytes bytes → IsHeader bytes → bytes ≡ packed_header (header_order bytes) (header_rows bytes) (header_columns bytes) ++ drop header_length bytes
 unfolding packed_header header_rows header_columns
 header_again bytes fits h =
-    let long = h.long in
-    in_fours bytes (codes "AXP1") (order_number (header_order bytes) ∷ 0 ∷ 0 ∷ 0 ∷ []) _ _
-    (first_four bytes (omega arith) h.magic)
-    (second_four bytes (order_number (header_order bytes)) (omega arith) (sym (header_number bytes h.field)) h.reserved)
+    let long = h.begun.long in
+    in_fours bytes matrix_magic (order_number (header_order bytes) ∷ 0 ∷ 0 ∷ 0 ∷ []) _ _
+    (first_four matrix_magic bytes refl (omega arith) h.begun.magic_is)
+    (four_at bytes order_offset (order_number (header_order bytes)) 0 0 0 (omega arith) (sym (header_number bytes h.begun.field))
+    (reserved_is_zero matrix_reserved bytes 0 h.reserved (omega arith)) (reserved_is_zero matrix_reserved bytes 1 h.reserved (omega arith))
+    (reserved_is_zero matrix_reserved bytes 2 h.reserved (omega arith)))
     (sym (number_back bytes rows_offset (omega arith) fits))
     (sym (number_back bytes columns_offset (omega arith) fits))
 
@@ -147,7 +84,7 @@ module _ (o : Order) (c : ℕ) (bytes : List ℕ) (offset : ℕ) where
       ∙ marks
       ∙ byte_of_marks o (get_or bytes (offset + p) 0) sound.below
 
-  data_again : (r : ℕ) → IsSoundData o r c bytes offset → drop offset bytes ≡ flat_map (packed_row o c) (table r c (mark_at o c bytes offset))
+  pub data_again : (r : ℕ) → IsSoundData o r c bytes offset → drop offset bytes ≡ flat_map (packed_row o c) (table r c (mark_at o c bytes offset))
   unfolding data_length
   data_again r h =
       let rows = table r c (mark_at o c bytes offset) in

@@ -13,7 +13,8 @@ use Rattle.axe_file.specs.Marks.{marks_per_byte, byte_limit, byte_with_marks, ma
 use Rattle.axe_file.specs.Packed.{header_length, order_offset, packed, packed_row, unpacked, order_with_number, data_length, has_padding, packed_fault}
 use Rattle.axe_file.proofs.Bytes.{byte_below, mark_of_byte, element_at}
 use Rattle.axe_file.proofs.Headers.{order_of_number, number_in_header, header_has_magic, header_has_zeros}
-use Rattle.axe_file.proofs.Unpacking.{packed_says, packed_byte, length-packed, unpacked_packed}
+use Rattle.axe_file.proofs.Unpacking.{packed_says, packed_has_rows, length-packed, unpacked_packed}
+use Rattle.axe_file.proofs.RowBytes.{AreRows, HasRows, rows_of_matrix, row_byte}
 use Rattle.axe_file.proofs.Ranges.{none_found, none_found_at, and_of_false, and_false}
 use Rattle.axe_file.proofs.Scans.{data_fits}
 use Rattle.axe_file.proofs.Soundness.{IsHeader, IsSoundAt, no_packed_fault}
@@ -52,23 +53,23 @@ place_of p (suc w) r lt = record {
   is = div-add-mod' p (suc w);
 }
 
-packed_sound_at : (m : MatrixValue) → IsMatrix m → (p : ℕ) → p < data_length m.order (length m.rows) m.cols → IsSoundAt m.order m.cols (packed m) header_length p
+pub rows_sound_at : (o : Order) (c : ℕ) (rows : List (List ℕ)) (bytes : List ℕ) (offset : ℕ) → AreRows o c rows → HasRows o c rows bytes offset
+    → (p : ℕ) → p < data_length o (length rows) c → IsSoundAt o c bytes offset p
 unfolding data_length
-packed_sound_at m h p lt =
-    let o = m.order in
-    let w = bytes_per_row o m.cols in
-    let place = place_of p w (length m.rows) lt in
-    let row = get_or m.rows (p / w) [] in
+rows_sound_at o c rows bytes offset h there p lt =
+    let w = bytes_per_row o c in
+    let place = place_of p w (length rows) lt in
+    let row = get_or rows (p / w) [] in
     let k = p % w in
     let elements : (i : ℕ) → get_or row i 0 < order_number o = λ i. element_at o row i (h.elements (p / w) [] place.row) in
-    let byte : get_or (packed m) (header_length + p) 0 ≡ byte_with_marks o (λ j. get_or row (k * marks_per_byte o + j) 0) =
-    ap (λ (n : ℕ). get_or (packed m) (header_length + n) 0) (sym place.is) ∙ packed_byte m (p / w) k place.row place.byte in
-    let below : get_or (packed m) (header_length + p) 0 < byte_limit o = rw byte (byte_below o _ (λ j inside. elements (k * marks_per_byte o + j))) in
-    let long : length row ≡ m.cols = h.row_lengths (p / w) [] place.row in
-    let unused : (j : ℕ) → j < marks_per_byte o → m.cols ≤ k * marks_per_byte o + j → mark_of o (get_or (packed m) (header_length + p) 0) j ≡ 0 =
+    let byte : get_or bytes (offset + p) 0 ≡ byte_with_marks o (λ j. get_or row (k * marks_per_byte o + j) 0) =
+    ap (λ (n : ℕ). get_or bytes (offset + n) 0) (sym place.is) ∙ row_byte o c rows bytes offset there (p / w) k place.row place.byte in
+    let below : get_or bytes (offset + p) 0 < byte_limit o = rw byte (byte_below o _ (λ j inside. elements (k * marks_per_byte o + j))) in
+    let long : length row ≡ c = h.lengths (p / w) [] place.row in
+    let unused : (j : ℕ) → j < marks_per_byte o → c ≤ k * marks_per_byte o + j → mark_of o (get_or bytes (offset + p) 0) j ≡ 0 =
     λ j inside past. ap (λ (b : ℕ). mark_of o b j) byte ∙ mark_of_byte o _ j (λ t within. elements (k * marks_per_byte o + t)) inside
     ∙ get_or_past row (k * marks_per_byte o + j) 0 (omega arith) in
-    record { below = below; padding = padding_from o m.cols (packed m) header_length p unused }
+    record { below = below; padding = padding_from o c bytes offset p unused }
 
 packed_header_sound : (m : MatrixValue) → IsMatrix m → IsHeader (packed m)
 unfolding packed
@@ -79,9 +80,11 @@ packed_header_sound m h =
     let number : is_none (order_with_number (get_or (packed m) order_offset 0)) ≡ false =
     ap (λ (n : ℕ). is_none (order_with_number n)) (number_in_header m.order (length m.rows) m.cols rest) ∙ ap (λ (o : Option Order). is_none o) (order_of_number m.order) in
     record {
-      long = omega arith;
-      magic = header_has_magic m.order (length m.rows) m.cols rest;
-      field = number;
+      begun = record {
+        long = omega arith;
+        magic_is = header_has_magic m.order (length m.rows) m.cols rest;
+        field = number;
+      };
       reserved = header_has_zeros m.order (length m.rows) m.cols rest;
       rows_fit = omega (arith, says.rows, h.rows_fit);
       some_column = omega (arith, says.columns, h.some_column);
@@ -93,7 +96,7 @@ unfolding data_length
 packed_faultless m h =
     no_packed_fault (packed m) m.order (length m.rows) m.cols (packed_says m h) (packed_header_sound m h) (record {
       whole = length-packed m;
-      sound_at = packed_sound_at m h;
+      sound_at = rows_sound_at m.order m.cols m.rows (packed m) header_length (rows_of_matrix m h) (packed_has_rows m);
     })
 
 -- ---- the limit, and matrices with one spelling

@@ -1,6 +1,7 @@
 pub mod Limits
 pub mod Marks
 pub mod Packed
+pub mod PackedModules
 pub mod Headers
 pub mod Answers
 pub mod TextGrammar

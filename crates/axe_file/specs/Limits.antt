@@ -5,6 +5,14 @@ use Rattle.std.specs.Prelude.{ℕ}
 abbrev pub most_packed_bytes : ℕ
 most_packed_bytes = 16777216
 
+-- the most bytes that a packed file of a module has: 256 MiB, that is 256 times 2^20
+abbrev pub most_module_bytes : ℕ
+most_module_bytes = 268435456
+
+-- the most generators of a module in a file
+abbrev pub most_generators : ℕ
+most_generators = 16
+
 -- the most bytes that a text file has: 64 MiB, that is 64 times 2^20
 abbrev pub most_text_bytes : ℕ
 most_text_bytes = 67108864

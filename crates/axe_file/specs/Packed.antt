@@ -16,6 +16,10 @@ use Rattle.axe_file.specs.declared.fault.FileFault.TheVariants.{BadCols, Truncat
 
 -- ---- where a header has what
 
+-- the bytes that a matrix begins with
+abbrev pub matrix_magic : List ℕ
+matrix_magic = codes "AXP1"
+
 -- how many bytes a header has: the rows begin after it
 abbrev pub header_length : ℕ
 header_length = 16
@@ -32,22 +36,30 @@ rows_offset = 8
 abbrev pub columns_offset : ℕ
 columns_offset = 12
 
+-- the offsets of the reserved bytes
+abbrev pub matrix_reserved : List ℕ
+matrix_reserved = 5 ∷ 6 ∷ 7 ∷ []
+
 -- ---- the spelling of a matrix
 
 -- the header: the magic bytes, the order, three zeros, and the numbers of rows and columns, each as 4 bytes, low byte
 -- first
 unfoldable pub packed_header : Order → ℕ → ℕ → List ℕ
 packed_header o rows columns =
-    codes "AXP1" ++ (order_number o ∷ 0 ∷ 0 ∷ 0 ∷ []) ++ to_le_bytes w32 rows ++ to_le_bytes w32 columns
+    matrix_magic ++ (order_number o ∷ 0 ∷ 0 ∷ 0 ∷ []) ++ to_le_bytes w32 rows ++ to_le_bytes w32 columns
 
 -- a row: byte k holds its marks from the place k m on, m to a byte, where each mark past the last column is 0
 unfoldable pub packed_row : Order → ℕ → List ℕ → List ℕ
 packed_row o columns row =
     listed (bytes_per_row o columns) (λ k. byte_with_marks o (λ j. slice_index row (k * marks_per_byte o + j)))
 
--- the one packed spelling of a matrix: its header, then row after row, each row from a new byte on
+-- the rows of a matrix one after the other, each from a new byte on
+abbrev pub packed_rows : MatrixValue → List ℕ
+packed_rows m = flat_map (packed_row m.order m.cols) m.rows
+
+-- the one packed spelling of a matrix: its header, then its rows
 unfoldable pub packed : MatrixValue → List ℕ
-packed m = packed_header m.order (length m.rows) m.cols ++ flat_map (packed_row m.order m.cols) m.rows
+packed m = packed_header m.order (length m.rows) m.cols ++ packed_rows m
 
 -- ---- rows over the order o, of so many columns, from an offset on
 
@@ -118,22 +130,31 @@ unpacked bytes = matrix_at (header_order bytes) (header_rows bytes) (header_colu
 -- ---- what is wrong with bytes
 
 -- one of the first four bytes is not the magic byte of its place
-unfoldable pub has_other_magic : List ℕ → Bool
-has_other_magic bytes = list_any (λ i. not (slice_index bytes i == slice_index (codes "AXP1") i)) (0 ∷ 1 ∷ 2 ∷ 3 ∷ [])
+unfoldable pub has_other_magic : List ℕ → List ℕ → Bool
+has_other_magic magic bytes = list_any (λ i. not (slice_index bytes i == slice_index magic i)) (0 ∷ 1 ∷ 2 ∷ 3 ∷ [])
 
--- one of the three reserved bytes is not 0
-unfoldable pub has_reserved : List ℕ → Bool
-has_reserved bytes = list_any (λ i. not (slice_index bytes i == 0)) (5 ∷ 6 ∷ 7 ∷ [])
+-- a number is 0, or more than a limit
+abbrev pub is_out_of_range : ℕ → ℕ → Bool
+is_out_of_range most number = number == 0 || nat_lt most number
+
+-- one of the bytes at these offsets is not 0
+unfoldable pub has_reserved : List ℕ → List ℕ → Bool
+has_reserved offsets bytes = list_any (λ i. not (slice_index bytes i == 0)) offsets
+
+-- what is wrong with the beginning of a header, up to the order, in the order of the checks
+unfoldable pub beginning_faults : List ℕ → List ℕ → List FileFault
+beginning_faults magic bytes =
+    fault_where (nat_lt (length bytes) header_length) ShortHeader
+    ++ fault_where (has_other_magic magic bytes) BadMagic
+    ++ fault_where (is_none (order_with_number (slice_index bytes order_offset))) BadField
 
 -- what is wrong with the header, in the order of the checks
 unfoldable pub header_faults : List ℕ → List FileFault
 header_faults bytes =
-    fault_where (nat_lt (length bytes) header_length) ShortHeader
-    ++ fault_where (has_other_magic bytes) BadMagic
-    ++ fault_where (is_none (order_with_number (slice_index bytes order_offset))) BadField
-    ++ fault_where (has_reserved bytes) BadReserved
+    beginning_faults matrix_magic bytes
+    ++ fault_where (has_reserved matrix_reserved bytes) BadReserved
     ++ fault_where (nat_lt most_rows (header_rows bytes)) BadRows
-    ++ fault_where (header_columns bytes == 0 || nat_lt most_columns (header_columns bytes)) BadCols
+    ++ fault_where (is_out_of_range most_columns (header_columns bytes)) BadCols
 
 -- the first fault, of the header or of the rows after it, where there is one; bytes without one are the spelling of a
 -- matrix

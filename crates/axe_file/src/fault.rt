@@ -3,7 +3,7 @@
 use std::alloc::{AllocError, AllocFailed};
 use thiserror::Error;
 
-/// Why the bytes of a file are no matrix. Offsets count bytes from the beginning of the file.
+/// Why the bytes of a file are no matrix, or no module. Offsets count bytes from the beginning of the file.
 #[derive(Debug, Clone, Copy, PartialEq, Eq, Error)]
 pub enum FileFault {
     /// There are fewer bytes than a header has.
@@ -15,10 +15,13 @@ pub enum FileFault {
     /// There is no field of the order that the header names.
     #[error("BadField")]
     BadField,
+    /// The header of a module names no generators, or too many.
+    #[error("BadGens")]
+    BadGens,
     /// A reserved byte of the header is not 0.
     #[error("BadReserved")]
     BadReserved,
-    /// The header names too many rows.
+    /// The header of a matrix names too many rows, or that of a module no dimension or one that is too great.
     #[error("BadRows")]
     BadRows,
     /// The header names no columns, or too many.
@@ -52,7 +55,7 @@ pub enum FileFault {
     /// The byte at this offset, after the last digit, is no white space.
     #[error("TrailingText at {0}")]
     TrailingText(usize),
-    /// There was no memory for the matrix or for its bytes.
+    /// There was no memory for what the bytes spell, or for the bytes.
     #[error("Memory")]
     Memory,
 }

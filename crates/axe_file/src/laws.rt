@@ -6,14 +6,17 @@ ghost use Rattle.axe_field.specs.Order.{Order, order_number};
 ghost use Rattle.axe_matrix.specs.Matrices.{MatrixValue, IsMatrix};
 ghost use Rattle.axe_file.specs.Marks.{marks_per_byte};
 ghost use Rattle.axe_file.specs.Packed.{packed, packed_fault, unpacked};
-ghost use Rattle.axe_file.specs.Limits.{most_packed_bytes, most_text_bytes, digits_per_line};
+ghost use Rattle.axe_file.specs.Limits.{most_packed_bytes, most_module_bytes, most_generators};
+ghost use Rattle.axe_file.specs.Limits.{most_text_bytes, digits_per_line};
 
 use crate::text_writing::DIGITS_PER_LINE;
-use crate::{PACKED_LIMIT, TEXT_LIMIT};
+use crate::{MAX_GENERATORS, MODULE_LIMIT, PACKED_LIMIT, TEXT_LIMIT};
 
 /// The limits of the code are those of the definitions.
 pub fn limits_are_named()
     ensures packed { PACKED_LIMIT ≡ most_packed_bytes }
+    ensures module { MODULE_LIMIT ≡ most_module_bytes }
+    ensures generators { MAX_GENERATORS ≡ most_generators }
     ensures text { TEXT_LIMIT ≡ most_text_bytes }
     ensures line { DIGITS_PER_LINE ≡ digits_per_line }
 {}

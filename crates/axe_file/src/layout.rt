@@ -8,8 +8,11 @@ ghost use Rattle.axe_file.specs.Marks.{bytes_per_row};
 
 use axe_field::Field;
 
-/// The bytes that each packed file begins with.
-pub(crate) const MAGIC: [u8; 4] = *b"AXP1";
+/// The bytes that the packed file of a matrix begins with.
+pub(crate) const MATRIX_MAGIC: [u8; 4] = *b"AXP1";
+
+/// The bytes that the packed file of a module begins with.
+pub(crate) const MODULE_MAGIC: [u8; 4] = *b"AXP2";
 
 /// How many bytes stand before the first row.
 pub(crate) const HEADER_LENGTH: usize = 16;
@@ -17,11 +20,23 @@ pub(crate) const HEADER_LENGTH: usize = 16;
 /// The offset of the order.
 pub(crate) const ORDER_OFFSET: usize = 4;
 
-/// The offset of the number of rows.
+/// The offset of a matrix's number of rows.
 pub(crate) const ROWS_OFFSET: usize = 8;
 
-/// The offset of the number of columns.
+/// The offset of a matrix's number of columns.
 pub(crate) const COLUMNS_OFFSET: usize = 12;
+
+/// The offsets of the reserved bytes of a matrix.
+pub(crate) const MATRIX_RESERVED: [usize; 3] = [5, 6, 7];
+
+/// The offset of a module's number of generators.
+pub(crate) const GENERATORS_OFFSET: usize = 5;
+
+/// The offset of a module's dimension.
+pub(crate) const DIMENSION_OFFSET: usize = 8;
+
+/// The offsets of the reserved bytes of a module.
+pub(crate) const MODULE_RESERVED: [usize; 6] = [6, 7, 12, 13, 14, 15];
 
 /// How the elements of a matrix's rows, here called marks, lie in the bytes of its packed form.
 #[derive(Clone, Copy)]

@@ -1,7 +1,7 @@
 //! Reading the packed form: first all checks, which take no memory, then the matrix.
 
 ghost use Rattle.std.specs.Prelude.{ℕ, ◌≡◌, ◌≢◌, ◌+◌, ◌*◌, ◌/◌, ◌%◌, ◌^◌, ◌<◌, ◌≤◌, [], None, Some, length};
-ghost use Rattle.std.specs.Prelude.{slice_get, slice_index, slice_range, IfOk, OnOk, IfErr};
+ghost use Rattle.std.specs.Prelude.{slice_get, slice_index, slice_range, All, IfOk, OnOk, IfErr};
 ghost use Rattle.std.specs.List.{flat_map, range_with_len};
 ghost use Rattle.std.specs.Int.{w32, from_le_bytes};
 ghost use Rattle.axe_algebra.specs.Lists.{listed};
@@ -9,14 +9,17 @@ ghost use Rattle.axe_field.specs.Order.{order_number};
 ghost use Rattle.axe_matrix.specs.Matrices.{MatrixValue, IsMatrix};
 ghost use Rattle.axe_matrix.specs.Limits.{most_rows};
 ghost use Rattle.axe_file.specs.Marks.{bytes_per_row, marks_of_bytes, row_marks};
-ghost use Rattle.axe_file.specs.Packed.{packed, packed_fault, unpacked, header_faults};
+ghost use Rattle.axe_file.specs.Packed.{packed, packed_fault, unpacked, header_length, header_order, header_faults};
+ghost use Rattle.axe_file.specs.Packed.{is_out_of_range, has_reserved, beginning_faults};
 ghost use Rattle.axe_file.specs.Packed.{data_length, matrix_at, data_faults, byte_faults};
 ghost use Rattle.axe_file.specs.Headers.{SaysShape};
 ghost use Rattle.axe_file.specs.Answers.{AnswersFile};
 ghost use Rattle.axe_file.specs.declared.fault.FileFault.TheVariants.{Memory};
 
 use crate::fault::FileFault;
-use crate::layout::{COLUMNS_OFFSET, HEADER_LENGTH, Layout, MAGIC, ORDER_OFFSET, ROWS_OFFSET};
+use crate::layout::{
+    COLUMNS_OFFSET, HEADER_LENGTH, Layout, MATRIX_MAGIC, MATRIX_RESERVED, ORDER_OFFSET, ROWS_OFFSET,
+};
 use axe_field::Field;
 use axe_lane::end_of_run;
 use axe_matrix::{MAX_COLUMNS, MAX_ROWS, Matrix};
@@ -25,9 +28,11 @@ use std::alloc::{AllocError, Global};
 
 /// How many rows there are, and how each of them lies in its bytes.
 #[derive(Clone, Copy)]
-struct Shape {
-    rows: usize,
-    layout: Layout,
+pub(crate) struct Shape {
+    /// How many rows there are.
+    pub(crate) rows: usize,
+    /// How each of them lies.
+    pub(crate) layout: Layout,
     ghost rows_fit: { rows < 2 ^ 32 },
 }
 
@@ -51,16 +56,8 @@ fn header_of(bytes: &[u8]) -> Result<Shape, FileFault>
     ensures fault { IfErr result (λ fault. slice_get (header_faults bytes.now) 0 ≡ Some fault) }
     ensures says { IfOk result (λ shape. SaysShape bytes.now shape.layout.field shape.rows shape.layout.columns) }
 {
-    if bytes.len() < HEADER_LENGTH {
-        return Err(FileFault::ShortHeader);
-    }
-    if !bytes.starts_with(&MAGIC) {
-        return Err(FileFault::BadMagic);
-    }
-    let Ok(field) = Field::new(bytes[ORDER_OFFSET]) else {
-        return Err(FileFault::BadField);
-    };
-    if bytes[5] != 0 || bytes[6] != 0 || bytes[7] != 0 {
+    let field = field_in_header(bytes, &MATRIX_MAGIC)?;
+    if has_reserved(bytes, &MATRIX_RESERVED) {
         return Err(FileFault::BadReserved);
     }
     let rows = number_at(bytes, ROWS_OFFSET);
@@ -68,7 +65,7 @@ fn header_of(bytes: &[u8]) -> Result<Shape, FileFault>
         return Err(FileFault::BadRows);
     }
     let columns = number_at(bytes, COLUMNS_OFFSET);
-    if columns == 0 || columns > MAX_COLUMNS {
+    if is_out_of_range(columns, MAX_COLUMNS) {
         return Err(FileFault::BadCols);
     }
     Ok(Shape {
@@ -77,8 +74,47 @@ fn header_of(bytes: &[u8]) -> Result<Shape, FileFault>
     })
 }
 
+/// The field that a header names after these magic bytes, or the first fault up to there.
+pub(crate) fn field_in_header(bytes: &[u8], magic: &[u8; 4]) -> Result<Field, FileFault>
+    ensures faultless { OnOk result (beginning_faults magic.now bytes.now ≡ []) }
+    ensures fault { IfErr result (λ fault. slice_get (beginning_faults magic.now bytes.now) 0 ≡ Some fault) }
+    ensures names { IfOk result (λ field. header_order bytes.now ≡ field) }
+    ensures long { OnOk result (header_length ≤ length bytes.now) }
+{
+    if bytes.len() < HEADER_LENGTH {
+        return Err(FileFault::ShortHeader);
+    }
+    if !bytes.starts_with(magic) {
+        return Err(FileFault::BadMagic);
+    }
+    let Ok(field) = Field::new(bytes[ORDER_OFFSET]) else {
+        return Err(FileFault::BadField);
+    };
+    Ok(field)
+}
+
+/// Whether a number is 0, or more than a limit.
+pub(crate) fn is_out_of_range(number: usize, most: usize) -> bool
+    ensures { result ≡ is_out_of_range most number }
+{
+    number == 0 || number > most
+}
+
+/// Whether one of the bytes at these offsets is not 0.
+pub(crate) fn has_reserved(bytes: &[u8], offsets: &[usize]) -> bool
+    requires { All (λ offset. offset < length bytes.now) offsets.now }
+    ensures { result ≡ has_reserved offsets.now bytes.now }
+{
+    for &offset in offsets {
+        if bytes[offset] != 0 {
+            return true;
+        }
+    }
+    false
+}
+
 /// The number in the 4 bytes from an offset on, low byte first.
-fn number_at(bytes: &[u8], offset: usize) -> usize
+pub(crate) fn number_at(bytes: &[u8], offset: usize) -> usize
     requires { offset + 4 ≤ length bytes.now }
     ensures { result ≡ from_le_bytes w32 (slice_range bytes.now offset (offset + 4)) }
 {
@@ -91,7 +127,7 @@ fn number_at(bytes: &[u8], offset: usize) -> usize
 }
 
 /// Looks for the first fault of the rows that begin at an offset, up to the end of the bytes.
-fn check_data(shape: &Shape, bytes: &[u8], offset: usize) -> Result<(), FileFault>
+pub(crate) fn check_data(shape: &Shape, bytes: &[u8], offset: usize) -> Result<(), FileFault>
     requires some_column { 1 ≤ shape.now.layout.columns }
     requires begun { offset ≤ length bytes.now }
     ensures faultless { OnOk result
@@ -173,7 +209,12 @@ fn check_last_bytes(
 }
 
 /// The matrix of faultless rows that begin at an offset.
-fn matrix_of(alloc: Global, shape: &Shape, bytes: &[u8], offset: usize) -> Result<Matrix, FileFault>
+pub(crate) fn matrix_of(
+    alloc: Global,
+    shape: &Shape,
+    bytes: &[u8],
+    offset: usize,
+) -> Result<Matrix, FileFault>
     requires some_column { 1 ≤ shape.now.layout.columns }
     requires rows_fit { shape.now.rows ≤ most_rows }
     requires inside { offset + data_length shape.now.layout.field shape.now.rows shape.now.layout.columns

@@ -4,11 +4,11 @@ ghost use Rattle.std.specs.Prelude.{◌≡◌, ◌≤◌, ◌+◌, ◌++◌, len
 ghost use Rattle.axe_field.specs.Order.{IsElement};
 ghost use Rattle.axe_row.specs.Rows.{IsRow};
 ghost use Rattle.axe_matrix.specs.Limits.{most_rows, most_columns};
-ghost use Rattle.axe_file.specs.Packed.{packed, packed_header, packed_row};
+ghost use Rattle.axe_file.specs.Packed.{packed, packed_header, packed_row, packed_rows};
 ghost use Rattle.axe_file.specs.declared.fault.FileFault.TheVariants.{Memory};
 
 use crate::fault::FileFault;
-use crate::layout::{HEADER_LENGTH, Layout, MAGIC};
+use crate::layout::{HEADER_LENGTH, Layout, MATRIX_MAGIC};
 use axe_matrix::Matrix;
 use axe_row::Row;
 use std::alloc::{AllocError, Global};
@@ -22,9 +22,7 @@ pub fn write_packed(alloc: Global, matrix: &Matrix) -> Result<Vec<u8>, FileFault
     let mut bytes = Vec::with_capacity(alloc, HEADER_LENGTH + matrix.rows() * layout.width)?;
     put_header(&mut bytes, &layout, matrix.rows())?;
     let mut room = vec![in alloc; 0; layout.columns + layout.width]?;
-    for index in 0..matrix.rows() {
-        put_row(&mut bytes, &layout, matrix.row(index), &mut room)?;
-    }
+    put_rows(&mut bytes, &layout, matrix, &mut room)?;
     Ok(bytes)
 }
 
@@ -34,10 +32,29 @@ fn put_header(bytes: &mut Vec<u8>, layout: &Layout, rows: usize) -> Result<(), A
     ensures { OnOk result (bytes.new.items ≡ bytes.old.items
         ++ packed_header layout.now.field rows layout.now.columns) }
 {
-    bytes.extend_from_slice(&MAGIC)?;
+    bytes.extend_from_slice(&MATRIX_MAGIC)?;
     bytes.extend_from_slice(&[layout.field.order(), 0, 0, 0])?;
     bytes.extend_from_slice(&(rows as u32).to_le_bytes())?;
     bytes.extend_from_slice(&(layout.columns as u32).to_le_bytes())?;
+    Ok(())
+}
+
+/// Appends the rows of a matrix. A list has room for the entries of one and, after them, for its bytes.
+pub(crate) fn put_rows(
+    bytes: &mut Vec<u8>,
+    layout: &Layout,
+    matrix: &Matrix,
+    room: &mut [u8],
+) -> Result<(), AllocError>
+    requires field { matrix.now.order ≡ layout.now.field }
+    requires columns { matrix.now.cols ≡ layout.now.columns }
+    requires room { length room.old ≡ layout.now.columns + layout.now.width }
+    ensures bytes { OnOk result (bytes.new.items ≡ bytes.old.items ++ packed_rows matrix.now) }
+    ensures room { length room.new ≡ length room.old }
+{
+    for index in 0..matrix.rows() {
+        put_row(bytes, layout, matrix.row(index), room)?;
+    }
     Ok(())
 }
 

@@ -9,3 +9,9 @@ returns-clause-text c = search rules
 
 pub returns-clause-line : goal.returns-clause-line
 returns-clause-line c = search rules
+
+pub returns-clause-module : goal.returns-clause-module
+returns-clause-module c = search rules
+
+pub returns-clause-generators : goal.returns-clause-generators
+returns-clause-generators c = search rules

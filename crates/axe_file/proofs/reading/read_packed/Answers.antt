@@ -28,7 +28,7 @@ check_data-requires-clause-some_column c =
     rw (← c.in_ok-shape.ensures.says.columns) sound.some_column
 
 pub check_data-requires-clause-begun : goal.check_data-requires-clause-begun
-check_data-requires-clause-begun c = (sound_header c.args.bytes.now c.in_ok-shape.ensures.faultless).long
+check_data-requires-clause-begun c = (sound_header c.args.bytes.now c.in_ok-shape.ensures.faultless).begun.long
 
 pub matrix_of-requires-clause-some_column : goal.matrix_of-requires-clause-some_column
 matrix_of-requires-clause-some_column c =

@@ -1,9 +1,7 @@
-use Rattle.std.proofs.Common.{◌*◌, ◌≤◌, length, ◌++◌, List, ℕ, ap, ◌∙◌, arith}
+use Rattle.std.proofs.Common.{◌*◌, ◌≤◌, arith}
 use Rattle.std.proofs.lemmas.Grind.{common_steps}
-use Rattle.std.specs.List.{flat_map}
-use Rattle.std.proofs.lemmas.List.{take_all}
 use Rattle.axe_matrix.specs.Limits.{most_rows}
-use Rattle.axe_file.specs.Packed.{packed, packed_header, packed_row}
+use Rattle.axe_file.specs.Packed.{packed}
 use Rattle.axe_file.proofs.Scans.{most_data, data_fits}
 use Rattle.axe_file.proofs.writing.write_packed.Goals as goal
 
@@ -29,11 +27,4 @@ overflow_add-layout c =
 
 pub returns-clause-spelling : goal.returns-clause-spelling
 unfolding packed
-returns-clause-spelling c =
-    let m = c.args.matrix.now in
-    c.loop-index.invariant.0
-    ∙ ap (λ (rows : List (List ℕ)). packed_header m.order (length m.rows) m.cols ++ flat_map (packed_row m.order m.cols) rows)
-    (take_all c.loop-index.index m.rows (omega (arith, c.rows-index-end.ensures.count)))
-
-pub loop-index-preserved : goal.loop-index-preserved
-loop-index-preserved c = grind (arith, common_steps)
+returns-clause-spelling c = grind (arith, common_steps)
