@@ -1,8 +1,8 @@
 # What can't be decided, faults, and what calls leave behind.
 gap> START_TEST( "faults.tst" );
 
-# a section that no word decides is `fail`
-gap> polynomial := ConwayPolynomial( 2, 10 );;
+# a section that no word decides is `fail`: 8,192 matrices commute with the generator
+gap> polynomial := ConwayPolynomial( 2, 13 );;
 gap> companion := GModuleByMats( [ CompanionMat( polynomial ) ], GF( 2 ) );;
 gap> AxeChop( companion );
 fail

@@ -95,12 +95,30 @@ fn modules_of_one_generator_are_chopped(rt: HostRuntime) {
     play(&rt, ONE_GENERATOR);
 }
 
+/// A module that a polynomial decides: the companion matrix of x^10 + x^3 + 1, which is its own factor.
+const ONE_VECTOR: &str = r"
++ M.1 packed 2 10 10 40 00 20 00 10 00 08 00 04 00 02 00 01 00 00 80 00 40 90 00
+$ chop -g 1 M -> 0 chop 1 field=2 dim=10 gens=1 seed=1 words=400\nfactor 10a dim=10 mult=1\nseries 10a\n
+= M.bas packed 2 10 10 00 40 90 00 48 00 24 00 12 00 09 00 04 80 02 40 91 00 48 80
+= M10a.1 packed 2 10 10 40 00 20 00 10 00 08 00 04 00 02 00 01 00 00 80 00 40 90 00
+= M.rep text chop 1 field=2 dim=10 gens=1 seed=1 words=400\nfactor 10a dim=10 mult=1\nseries 10a\n
+";
+
+#[test]
+fn a_polynomial_decides_a_module(rt: HostRuntime) {
+    play(&rt, ONE_VECTOR);
+}
+
 const UNDECIDED: &str = r"
 # the companion matrix of x^10 + x^3 + 1: each word is zero or has an inverse
 + M.1 packed 2 10 10 40 00 20 00 10 00 08 00 04 00 02 00 01 00 00 80 00 40 90 00
 + M.rep text old
 $ chop -g 1 --words 0 M -> 5 axe: Undecided offset=0 dim=10\n
-$ chop -g 1 M -> 5 axe: Undecided offset=0 dim=10\n
+
+# that of x^13 + x^4 + x^3 + x + 1: no polynomial of a degree up to 12 tells more
++ M.1 packed 2 13 13 40 00 20 00 10 00 08 00 04 00 02 00 01 00 00 80 00 40 00 20 00 10 00 08 D8 00
++ M.rep text old
+$ chop -g 1 M -> 5 axe: Undecided offset=0 dim=13\n
 ";
 
 #[test]

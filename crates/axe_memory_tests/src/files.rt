@@ -1,6 +1,8 @@
 //! Files and reports, read and written.
 
-use axe_file::{FileFault, read_packed, read_text, write_packed, write_text};
+use axe_file::{
+    FileFault, read_module, read_packed, read_text, write_module, write_packed, write_text,
+};
 use axe_matrix::Matrix;
 use axe_report::{ReportFault, read_report, write_report};
 use axe_test_values::{TableFault, matrix_of};
@@ -10,7 +12,10 @@ use std::process::Abort;
 /// `01/11` over the field of two elements, packed.
 const PACKED: &[u8] = b"AXP1\x02\0\0\0\x02\0\0\0\x02\0\0\0\x40\xC0";
 
-/// The same as a text.
+/// A module of the generators `01/11` and `01/10`, packed.
+const MODULE: &[u8] = b"AXP2\x02\x02\0\0\x02\0\0\0\0\0\0\0\x40\xC0\x40\x80";
+
+/// The matrix as a text.
 const TEXT: &[u8] = b"matrix field=2 rows=2 cols=2\n01\n11\n";
 
 /// A report.
@@ -43,6 +48,31 @@ const BAD_PACKED: [(&[u8], FileFault); 10] = [
     ),
     (
         b"AXP1\x02\0\0\0\x01\0\0\0\x01\0\0\0\x80\0",
+        FileFault::TrailingBytes,
+    ),
+];
+
+/// Bytes that are no packed module, and their first fault.
+const BAD_MODULES: [(&[u8], FileFault); 9] = [
+    (b"AXP2\x02\x01\0\0\x01\0\0\0\0\0\0", FileFault::ShortHeader),
+    (b"AXP1\0\0\0\0\0\0\0\0\0\0\0\0", FileFault::BadMagic),
+    (b"AXP2\x06\0\0\0\0\0\0\0\0\0\0\0", FileFault::BadField),
+    (b"AXP2\x02\x11\x01\0\0\0\0\0\0\0\0\0", FileFault::BadGens),
+    (
+        b"AXP2\x02\x01\0\0\0\0\0\0\x01\0\0\0",
+        FileFault::BadReserved,
+    ),
+    (b"AXP2\x02\x01\0\0\x01\x10\0\0\0\0\0\0", FileFault::BadRows),
+    (
+        b"AXP2\x02\x02\0\0\x01\0\0\0\0\0\0\0\x80",
+        FileFault::Truncated,
+    ),
+    (
+        b"AXP2\x02\x02\0\0\x01\0\0\0\0\0\0\0\x80\x40",
+        FileFault::BadPadding(17),
+    ),
+    (
+        b"AXP2\x02\x01\0\0\x01\0\0\0\0\0\0\0\x80\0",
         FileFault::TrailingBytes,
     ),
 ];
@@ -94,8 +124,22 @@ fn matrices_are_spelled_or_there_is_no_memory(rt: HostRuntime) {
     let _ = assert_spelled(&rt, rt.alloc());
 }
 
+/// The bytes that are written of the module that is read.
+fn rewritten_module(alloc: Global) -> Result<Vec<u8>, FileFault> {
+    let generators = read_module(alloc, MODULE)?;
+    write_module(alloc, &generators)
+}
+
+#[test]
+fn modules_are_spelled_or_there_is_no_memory(rt: HostRuntime) {
+    assert!(&rt; is_written(rewritten_module(rt.alloc()), MODULE));
+}
+
 #[test]
 fn faults_need_no_memory(rt: HostRuntime) {
+    for (bytes, fault) in BAD_MODULES {
+        assert!(&rt; read_module(rt.alloc(), bytes).err() == Some(fault));
+    }
     for (bytes, fault) in BAD_PACKED {
         assert!(&rt; read_packed(rt.alloc(), bytes).err() == Some(fault));
     }

@@ -13,9 +13,10 @@ use Rattle.axe_poly.specs.Polys.{PolyValue, coefficients_of, AreFactors, IsValue
 use Rattle.axe_spin.specs.Modules.{ModuleValue}
 use Rattle.axe_word.specs.Words.{WordValue, IsValueOf}
 use Rattle.axe_word.proofs.ValueLaws.{value-is_unique}
+use Rattle.axe_word.proofs.TestedLaws.{poly_value}
 use Rattle.axe_norton.specs.OneVector.{FitsWord}
 use Rattle.axe_norton.specs.Searches.{IsSquareIn}
-use Rattle.axe_norton.proofs.OneVectorLaws.{poly_value, poly_value_square}
+use Rattle.axe_norton.proofs.TestedLaws.{poly_value_square}
 use Rattle.axe_norton.proofs.TestedLaws.{IsNullSpaceOver, null_space_over}
 use mathlib.Core.Path.{sym, subst}
 

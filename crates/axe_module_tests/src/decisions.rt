@@ -7,9 +7,8 @@ ghost use Rattle.axe_word.specs.Words.{IsWordIn};
 ghost use Rattle.axe_norton.specs.OneVector.{FitsWord};
 
 use crate::tables::{Topic, each_call};
-use crate::values::module_of;
+use crate::values::{module_of, poly_over};
 use axe_echelon::null_space;
-use axe_field::Field;
 use axe_matrix::{Matrix, Refusal, Row};
 use axe_norton::{At, MAX_WORDS, Verdict, decide, decide_at, decide_poly};
 use axe_poly::{Poly, factors_up_to, greatest_degree};
@@ -22,31 +21,67 @@ use axe_word::{Term, Word};
 use std::alloc::Global;
 use std::process::Abort;
 
-/// A module, a seed, the number of the last word, and the verdict.
+/// A module, a seed, the number of the last word, and the verdict: `irreducible`, with the polynomial that decided where
+/// one did, the word's number and the point; or `reducible`, with the submodule.
 const DECIDED: &str = "\
 # Each vector spans a submodule; the first point of everything is the last unit vector.
 decide | 2: 1000000000/0100000000/0010000000/0001000000/0000100000/0000010000/0000001000/0000000100/0000000010/0000000001 | 1 | 0 | reducible: 2: 0000000001
 # The companion matrix of x^10 + x^3 + 1, which is irreducible: there are 1,023 points, and each value is zero or invertible.
+# The polynomial of degree 10 of a value that generates the field of 1,024 elements fits it.
 decide | 2: 0100000000/0010000000/0001000000/0000100000/0000010000/0000001000/0000000100/0000000010/0000000001/1001000000 | 1 | 0 | undecided
-decide | 2: 0100000000/0010000000/0001000000/0000100000/0000010000/0000001000/0000000100/0000000010/0000000001/1001000000 | 1 | 400 | undecided
+decide | 2: 0100000000/0010000000/0001000000/0000100000/0000010000/0000001000/0000000100/0000000010/0000000001/1001000000 | 1 | 400 | irreducible by 10110000101: 1 and 2: 0000000001
+# The same of x^13 + x^4 + x^3 + x + 1, of which each value is zero, or has a polynomial of degree 13 or 1 that doesn't fit.
+decide | 2: 0100000000000/0010000000000/0001000000000/0000100000000/0000010000000/0000001000000/0000000100000/0000000010000/0000000001000/0000000000100/0000000000010/0000000000001/1101100000000 | 1 | 400 | undecided
 decide | 2: 10/01 | 1 | 0 | reducible: 2: 01
 decide | 2: 01/11 | 1 | 0 | irreducible: 0 and 2: 01
 # The first point generates everything on both sides, and the last one does not.
 decide | 2: 01/10 | 1 | 0 | reducible: 2: 11
 ";
 
+/// The same of modules of more than 1,000 points that a polynomial decides, or that are reducible; the answers are those
+/// of another program, which follows the rules by plain loops.
+const DECIDED_BY_POLYNOMIALS: &str = "\
+decide | 2: 1000010011/0101110111/1000110001/1111000011/1000101011/1010110010/0000000100/1010011100/1000101000/0101011011, 2: 1101111011/0101101111/1000001010/0000010001/0111010000/0001000100/1010011000/0001111010/0010011100/0111111001 | 1 | 20 | irreducible by 11: 1 and 2: 1110100101
+decide | 2: 1101000011/0100001101/0001000000/0011000011/0110010110/1011111011/0010110111/0100000111/1101101001/1011011100, 2: 0110001001/1110001100/0100110011/0101111111/1001011001/1101011111/1100111111/1111110111/0001110101/1100010000 | 1 | 20 | irreducible by 10110100001: 1 and 2: 0000000001
+decide | 2: 1000100111/0010011001/1011111011/0000010100/1111101000/1110110011/1100110000/0000000010/1110100100/0101100101, 2: 0111110111/1110000001/0001100000/1000010101/0100001100/0010000010/0101111001/0001000000/0101100100/0011100010 | 1 | 20 | irreducible by 111: 1 and 2: 0000110001
+decide | 3: 0001212/2022012/0021122/1022101/0121001/1201110/2202011, 3: 1102210/1022010/2020210/2000212/2212220/0101111/0020011 | 1 | 20 | irreducible by 11: 1 and 3: 0112000
+decide | 3: 0111200/2222220/1102002/2021021/0002010/2001122/2002121, 3: 0121221/1022221/2011222/1022012/1100112/1012222/1011211 | 1 | 20 | irreducible by 2011: 1 and 3: 0001011
+decide | 3: 0000000/0122001/0002210/1012211/2220002/0000001/0212122, 3: 1000000/0120022/0211111/2122101/1012210/0220112/0222012 | 1 | 20 | reducible: 3: 1000000
+decide | 4: 131303/130220/012303/233302/012032/131031, 4: 310300/013002/220230/230001/010312/020332 | 1 | 20 | irreducible by 21: 1 and 4: 101113
+decide | 4: 000200/232322/203203/301322/201113/023002, 4: 221010/203323/131032/100331/020222/302223 | 1 | 20 | irreducible by 2231321: 1 and 4: 000001
+decide | 5: 211213/124120/340143/242422/114141/232121, 5: 222004/412133/142243/241243/210243/134414 | 1 | 20 | irreducible by 301: 1 and 5: 012424
+decide | 5: 114000/433000/130000/112100/421221/424411, 5: 333000/033000/104000/021004/010302/141133 | 1 | 20 | reducible: 5: 100000/010000/001000
+decide | 7: 26231/25404/30566/40515/04205, 7: 23222/61301/23520/44032/55551 | 1 | 20 | irreducible by 51: 1 and 7: 11113
+decide | 7: 23324/64064/24433/02300/36101, 7: 24426/52053/52413/31464/06135 | 1 | 20 | irreducible by 65551: 1 and 7: 00014
+decide | 8: 57436/60537/44536/12414/50230, 8: 43410/63534/22250/41213/05301 | 1 | 20 | irreducible by 2511: 1 and 8: 00104
+decide | 8: 24500/37700/35700/52606/01500, 8: 13600/64100/15100/55441/65456 | 1 | 20 | reducible: 8: 10000/01000/00100
+decide | 9: 30747/22647/57511/46233/48348, 9: 85718/73557/14644/44754/37601 | 1 | 20 | irreducible by 21: 2 and 9: 12202
+decide | 9: 86420/34105/33718/25835/20131, 9: 14151/85456/43661/35884/88478 | 1 | 20 | irreducible by 171: 2 and 9: 01804
+";
+
 /// A module, the number of a generator, and what the word says that is this generator.
 const SAID: &str = "\
 # The one null point 10 generates everything; under the transposes that of the transpose generates 10, to which 01 is orthogonal.
 decide_at | 2: 00/01, 2: 11/01 | 0 | reducible: 2: 01
-decide_at | 2: 01/11 | 0 | open
+# The generator is invertible, and its polynomial, of degree 2, fits it: the value of that is zero.
+decide_at | 2: 01/11 | 0 | irreducible by 111: 2: 01
+# x + 1 fits: its value has the one null point 01, which is fixed.
+decide_at | 2: 11/01 | 0 | reducible: 2: 01
+# x + 2 fits: its null point 10 generates everything; that of the transpose, 10, doesn't under the transposes.
+decide_at | 3: 10/02, 3: 11/01 | 0 | reducible: 3: 01
+# Two polynomials fit: the first is x + 1, not x + 2 with the null point 11; and x + 1, not x + 4.
+decide_at | 3: 01/10 | 0 | reducible: 3: 12
+decide_at | 5: 01/10 | 0 | reducible: 5: 14
+decide_at | 5: 02/10 | 0 | irreducible by 301: 5: 01
+# The polynomial of the first unit vector is x + 1, and all vectors are null vectors of its value.
+decide_at | 2: 10/01 | 0 | open
 ";
 
 /// A module, the number of a generator, the coefficients of a polynomial that fits it, the constant one first, and what
 /// the polynomial says by the word that is this generator.
 const SAID_BY_POLYNOMIALS: &str = "\
 # The value of the polynomial is zero: each vector is null, and the first point generates everything on both sides.
-decide_poly | 2: 01/11 | 0 | 111 | irreducible: 2: 01
+decide_poly | 2: 01/11 | 0 | 111 | irreducible by 111: 2: 01
 # The one null point 10 generates everything; under the transposes it is fixed or goes to zero, and 01 is orthogonal to it.
 decide_poly | 2: 00/01, 2: 11/01 | 0 | 01 | reducible: 2: 01
 # The one null point 01 is fixed.
@@ -61,11 +96,31 @@ fn is_space(alloc: Global, space: &Matrix, text: &str) -> Result<bool, TableFaul
     }
 }
 
-/// Whether the word that shows a module to be irreducible, and the point, are those that are written so.
-fn is_proof(alloc: Global, word: u32, vector: &Row, text: &str) -> Result<bool, TableFault> {
-    let Some(("irreducible", wanted)) = text.split_once(": ") else {
+/// Whether a verdict of an irreducible module is written so: alone, or by the polynomial that decided.
+fn is_irreducible_by(alloc: Global, poly: &Option<Poly>, text: &str) -> Result<bool, TableFault> {
+    let Some(poly) = poly else {
+        return Ok(text == "irreducible");
+    };
+    match text.split_once(" by ") {
+        Some(("irreducible", digits)) => Ok(poly.same(&poly_over(alloc, *poly.field(), digits)?)),
+        _ => Ok(false),
+    }
+}
+
+/// Whether the word that shows a module to be irreducible, the polynomial and the point are those that are written so.
+fn is_proof(
+    alloc: Global,
+    word: u32,
+    poly: &Option<Poly>,
+    vector: &Row,
+    text: &str,
+) -> Result<bool, TableFault> {
+    let Some((shown, wanted)) = text.split_once(": ") else {
         return Ok(false);
     };
+    if !is_irreducible_by(alloc, poly, shown)? {
+        return Ok(false);
+    }
     let (number, point) = wanted.split_once(" and ").ok_or(TableFault::NotWritten)?;
     let number = number_of(number)?;
     Ok(number == word as usize && is_row(alloc, vector, point)?)
@@ -79,7 +134,9 @@ fn words_of(text: &str) -> Result<u32, TableFault> {
 /// Whether a verdict is the one that is written so.
 fn is_verdict(alloc: Global, verdict: &Verdict, text: &str) -> Result<bool, TableFault> {
     match verdict {
-        Verdict::Irreducible { word, vector } => is_proof(alloc, *word, vector, text),
+        Verdict::Irreducible { word, poly, vector } => {
+            is_proof(alloc, *word, poly, vector, text)
+        }
         Verdict::Reducible(space) => is_space(alloc, space, text),
         Verdict::Undecided => Ok(text == "undecided"),
     }
@@ -109,15 +166,6 @@ fn generator_word(rt: &impl Abort, module: &Module, number: u8) -> Word
     let word = word.expect(rt, "a word of one term");
     assert!(rt; word.is_word_in(module));
     word
-}
-
-/// The polynomial over a field that is written so, by its coefficients, the constant one first.
-fn poly_over(alloc: Global, field: Field, coefficients: &str) -> Result<Poly, TableFault> {
-    let digits: Vec<u8> = coefficients
-        .bytes()
-        .map(|digit| digit.wrapping_sub(b'0'))
-        .collect(alloc)?;
-    Poly::from_digits(alloc, field, &digits)?.ok_or(TableFault::NotWritten)
 }
 
 /// Whether a polynomial is irreducible: then it is the first of its irreducible divisors.
@@ -153,18 +201,25 @@ fn fits(
     Ok(null_space.rows() == poly.degree() && is_irreducible(rt, alloc, poly)?)
 }
 
-/// Whether the point that shows a module to be irreducible is the one that is written so.
-fn is_point(alloc: Global, vector: &Row, text: &str) -> Result<bool, TableFault> {
+/// Whether the polynomial and the point that show a module to be irreducible are those that are written so.
+fn is_point(
+    alloc: Global,
+    poly: &Option<Poly>,
+    vector: &Row,
+    text: &str,
+) -> Result<bool, TableFault> {
     match text.split_once(": ") {
-        Some(("irreducible", wanted)) => is_row(alloc, vector, wanted),
-        _ => Ok(false),
+        Some((shown, wanted)) => {
+            Ok(is_irreducible_by(alloc, poly, shown)? && is_row(alloc, vector, wanted)?)
+        }
+        None => Ok(false),
     }
 }
 
 /// Whether what a word says is what is written so.
 fn is_said(alloc: Global, said: &At, text: &str) -> Result<bool, TableFault> {
     match said {
-        At::Irreducible(vector) => is_point(alloc, vector, text),
+        At::Irreducible { poly, vector } => is_point(alloc, poly, vector, text),
         At::Reducible(space) => is_space(alloc, space, text),
         At::Left => Ok(text == "open"),
     }
@@ -209,6 +264,11 @@ pub(crate) fn answers(
 #[test]
 fn words_of_a_seed_decide_modules(rt: HostRuntime) -> Result<(), TableFault> {
     each_call(&rt, rt.alloc(), Topic::Decisions, DECIDED)
+}
+
+#[test]
+fn polynomials_decide_large_modules(rt: HostRuntime) -> Result<(), TableFault> {
+    each_call(&rt, rt.alloc(), Topic::Decisions, DECIDED_BY_POLYNOMIALS)
 }
 
 #[test]

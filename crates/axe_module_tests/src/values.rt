@@ -5,7 +5,9 @@ ghost use Rattle.axe_algebra.specs.SpansOfLists.{IsIndependent};
 ghost use Rattle.axe_field.specs.NumberFields.{number_field};
 
 use axe_echelon::Echelon;
+use axe_field::Field;
 use axe_matrix::{Matrix, Refusal};
+use axe_poly::Poly;
 use axe_spin::{MAX_GENERATORS, Module};
 use axe_test_values::{TableFault, is_fault, matrix_of};
 use std::alloc::Global;
@@ -37,6 +39,19 @@ pub(crate) fn module_of(alloc: Global, text: &str) -> Result<Module, TableFault>
         }
         answer => answer,
     }
+}
+
+/// The polynomial over a field that is written so, by its coefficients, the constant one first.
+pub(crate) fn poly_over(
+    alloc: Global,
+    field: Field,
+    coefficients: &str,
+) -> Result<Poly, TableFault> {
+    let digits: Vec<u8> = coefficients
+        .bytes()
+        .map(|digit| digit.wrapping_sub(b'0'))
+        .collect(alloc)?;
+    Poly::from_digits(alloc, field, &digits)?.ok_or(TableFault::NotWritten)
 }
 
 /// Whether two modules have the same generators.

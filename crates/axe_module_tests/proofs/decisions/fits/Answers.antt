@@ -5,7 +5,7 @@ use Rattle.axe_matrix.proofs.MatrixLaws.{one_field}
 use Rattle.axe_echelon.specs.Echelons.{IsNullSpaceMatrix}
 use Rattle.axe_word.proofs.TestedLaws.{null_accepted}
 use Rattle.axe_norton.specs.Searches.{IsSquareIn}
-use Rattle.axe_norton.proofs.OneVectorLaws.{poly_value_square}
+use Rattle.axe_norton.proofs.TestedLaws.{poly_value_square}
 use Rattle.axe_module_tests.proofs.FittingPolynomials.{fits_by_nullity}
 use Rattle.axe_module_tests.proofs.decisions.fits.Goals as goal
 use Rattle.axe_module_tests.proofs.decisions.fits.Goals.{then-rows-degree+in_ok-is_irreducible, else-rows-degree}
