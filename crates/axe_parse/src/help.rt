@@ -274,10 +274,10 @@ Each section of the module is looked at with the words 0 to W in the
 generators, which the seed draws, until one shows that it is irreducible or
 gives a submodule. The same seed and W give the same files. Where no word does
 either, the section stays undecided: try another seed, or more words. For some
-modules no seed helps: where every matrix that words can give is invertible or
-has a null space of more than 1000 points, as for one generator that acts
-irreducibly on a large space. A module with at most 1000 points (vectors whose
-first nonzero entry is 1) is never undecided.
+irreducible modules no seed helps: those where more than 4096 matrices commute
+with all generators (over 9 elements more than 6561), as for one generator that
+acts irreducibly on a space of dimension 13 over 2 elements. A module with at
+most 1000 points (vectors whose first nonzero entry is 1) is never undecided.
 
 Where the module is refused or a section undecided, no file changes. NAME.rep
 is taken away before the first file is written, and written last: where there
