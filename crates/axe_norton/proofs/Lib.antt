@@ -10,3 +10,4 @@ pub mod UniqueLaws
 pub mod OneVectorLaws
 pub mod FittingLaws
 pub mod SaidLaws
+pub mod MisfitLaws

@@ -3,3 +3,4 @@ pub mod SmallFactors
 pub mod OneVector
 pub mod Verdicts
 pub mod Searches
+pub mod Misfits

@@ -9,6 +9,7 @@ ghost use Rattle.axe_poly.specs.Polys.{IsMinimalPolynomialOf};
 ghost use Rattle.axe_norton.specs.SmallFactors.{first_unit_row};
 ghost use Rattle.axe_norton.specs.Searches.{FindsFitting, FindsFittingOf, FindsFittingIn, FindsFits};
 
+use crate::misfits::is_seen_not_to_fit;
 use axe_matrix::{Matrix, Refusal, Row};
 use axe_poly::{Irreducibles, Poly, greatest_degree, minimal_of_vector};
 use axe_word::Tested;
@@ -88,22 +89,24 @@ fn fitting_of_degree(
         table.add_degree(alloc)?;
     }
     let factors = table.factors_of_degree(alloc, minimal, degree)?;
-    first_that_fits(alloc, matrix, &factors)
+    first_that_fits(alloc, matrix, minimal, &factors)
 }
 
-/// The first of some polynomials that fits a square matrix.
+/// The first of some divisors of a polynomial that fits a square matrix.
 fn first_that_fits(
     alloc: Global,
     matrix: &Matrix,
+    multiple: &Poly,
     polys: &[Poly],
 ) -> Result<Option<Fitted>, Refusal>
+    requires multiple { multiple.now.order ≡ matrix.now.order }
     requires square { IsSquareOver (number_field matrix.now.order) matrix.now.cols matrix.now.rows }
     requires fields { All (λ p. p.order ≡ matrix.now.order) polys.now }
     ensures { Answers None (FindsFittingIn matrix.now polys.now) result }
 {
     for index in 0..polys.len() {
         let candidate = &polys[index];
-        if let Some(tested) = tested_where_fits(alloc, matrix, candidate)? {
+        if let Some(tested) = tested_where_fits(alloc, matrix, multiple, candidate)? {
             let poly = candidate.copy(alloc)?;
             return Ok(Some(Fitted { poly, tested }));
         }
@@ -111,13 +114,22 @@ fn first_that_fits(
     Ok(None)
 }
 
-/// The value p(x) of a polynomial p at a square matrix x, with its null space, where p fits x: where that has as many
-/// dimensions as p has degrees.
-fn tested_where_fits(alloc: Global, matrix: &Matrix, poly: &Poly) -> Result<Option<Tested>, Refusal>
+/// The value p(x) of a divisor p of a polynomial at a square matrix x, with its null space, where p fits x: where that
+/// has as many dimensions as p has degrees.
+fn tested_where_fits(
+    alloc: Global,
+    matrix: &Matrix,
+    multiple: &Poly,
+    poly: &Poly,
+) -> Result<Option<Tested>, Refusal>
     requires square { IsSquareOver (number_field matrix.now.order) matrix.now.cols matrix.now.rows }
     requires field { poly.now.order ≡ matrix.now.order }
+    requires multiple { multiple.now.order ≡ matrix.now.order }
     ensures { Answers None (FindsFits matrix.now poly.now) result }
 {
+    if is_seen_not_to_fit(alloc, matrix, poly, multiple)? {
+        return Ok(None);
+    }
     let tested = Tested::of(alloc, poly.value_at(alloc, matrix)?)?;
     if tested.null_space.rows() == poly.degree() {
         Ok(Some(tested))

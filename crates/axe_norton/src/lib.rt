@@ -5,6 +5,7 @@ mod decisions;
 mod factors;
 mod fitting;
 pub mod laws;
+mod misfits;
 mod one_vector;
 mod others;
 mod spaces;

@@ -1,0 +1,93 @@
+-- Rows over a field by their number of entries, and null vectors that are more than the degree of a polynomial.
+use Rattle.std.specs.Prelude.{◌≡◌, ℕ, suc, ◌+◌, ◌<◌, ◌≤◌, List, [], ◌∷◌, ◌++◌, length, get_or, All, Bool, true, false, slice_set, IsTrue}
+use Rattle.std.proofs.lemmas.List.{length-set}
+use Rattle.std.proofs.lemmas.List.Elements.{All-get_or, All-append, All-cons, All-nil}
+use Rattle.axe_algebra.specs.NumberField.{NumberField}
+use Rattle.axe_algebra.specs.Bridge.{field_of, vector_of, matrix_of}
+use Rattle.axe_algebra.specs.ListArithmetic.{combination}
+use Rattle.axe_algebra.specs.Lists.{IsMatrixOver, IsSquareOver}
+use Rattle.axe_algebra.specs.Field.{Field}
+use Rattle.axe_algebra.specs.Vectors.{Vector, Matrix, HasLength, times, zero_vector}
+use Rattle.axe_algebra.specs.Spans.{IsNullVector}
+use Rattle.axe_algebra.specs.SpansOfLists.{IsIndependent}
+use Rattle.axe_algebra.proofs.Exchange.{exchange}
+use Rattle.axe_algebra.proofs.ListEntries.{listed_length, rows_length}
+use Rattle.axe_polynomial_algebra.specs.PolynomialValues.{polynomial_value}
+use Rattle.axe_polynomial_algebra.specs.PolynomialsOfLists.{Annihilates, Fits, degree_of, IsMonicOver}
+use Rattle.axe_field.specs.Order.{Order}
+use Rattle.axe_field.specs.NumberFields.{number_field}
+use Rattle.axe_row.specs.Rows.{RowValue}
+use Rattle.axe_matrix.specs.Matrices.{MatrixValue, vector_product}
+use Rattle.axe_echelon.specs.Echelons.{EchelonValue, IsEchelon, with_row_where}
+use Rattle.axe_poly.specs.Polys.{PolyValue, IsPoly}
+use Rattle.axe_norton.specs.Misfits.{IsRowLike, AreNullRows}
+use mathlib.Core.Path.{refl, sym, ◌∙◌, ap, subst}
+use native.Mathlib.Omega.{arith}
+
+-- ---- rows
+
+-- an entry that is set leaves the number of entries
+pub like_set : (o : Order) (n : ℕ) (row new : RowValue) (i e : ℕ) → IsRowLike o n row →
+    new ≡ record { order = row.order; entries = slice_set row.entries i e } → IsRowLike o n new
+like_set o n row new i e like is = record {
+  field = ap (λ (r : RowValue). r.order) is ∙ like.field;
+  long = ap (λ (r : RowValue). length r.entries) is ∙ length-set row.entries i e ∙ like.long;
+}
+
+-- a product with a matrix has as many entries as the matrix has columns
+pub like_product : (m : MatrixValue) (row product : RowValue) → product ≡ vector_product row m → IsRowLike m.order m.cols product
+unfolding combination
+like_product m row product is = record {
+  field = ap (λ (r : RowValue). r.order) is;
+  long = ap (λ (r : RowValue). length r.entries) is ∙ listed_length {A = ℕ} m.cols _;
+}
+
+-- ---- null vectors
+
+-- one more null vector
+pub null_inserted : (x : MatrixValue) (p : PolyValue) (old new : EchelonValue) (is_new : Bool) (row : List ℕ) → AreNullRows x p old →
+    Annihilates (number_field x.order) x.rows row p.coefficients → new ≡ with_row_where is_new old row → AreNullRows x p new
+null_inserted x p old new true row are null is = subst (AreNullRows x p) (sym is) (record {
+  field = are.field;
+  columns = are.columns;
+  null = All-append (λ (r : List ℕ). Annihilates (number_field x.order) x.rows r p.coefficients) old.rows (row ∷ []) are.null
+      (All-cons (λ (r : List ℕ). Annihilates (number_field x.order) x.rows r p.coefficients) row [] null
+      (All-nil (λ (r : List ℕ). Annihilates (number_field x.order) x.rows r p.coefficients)));
+})
+null_inserted x p old new false row are null is = subst (AreNullRows x p) (sym is) are
+
+module _ (K : NumberField) where
+  abbrev F : Field
+  F = field_of K
+
+  -- independent null vectors of p(x) that are more than the degree of p: p doesn't fit x
+  pub many_null_rows : (n : ℕ) (x : List (List ℕ)) (p : List ℕ) (rows : List (List ℕ)) → length x ≡ n → IsMonicOver K p → IsMatrixOver K n rows →
+      IsIndependent K rows → All (λ row. Annihilates K x row p) rows → degree_of p < length rows → ¬ (Fits K x p)
+  many_null_rows n x p rows square monic over independent null many fits = omega (arith, many, few)
+    where
+      value : ℕ → Matrix F
+      value m = polynomial_value F (length x) m (vector_of K p) (matrix_of K x)
+
+      coefficients : length p ≡ suc (degree_of p)
+      coefficients = omega (arith, monic.positive)
+
+      null_at : (t : ℕ) → t < length rows → IsNullVector F (length x) (value (suc (degree_of p))) (matrix_of K rows t)
+      null_at t below = record {
+        length = subst (λ k. HasLength F k (matrix_of K rows t)) (sym square) (rows_length K n rows over t);
+        vanishes = subst (λ m. times F (length x) (matrix_of K rows t) (value m) ≡ zero_vector F) coefficients
+            (All-get_or (λ row. Annihilates K x row p) rows t [] below null);
+      }
+
+      few : length rows ≤ degree_of p
+      few = exchange F (length rows) (matrix_of K rows) (degree_of p) fits.basis independent
+          (λ t below. fits.spans.back (matrix_of K rows t) (null_at t below))
+
+pub seen_misfit : (x : MatrixValue) (p : PolyValue) (found : EchelonValue) → IsSquareOver (number_field x.order) x.cols x.rows → p.order ≡ x.order →
+    IsPoly p → AreNullRows x p found → IsEchelon found → degree_of p.coefficients < length found.rows →
+    ¬ (Fits (number_field x.order) x.rows p.coefficients)
+seen_misfit x p found square field poly are echelon many =
+    many_null_rows (number_field x.order) x.cols x.rows p.coefficients found.rows square.length_is
+    (subst (λ o. IsMonicOver (number_field o) p.coefficients) field poly)
+    (subst (λ o. IsMatrixOver (number_field o) x.cols found.rows) are.field
+    (subst (λ n. IsMatrixOver (number_field found.order) n found.rows) are.columns echelon.over))
+    (subst (λ o. IsIndependent (number_field o) found.rows) are.field echelon.independent) are.null many
