@@ -59,39 +59,73 @@ BindGlobal( "AXE_NumberAfter", function( word, text )
   return Int( text{ [ Length( word ) + 1 .. Length( text ) ] } );
 end );
 
+# the line of a factor: from version 2 on it ends with the word, and the polynomial where there is one, by which the
+# factor was seen to be irreducible
+BindGlobal( "AXE_FactorLine", function( report, i )
+  local line;
+  line := StringFormatted( "factor {} dim={} mult={}", report.names[ i ], report.dimensions[ i ],
+    report.multiplicities[ i ] );
+  if report.version = 2 then Append( line, StringFormatted( " word={}", report.witnesses[ i ].word ) ); fi;
+  if report.version = 2 and report.witnesses[ i ].poly <> fail then
+    Append( line, Concatenation( " poly=", report.witnesses[ i ].poly ) );
+  fi;
+  return Concatenation( line, "\n" );
+end );
+
 # the text of a report, from what AxeReadReport answers
 BindGlobal( "AXE_TextOfReport", function( report )
   local text, i;
-  text := StringFormatted( "chop 1 field={} dim={} gens={} seed={} words={}\n", Size( report.field ), report.dimension,
-    report.generators, report.seed, report.words );
-  for i in [ 1 .. Length( report.names ) ] do
-    Append( text, StringFormatted( "factor {} dim={} mult={}\n", report.names[ i ], report.dimensions[ i ],
-      report.multiplicities[ i ] ) );
-  od;
+  text := StringFormatted( "chop {} field={} dim={} gens={} seed={} words={}\n", report.version, Size( report.field ),
+    report.dimension, report.generators, report.seed, report.words );
+  for i in [ 1 .. Length( report.names ) ] do Append( text, AXE_FactorLine( report, i ) ); od;
   Append( text, "series" );
   for i in report.series do Append( text, Concatenation( " ", report.names[ i ] ) ); od;
   Append( text, "\n" );
   return text;
 end );
 
+# what the words of a factor's line say after its multiplicity: the number of the word, and the digits of the polynomial
+# or `fail`
+BindGlobal( "AXE_Witness", function( words )
+  local poly;
+  poly := fail;
+  if Length( words ) = 6 and StartsWith( words[ 6 ], "poly=" ) then poly := words[ 6 ]{ [ 6 .. Length( words[ 6 ] ) ] }; fi;
+  if Length( words ) < 5 then return rec( word := fail, poly := poly ); fi;
+  return rec( word := AXE_NumberAfter( "word=", words[ 5 ] ), poly := poly );
+end );
+
+# whether a witness of a factor is one of a report with this field and number of words: the number of a word, and digits
+# of a monic polynomial of positive degree d with q^d at most 4096
+BindGlobal( "AXE_IsWitness", function( witness, q, words )
+  local digits;
+  if not witness.word in [ 0 .. words ] then return false; fi;
+  if witness.poly = fail then return true; fi;
+  digits := List( witness.poly, digit -> Position( "012345678", digit ) );
+  return Length( digits ) > 1 and q ^ ( Length( digits ) - 1 ) <= 4096 and not fail in digits
+    and ForAll( digits, digit -> digit <= q ) and Last( digits ) = 2;
+end );
+
 # The report that the lines of a text name, or `fail` where a number or a name is missing. Whether they are just those
 # of a report shows by writing it anew.
 BindGlobal( "AXE_ReportOfLines", function( lines )
-  local head, labels, numbers, factors, series, q, place;
+  local head, labels, numbers, factors, series, q, place, version, wanted;
   head := SplitString( lines[ 1 ], " " );
   factors := List( lines{ [ 2 .. Length( lines ) - 1 ] }, line -> SplitString( line, " " ) );
   series := SplitString( lines[ Length( lines ) ], " " );
-  if Length( head ) <> 7 or ForAny( factors, words -> Length( words ) <> 4 ) then return fail; fi;
+  if Length( head ) <> 7 or not head[ 2 ] in [ "1", "2" ] then return fail; fi;
+  version := Int( head[ 2 ] );
+  wanted := [ [ 4 ], [ 5, 6 ] ][ version ];
+  if ForAny( factors, words -> not Length( words ) in wanted ) then return fail; fi;
   labels := [ "field=", "dim=", "gens=", "seed=", "words=" ];
   numbers := List( [ 1 .. 5 ], i -> AXE_NumberAfter( labels[ i ], head[ i + 2 ] ) );
   place := name -> PositionProperty( factors, words -> words[ 2 ] = name );
   q := numbers[ 1 ];
   if fail in numbers or not q in [ 2, 3, 4, 5, 7, 8, 9 ] then return fail; fi;
-  return rec( field := GF( q ), dimension := numbers[ 2 ], generators := numbers[ 3 ], seed := numbers[ 4 ],
-    words := numbers[ 5 ], names := List( factors, words -> words[ 2 ] ),
+  return rec( version := version, field := GF( q ), dimension := numbers[ 2 ], generators := numbers[ 3 ],
+    seed := numbers[ 4 ], words := numbers[ 5 ], names := List( factors, words -> words[ 2 ] ),
     dimensions := List( factors, words -> AXE_NumberAfter( "dim=", words[ 3 ] ) ),
     multiplicities := List( factors, words -> AXE_NumberAfter( "mult=", words[ 4 ] ) ),
-    series := List( series{ [ 2 .. Length( series ) ] }, place ) );
+    witnesses := List( factors, AXE_Witness ), series := List( series{ [ 2 .. Length( series ) ] }, place ) );
 end );
 
 # what the text of a report says, or `fail` where it is none: each report has one spelling
@@ -101,6 +135,8 @@ BindGlobal( "AXE_ReportOfText", function( text )
   if Length( lines ) < 3 then return fail; fi;
   report := AXE_ReportOfLines( lines );
   if report = fail or fail in Concatenation( report.dimensions, report.multiplicities, report.series )
+    or report.version = 2
+      and ForAny( report.witnesses, witness -> not AXE_IsWitness( witness, Size( report.field ), report.words ) )
     or AXE_TextOfReport( report ) <> text or report.multiplicities * report.dimensions <> report.dimension
     or ForAny( [ 1 .. Length( report.names ) ], i -> Number( report.series, j -> j = i ) <> report.multiplicities[ i ] )
     then return fail; fi;

@@ -44,6 +44,25 @@ gap> changes := [ [ "dim=12", "dim=13" ], [ "field=3", "field=6" ], [ "mult=", "
 >   [ "series ", "series  " ] ];;
 gap> List( changes, change -> AXE_ReportOfText( ReplacedString( text, change[ 1 ], change[ 2 ] ) ) );
 [ fail, fail, fail, fail, fail ]
+
+# both versions, and what is neither: words and polynomials are those of a report of version 2
+gap> of := { version, one, other } -> AXE_ReportOfText( Concatenation( "chop ", version,
+>   " field=3 dim=3 gens=2 seed=1 words=400\nfactor 2a dim=2 mult=1", one, "\nfactor 1a dim=1 mult=1", other,
+>   "\nseries 2a 1a\n" ) );;
+gap> of( "1", "", "" ).version;
+1
+gap> of( "2", " word=400 poly=21", " word=0" ).witnesses;
+[ rec( poly := "21", word := 400 ), rec( poly := fail, word := 0 ) ]
+gap> of( "2", " word=0 poly=00000001", " word=0" ).witnesses[ 1 ].poly;
+"00000001"
+gap> Set( [ of( "1", " word=0", " word=0" ), of( "2", "", "" ), of( "2", " word=0", "" ), of( "3", "", "" ) ] );
+[ fail ]
+gap> Set( [ "401", "-1", "01", "", "x" ], word -> of( "2", Concatenation( " word=", word ), " word=0" ) );
+[ fail ]
+gap> Set( [ "1", "", "31", "x1", "12", "10", "000000001" ], poly -> of( "2", Concatenation( " word=0 poly=", poly ), " word=0" ) );
+[ fail ]
+
+# nor is a matrix
 gap> FileString( at( "text" ), "1 2 1 1\n1\n" );;
 gap> AXE_ReportOfText( StringFile( at( "text" ) ) );
 fail
