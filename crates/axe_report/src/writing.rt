@@ -51,11 +51,7 @@ fn factor_line(alloc: Global, factor: &ReportFactor) -> Result<Vec<u8>, AllocErr
 }
 
 /// Appends the witness of a constituent, where it has one.
-fn put_witness(
-    alloc: Global,
-    text: &mut Vec<u8>,
-    factor: &ReportFactor,
-) -> Result<(), AllocError>
+fn put_witness(alloc: Global, text: &mut Vec<u8>, factor: &ReportFactor) -> Result<(), AllocError>
     requires { AreDigitsOf 10 (poly_of factor.now.witness) }
     ensures { OnOk result (text.new.items ≡ text.old.items ++ witness_bytes factor.now.witness) }
 {
