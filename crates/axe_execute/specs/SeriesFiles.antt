@@ -10,7 +10,8 @@ use Rattle.axe_report.specs.Spelling.{report_bytes}
 use Rattle.axe_report.specs.declared.report.ReportHeader.{ReportHeader}
 use Rattle.axe_chop.specs.Reported.{dims_of_factors, module_header, series_report}
 use Rattle.axe_folder.specs.Files.{Files, file_at}
-use Rattle.axe_plan.specs.Inputs.{matrix_in, numbered_names, module_in}
+use Rattle.axe_arguments.specs.declared.command.ModuleFiles.{ModuleFiles}
+use Rattle.axe_plan.specs.Inputs.{matrix_in, module_names, module_in}
 
 -- ---- names
 
@@ -30,15 +31,15 @@ factor_name name constituent = name ++ constituent
 abbrev pub constituents_of : List ModuleValue → List (List ℕ)
 constituents_of factors = names_of (dims_of_factors factors)
 
--- the files of the generators of constituents, each of so many
-abbrev pub factor_files : ℕ → List ℕ → List (List ℕ) → List (List ℕ)
-factor_files count name [] = []
-factor_files count name (constituent ∷ constituents) =
-    numbered_names (factor_name name constituent) count ++ factor_files count name constituents
+-- the files of constituents, each a module of its own
+abbrev pub factor_files : ModuleFiles → List ℕ → List (List ℕ) → List (List ℕ)
+factor_files stored name [] = []
+factor_files stored name (constituent ∷ constituents) =
+    module_names stored (factor_name name constituent) ++ factor_files stored name constituents
 
 -- the files that a composition series has under a name, beside those of the module itself
-abbrev pub series_files : ℕ → List ℕ → List (List ℕ) → List (List ℕ)
-series_files count name constituents = report_file name ∷ basis_file name ∷ factor_files count name constituents
+abbrev pub series_files : ModuleFiles → List ℕ → List (List ℕ) → List (List ℕ)
+series_files stored name constituents = report_file name ∷ basis_file name ∷ factor_files stored name constituents
 
 -- ---- what they hold
 
@@ -46,9 +47,10 @@ series_files count name constituents = report_file name ∷ basis_file name ∷ 
 abbrev pub series_report_bytes : ReportHeader → List ModuleValue → List ℕ → List ℕ
 series_report_bytes header factors places = report_bytes (series_report header factors places)
 
--- the files under a name hold a composition series of the module m: its generators; a basis; each factor, as a module
--- under its name by the rule; and the report on them, in whose header the numbers are those of the module
-pub record HoldsSeries (m : ModuleValue) (name : List ℕ) (files : Files) : Type 0 where
+-- the files under a name hold a composition series of the module m: the module itself; a basis; each factor, as a
+-- module under its name by the rule; and the report on them, in whose header the numbers are those of the module. All
+-- modules lie in such files
+pub record HoldsSeries (stored : ModuleFiles) (m : ModuleValue) (name : List ℕ) (files : Files) : Type 0 where
   pub header : ReportHeader
   pub basis : MatrixValue
   pub factors : List ModuleValue
@@ -58,7 +60,7 @@ pub record HoldsSeries (m : ModuleValue) (name : List ℕ) (files : Files) : Typ
   pub in_range : IsReportHeader header
   pub report_is : file_at files (report_file name) ≡ Some (series_report_bytes header factors places)
   pub basis_is : matrix_in files (basis_file name) ≡ Ok basis
-  pub module_is : module_in header.gens name files ≡ Ok m
+  pub module_is : module_in stored name files ≡ Ok m
   pub factors_are :
-      AllZip (λ constituent factor. module_in header.gens (factor_name name constituent) files ≡ Ok factor)
+      AllZip (λ constituent factor. module_in stored (factor_name name constituent) files ≡ Ok factor)
       (constituents_of factors) factors

@@ -5,6 +5,7 @@
 #![tactic(auto)]
 
 mod chopping;
+mod conversion;
 mod execution;
 mod laws;
 mod operations;

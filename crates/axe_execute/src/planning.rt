@@ -8,6 +8,7 @@ ghost use Rattle.axe_plan.specs.Outcome.{Reads};
 ghost use Rattle.axe_plan.specs.Drafts.{plan_in};
 
 use crate::chopping::chop_draft;
+use crate::conversion::module_conversion_draft;
 use crate::operations::OfOne::{self, Inverse, NullSpace, Transpose};
 use crate::operations::OfTwo::{self, Product, Sum};
 use crate::quotients::quotient_draft;
@@ -29,6 +30,11 @@ pub(crate) fn draft_of<F: Folder>(
 {
     match command {
         Command::Zcv { input, out } => conversion_draft(alloc, input, out, folder),
+        Command::ZcvModule {
+            generators,
+            name,
+            out,
+        } => module_conversion_draft(alloc, *generators, name, out, folder),
         Command::Zpr { input, out } => printing_draft(alloc, input, out.as_ref(), folder),
         Command::Zmu { left, right, out } => draft_of_two(alloc, Product, left, right, out, folder),
         Command::Zad { left, right, out } => draft_of_two(alloc, Sum, left, right, out, folder),
@@ -53,11 +59,11 @@ pub(crate) fn draft_of<F: Folder>(
             out,
         } => quotient_draft(alloc, *generators, subspace, name, out, folder),
         Command::Chop {
-            generators,
+            files,
             seed,
             words,
             name,
-        } => chop_draft(alloc, *generators, *seed, *words, name, folder),
+        } => chop_draft(alloc, files, *seed, *words, name, folder),
     }
 }
 

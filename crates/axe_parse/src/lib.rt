@@ -7,14 +7,14 @@
 
 ghost use Rattle.std.specs.Prelude.{◌≡◌, true, IfOk, IfSome};
 ghost use Rattle.axe_arguments.specs.Names.{is_name};
-ghost use Rattle.axe_arguments.specs.Commands.{HasNames, HasCounts};
+ghost use Rattle.axe_arguments.specs.Commands.{HasNames, HasCounts, HasFileCount};
 ghost use Rattle.axe_arguments.specs.Counts.{IsGeneratorCount, IsWordCount};
 
 mod help;
 mod lines;
 mod program;
 
-use axe_arguments::{Command, GeneratorCount, Name, NameFault, WordCount};
+use axe_arguments::{Command, GeneratorCount, ModuleFiles, Name, NameFault, WordCount};
 use clap::ArgMatches;
 use clap::error::ErrorKind;
 use std::alloc::{AllocError, Global};
@@ -104,13 +104,20 @@ fn command_of(alloc: Global, command: &str, found: &ArgMatches<'_>) -> Result<Co
     }
 }
 
-/// The command `zcv IN OUT`.
+/// The command `zcv IN OUT`, or `zcv -m [-g N] NAME OUT`.
 fn zcv_of(alloc: Global, found: &ArgMatches<'_>) -> Result<Command, ParseFault>
     ensures names { IfOk result HasNames }
     ensures counts { IfOk result HasCounts }
 {
     let (input, out) = two_names_of(alloc, found, lines::IN, lines::OUT)?;
-    Ok(Command::Zcv { input, out })
+    if !found.get_flag(lines::MODULE) {
+        return Ok(Command::Zcv { input, out });
+    }
+    Ok(Command::ZcvModule {
+        generators: generators_of(alloc, found)?,
+        name: input,
+        out,
+    })
 }
 
 /// The command `zpr IN [OUT]`.
@@ -208,19 +215,30 @@ fn zqt_of(alloc: Global, found: &ArgMatches<'_>) -> Result<Command, ParseFault>
     })
 }
 
-/// The command `chop [-g N] [--seed S] [--words W] NAME`.
+/// The command `chop [-m] [-g N] [--seed S] [--words W] NAME`.
 fn chop_of(alloc: Global, found: &ArgMatches<'_>) -> Result<Command, ParseFault>
     ensures names { IfOk result HasNames }
     ensures counts { IfOk result HasCounts }
 {
-    let generators = generators_of(alloc, found)?;
+    let files = module_files_of(alloc, found)?;
     let words = words_of(alloc, found)?;
     Ok(Command::Chop {
-        generators,
+        files,
         seed: found.get_one::<u64>(lines::WORD_SEED).unwrap_or(1),
         words,
         name: name_of(alloc, found, lines::NAME)?,
     })
+}
+
+/// The files of a module: with `-m` one for all generators, and else one for each.
+fn module_files_of(alloc: Global, found: &ArgMatches<'_>) -> Result<ModuleFiles, ParseFault>
+    ensures { IfOk result HasFileCount }
+{
+    if found.get_flag(lines::MODULE) {
+        Ok(ModuleFiles::Whole)
+    } else {
+        Ok(ModuleFiles::Separate(generators_of(alloc, found)?))
+    }
 }
 
 /// The number of a module's generators. A number that is missing, or is not 1 to 16, has been refused by `clap`

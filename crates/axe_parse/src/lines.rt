@@ -47,6 +47,9 @@ pub(crate) const OUT: &str = "OUT";
 /// The number of generators, as help calls it.
 pub(crate) const GENERATORS: &str = "N";
 
+/// Whether a module is asked for that is kept in one file.
+pub(crate) const MODULE: &str = "module";
+
 /// Whether a standard basis is asked for.
 pub(crate) const STANDARD: &str = "standard";
 
@@ -103,6 +106,8 @@ pub(crate) enum WordKind {
     FileOption(char),
     /// This letter after a hyphen, which may be left out.
     Flag(char),
+    /// As [`WordKind::Flag`], or the word's name after two hyphens.
+    NamedFlag(char),
     /// This letter after a hyphen, and then a number of generators. They may be left out.
     Count(char),
     /// An option with a number, which may be left out.
@@ -127,15 +132,25 @@ pub(crate) fn command_lines() -> [&'static CommandLine; 10] {
     ]
 }
 
-/// `zcv IN OUT`.
+/// `zcv [-m] [-g N] IN OUT`.
 static ZCV_LINE: CommandLine = CommandLine {
     name: ZCV,
     about: help::ZCV_ABOUT,
     long_about: help::ZCV_LONG_ABOUT,
     words: &[
         Word {
+            name: MODULE,
+            help: "Convert the texts IN.1 to IN.N, the generators of a module, to one file",
+            kind: WordKind::NamedFlag('m'),
+        },
+        Word {
+            name: GENERATORS,
+            help: help::GENERATORS,
+            kind: WordKind::Count('g'),
+        },
+        Word {
             name: IN,
-            help: "The file of the text",
+            help: help::IN_TEXT,
             kind: WordKind::File,
         },
         Word {
@@ -338,12 +353,17 @@ static ZQT_LINE: CommandLine = CommandLine {
     ],
 };
 
-/// `chop [-g N] [--seed S] [--words W] NAME`.
+/// `chop [-m] [-g N] [--seed S] [--words W] NAME`.
 static CHOP_LINE: CommandLine = CommandLine {
     name: CHOP,
     about: help::CHOP_ABOUT,
     long_about: help::CHOP_LONG_ABOUT,
     words: &[
+        Word {
+            name: MODULE,
+            help: "Read the module from the file NAME.axm, and write each constituent to one file",
+            kind: WordKind::NamedFlag('m'),
+        },
         Word {
             name: GENERATORS,
             help: help::GENERATORS,
@@ -369,7 +389,7 @@ static CHOP_LINE: CommandLine = CommandLine {
         },
         Word {
             name: NAME,
-            help: help::NAME_GENERATORS,
+            help: help::NAME_MODULE,
             kind: WordKind::File,
         },
     ],

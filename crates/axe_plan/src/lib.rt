@@ -7,5 +7,5 @@ mod modules;
 mod reading;
 
 pub use draft::{Change, Draft, make_all};
-pub use modules::{module_of, numbered, read_generators};
+pub use modules::{module_of, numbered, read_generators, read_module, read_text_generators};
 pub use reading::{read_matrix, read_text_matrix};

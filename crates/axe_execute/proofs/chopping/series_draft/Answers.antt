@@ -5,7 +5,7 @@ use Rattle.axe_execute.proofs.chopping.series_draft.Goals as goal
 
 pub returns : goal.returns
 returns c =
-    ap Ok (sym (series_drafted c.args.name.now _ c.args.header c.args.chopped.now.basis
+    ap Ok (sym (series_drafted c.args.files.now c.args.name.now _ c.args.header c.args.chopped.now.basis
     (factor_modules c.args.chopped.now) c.args.chopped.now.series.items _ _ c.in-Ok.report.items _ _
     c.new-draft.ensures c.in_ok-put_series.ensures.put c.as_str.ensures.text
     (keys_are_names c.requires.found.m c.args.header.seed c.args.header.words c.args.chopped.now c.requires.found.chopped_is)

@@ -6,6 +6,9 @@ use Rattle.axe_execute.proofs.planning.draft_of.Goals as goal
 pub returns-in-Zcv : goal.returns-in-Zcv
 returns-in-Zcv g c = λ tells. rw (c.in-Zcv.is) (c.conversion_draft.ensures tells)
 
+pub returns-in-ZcvModule : goal.returns-in-ZcvModule
+returns-in-ZcvModule g c = λ tells. rw (c.in-ZcvModule.is) (c.module_conversion_draft.ensures tells)
+
 pub returns-in-Zpr : goal.returns-in-Zpr
 returns-in-Zpr g c = λ tells.
     let right = c.printing_draft.ensures tells in
