@@ -7,7 +7,7 @@ use Rattle.axe_arguments.specs.declared.command.ModuleFiles.{ModuleFiles}
 use Rattle.axe_arguments.specs.declared.command.ModuleFiles.TheVariants.{Separate, Whole}
 use Rattle.axe_arguments.specs.declared.command.Command.{Command}
 use Rattle.axe_arguments.specs.declared.command.Command.TheVariants.{Zcv, ZcvModule, Zpr, Zmu, Zad}
-use Rattle.axe_arguments.specs.declared.command.Command.TheVariants.{Ztr, Ziv, Znu, Zsp, Zqt, Chop}
+use Rattle.axe_arguments.specs.declared.command.Command.TheVariants.{Ztr, Ziv, Znu, Zsp, Zqt, Chop, Verify}
 
 -- the words of a command that stand for files, in their order
 abbrev pub file_names : Command → List (List ℕ)
@@ -24,6 +24,7 @@ file_names (Zsp generators standard None name seed out) = name ∷ seed ∷ out 
 file_names (Zsp generators standard (Some action) name seed out) = action ∷ name ∷ seed ∷ out ∷ []
 file_names (Zqt generators subspace name out) = subspace ∷ name ∷ out ∷ []
 file_names (Chop files seed words name) = name ∷ []
+file_names (Verify layout name) = name ∷ []
 
 -- each word of the command that stands for a file keeps the rule of names
 abbrev pub HasNames : Command → Type 0

@@ -11,6 +11,30 @@ pub enum ModuleFiles {
     Whole,
 }
 
+/// How the files of a module lie, where something else says how many generators it has.
+#[derive(Debug, Clone, Copy)]
+pub enum ModuleLayout {
+    /// Each generator in a file of its own, NAME.1 to NAME.N.
+    Separate,
+    /// All in one file, NAME.axm.
+    Whole,
+}
+
+impl ModuleLayout {
+    ghost use Rattle.std.specs.Prelude.{◌≡◌};
+    ghost use Rattle.axe_arguments.specs.Layouts.{files_with};
+
+    /// The files of a module with so many generators.
+    pub fn files(self, generators: GeneratorCount) -> ModuleFiles
+        ensures { result ≡ files_with self generators }
+    {
+        match self {
+            ModuleLayout::Separate => ModuleFiles::Separate(generators),
+            ModuleLayout::Whole => ModuleFiles::Whole,
+        }
+    }
+}
+
 /// One command of `axe` with its files. Files lie in the working directory, and are packed matrices where nothing
 /// else is said.
 #[derive(Debug, Drop)]
@@ -116,6 +140,14 @@ pub enum Command {
         /// How many words are tried after word 0.
         words: WordCount,
         /// The name of the module, which is the beginning of the name of each file that is read or written.
+        name: Name,
+    },
+    /// `verify [-m] NAME`: checks that what lies beside a module is a composition series of it. The report says how
+    /// many generators there are.
+    Verify {
+        /// How the files of the module lie, and those of each constituent.
+        layout: ModuleLayout,
+        /// The name of the module, which is the beginning of the name of each file that is read.
         name: Name,
     },
 }

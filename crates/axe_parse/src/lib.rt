@@ -14,7 +14,9 @@ mod help;
 mod lines;
 mod program;
 
-use axe_arguments::{Command, GeneratorCount, ModuleFiles, Name, NameFault, WordCount};
+use axe_arguments::{
+    Command, GeneratorCount, ModuleFiles, ModuleLayout, Name, NameFault, WordCount,
+};
 use clap::ArgMatches;
 use clap::error::ErrorKind;
 use std::alloc::{AllocError, Global};
@@ -100,6 +102,7 @@ fn command_of(alloc: Global, command: &str, found: &ArgMatches<'_>) -> Result<Co
         lines::ZSP => zsp_of(alloc, found),
         lines::ZQT => zqt_of(alloc, found),
         lines::CHOP => chop_of(alloc, found),
+        lines::VERIFY => verify_of(alloc, found),
         _ => Err(no_command(alloc)?),
     }
 }
@@ -226,6 +229,22 @@ fn chop_of(alloc: Global, found: &ArgMatches<'_>) -> Result<Command, ParseFault>
         files,
         seed: found.get_one::<u64>(lines::WORD_SEED).unwrap_or(1),
         words,
+        name: name_of(alloc, found, lines::NAME)?,
+    })
+}
+
+/// The command `verify [-m] NAME`.
+fn verify_of(alloc: Global, found: &ArgMatches<'_>) -> Result<Command, ParseFault>
+    ensures names { IfOk result HasNames }
+    ensures counts { IfOk result HasCounts }
+{
+    let layout = if found.get_flag(lines::MODULE) {
+        ModuleLayout::Whole
+    } else {
+        ModuleLayout::Separate
+    };
+    Ok(Command::Verify {
+        layout,
         name: name_of(alloc, found, lines::NAME)?,
     })
 }

@@ -32,6 +32,9 @@ pub(crate) const ZQT: &str = "zqt";
 /// The word for a composition series of a module.
 pub(crate) const CHOP: &str = "chop";
 
+/// The word for the check of a composition series.
+pub(crate) const VERIFY: &str = "verify";
+
 /// The file that is converted or printed, as help calls it.
 pub(crate) const IN: &str = "IN";
 
@@ -125,10 +128,19 @@ pub(crate) struct NumberOption {
 }
 
 /// All command lines of `axe`, in the order in which help shows them.
-pub(crate) fn command_lines() -> [&'static CommandLine; 10] {
+pub(crate) fn command_lines() -> [&'static CommandLine; 11] {
     [
-        &ZCV_LINE, &ZPR_LINE, &ZMU_LINE, &ZAD_LINE, &ZTR_LINE, &ZIV_LINE, &ZNU_LINE, &ZSP_LINE,
-        &ZQT_LINE, &CHOP_LINE,
+        &ZCV_LINE,
+        &ZPR_LINE,
+        &ZMU_LINE,
+        &ZAD_LINE,
+        &ZTR_LINE,
+        &ZIV_LINE,
+        &ZNU_LINE,
+        &ZSP_LINE,
+        &ZQT_LINE,
+        &CHOP_LINE,
+        &VERIFY_LINE,
     ]
 }
 
@@ -386,6 +398,25 @@ static CHOP_LINE: CommandLine = CommandLine {
                 most: MAX_WORDS as u64,
                 default: "400",
             }),
+        },
+        Word {
+            name: NAME,
+            help: help::NAME_MODULE,
+            kind: WordKind::File,
+        },
+    ],
+};
+
+/// `verify [-m] NAME`.
+static VERIFY_LINE: CommandLine = CommandLine {
+    name: VERIFY,
+    about: help::VERIFY_ABOUT,
+    long_about: help::VERIFY_LONG_ABOUT,
+    words: &[
+        Word {
+            name: MODULE,
+            help: "Read the module from the file NAME.axm, and each constituent from one file",
+            kind: WordKind::NamedFlag('m'),
         },
         Word {
             name: NAME,
