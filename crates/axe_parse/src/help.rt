@@ -269,14 +269,17 @@ A constituent's name is its dimension and letters: the first of dimension 2 is
 example, with M.1 and M.2 the permutations of three points over the field of
 order 2, axe chop M shows
 
-  chop 1 field=2 dim=3 gens=2 seed=1 words=400
-  factor 2a dim=2 mult=1
-  factor 1a dim=1 mult=1
+  chop 2 field=2 dim=3 gens=2 seed=1 words=400
+  factor 2a dim=2 mult=1 word=0
+  factor 1a dim=1 mult=1 word=0
   series 2a 1a
 
 So there is one constituent of dimension 2 and one of dimension 1, each stands
-once in the series, and 2a is the lower one. The files are M.bas, M2a.1, M2a.2,
-M1a.1, M1a.2 and M.rep; with -m they are M.bas, M2a.axm, M1a.axm and M.rep.
+once in the series, and 2a is the lower one. Word 0 shows both irreducible;
+where it takes a polynomial at the value of a word to show that, the line goes
+on with its coefficients, the constant one first, as in poly=1101. The files
+are M.bas, M2a.1, M2a.2, M1a.1, M1a.2 and M.rep; with -m they are M.bas,
+M2a.axm, M1a.axm and M.rep.
 
 Each section of the module is looked at with the words 0 to W in the
 generators, which the seed draws, until one shows that it is irreducible or
