@@ -96,32 +96,32 @@ const CHOPPED: &str = r"
 # irreducible, so its own factor; a factor of another run in files of their own stays
 + M.axm bytes 41 58 50 32 02 01 00 00 02 00 00 00 00 00 00 00 40 C0
 + M2a.1 text another run
-$ chop -m M -> 0 chop 1 field=2 dim=2 gens=1 seed=1 words=400\nfactor 2a dim=2 mult=1\nseries 2a\n
+$ chop -m M -> 0 chop 2 field=2 dim=2 gens=1 seed=1 words=400\nfactor 2a dim=2 mult=1 word=0\nseries 2a\n
 = M.bas packed 2 2 2 40 C0
 = M2a.axm bytes 41 58 50 32 02 01 00 00 02 00 00 00 00 00 00 00 40 C0
-= M.rep text chop 1 field=2 dim=2 gens=1 seed=1 words=400\nfactor 2a dim=2 mult=1\nseries 2a\n
+= M.rep text chop 2 field=2 dim=2 gens=1 seed=1 words=400\nfactor 2a dim=2 mult=1 word=0\nseries 2a\n
 # a constituent is a module of its own
-$ chop -m M2a -> 0 chop 1 field=2 dim=2 gens=1 seed=1 words=400\nfactor 2a dim=2 mult=1\nseries 2a\n
+$ chop -m M2a -> 0 chop 2 field=2 dim=2 gens=1 seed=1 words=400\nfactor 2a dim=2 mult=1 word=0\nseries 2a\n
 = M2a.bas packed 2 2 2 40 C0
 = M2a2a.axm bytes 41 58 50 32 02 01 00 00 02 00 00 00 00 00 00 00 40 C0
-= M2a.rep text chop 1 field=2 dim=2 gens=1 seed=1 words=400\nfactor 2a dim=2 mult=1\nseries 2a\n
+= M2a.rep text chop 2 field=2 dim=2 gens=1 seed=1 words=400\nfactor 2a dim=2 mult=1 word=0\nseries 2a\n
 
 # the permutations of three points over two elements: two constituents; so many generators as the file has
 + M.axm bytes 41 58 50 32 02 02 00 00 03 00 00 00 00 00 00 00 40 80 20 40 20 80
-$ chop -g 16 --module M -> 0 chop 1 field=2 dim=3 gens=2 seed=1 words=400\nfactor 2a dim=2 mult=1\nfactor 1a dim=1 mult=1\nseries 2a 1a\n
+$ chop -g 16 --module M -> 0 chop 2 field=2 dim=3 gens=2 seed=1 words=400\nfactor 2a dim=2 mult=1 word=0\nfactor 1a dim=1 mult=1 word=0\nseries 2a 1a\n
 = M.bas packed 2 3 3 60 A0 20
 = M2a.axm bytes 41 58 50 32 02 02 00 00 02 00 00 00 00 00 00 00 40 80 40 C0
 = M1a.axm bytes 41 58 50 32 02 02 00 00 01 00 00 00 00 00 00 00 80 80
-= M.rep text chop 1 field=2 dim=3 gens=2 seed=1 words=400\nfactor 2a dim=2 mult=1\nfactor 1a dim=1 mult=1\nseries 2a 1a\n
+= M.rep text chop 2 field=2 dim=3 gens=2 seed=1 words=400\nfactor 2a dim=2 mult=1 word=0\nfactor 1a dim=1 mult=1 word=0\nseries 2a 1a\n
 
 # from texts; with the seed and the words that are given
 + M.1 text 1 2 2 2\n01\n11\n
 $ zcv -m -g 1 M M.axm -> 0
 = M.axm bytes 41 58 50 32 02 01 00 00 02 00 00 00 00 00 00 00 40 C0
-$ chop -m --seed 0 --words 0 M -> 0 chop 1 field=2 dim=2 gens=1 seed=0 words=0\nfactor 2a dim=2 mult=1\nseries 2a\n
+$ chop -m --seed 0 --words 0 M -> 0 chop 2 field=2 dim=2 gens=1 seed=0 words=0\nfactor 2a dim=2 mult=1 word=0\nseries 2a\n
 = M.bas packed 2 2 2 40 C0
 = M2a.axm bytes 41 58 50 32 02 01 00 00 02 00 00 00 00 00 00 00 40 C0
-= M.rep text chop 1 field=2 dim=2 gens=1 seed=0 words=0\nfactor 2a dim=2 mult=1\nseries 2a\n
+= M.rep text chop 2 field=2 dim=2 gens=1 seed=0 words=0\nfactor 2a dim=2 mult=1 word=0\nseries 2a\n
 ";
 
 #[test]
@@ -185,13 +185,13 @@ fn files_of_no_module_leave_every_file(rt: HostRuntime) {
 const SIX_CALLS: &str = r"
 + M.axm bytes 41 58 50 32 02 02 00 00 03 00 00 00 00 00 00 00 40 80 20 40 20 80
 + M.rep text old
-$ chop -m M -> 0 chop 1 field=2 dim=3 gens=2 seed=1 words=400\nfactor 2a dim=2 mult=1\nfactor 1a dim=1 mult=1\nseries 2a 1a\n
+$ chop -m M -> 0 chop 2 field=2 dim=3 gens=2 seed=1 words=400\nfactor 2a dim=2 mult=1 word=0\nfactor 1a dim=1 mult=1 word=0\nseries 2a 1a\n
 ? M.axm
 - M.rep
 = M.bas packed 2 3 3 60 A0 20
 = M2a.axm bytes 41 58 50 32 02 02 00 00 02 00 00 00 00 00 00 00 40 80 40 C0
 = M1a.axm bytes 41 58 50 32 02 02 00 00 01 00 00 00 00 00 00 00 80 80
-= M.rep text chop 1 field=2 dim=3 gens=2 seed=1 words=400\nfactor 2a dim=2 mult=1\nfactor 1a dim=1 mult=1\nseries 2a 1a\n
+= M.rep text chop 2 field=2 dim=3 gens=2 seed=1 words=400\nfactor 2a dim=2 mult=1 word=0\nfactor 1a dim=1 mult=1 word=0\nseries 2a 1a\n
 ";
 
 #[test]

@@ -231,7 +231,7 @@ zqt --help -> help: ..the generators of the quotient
 chop -h -> help: ..Usage: axe chop [OPTIONS] <NAME>\n
 chop -h -> help: ..      --seed <S>   The seed that draws the words, 0 to 18446744073709551615 [default: 1]\n
 chop -h -> help: ..      --words <W>  How many words are tried after word 0, 0 to 10000 [default: 400]\n
-chop --help -> help: ..  factor 2a dim=2 mult=1\n
+chop --help -> help: ..  factor 2a dim=2 mult=1 word=0\n
 ";
 
 #[test]

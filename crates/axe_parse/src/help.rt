@@ -276,10 +276,11 @@ order 2, axe chop M shows
   series 2a 1a
 
 So there is one constituent of dimension 2 and one of dimension 1, each stands
-once in the series, 2a is the lower one, and word 0 showed both to be
-irreducible: axe help verify tells how that is checked. The files are M.bas,
-M2a.1, M2a.2, M1a.1, M1a.2 and M.rep; with -m they are M.bas, M2a.axm, M1a.axm
-and M.rep.
+once in the series, and 2a is the lower one. Word 0 shows both irreducible;
+where it takes a polynomial at the value of a word to show that, the line goes
+on with its coefficients, the constant one first, as in poly=1101. The files
+are M.bas, M2a.1, M2a.2, M1a.1, M1a.2 and M.rep; with -m they are M.bas,
+M2a.axm, M1a.axm and M.rep.
 
 Each section of the module is looked at with the words 0 to W in the
 generators, which the seed draws, until one shows that it is irreducible or

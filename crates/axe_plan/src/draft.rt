@@ -150,12 +150,7 @@ impl Draft {
     }
 
     /// Adds that the file of this name is given the packed spelling of a whole module.
-    fn put_module_file(
-        &mut self,
-        alloc: Global,
-        name: String,
-        module: Module,
-    ) -> Result<(), Fault>
+    fn put_module_file(&mut self, alloc: Global, name: String, module: Module) -> Result<(), Fault>
         ensures put { OnOk result (plan_in self.new
             ≡ with_step (plan_in self.old) (Put (string_bytes name) (packed_module (matrices_of «module»)))) }
         ensures memory { IfErr result (λ fault. fault ≡ Memory) }

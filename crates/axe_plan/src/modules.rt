@@ -1,5 +1,6 @@
 //! Modules in files: those with a file for each generator, NAME.1 to NAME.N, and those with one file, NAME.axm.
 ghost use Rattle.std.specs.Prelude.{◌≡◌, ◌≤◌, IsTrue, [], length, IfOk, string_bytes};
+ghost use Rattle.axe_arguments.specs.Counts.{IsGeneratorCount};
 ghost use Rattle.axe_spin.specs.Limits.{most_generators};
 ghost use Rattle.axe_spin.specs.Modules.{IsModule};
 ghost use Rattle.axe_plan.specs.Inputs.{matrices_in, text_matrices_in, all_spelled_in, generators_in, checked_module};
@@ -62,6 +63,7 @@ pub fn read_generators<F: Folder>(
     ensures reads { IsTrue F.tells → Reads F.files F.tally folder.old folder.new (numbered_names name.now count)
         (λ matrices. matrices.items) result (λ files. Is (matrices_in files (numbered_names name.now count))) }
     ensures many { IfOk result (λ matrices. length matrices.items ≡ count) }
+    ensures counted { IsGeneratorCount count }
 {
     read_numbered(alloc, folder, name, count, Spelling::Packed)
 }
@@ -76,6 +78,7 @@ pub fn read_text_generators<F: Folder>(
     ensures reads { IsTrue F.tells → Reads F.files F.tally folder.old folder.new (numbered_names name.now count)
         (λ matrices. matrices.items) result (λ files. Is (text_matrices_in files (numbered_names name.now count))) }
     ensures many { IfOk result (λ matrices. length matrices.items ≡ count) }
+    ensures counted { IsGeneratorCount count }
 {
     read_numbered(alloc, folder, name, count, Spelling::Text)
 }
@@ -92,6 +95,7 @@ fn read_numbered<F: Folder>(
         (λ matrices. matrices.items) result
         (λ files. Is (all_spelled_in spelling files (numbered_names name.now count))) }
     ensures many { IfOk result (λ matrices. length matrices.items ≡ count) }
+    ensures counted { IsGeneratorCount count }
 {
     let mut matrices = Vec::new(alloc);
     for index in 0..usize::from(count.get()) {
