@@ -12,3 +12,4 @@ pub mod SomeAnswer
 pub mod BrokenSteps
 pub mod ReadingEnds
 pub mod ModuleSteps
+pub mod ReportAnswers

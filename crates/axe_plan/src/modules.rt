@@ -28,15 +28,15 @@ pub fn read_module<F: Folder>(
         (λ read. read) result (λ folder. Is (module_in files.now name.now folder)) }
     ensures well_formed { IfOk result IsModule }
 {
-    let generators = read_stored(alloc, folder, name, files)?;
+    let generators = read_stored(alloc, folder, name.as_str(), files)?;
     module_of(generators)
 }
 
 /// The generators of the module of this name from its files.
-fn read_stored<F: Folder>(
+pub fn read_stored<F: Folder>(
     alloc: Global,
     folder: &mut F,
-    name: &Name,
+    name: &str,
     files: &ModuleFiles,
 ) -> Result<Vec<Matrix>, Fault>
     ensures reads { IsTrue F.tells → Reads F.files F.tally folder.old folder.new (module_names files.now name.now)
@@ -45,9 +45,11 @@ fn read_stored<F: Folder>(
     ensures fits { IfOk result (λ matrices. length matrices.items ≤ most_generators) }
 {
     match files {
-        ModuleFiles::Separate(count) => read_generators(alloc, folder, name, *count),
+        ModuleFiles::Separate(count) => {
+            read_numbered(alloc, folder, name, *count, Spelling::Packed)
+        }
         ModuleFiles::Whole => {
-            let file = module_file(alloc, name.as_str())?;
+            let file = module_file(alloc, name)?;
             read_module_file(alloc, folder, &file)
         }
     }
@@ -65,7 +67,7 @@ pub fn read_generators<F: Folder>(
     ensures many { IfOk result (λ matrices. length matrices.items ≡ count) }
     ensures counted { IsGeneratorCount count }
 {
-    read_numbered(alloc, folder, name, count, Spelling::Packed)
+    read_numbered(alloc, folder, name.as_str(), count, Spelling::Packed)
 }
 
 /// The matrices of which the files NAME.1 to NAME.N are texts, each fetched and read before the next.
@@ -80,14 +82,14 @@ pub fn read_text_generators<F: Folder>(
     ensures many { IfOk result (λ matrices. length matrices.items ≡ count) }
     ensures counted { IsGeneratorCount count }
 {
-    read_numbered(alloc, folder, name, count, Spelling::Text)
+    read_numbered(alloc, folder, name.as_str(), count, Spelling::Text)
 }
 
 /// The matrices that the files NAME.1 to NAME.N spell so, each fetched and read before the next.
 fn read_numbered<F: Folder>(
     alloc: Global,
     folder: &mut F,
-    name: &Name,
+    name: &str,
     count: GeneratorCount,
     spelling: Spelling,
 ) -> Result<Vec<Matrix>, Fault>
@@ -99,7 +101,7 @@ fn read_numbered<F: Folder>(
 {
     let mut matrices = Vec::new(alloc);
     for index in 0..usize::from(count.get()) {
-        let file = numbered(alloc, name.as_str(), index + 1)?;
+        let file = numbered(alloc, name, index + 1)?;
         let matrix = read_spelled(alloc, folder, &file, spelling)?;
         matrices.push(matrix)?;
     }

@@ -63,7 +63,11 @@ pub(crate) fn read_spelled<F: Folder>(
 
 /// The matrix of a packed file.
 #[tactic(auto, unfolding(crate::specs::Inputs::matrix_in))]
-fn read_matrix_file<F: Folder>(alloc: Global, folder: &mut F, file: &str) -> Result<Matrix, Fault>
+pub fn read_matrix_file<F: Folder>(
+    alloc: Global,
+    folder: &mut F,
+    file: &str,
+) -> Result<Matrix, Fault>
     ensures reads { IsTrue F.tells → Reads F.files F.tally folder.old folder.new (file.now ∷ [])
         (λ matrix. matrix) result (λ files. Is (matrix_in files file.now)) }
     ensures well_formed { IfOk result IsMatrix }
@@ -109,7 +113,7 @@ pub(crate) fn read_module_file<F: Folder>(
 
 /// The bytes of a file that has at most `limit` of them.
 #[tactic(auto, unfolding(crate::specs::Inputs::bytes_in))]
-fn fetch<F: Folder>(
+pub(crate) fn fetch<F: Folder>(
     alloc: Global,
     folder: &mut F,
     file: &str,

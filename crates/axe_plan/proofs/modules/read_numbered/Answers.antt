@@ -14,7 +14,7 @@ returns-in_err-matrix-clause-reads g c = λ tells.
     (c.loop-index.invariant.kept tells) (c.loop-index.invariant.counted tells)
     (fault_of_next {U = Vec Matrix Global} c.args.spelling _ _ c.loop-index.matrices.items c.args.name.now _ c.loop-index.index c.args.count
     (λ matrices. matrices.items) _ below (c.loop-index.invariant.kept tells)
-    (c.deref.ensures ∙ c.in_ok-file.ensures ∙ ap (λ text. numbered text (c.loop-index.index + 1)) c.as_str.ensures.text) (c.loop-index.invariant.read tells) (c.in_err-matrix.ensures.reads tells).agrees)
+    (c.deref.ensures ∙ c.in_ok-file.ensures) (c.loop-index.invariant.read tells) (c.in_err-matrix.ensures.reads tells).agrees)
     (c.in_err-matrix.ensures.reads tells))
 
 pub loop-index-preserved : goal.loop-index-preserved
@@ -22,7 +22,7 @@ loop-index-preserved g c =
     let below : c.loop-index.index < c.args.count = omega (arith, c.loop-index-test.true, c.from-index-end.ensures, c.get.ensures.number) in
     record {
       read = λ tells. read_next c.args.spelling _ _ c.loop-index.matrices.items _ c.args.name.now _ c.loop-index.index c.args.count c.in_ok-matrix.matrix below
-          (c.loop-index.invariant.kept tells) (c.deref.ensures ∙ c.in_ok-file.ensures ∙ ap (λ text. numbered text (c.loop-index.index + 1)) c.as_str.ensures.text) (c.loop-index.invariant.read tells)
+          (c.loop-index.invariant.kept tells) (c.deref.ensures ∙ c.in_ok-file.ensures) (c.loop-index.invariant.read tells)
           (c.in_ok-matrix.ensures.reads tells).agrees c.in_ok-push.ensures.items;
       kept = λ tells. (c.in_ok-matrix.ensures.reads tells).kept ∙ c.loop-index.invariant.kept tells;
       counted = λ tells. (c.in_ok-matrix.ensures.reads tells).counted ∙ c.loop-index.invariant.counted tells;

@@ -16,7 +16,7 @@ few_read count (Ok matrices) counted many = omega (arith, counted.fits, many)
 few_read count (Err fault) counted many = tt
 
 pub returns-in-Separate-clause-some : goal.returns-in-Separate-clause-some
-returns-in-Separate-clause-some g c = some_read _ c.read_generators.result c.read_generators.ensures.counted c.read_generators.ensures.many
+returns-in-Separate-clause-some g c = some_read _ c.read_numbered.result c.read_numbered.ensures.counted c.read_numbered.ensures.many
 
 pub returns-in-Separate-clause-fits : goal.returns-in-Separate-clause-fits
-returns-in-Separate-clause-fits g c = few_read _ c.read_generators.result c.read_generators.ensures.counted c.read_generators.ensures.many
+returns-in-Separate-clause-fits g c = few_read _ c.read_numbered.result c.read_numbered.ensures.counted c.read_numbered.ensures.many
