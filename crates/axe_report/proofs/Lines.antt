@@ -83,9 +83,6 @@ pub digits_begun : (first : List ℕ) → first ≡ first ++ digit_bytes []
 unfolding digit_bytes
 digits_begun first = sym (append-nil first)
 
-pub digits_ended : (digits : List ℕ) (i : ℕ) (first items : List ℕ) → length digits ≤ i → items ≡ first ++ digit_bytes (take i digits) → items ≡ first ++ digit_bytes digits
-digits_ended digits i first items le inv = inv ∙ ap (λ (x : List ℕ). first ++ digit_bytes x) (take_all i digits le)
-
 -- one more digit of which the spelling is read
 pub digit_read : (numeral digits pushed : List ℕ) (i byte : ℕ) → i < length numeral → byte ≡ get_or numeral i 0 → 48 ≤ byte → digit_bytes digits ≡ take i numeral → pushed ≡ digits ++ (byte - 48) ∷ []
     → digit_bytes pushed ≡ take (i + 1) numeral

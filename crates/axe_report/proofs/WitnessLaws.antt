@@ -7,9 +7,8 @@ use Rattle.std.proofs.lemmas.Bool.{cases_lt, and_parts, leb-true}
 use Rattle.std.proofs.lemmas.List.{length-map}
 use Rattle.std.proofs.lemmas.List.Elements.{All-head, All-tail, All-nil, All-cons}
 use Rattle.axe_field.specs.Order.{Order, order_number}
-use Rattle.axe_field.proofs.Orders.{order_number-at_least, order_number-at_most}
+use Rattle.axe_field.proofs.Orders.{order_number-at_most}
 use Rattle.axe_report.specs.Fronts.{is_digit, Stops}
-use Rattle.axe_report.specs.Limits.{most_polynomials}
 use Rattle.axe_report.specs.Reports.{WitnessValue, FactorValue, AreDigits, AreDigitsOf, IsPolyOver, IsReportHeader, AreFactors}
 use Rattle.axe_report.specs.Reports.{IsWitnessUnder, IsWitnessIn, IsWitnessed, AreWitnessed, poly_of}
 use Rattle.axe_report.specs.Spelling.{digit_bytes, poly_bytes, witness_bytes}
@@ -250,20 +249,3 @@ no_feed h text one feed w x is e =
 
 pub feed_there : (h : ReportHeader) (text x : List ℕ) → h.version ≡ One → text ≡ 10 ∷ x → IsWitnessIn h.version h None × (text ≡ witness_bytes None ++ (10 ∷ x))
 feed_there h text x one e = (subst (λ (v : Version). IsWitnessIn v h None) (sym one) tt, e ∙ sym (no_witness x))
-
-other_than_one : (v : Version) → (v ≡ One → ⊥) → v ≡ Two
-other_than_one One other = absurd (other refl)
-other_than_one Two other = refl
-
-two_some : (h : ReportHeader) (w : Option WitnessValue) → IsWitnessIn Two h w → (one : WitnessValue) × (w ≡ Some one) × IsWitnessUnder h one
-two_some h None is = absurd is
-two_some h (Some w) is = (w, refl, is)
-
-pub witness_in : (h : ReportHeader) (w : WitnessValue) → (h.version ≡ One → ⊥) → IsWitnessUnder h w → IsWitnessIn h.version h (Some w)
-witness_in h w other is = subst (λ (v : Version). IsWitnessIn v h (Some w)) (sym (other_than_one h.version other)) is
-
-pub no_witness_in : (h : ReportHeader) (text : List ℕ) → (h.version ≡ One → ⊥) → ((w : WitnessValue) (x : List ℕ) → IsWitnessUnder h w → text ≢ witness_bytes (Some w) ++ (10 ∷ x))
-    → (w : Option WitnessValue) (x : List ℕ) → IsWitnessIn h.version h w → text ≢ witness_bytes w ++ (10 ∷ x)
-no_witness_in h text other none w x is e =
-    let one = two_some h w (subst (λ (v : Version). IsWitnessIn v h w) (other_than_one h.version other) is) in
-    none one.0 x one.2 (e ∙ ap (λ (k : Option WitnessValue). witness_bytes k ++ (10 ∷ x)) one.1)

@@ -217,7 +217,8 @@ impl Report {
         ensures value { result ≡ self.now.header.version }
         ensures relations { IsReport self.now }
     {
-        self.header.version
+        let ReportHeader { version, .. } = self.header;
+        version
     }
 
     /// What the report is of.

@@ -1,4 +1,4 @@
-use Rattle.std.proofs.Common.{◌/◌, ℕ, List, refl, ap, ◌∙◌, rules, arith}
+use Rattle.std.proofs.Common.{◌/◌, ℕ, List, ap, ◌∙◌, rules, arith}
 use Rattle.axe_report.specs.Names.{constituent_name}
 use Rattle.axe_report.specs.Spelling.{factor_start}
 use Rattle.axe_report.proofs.WitnessLaws.{witness_stops}

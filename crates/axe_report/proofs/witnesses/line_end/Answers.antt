@@ -1,4 +1,4 @@
-use Rattle.std.proofs.Common.{sym, ◌∙◌, rules, arith}
+use Rattle.std.proofs.Common.{rules}
 use Rattle.axe_report.proofs.WitnessLaws.{no_feed, feed_there}
 use Rattle.axe_report.proofs.witnesses.line_end.Goals as goal
 

@@ -1,4 +1,4 @@
-use Rattle.std.proofs.Common.{sym, ◌∙◌, arith}
+use Rattle.std.proofs.Common.{arith}
 use Rattle.axe_report.proofs.WitnessLaws.{too_many, few_read, other_digits}
 use Rattle.axe_report.proofs.witnesses.poly_digits.Goals as goal
 

@@ -1,4 +1,4 @@
-use Rattle.std.proofs.Common.{sym, ◌∙◌, rules, arith}
+use Rattle.std.proofs.Common.{◌∙◌, rules, arith}
 use Rattle.axe_report.proofs.WitnessLaws.{word_is, poly_stops, witness_open, witness_there}
 use Rattle.axe_report.proofs.witnesses.witness.Goals as goal
 

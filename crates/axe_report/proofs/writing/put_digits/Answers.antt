@@ -1,4 +1,4 @@
-use Rattle.std.proofs.Common.{refl, rules, arith}
+use Rattle.std.proofs.Common.{refl}
 use Rattle.axe_report.proofs.Lines.{digit_more, digits_begun}
 use Rattle.axe_report.proofs.writing.put_digits.Goals as goal
 

@@ -1,4 +1,4 @@
-use Rattle.std.proofs.Common.{sym, ◌∙◌, arith}
+use Rattle.std.proofs.Common.{◌∙◌}
 use Rattle.axe_report.proofs.Lines.{nothing_written, word_written, poly_written}
 use Rattle.axe_report.proofs.writing.put_witness.Goals as goal
 
