@@ -1,5 +1,5 @@
 -- How the steps of a check end, and what they find.
-use Rattle.std.specs.Prelude.{◌≡◌, ◌×◌, ◌⊎◌, ◌+◌, ⊤, ℕ, ◌<◌, ◌≤◌, List, [], length, get_or, slice_get}
+use Rattle.std.specs.Prelude.{◌≡◌, ◌⊎◌, ◌+◌, ⊤, ℕ, ◌<◌, ◌≤◌, List, [], length, get_or, slice_get}
 use Rattle.std.specs.Prelude.{Option, Some, None, Result, Ok, Err, String, string_bytes}
 use Rattle.std.specs.declared.alloc.Global.{Global}
 use Rattle.axe_algebra.specs.Blocks.{block_start}

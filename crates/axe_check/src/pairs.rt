@@ -1,6 +1,6 @@
 //! Pairs of constituents that are isomorphic.
 
-ghost use Rattle.std.specs.Prelude.{◌≡◌, ◌×◌, ◌<◌, length, get_or, All};
+ghost use Rattle.std.specs.Prelude.{◌≡◌, ◌<◌, length, get_or, All};
 ghost use Rattle.axe_spin.specs.Modules.{ModuleValue};
 ghost use Rattle.axe_check.specs.Steps.{Passes, IsLikeModule, IsFormOf, AreFormsOf, IsApartTo, AreApartTo};
 ghost use Rattle.axe_check.specs.Steps.{IsSameReason, IsFirstSameReason};

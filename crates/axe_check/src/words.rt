@@ -1,6 +1,6 @@
 //! What the words that a report names say of the constituents.
 
-ghost use Rattle.std.specs.Prelude.{◌≡◌, ◌×◌, ℕ, ◌<◌, length, get_or, Some, None};
+ghost use Rattle.std.specs.Prelude.{◌≡◌, ℕ, ◌<◌, length, get_or, Some, None};
 ghost use Rattle.axe_row.specs.Refusals.{Answers};
 ghost use Rattle.axe_poly.specs.Polys.{poly_with};
 ghost use Rattle.axe_spin.specs.Modules.{ModuleValue};
