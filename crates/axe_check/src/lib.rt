@@ -1,4 +1,5 @@
-//! Certificates of composition series, checked: whether what `chop` writes beside a module is a composition series of it.
+//! Certificates of composition series, checked: whether what `chop` writes beside a module is a composition series of
+//! it.
 #![tactic(auto)]
 
 mod blocks;

@@ -1,6 +1,6 @@
 //! What the words that a report names say of the constituents.
 
-ghost use Rattle.std.specs.Prelude.{◌≡◌, ℕ, ◌<◌, length, get_or, Some, None};
+ghost use Rattle.std.specs.Prelude.{◌≡◌, ℕ, ◌<◌, length, get_or, option_copied, Some, None};
 ghost use Rattle.axe_row.specs.Refusals.{Answers};
 ghost use Rattle.axe_poly.specs.Polys.{poly_with};
 ghost use Rattle.axe_spin.specs.Modules.{ModuleValue};
@@ -74,9 +74,9 @@ fn said(
     number: u32,
     digits: Option<&[u8]>,
 ) -> Result<At, Refusal>
-    requires digits { AreDigitsOver «module».now.order (option_slice digits) }
+    requires digits { AreDigitsOver «module».now.order (option_copied digits) }
     ensures says { Answers None (SaysWith «module».now (word_of_seed «module».now seed number)
-        (named_poly «module».now.order (option_slice digits.entry))) result }
+        (named_poly «module».now.order (option_copied digits.entry))) result }
     ensures holds { Answers None (IsTrueOf «module».now) result }
 {
     let word = nth_word(seed, number, module.field().order(), module.gens() as u8);
