@@ -7,3 +7,5 @@ pub mod ProperSubmodules
 pub mod WordLaws
 pub mod PairLaws
 pub mod WitnessLaws
+pub mod StepLaws
+pub mod Certifying
