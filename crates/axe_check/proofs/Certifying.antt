@@ -19,7 +19,7 @@ use Rattle.axe_check.specs.Certificates.{Certificate, HasHeader, IsBasisOf, fact
 use Rattle.axe_check.specs.Reasons.{IsSeenIrreducible, IsEarlierPair, HasRightBasis, HasRightShapes, HasRightBlocks, HasRightFactors, AreSameFactors, IsFirstReason}
 use Rattle.axe_check.specs.Steps.{IsHeaderReason, IsBasisReason, AreShapedAs, IsFirstShapeReason, IsLikeModule, HasAllBlocks, IsBlockReason, IsWitnessOver, IsSeenBy, AreSeenTo}
 use Rattle.axe_check.specs.Steps.{LeavesOpenBy, IsOpenReason, IsReducibleReason, IsUnseenReason, IsFirstUnseenReason, AreIsomorphicAt, AreApartTo, IsFirstSameReason}
-use Rattle.axe_check.specs.declared.reasons.Reason.{Reason}
+use Rattle.axe_report.specs.declared.reasons.Reason.{Reason}
 use Rattle.axe_check.proofs.RightCertificates.{count_of_factors, factor_at, factor_is_listed}
 use Rattle.axe_check.proofs.ReportedSeries.{reported_order, reported_sizes, some_dimension, place_sizes}
 use Rattle.axe_check.proofs.OneConjugate.{square_basis, conjugate_is_one}

@@ -3,10 +3,11 @@ use Rattle.std.proofs.Common.{◌≡◌, ℕ, ◌<◌, ◌⊎◌, inl, inr, List
 use Rattle.std.specs.declared.alloc.Global.{Global}
 use Rattle.axe_report.specs.Reports.{names}
 use Rattle.axe_check.specs.Certificates.{Certificate, HasHeader, IsBasisOf, factor_count, IsShaped, AreBlocked, IsLeftOpen}
-use Rattle.axe_check.specs.Reasons.{IsSeenIrreducible, IsFirstMisshapen, IsFirstUnseen, IsReducibleFactor, IsFirstSame, IsFirstReason, reason_text}
+use Rattle.axe_check.specs.Reasons.{IsSeenIrreducible, IsFirstMisshapen, IsFirstUnseen, IsReducibleFactor, IsFirstSame, IsFirstReason}
+use Rattle.axe_report.specs.Reasons.{reason_text}
 use Rattle.axe_check.specs.Reasons.{IsEarlierPair, AreSameFactors, IsNameOf}
-use Rattle.axe_check.specs.declared.reasons.Reason.{Reason}
-use Rattle.axe_check.specs.declared.reasons.Reason.TheVariants.{Header, Basis, Shape, Blocks, Open, Reducible, Same}
+use Rattle.axe_report.specs.declared.reasons.Reason.{Reason}
+use Rattle.axe_report.specs.declared.reasons.Reason.TheVariants.{Header, Basis, Shape, Blocks, Open, Reducible, Same}
 use native.Mathlib.Decide.{dec_lt}
 
 -- the first number that has not a property is one

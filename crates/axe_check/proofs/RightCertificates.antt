@@ -8,8 +8,8 @@ use Rattle.axe_norton.specs.Spaces.{IsIrreducibleModule}
 use Rattle.axe_series.specs.Series.{IsBlockOf, IsIsomorphicTo, IsPlaceOf, IsSeries, sizes_of_places}
 use Rattle.axe_check.specs.Certificates.{Certificate, factor_count, factor_of, factors_of, IsShaped, HasBlocks, AreBlocked, IsLeftOpen, IsBasisOf, IsCertified}
 use Rattle.axe_check.specs.Reasons.{IsSeenIrreducible, HasRightBasis, HasRightShapes, HasRightBlocks, HasRightFactors, AreSameFactors, IsFirstReason}
-use Rattle.axe_check.specs.declared.reasons.Reason.{Reason}
-use Rattle.axe_check.specs.declared.reasons.Reason.TheVariants.{Header, Basis, Shape, Blocks, Open, Reducible, Same}
+use Rattle.axe_report.specs.declared.reasons.Reason.{Reason}
+use Rattle.axe_report.specs.declared.reasons.Reason.TheVariants.{Header, Basis, Shape, Blocks, Open, Reducible, Same}
 
 -- ---- the constituents as modules
 

@@ -1,7 +1,7 @@
 -- How a step of a check ends where a step within it stops.
 use Rattle.std.specs.Prelude.{◌≡◌, Result, Ok, Err}
 use Rattle.std.specs.Result.{IsErrAnd}
-use Rattle.axe_check.specs.declared.reasons.Reason.{Reason}
+use Rattle.axe_report.specs.declared.reasons.Reason.{Reason}
 use Rattle.axe_check.specs.declared.reasons.Stop.{Stop}
 use Rattle.axe_check.specs.declared.reasons.Stop.TheVariants.{Because, Memory}
 use Rattle.axe_check.specs.Steps.{Passes}

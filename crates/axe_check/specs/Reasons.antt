@@ -7,8 +7,8 @@ use Rattle.axe_report.specs.Reports.{names}
 use Rattle.axe_series.specs.Series.{IsIsomorphicTo}
 use Rattle.axe_check.specs.Certificates.{Certificate, HasHeader, IsBasisOf, factor_count, factor_of, IsShaped}
 use Rattle.axe_check.specs.Certificates.{AreBlocked, IsLeftOpen}
-use Rattle.axe_check.specs.declared.reasons.Reason.{Reason}
-use Rattle.axe_check.specs.declared.reasons.Reason.TheVariants.{Header, Basis, Shape, Blocks, Open, Reducible, Same}
+use Rattle.axe_report.specs.declared.reasons.Reason.{Reason}
+use Rattle.axe_report.specs.declared.reasons.Reason.TheVariants.{Header, Basis, Shape, Blocks, Open, Reducible, Same}
 
 -- ---- what may be wrong
 
@@ -102,15 +102,3 @@ IsFirstReason c Blocks = HasRightShapes c × (¬ (AreBlocked c))
 IsFirstReason c (Open name) = IsFirstUnseen c name (IsLeftOpen c)
 IsFirstReason c (Reducible name) = IsFirstUnseen c name (IsReducibleFactor c)
 IsFirstReason c (Same a b) = IsFirstSame c a b
-
--- ---- how a reason is told
-
--- the text of a reason: a word, and the names that it speaks of
-abbrev pub reason_text : Reason → List ℕ
-reason_text Header = codes "header"
-reason_text Basis = codes "basis"
-reason_text (Shape name) = codes "shape " ++ string_bytes name
-reason_text Blocks = codes "blocks"
-reason_text (Open name) = codes "open " ++ string_bytes name
-reason_text (Reducible name) = codes "reducible " ++ string_bytes name
-reason_text (Same a b) = codes "same " ++ string_bytes a ++ codes " " ++ string_bytes b

@@ -8,9 +8,10 @@ ghost use Rattle.axe_series.specs.Series.{sizes_of_places};
 ghost use Rattle.axe_check.specs.Steps.{Passes, HasBlockAt, HasZerosAt, HasBlocksAt, HasAllBlocks, IsBlockReason};
 ghost use Rattle.axe_check.specs.Steps.{IsLikeModule};
 
-use crate::reasons::{Reason, Stop};
+use crate::reasons::Stop;
 use axe_matrix::{Matrix, Refusal};
 use axe_spin::Module;
+use axe_report::Reason;
 use std::alloc::Global;
 
 /// Whether the conjugated generators are block lower triangular with the factors of a series on their diagonal, by

@@ -12,12 +12,12 @@ ghost use Rattle.axe_check.specs.Steps.{Passes, IsHeaderReason, IsBasisReason};
 
 use crate::blocks::check_blocks;
 use crate::pairs::check_pairs;
-use crate::reasons::{Reason, Stop};
+use crate::reasons::Stop;
 use crate::shapes::shaped_modules;
 use crate::words::seen_forms;
 use axe_action::conjugate;
 use axe_matrix::{Matrix, Refusal};
-use axe_report::{Report, ReportFault};
+use axe_report::{Reason, Report, ReportFault};
 use axe_spin::Module;
 use std::alloc::Global;
 

@@ -2,9 +2,10 @@
 
 ghost use Rattle.std.specs.Prelude.{◌≡◌};
 ghost use Rattle.axe_check.specs.Certificates.{Certificate, IsCertified};
-ghost use Rattle.axe_check.specs.Reasons.{IsFirstReason, reason_text};
+ghost use Rattle.axe_check.specs.Reasons.{IsFirstReason};
+ghost use Rattle.axe_report.specs.Reasons.{reason_text};
 
-use crate::reasons::Reason;
+use axe_report::Reason;
 
 /// A certificate has at most one answer: there is no reason why a right one is not right, and of another one at most one
 /// is the first.

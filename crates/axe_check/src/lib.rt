@@ -11,4 +11,4 @@ mod shapes;
 mod words;
 
 pub use checking::check;
-pub use reasons::Reason;
+pub use axe_report::Reason;

@@ -5,9 +5,9 @@ ghost use Rattle.axe_spin.specs.Modules.{ModuleValue};
 ghost use Rattle.axe_check.specs.Steps.{Passes, IsLikeModule, IsFormOf, AreFormsOf, IsApartTo, AreApartTo};
 ghost use Rattle.axe_check.specs.Steps.{IsSameReason, IsFirstSameReason};
 
-use crate::reasons::{Reason, Stop, name_of};
+use crate::reasons::{Stop, name_of};
 use axe_iso::{Form, matches};
-use axe_report::ReportFactor;
+use axe_report::{Reason, ReportFactor};
 use axe_spin::Module;
 use std::alloc::Global;
 

@@ -7,10 +7,10 @@ ghost use Rattle.axe_report.specs.Reports.{dims};
 ghost use Rattle.axe_check.specs.Certificates.{HasShape, IsSquareOfSize, module_with, lists_of};
 ghost use Rattle.axe_check.specs.Steps.{Passes, IsShapedAs, IsShapeReason, AreShapedAs, IsFirstShapeReason};
 
-use crate::reasons::{Reason, Stop, name_of};
+use crate::reasons::{Stop, name_of};
 use axe_field::Field;
 use axe_matrix::{Matrix, Refusal};
-use axe_report::ReportFactor;
+use axe_report::{Reason, ReportFactor};
 use axe_spin::Module;
 use std::alloc::Global;
 

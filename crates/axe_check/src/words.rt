@@ -10,12 +10,12 @@ ghost use Rattle.axe_check.specs.Certificates.{SaysWith, named_poly, witnesses};
 ghost use Rattle.axe_check.specs.Steps.{Passes, IsSmallPoly, AreDigitsOver, IsWitnessOver, IsSeenBy, IsFormOf};
 ghost use Rattle.axe_check.specs.Steps.{IsUnseenReason, AreSeenAs, IsFirstUnseenReason};
 
-use crate::reasons::{Reason, Stop, name_of};
+use crate::reasons::{Stop, name_of};
 use axe_iso::{Form, form_of};
 use axe_matrix::Refusal;
 use axe_norton::{At, decide_at, decide_poly_where_fits};
 use axe_poly::Poly;
-use axe_report::ReportFactor;
+use axe_report::{Reason, ReportFactor};
 use axe_spin::Module;
 use axe_word::{Word, nth_word};
 use std::alloc::Global;
