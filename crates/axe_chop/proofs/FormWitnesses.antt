@@ -1,5 +1,6 @@
 -- What `chop` finds has witnesses: words of the run, and polynomials of small degree over the module's field.
 use Rattle.std.proofs.Common.{◌≡◌, ℕ, ◌-◌, ◌<◌, ◌≤◌, List, length, map, get_or, All, option_map, Option, Some, None, refl, sym, ap, subst, ◌∙◌, arith}
+use mathlib.Core.List.{map-map}
 use Rattle.std.specs.List.{slice_get}
 use Rattle.std.proofs.lemmas.List.{length-map, get_or-map}
 use Rattle.std.proofs.lemmas.List.Elements.{All-nil, All-push, All-map, All-get_or}
@@ -14,14 +15,15 @@ use Rattle.axe_norton.specs.declared.verdicts.Verdict.TheVariants.{Irreducible}
 use Rattle.axe_norton.specs.Verdicts.{Decides}
 use Rattle.axe_iso.specs.Forms.{FormValue, IsForm, HasSmallNullSpace}
 use Rattle.axe_series.specs.Sections.{SectionValue}
-use Rattle.axe_series.specs.Runs.{FoundValue, Outcome, complete, open_section, Runs, all_found, undecided, reducible, known, new}
-use Rattle.axe_series.specs.Series.{IsSeries}
+use Rattle.axe_series.specs.Runs.{FoundValue, Outcome, complete, open_section, RunOf, Runs, all_found, undecided, reducible, known, new}
+use Rattle.axe_series.specs.Series.{IsSeries, basis_of_rows, factors_of_forms}
+use Rattle.axe_series.proofs.RunLaws.{runs_are_true}
+use Rattle.axe_chop.specs.Chopped.{IsNamed}
 use Rattle.axe_report.specs.Reports.{WitnessValue, AreDigits, IsPolyOver, IsWitnessUnder}
 use Rattle.axe_chop.specs.Answers.{IsChopped, factor_modules}
-use Rattle.axe_chop.specs.Reported.{witness_of, factor_witnesses, module_header, AreWitnessesOf}
+use Rattle.axe_chop.specs.Reported.{witness_of, witnesses_of_forms, factor_witnesses, module_header, AreWitnessesOf}
 use Rattle.axe_chop.specs.declared.chopped.Factor.{Factor}
 use Rattle.axe_chop.specs.declared.chopped.Chopped.{Chopped}
-use Rattle.axe_chop.proofs.AnswerLaws.{chopped_is_series}
 
 -- ---- words
 
@@ -70,39 +72,51 @@ factor_over m basis factors places series k factor below there =
     let place = series.order.appear k below in
     (series.diagonal place.0 k factor place.1 there).field ∙ series.triangular.conjugate.field
 
-module _ (m : ModuleValue) (is : IsModule m) (seed words : ℕ) (chopped : Chopped) (answer : IsChopped m seed words chopped) where
-  abbrev named_factors : List Factor
-  named_factors = values chopped.factors
+-- ---- what a run finds
 
-  all_by : All (IsFormBy words) (map (λ (factor : Factor). factor.form) named_factors)
-  all_by = subst (All (IsFormBy words)) (sym answer.named.factors.forms_are) (forms_of_run seed words answer.run (All-nil (IsFormBy words)))
+module _ (m : ModuleValue) (is : IsModule m) (seed words : ℕ) (found : FoundValue) (run : RunOf m seed words (complete found)) where
+  abbrev factors : List ModuleValue
+  factors = factors_of_forms found.forms
 
-  series : IsSeries m chopped.basis (factor_modules chopped) chopped.series.items
-  series = chopped_is_series m is seed words chopped answer
+  all_by : All (IsFormBy words) found.forms
+  all_by = forms_of_run seed words run (All-nil (IsFormBy words))
 
-  each_by : (k : ℕ) (d : Factor) → k < length named_factors → IsFormBy words (get_or named_factors k d).form
-  each_by k d below =
-      subst (IsFormBy words) (get_or-map (λ (factor : Factor). factor.form) named_factors k d d.form below)
-      (All-get_or (IsFormBy words) (map (λ (factor : Factor). factor.form) named_factors) k d.form (omega (arith, below, length-map named_factors (λ (factor : Factor). factor.form))) all_by)
-
-  each_over : (k : ℕ) (d : Factor) → k < length named_factors → (get_or named_factors k d).form.matrices.order ≡ m.order
+  each_over : (k : ℕ) (d : FormValue) → k < length found.forms → (get_or found.forms k d).matrices.order ≡ m.order
   each_over k d below =
-      let inside : k < length (factor_modules chopped) = omega (arith, below, length-map named_factors (λ (factor : Factor). factor.form.matrices)) in
-      factor_over m chopped.basis (factor_modules chopped) chopped.series.items series k (get_or named_factors k d).form.matrices inside
-      (slice_get-get_or (factor_modules chopped) k d.form.matrices inside
-      ∙ ap (λ (x : ModuleValue). Some x) (get_or-map (λ (factor : Factor). factor.form.matrices) named_factors k d d.form.matrices below))
+      let inside : k < length factors = omega (arith, below, length-map found.forms (λ (form : FormValue). form.matrices)) in
+      factor_over m (basis_of_rows m found.rows) factors found.places (runs_are_true m seed words (complete found) is run) k (get_or found.forms k d).matrices inside
+      (slice_get-get_or factors k d.matrices inside
+      ∙ ap (λ (x : ModuleValue). Some x) (get_or-map (λ (form : FormValue). form.matrices) found.forms k d d.matrices below))
 
-  each_under : All (λ (factor : Factor). IsWitnessUnder (module_header m seed words) (witness_of factor.form)) named_factors
+  each_under : All (λ (form : FormValue). IsWitnessUnder (module_header m seed words) (witness_of form)) found.forms
   each_under k d below =
-      let by = each_by k d below in
+      let by = All-get_or (IsFormBy words) found.forms k d below all_by in
       record {
         word = by.within;
-        poly = subst (λ (o : Order). IsPolyOver (order_number o) (option_map (λ (p : PolyValue). p.coefficients) (get_or named_factors k d).form.poly)) (each_over k d below)
-            (poly_over (get_or named_factors k d).form by.is_form);
+        poly = subst (λ (o : Order). IsPolyOver (order_number o) (option_map (λ (p : PolyValue). p.coefficients) (get_or found.forms k d).poly)) (each_over k d below)
+            (poly_over (get_or found.forms k d) by.is_form);
       }
 
-  pub chopped_has_witnesses : AreWitnessesOf (module_header m seed words) (factor_modules chopped) (factor_witnesses chopped)
-  chopped_has_witnesses = record {
-    count = length-map named_factors (λ (factor : Factor). witness_of factor.form) ∙ sym (length-map named_factors (λ (factor : Factor). factor.form.matrices));
-    each = All-map (IsWitnessUnder (module_header m seed words)) (λ (factor : Factor). witness_of factor.form) named_factors each_under;
+  pub run_has_witnesses : AreWitnessesOf (module_header m seed words) factors (witnesses_of_forms found.forms)
+  run_has_witnesses = record {
+    count = length-map found.forms witness_of ∙ sym (length-map found.forms (λ (form : FormValue). form.matrices));
+    each = All-map (IsWitnessUnder (module_header m seed words)) witness_of found.forms each_under;
   }
+
+-- ---- what is named
+
+-- the factors' witnesses are those of the forms that were found
+pub witnesses_are : (found : FoundValue) (chopped : Chopped) → IsNamed found chopped → factor_witnesses chopped ≡ witnesses_of_forms found.forms
+witnesses_are found chopped named =
+    sym (map-map witness_of (λ (factor : Factor). factor.form) (values chopped.factors)) ∙ ap witnesses_of_forms named.factors.forms_are
+
+modules_are : (found : FoundValue) (chopped : Chopped) → IsNamed found chopped → factor_modules chopped ≡ factors_of_forms found.forms
+modules_are found chopped named =
+    sym (map-map (λ (form : FormValue). form.matrices) (λ (factor : Factor). factor.form) (values chopped.factors)) ∙ ap factors_of_forms named.factors.forms_are
+
+pub chopped_has_witnesses : (m : ModuleValue) → IsModule m → (seed words : ℕ) (chopped : Chopped) → IsChopped m seed words chopped →
+    AreWitnessesOf (module_header m seed words) (factor_modules chopped) (factor_witnesses chopped)
+chopped_has_witnesses m is seed words chopped answer =
+    subst (λ (factors : List ModuleValue). AreWitnessesOf (module_header m seed words) factors (factor_witnesses chopped)) (sym (modules_are answer.found chopped answer.named))
+    (subst (AreWitnessesOf (module_header m seed words) (factors_of_forms answer.found.forms)) (sym (witnesses_are answer.found chopped answer.named))
+    (run_has_witnesses m is seed words answer.found answer.run))

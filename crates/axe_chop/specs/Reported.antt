@@ -26,6 +26,10 @@ witness_of form = record {
   poly = option_map (λ (p : PolyValue). p.coefficients) form.poly;
 }
 
+-- the witnesses of forms, in their order
+abbrev pub witnesses_of_forms : List FormValue → List WitnessValue
+witnesses_of_forms forms = map witness_of forms
+
 -- the witnesses of the factors, in their order
 abbrev pub factor_witnesses : Chopped → List WitnessValue
 factor_witnesses chopped = map (λ (factor : Factor). witness_of factor.form) (values chopped.factors)
