@@ -12,7 +12,7 @@ use Rattle.axe_report.specs.Passing.{IsSpelling}
 use Rattle.axe_report.proofs.Letters.{some_letter}
 use Rattle.axe_report.proofs.Unique.{no_prefix}
 use Rattle.axe_report.specs.Reports.{WitnessValue}
-use Rattle.axe_chop.specs.Reported.{dims_of_factors, module_header, series_report, witness_of}
+use Rattle.axe_chop.specs.Reported.{dims_of_factors, module_header, series_report, witnesses_of_forms}
 use Rattle.axe_chop.proofs.SeriesReports.{series_has_report}
 use Rattle.axe_file.specs.Packed.{packed}
 use Rattle.axe_folder.specs.Files.{Files, file_at}
@@ -118,7 +118,7 @@ series_puts_report_last stored name header basis factors witnesses places = reco
 answer_puts_report_last : (stored : ModuleFiles) (name : List ℕ) (m : ModuleValue) (seed words : ℕ) (outcome : Outcome) →
     IfOk (chop_answer stored name m seed words outcome) (PutsReportLast name)
 answer_puts_report_last stored name m seed words (complete found) =
-    series_puts_report_last stored name (module_header m seed words) (basis_of_rows m found.rows) (factors_of_forms found.forms) (map witness_of found.forms) found.places
+    series_puts_report_last stored name (module_header m seed words) (basis_of_rows m found.rows) (factors_of_forms found.forms) (witnesses_of_forms found.forms) found.places
 answer_puts_report_last stored name m seed words (open_section rows offset dim) = tt
 
 plan_puts_report_last : (stored : ModuleFiles) (seed words : ℕ) (name : List ℕ) (files : Files) (plan : Plan) → ChopPlan stored seed words name files (Ok plan) →

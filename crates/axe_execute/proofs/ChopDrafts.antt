@@ -12,7 +12,8 @@ use Rattle.axe_series.specs.Series.{factors_of_forms}
 use Rattle.axe_report.specs.Names.{names_of}
 use Rattle.axe_report.specs.declared.report.ReportHeader.{ReportHeader}
 use Rattle.axe_report.specs.Reports.{WitnessValue}
-use Rattle.axe_chop.specs.Reported.{dims_of_factors, module_header, witness_of, factor_witnesses}
+use Rattle.axe_chop.specs.Reported.{dims_of_factors, module_header, factor_witnesses}
+use Rattle.axe_chop.proofs.FormWitnesses.{witnesses_are}
 use Rattle.axe_chop.specs.Answers.{IsChopped, IsUndecided, factor_modules}
 use Rattle.axe_chop.specs.declared.chopped.Factor.{Factor}
 use Rattle.axe_chop.specs.declared.chopped.Chopped.{Chopped}
@@ -61,10 +62,6 @@ module _ (m : ModuleValue) (seed words : ℕ) (chopped : Chopped) (is : IsChoppe
       sym (map-map (λ (form : FormValue). form.matrices) (λ (factor : Factor). factor.form) (values chopped.factors))
       ∙ ap (map (λ (form : FormValue). form.matrices)) is.named.factors.forms_are
 
-  witnesses_are : factor_witnesses chopped ≡ map witness_of is.found.forms
-  witnesses_are =
-      sym (map-map witness_of (λ (factor : Factor). factor.form) (values chopped.factors)) ∙ ap (map witness_of) is.named.factors.forms_are
-
   -- the factors' keys are their names by the rule
   pub keys_are_names : map string_bytes (keys chopped.factors) ≡ constituents_of (factor_modules chopped)
   keys_are_names =
@@ -80,7 +77,7 @@ module _ (m : ModuleValue) (seed words : ℕ) (chopped : Chopped) (is : IsChoppe
     where
       plan_is : Ok (series_plan stored name (module_header m seed words) chopped.basis (factor_modules chopped) (factor_witnesses chopped) chopped.series.items)
           ≡ chop_answer stored name m seed words (complete is.found)
-      plan_is = λ j. Ok (series_plan stored name (module_header m seed words) (is.basis_is j) (modules_are j) (witnesses_are j) (is.named.series j))
+      plan_is = λ j. Ok (series_plan stored name (module_header m seed words) (is.basis_is j) (modules_are j) (witnesses_are is.found chopped is.named j) (is.named.series j))
 
 -- the section that stays undecided is what is found
 pub found_open_section : (stored : ModuleFiles) (name : List ℕ) (m : ModuleValue) (seed words : ℕ) (basis b : MatrixValue) (offset o dim d : ℕ) → b ≡ basis → o ≡ offset →

@@ -1,5 +1,5 @@
 -- What `chop` means is one plan or one problem, and it is true of the module that is read.
-use Rattle.std.proofs.Common.{◌≡◌, refl, sym, subst, ℕ, List, map, Result, Ok, Err, IfOk}
+use Rattle.std.proofs.Common.{◌≡◌, refl, sym, subst, ℕ, List, Result, Ok, Err, IfOk}
 use Rattle.std.specs.Prelude.{⊤}
 use Rattle.axe_matrix.specs.Matrices.{MatrixValue}
 use Rattle.axe_spin.specs.Modules.{ModuleValue, IsModule}
@@ -9,8 +9,8 @@ use Rattle.axe_series.proofs.OneOutcome.{outcome_is_one}
 use Rattle.axe_series.proofs.SomeRun.{some_run}
 use Rattle.axe_series.proofs.FewPoints.{small_has_a_series}
 use Rattle.axe_series.specs.Series.{IsOpenSection, basis_of_rows, factors_of_forms}
-use Rattle.axe_chop.specs.Reported.{module_header, witness_of}
-use Rattle.axe_chop.proofs.FormWitnesses.{found_has_witnesses}
+use Rattle.axe_chop.specs.Reported.{module_header, witnesses_of_forms}
+use Rattle.axe_chop.proofs.FormWitnesses.{run_has_witnesses}
 use Rattle.axe_folder.specs.Files.{Files}
 use Rattle.axe_arguments.specs.Commands.{HasFileCount}
 use Rattle.axe_arguments.specs.declared.command.ModuleFiles.{ModuleFiles}
@@ -54,9 +54,9 @@ series_of_outcome stored seed words name files m (complete found) is_module is r
   is_module = is_module;
   basis = basis_of_rows m found.rows;
   factors = factors_of_forms found.forms;
-  witnesses = map witness_of found.forms;
+  witnesses = witnesses_of_forms found.forms;
   places = found.places;
-  witnessed = found_has_witnesses m is_module seed words found run;
+  witnessed = run_has_witnesses m is_module seed words found run;
   series = runs_are_true m seed words (complete found) is run;
   plan_is = refl;
 }
@@ -101,7 +101,7 @@ small_module_has_plan_by : (stored : ModuleFiles) (seed words : ℕ) (name : Lis
     module_in stored name files ≡ Ok m → IsSmallModule m → RunOf m seed words outcome → (plan : Plan) × ChopPlan stored seed words name files (Ok plan)
 unfolding ChopPlan FoundPlan
 small_module_has_plan_by stored seed words name files m (complete found) is is_module small run = (
-  series_plan stored name (module_header m seed words) (basis_of_rows m found.rows) (factors_of_forms found.forms) (map witness_of found.forms) found.places,
+  series_plan stored name (module_header m seed words) (basis_of_rows m found.rows) (factors_of_forms found.forms) (witnesses_of_forms found.forms) found.places,
   (Ok m, is_module, (Ok (complete found), run, refl)),
 )
 small_module_has_plan_by stored seed words name files m (open_section rows offset dim) is is_module small run =

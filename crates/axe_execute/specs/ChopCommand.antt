@@ -1,5 +1,5 @@
 -- What `chop` means: a composition series of a module is looked for, and its basis, its factors and its report are put.
-use Rattle.std.specs.Prelude.{◌≡◌, ℕ, ◌≤◌, List, [], ◌∷◌, ◌++◌, map, Some, Result, Ok, Err}
+use Rattle.std.specs.Prelude.{◌≡◌, ℕ, ◌≤◌, List, [], ◌∷◌, ◌++◌, Some, Result, Ok, Err}
 use Rattle.axe_field.specs.Order.{order_number}
 use Rattle.axe_matrix.specs.Matrices.{MatrixValue}
 use Rattle.axe_spin.specs.Modules.{ModuleValue}
@@ -8,7 +8,7 @@ use Rattle.axe_series.specs.Runs.{Outcome, complete, open_section, RunOf}
 use Rattle.axe_series.specs.Series.{IsSeries, IsOpenSection, basis_of_rows, factors_of_forms}
 use Rattle.axe_report.specs.declared.report.ReportHeader.{ReportHeader}
 use Rattle.axe_report.specs.Reports.{WitnessValue}
-use Rattle.axe_chop.specs.Reported.{module_header, witness_of, AreWitnessesOf}
+use Rattle.axe_chop.specs.Reported.{module_header, witnesses_of_forms, AreWitnessesOf}
 use Rattle.axe_file.specs.Packed.{packed}
 use Rattle.axe_folder.specs.Files.{Files, file_at}
 use Rattle.axe_fault.specs.Causes.{Problem, StaysOpen}
@@ -49,7 +49,7 @@ series_plan stored name header basis factors witnesses places = record {
 abbrev pub chop_answer : ModuleFiles → List ℕ → ModuleValue → ℕ → ℕ → Outcome → Result Plan Problem
 chop_answer stored name m seed words (complete found) =
     Ok (series_plan stored name (module_header m seed words) (basis_of_rows m found.rows)
-    (factors_of_forms found.forms) (map witness_of found.forms) found.places)
+    (factors_of_forms found.forms) (witnesses_of_forms found.forms) found.places)
 chop_answer stored name m seed words (open_section rows offset dim) =
     Err (StaysOpen (basis_of_rows m rows) offset dim)
 
