@@ -4,12 +4,13 @@ use Rattle.std.specs.List.{flat_map}
 use Rattle.std.proofs.lemmas.Bool.{cases_lt, eqb-true, eq-eqb}
 use Rattle.std.proofs.lemmas.List.{nil_from_length}
 use Rattle.axe_report.specs.Limits.{most_dimension}
-use Rattle.axe_report.specs.Reports.{FactorValue, ReportValue, total_dim, IsReportHeader, AreFactors, IsFactorAfter, IsSeriesOf, IsReport}
+use Rattle.axe_report.specs.Reports.{FactorValue, ReportValue, total_dim, IsReportHeader, AreFactors, IsFactorAfter, IsWitnessed, AreWitnessed, IsSeriesOf, IsReport}
 use Rattle.axe_report.specs.Spelling.{header_line, factor_line, series_line, opening_bytes, report_bytes}
 use Rattle.axe_report.specs.Passing.{LinesPass, FailsFirstAt}
 use Rattle.axe_report.specs.declared.report.ReportHeader.{ReportHeader}
 use Rattle.axe_report.proofs.Members.{places_in_range}
 use Rattle.axe_report.proofs.Plain.{all_plain, all_distinct, factors_front, factor_after, no_factors}
+use Rattle.axe_report.proofs.WitnessLaws.{all_lines, none_witnessed, next_witnessed, first_witnessed}
 use Rattle.axe_report.proofs.Unique.{InRange, header_unique, lines_front, none_between, series_unique, opening_open, report_open, report_unique}
 
 -- ---- the first line
@@ -29,7 +30,7 @@ fails_header bytes none = record {
 -- where the line of a header stands at the front, the first line does not fail
 pub header_passes : (bytes : List ℕ) (h : ReportHeader) (x : List ℕ) → IsReportHeader h → bytes ≡ header_line h ++ x → FailsFirstAt bytes 1 → ⊥
 header_passes bytes h x is e bad =
-    bad.fails (inr (inl (record { header = h; factors = []; rest = x; is_header = is; are_factors = no_factors h.dim; count = refl; spelled = e ∙ sym (opening_open h [] x) })))
+    bad.fails (inr (inl (record { header = h; factors = []; rest = x; is_header = is; are_factors = no_factors h.dim; are_witnessed = none_witnessed h; count = refl; spelled = e ∙ sym (opening_open h [] x) })))
 
 -- ---- the lines of the constituents are read
 
@@ -37,28 +38,31 @@ header_passes bytes h x is e bad =
 pub record Opened (bytes : List ℕ) (h : ReportHeader) (fs : List FactorValue) (text : List ℕ) : Type 0 where
   pub is_header : IsReportHeader h
   pub factors : AreFactors h.dim fs
+  pub witnessed : AreWitnessed h fs
   pub spelled : bytes ≡ header_line h ++ (flat_map factor_line fs ++ text)
-  pub all : (f : FactorValue) (x : List ℕ) → IsFactorAfter h.dim fs f → text ≢ factor_line f ++ x
+  pub all : (f : FactorValue) (x : List ℕ) → IsFactorAfter h.dim fs f → IsWitnessed h f → text ≢ factor_line f ++ x
 
 -- no more constituents stand there
-no_more : (dim : ℕ) (fs hs : List FactorValue) (text y : List ℕ) → ((f : FactorValue) (x : List ℕ) → IsFactorAfter dim fs f → text ≢ factor_line f ++ x) → AreFactors dim (fs ++ hs)
-    → text ≡ flat_map factor_line hs ++ y → hs ≡ []
-no_more dim fs [] text y all are e = refl
-no_more dim fs (f ∷ hs) text y all are e =
+no_more : (h : ReportHeader) (fs hs : List FactorValue) (text y : List ℕ) → ((f : FactorValue) (x : List ℕ) → IsFactorAfter h.dim fs f → IsWitnessed h f → text ≢ factor_line f ++ x)
+    → AreFactors h.dim (fs ++ hs) → AreWitnessed h (fs ++ hs) → text ≡ flat_map factor_line hs ++ y → hs ≡ []
+no_more h fs [] text y all are seen e = refl
+no_more h fs (f ∷ hs) text y all are seen e =
     let shape : fs ++ f ∷ hs ≡ (fs ++ f ∷ []) ++ hs = sym (append_assoc fs (f ∷ []) hs) in
-    let front = factors_front dim (fs ++ f ∷ []) hs (subst (λ (l : List FactorValue). AreFactors dim l) shape are) in
-    absurd (all f _ (factor_after dim fs f front) (e ∙ append_assoc (factor_line f) (flat_map factor_line hs) y))
+    let front = factors_front h.dim (fs ++ f ∷ []) hs (subst (λ (l : List FactorValue). AreFactors h.dim l) shape are) in
+    absurd (all f _ (factor_after h.dim fs f front) (next_witnessed h fs f hs seen) (e ∙ append_assoc (factor_line f) (flat_map factor_line hs) y))
 
 -- the constituents of any opening are among these
-few_lines : (bytes : List ℕ) (h g : ReportHeader) (fs gs : List FactorValue) (text y : List ℕ) → Opened bytes h fs text → IsReportHeader g → AreFactors g.dim gs → bytes ≡ header_line g ++ (flat_map factor_line gs ++ y)
+few_lines : (bytes : List ℕ) (h g : ReportHeader) (fs gs : List FactorValue) (text y : List ℕ) → Opened bytes h fs text → IsReportHeader g → AreFactors g.dim gs → AreWitnessed g gs → bytes ≡ header_line g ++ (flat_map factor_line gs ++ y)
     → length gs ≤ length fs
-few_lines bytes h g fs gs text y o ig ag e = elim (cases_lt (length fs) (length gs)) [
+few_lines bytes h g fs gs text y o ig ag wg e = elim (cases_lt (length fs) (length gs)) [
   | inr le ↦ le
   | inl lt ↦
       let same = header_unique h g _ _ o.is_header ig (sym o.spelled ∙ e) in
       let ag' : AreFactors h.dim gs = subst (λ (k : ReportHeader). AreFactors k.dim gs) (sym same.0) ag in
-      let front = lines_front fs gs text y (omega arith) (all_plain h.dim fs o.is_header.dim o.factors) (all_plain h.dim gs o.is_header.dim ag') same.1 in
-      let none = no_more h.dim fs front.0 text y o.all (subst (λ (l : List FactorValue). AreFactors h.dim l) front.1 ag') front.2 in
+      let wg' : AreWitnessed h gs = subst (λ (k : ReportHeader). AreWitnessed k gs) (sym same.0) wg in
+      let front = lines_front fs gs text y (omega arith) (all_lines h fs o.is_header o.factors o.witnessed) (all_lines h gs o.is_header ag' wg') same.1 in
+      let none =
+      no_more h fs front.0 text y o.all (subst (λ (l : List FactorValue). AreFactors h.dim l) front.1 ag') (subst (λ (l : List FactorValue). AreWitnessed h l) front.1 wg') front.2 in
       let count : length gs ≡ length fs = ap (λ (l : List FactorValue). length l) (front.1 ∙ ap (λ (l : List FactorValue). fs ++ l) none ∙ append-nil fs) in
       omega (arith, count)
 ]
@@ -69,8 +73,9 @@ pub only_report : (bytes : List ℕ) (h : ReportHeader) (fs : List FactorValue) 
 only_report bytes h fs text r x o is e =
     let same = header_unique h r.header _ _ o.is_header is.header (sym o.spelled ∙ e ∙ report_open r x) in
     let are : AreFactors h.dim r.factors = subst (λ (k : ReportHeader). AreFactors k.dim r.factors) (sym same.0) is.factors in
-    let few = few_lines bytes h r.header fs r.factors text _ o is.header is.factors (e ∙ report_open r x) in
-    let front = lines_front r.factors fs _ text few (all_plain h.dim r.factors o.is_header.dim are) (all_plain h.dim fs o.is_header.dim o.factors) (sym same.1) in
+    let seen : AreWitnessed h r.factors = subst (λ (k : ReportHeader). AreWitnessed k r.factors) (sym same.0) is.witnessed in
+    let few = few_lines bytes h r.header fs r.factors text _ o is.header is.factors is.witnessed (e ∙ report_open r x) in
+    let front = lines_front r.factors fs _ text few (all_lines h r.factors o.is_header are seen) (all_lines h fs o.is_header o.factors o.witnessed) (sym same.1) in
     let none = none_between front.0 r.factors r.series x text front.2 in
     let factors : fs ≡ r.factors = front.1 ∙ ap (λ (l : List FactorValue). r.factors ++ l) none ∙ append-nil r.factors in
     (same.0, factors, sym (front.2 ∙ ap (λ (l : List FactorValue). flat_map factor_line l ++ text) none) ∙ ap (λ (l : List FactorValue). series_line l r.series ++ x) (sym factors))
@@ -86,11 +91,11 @@ fails_series bytes h fs text o none line e =
     record {
       some_line = omega arith;
       no_report = λ s. never s.0 [] s.1 (s.2 ∙ sym (append-nil (report_bytes s.0)));
-      before = inr (inl (record { header = h; factors = fs; rest = text; is_header = o.is_header; are_factors = o.factors; count = omega arith; spelled = o.spelled ∙ sym (opening_open h fs text) }));
+      before = inr (inl (record { header = h; factors = fs; rest = text; is_header = o.is_header; are_factors = o.factors; are_witnessed = o.witnessed; count = omega arith; spelled = o.spelled ∙ sym (opening_open h fs text) }));
       fails = λ pass. elim pass [
         | inl none ↦ omega (arith, none)
         | inr (inl p) ↦
-            let few = few_lines bytes h p.header fs p.factors text p.rest o p.is_header p.are_factors (p.spelled ∙ opening_open p.header p.factors p.rest) in
+            let few = few_lines bytes h p.header fs p.factors text p.rest o p.is_header p.are_factors p.are_witnessed (p.spelled ∙ opening_open p.header p.factors p.rest) in
             omega (arith, few, p.count)
         | inr (inr r) ↦ never r.report r.rest r.is_report r.spelled
       ];
@@ -108,7 +113,7 @@ fails_rest bytes r text rest o is there some line e =
       fails = λ pass. elim pass [
         | inl none ↦ omega (arith, none)
         | inr (inl p) ↦
-            let few = few_lines bytes r.header p.header r.factors p.factors text p.rest o p.is_header p.are_factors (p.spelled ∙ opening_open p.header p.factors p.rest) in
+            let few = few_lines bytes r.header p.header r.factors p.factors text p.rest o p.is_header p.are_factors p.are_witnessed (p.spelled ∙ opening_open p.header p.factors p.rest) in
             omega (arith, few, p.count)
         | inr (inr q) ↦
             let only = only_report bytes r.header r.factors text q.report q.rest o q.is_report q.spelled in
@@ -160,6 +165,7 @@ one_less bytes k (inr (inr r)) =
       rest = series_line r.report.factors r.report.series ++ r.rest;
       is_header = r.is_report.header;
       are_factors = r.is_report.factors;
+      are_witnessed = r.is_report.witnessed;
       count = omega (arith, r.count);
       spelled = open';
     }))
@@ -182,6 +188,7 @@ one_less bytes k (inr (inl o)) = elim (last_of o.factors) [
         rest = factor_line s.1 ++ o.rest;
         is_header = o.is_header;
         are_factors = factors_front o.header.dim s.0 (s.1 ∷ []) are;
+        are_witnessed = first_witnessed o.header s.0 (s.1 ∷ []) (subst (λ (l : List FactorValue). AreWitnessed o.header l) s.2 o.are_witnessed);
         count = omega (arith, count, o.count);
         spelled = spelled;
       }))

@@ -4,6 +4,7 @@ pub mod Numerals
 pub mod Plain
 pub mod Members
 pub mod Unique
+pub mod WitnessLaws
 pub mod Sizes
 pub mod Pieces
 pub mod Orders

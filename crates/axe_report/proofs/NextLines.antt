@@ -1,14 +1,17 @@
 -- The next line of a constituent: what its reader says.
 use Rattle.std.proofs.Common.{◌≡◌, ◌≢◌, ℕ, ◌+◌, ◌-◌, ◌*◌, ◌/◌, ◌^◌, ◌<◌, ◌≤◌, List, [], ◌∷◌, ◌++◌, decimal, codes, refl, sym, ap, ap₂, ◌∙◌, append_assoc, append-nil, le-div_iff_mul-le, mul_comm, arith}
 use Rattle.std.specs.List.{flat_map}
+use Rattle.std.proofs.lemmas.List.Elements.{All-push}
 use Rattle.axe_report.specs.Fronts.{is_digit, Stops}
 use Rattle.axe_report.specs.Limits.{most_dimension}
 use Rattle.axe_report.specs.Names.{letters, constituent_name, count_of}
-use Rattle.axe_report.specs.Reports.{FactorValue, dims, total_dim, AreFactors, IsFactorAfter}
-use Rattle.axe_report.specs.Spelling.{factor_line, factor_start}
+use Rattle.axe_report.specs.Reports.{FactorValue, dims, total_dim, AreFactors, IsFactorAfter, IsWitnessed, AreWitnessed}
+use Rattle.axe_report.specs.Spelling.{witness_bytes, factor_line, factor_start}
+use Rattle.axe_report.specs.declared.report.ReportHeader.{ReportHeader}
 use Rattle.axe_report.proofs.Numerals.{letters_stop, setting_unique}
 use Rattle.axe_report.proofs.Plain.{product_most, total_append, total_none, total_one, no_factors, factors_push}
 use Rattle.axe_report.proofs.Unique.{factor_open}
+use Rattle.axe_report.proofs.WitnessLaws.{witness_stops, none_witnessed}
 
 start_shape : (a b : List ℕ) → codes "factor " ++ (a ++ (codes " dim=" ++ (b ++ codes " mult="))) ≡ codes "factor " ++ a ++ codes " dim=" ++ b ++ codes " mult="
 start_shape a b = simp append_assoc
@@ -19,15 +22,15 @@ start_written name dim = start_shape name (decimal dim)
 
 -- the line begins with the dimension, after which come letters
 pub dim_first : (f : FactorValue) (k : ℕ) (rest : List ℕ) → f.name ≡ constituent_name f.dim k
-    → factor_line f ++ rest ≡ codes "factor " ++ (decimal f.dim ++ (letters k ++ (codes " dim=" ++ (decimal f.dim ++ (codes " mult=" ++ (decimal f.multiplicity ++ (10 ∷ rest)))))))
+    → factor_line f ++ rest ≡ codes "factor " ++ (decimal f.dim ++ (letters k ++ (codes " dim=" ++ (decimal f.dim ++ (codes " mult=" ++ (decimal f.multiplicity ++ (witness_bytes f.witness ++ (10 ∷ rest))))))))
 unfolding constituent_name
 dim_first f k rest e =
     factor_open f rest
-    ∙ ap (λ (n : List ℕ). codes "factor " ++ (n ++ (codes " dim=" ++ (decimal f.dim ++ (codes " mult=" ++ (decimal f.multiplicity ++ (10 ∷ rest))))))) e
-    ∙ ap (λ (l : List ℕ). codes "factor " ++ l) (append_assoc (decimal f.dim) (letters k) (codes " dim=" ++ (decimal f.dim ++ (codes " mult=" ++ (decimal f.multiplicity ++ (10 ∷ rest))))))
+    ∙ ap (λ (n : List ℕ). codes "factor " ++ (n ++ (codes " dim=" ++ (decimal f.dim ++ (codes " mult=" ++ (decimal f.multiplicity ++ (witness_bytes f.witness ++ (10 ∷ rest)))))))) e
+    ∙ ap (λ (l : List ℕ). codes "factor " ++ l) (append_assoc (decimal f.dim) (letters k) (codes " dim=" ++ (decimal f.dim ++ (codes " mult=" ++ (decimal f.multiplicity ++ (witness_bytes f.witness ++ (10 ∷ rest)))))))
 
 -- the line begins with its start, after which comes the multiplicity
-pub multiplicity_next : (f : FactorValue) (rest : List ℕ) → factor_line f ++ rest ≡ factor_start f.name f.dim ++ (decimal f.multiplicity ++ (10 ∷ rest))
+pub multiplicity_next : (f : FactorValue) (rest : List ℕ) → factor_line f ++ rest ≡ factor_start f.name f.dim ++ (decimal f.multiplicity ++ (witness_bytes f.witness ++ (10 ∷ rest)))
 unfolding factor_line factor_start
 multiplicity_next f rest = simp append_assoc
 
@@ -76,20 +79,20 @@ dim_is text left earlier room d f rest small fit there stops h e =
 
 -- the start that is written is that of the line
 pub start_is : (text start name : List ℕ) (earlier : List FactorValue) (room d : ℕ) (f : FactorValue) (rest : List ℕ) → d ≡ f.dim → name ≡ constituent_name d (count_of d (dims earlier)) → start ≡ factor_start name d
-    → IsFactorAfter (total_dim earlier + room) earlier f → text ≡ factor_line f ++ rest → text ≡ start ++ (decimal f.multiplicity ++ (10 ∷ rest))
+    → IsFactorAfter (total_dim earlier + room) earlier f → text ≡ factor_line f ++ rest → text ≡ start ++ (decimal f.multiplicity ++ (witness_bytes f.witness ++ (10 ∷ rest)))
 start_is text start name earlier room d f rest same n s h e =
     let named : name ≡ f.name = n ∙ ap (λ (k : ℕ). constituent_name k (count_of k (dims earlier))) same ∙ sym h.name in
-    e ∙ multiplicity_next f rest ∙ ap (λ (l : List ℕ). l ++ (decimal f.multiplicity ++ (10 ∷ rest))) (sym (s ∙ ap₂ (λ (a : List ℕ) (k : ℕ). factor_start a k) named same))
+    e ∙ multiplicity_next f rest ∙ ap (λ (l : List ℕ). l ++ (decimal f.multiplicity ++ (witness_bytes f.witness ++ (10 ∷ rest)))) (sym (s ∙ ap₂ (λ (a : List ℕ) (k : ℕ). factor_start a k) named same))
 
 -- the number after it is the multiplicity
 pub multiplicity_is : (text start left : List ℕ) (m : ℕ) (earlier : List FactorValue) (room : ℕ) (f : FactorValue) (rest : List ℕ) → room ≤ most_dimension → m < 2 ^ 64 → text ≡ start ++ (decimal m ++ left) → Stops is_digit left
-    → IsFactorAfter (total_dim earlier + room) earlier f → text ≡ start ++ (decimal f.multiplicity ++ (10 ∷ rest)) → (m ≡ f.multiplicity) × (left ≡ 10 ∷ rest)
+    → IsFactorAfter (total_dim earlier + room) earlier f → text ≡ start ++ (decimal f.multiplicity ++ (witness_bytes f.witness ++ (10 ∷ rest))) → (m ≡ f.multiplicity) × (left ≡ witness_bytes f.witness ++ (10 ∷ rest))
 multiplicity_is text start left m earlier room f rest small fit there stops h e =
     let fits = fits_from earlier room f h in
-    setting_unique start text m f.multiplicity left (10 ∷ rest) fit (omega (arith, fits.most)) stops refl there e
+    setting_unique start text m f.multiplicity left (witness_bytes f.witness ++ (10 ∷ rest)) fit (omega (arith, fits.most)) stops (witness_stops f.witness rest) there e
 
 -- a whole line is there
-pub line_there : (text start left rest : List ℕ) (earlier : List FactorValue) (room : ℕ) (f : FactorValue) → start ≡ factor_start f.name f.dim → text ≡ start ++ (decimal f.multiplicity ++ left) → left ≡ 10 ∷ rest
+pub line_there : (text start left rest : List ℕ) (earlier : List FactorValue) (room : ℕ) (f : FactorValue) → start ≡ factor_start f.name f.dim → text ≡ start ++ (decimal f.multiplicity ++ left) → left ≡ witness_bytes f.witness ++ (10 ∷ rest)
     → text ≡ factor_line f ++ rest
 line_there text start left rest earlier room f s there l =
     there ∙ ap₂ (λ (a : List ℕ) (b : List ℕ). a ++ (decimal f.multiplicity ++ b)) s l ∙ sym (multiplicity_next f rest)
@@ -107,20 +110,21 @@ lines_more fs f text rest next a b =
     a ∙ ap (λ (l : List ℕ). flat_map factor_line fs ++ l) b ∙ sym (append_assoc (flat_map factor_line fs) (factor_line f) next) ∙ ap (λ (l : List ℕ). l ++ next) (sym (flat_map_push fs f))
 
 -- the state of the reader: some lines are read, and so much of the dimension is left
-pub record LinesRead (text : List ℕ) (dim : ℕ) (fs : List FactorValue) (rest : List ℕ) (room : ℕ) : Type 0 where
-  pub factors : AreFactors dim fs
-  pub sum : room + total_dim fs ≡ dim
+pub record LinesRead (text : List ℕ) (header : ReportHeader) (fs : List FactorValue) (rest : List ℕ) (room : ℕ) : Type 0 where
+  pub factors : AreFactors header.dim fs
+  pub witnessed : AreWitnessed header fs
+  pub sum : room + total_dim fs ≡ header.dim
   pub read : text ≡ flat_map factor_line fs ++ rest
 
-pub lines_read_more : (text : List ℕ) (dim : ℕ) (fs gs : List FactorValue) (f : FactorValue) (rest next : List ℕ) (room left : ℕ) → LinesRead text dim fs rest room → IsFactorAfter (total_dim fs + room) fs f
-    → rest ≡ factor_line f ++ next → gs ≡ fs ++ f ∷ [] → left ≡ room - f.dim * f.multiplicity → LinesRead text dim gs next left
-lines_read_more text dim fs gs f rest next room left h a b g l =
-    let whole : total_dim fs + room ≡ dim = omega (arith, h.sum) in
-    let after : IsFactorAfter dim fs f = rw whole at a in
+pub lines_read_more : (text : List ℕ) (header : ReportHeader) (fs gs : List FactorValue) (f : FactorValue) (rest next : List ℕ) (room left : ℕ) → LinesRead text header fs rest room → IsFactorAfter (total_dim fs + room) fs f → IsWitnessed header f
+    → rest ≡ factor_line f ++ next → gs ≡ fs ++ f ∷ [] → left ≡ room - f.dim * f.multiplicity → LinesRead text header gs next left
+lines_read_more text header fs gs f rest next room left h a seen b g l =
+    let whole : total_dim fs + room ≡ header.dim = omega (arith, h.sum) in
+    let after : IsFactorAfter header.dim fs f = rw whole at a in
     let total : total_dim (fs ++ f ∷ []) ≡ total_dim fs + f.dim * f.multiplicity = total_append fs (f ∷ []) ∙ ap (λ (n : ℕ). total_dim fs + n) (total_one f) in
-    rw g (record { factors = factors_push dim fs f h.factors after; sum = omega (arith, h.sum, a.fits, total, l); read = lines_more fs f text rest next h.read b })
+    rw g (record { factors = factors_push header.dim fs f h.factors after; witnessed = All-push (IsWitnessed header) fs f h.witnessed seen; sum = omega (arith, h.sum, a.fits, total, l); read = lines_more fs f text rest next h.read b })
 
-pub lines_begun : (text : List ℕ) (dim : ℕ) (fs : List FactorValue) → fs ≡ [] → LinesRead text dim fs text dim
-lines_begun text dim fs e =
+pub lines_begun : (text : List ℕ) (header : ReportHeader) (fs : List FactorValue) → fs ≡ [] → LinesRead text header fs text header.dim
+lines_begun text header fs e =
     let none = total_none in
-    rw e (record { factors = no_factors dim; sum = omega (arith, none); read = refl })
+    rw e (record { factors = no_factors header.dim; witnessed = none_witnessed header; sum = omega (arith, none); read = refl })

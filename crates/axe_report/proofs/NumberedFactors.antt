@@ -1,6 +1,6 @@
 -- A series whose numbers appear in their order is that of a report: of constituents with so many dimensions, listed by number.
-use Rattle.std.proofs.Common.{◌≡◌, ℕ, zero, suc, ◌+◌, ◌*◌, ◌<◌, ◌≤◌, eqb, cond, List, [], ◌∷◌, length, map, take, get_or, sum_by, ext_get_or, All, inl, inr, refl, sym, ap, ap₂, subst, ◌∙◌, arith}
-use Rattle.std.specs.List.{range_with_len}
+use Rattle.std.proofs.Common.{◌≡◌, ℕ, zero, suc, ◌+◌, ◌*◌, ◌<◌, ◌≤◌, eqb, cond, List, [], ◌∷◌, length, map, take, get_or, sum_by, ext_get_or, All, Option, Some, None, inl, inr, refl, sym, ap, ap₂, subst, ◌∙◌, arith}
+use Rattle.std.specs.List.{range_with_len, slice_get}
 use Rattle.std.proofs.lemmas.Bool.{cases_lt}
 use Rattle.std.proofs.lemmas.List.{length-map, get_or-map}
 use Rattle.std.proofs.lemmas.List.Elements.{All-from_get_or}
@@ -9,6 +9,7 @@ use Rattle.std.proofs.lemmas.List.Sums.{sum_by-cons}
 use Rattle.axe_algebra.specs.Lists.{listed}
 use Rattle.axe_report.specs.Names.{count_of, names_of}
 use Rattle.axe_report.specs.Reports.{FactorValue, names, dims, multiplicities, total_dim, first_appearances, counts_in, IsReportHeader, AreFactors, IsReport}
+use Rattle.axe_report.specs.Reports.{WitnessValue, IsWitnessIn, IsWitnessed, AreWitnessed}
 use Rattle.axe_report.specs.declared.report.ReportHeader.{ReportHeader}
 use Rattle.axe_report.proofs.Orders.{Has, has_from_first, first_from_has, has_range, range_has, InOrderTo, in_order_begun, in_order_more, in_order_done}
 use Rattle.axe_report.proofs.Counts.{count_begun, count_here, count_there, counted_once}
@@ -87,59 +88,60 @@ module _ (count : ℕ) (series : List ℕ) (are : AreNumbered count series) wher
 -- ---- constituents by their numbers
 
 -- what a report says of constituent `number` of a series, of constituents of these dimensions
-abbrev pub numbered_factor : List ℕ → List ℕ → ℕ → FactorValue
-numbered_factor ds series number = record {
+abbrev pub numbered_factor : List ℕ → List WitnessValue → List ℕ → ℕ → FactorValue
+numbered_factor ds ws series number = record {
   name = get_or (names_of ds) number [];
   dim = get_or ds number 0;
   multiplicity = count_of number series;
+  witness = slice_get ws number;
 }
 
-total_more : (ds series : List ℕ) (n : ℕ) → total_dim (listed (n + 1) (numbered_factor ds series)) ≡ total_dim (listed n (numbered_factor ds series)) + get_or ds n 0 * count_of n series
+total_more : (ds : List ℕ) (ws : List WitnessValue) (series : List ℕ) (n : ℕ) → total_dim (listed (n + 1) (numbered_factor ds ws series)) ≡ total_dim (listed n (numbered_factor ds ws series)) + get_or ds n 0 * count_of n series
 unfolding total_dim
-total_more ds series n = sum_by-map-range_with_len_more (λ (f : FactorValue). f.dim * f.multiplicity) (numbered_factor ds series) 0 n n (omega arith)
+total_more ds ws series n = sum_by-map-range_with_len_more (λ (f : FactorValue). f.dim * f.multiplicity) (numbered_factor ds ws series) 0 n n (omega arith)
 
-total_zero : (ds series : List ℕ) → total_dim (listed 0 (numbered_factor ds series)) ≡ 0
+total_zero : (ds : List ℕ) (ws : List WitnessValue) (series : List ℕ) → total_dim (listed 0 (numbered_factor ds ws series)) ≡ 0
 unfolding total_dim
-total_zero ds series = refl
+total_zero ds ws series = refl
 
 -- no place, and one place more: of a later constituent, and of one of these
-total_of_none : (ds : List ℕ) (n : ℕ) → total_dim (listed n (numbered_factor ds [])) ≡ 0
-total_of_none ds zero = total_zero ds []
-total_of_none ds (suc n) =
+total_of_none : (ds : List ℕ) (ws : List WitnessValue) (n : ℕ) → total_dim (listed n (numbered_factor ds ws [])) ≡ 0
+total_of_none ds ws zero = total_zero ds ws []
+total_of_none ds ws (suc n) =
     let next : n + 1 ≡ suc n = omega arith in
     let none : get_or ds n 0 * count_of n [] ≡ 0 = ap (λ k. get_or ds n 0 * k) (sym (count_begun n)) ∙ grind arith in
-    let more = total_more ds [] n in
-    let before : total_dim (listed n (numbered_factor ds [])) ≡ 0 = total_of_none ds n in
-    subst (λ k. total_dim (listed k (numbered_factor ds [])) ≡ 0) next (omega (arith, more, none, before))
+    let more = total_more ds ws [] n in
+    let before : total_dim (listed n (numbered_factor ds ws [])) ≡ 0 = total_of_none ds ws n in
+    subst (λ k. total_dim (listed k (numbered_factor ds ws [])) ≡ 0) next (omega (arith, more, none, before))
 
-total_past : (ds series : List ℕ) (p n : ℕ) → n ≤ p →
-    total_dim (listed n (numbered_factor ds (p ∷ series))) ≡ total_dim (listed n (numbered_factor ds series))
-total_past ds series p zero late = total_zero ds (p ∷ series) ∙ sym (total_zero ds series)
-total_past ds series p (suc n) late =
+total_past : (ds : List ℕ) (ws : List WitnessValue) (series : List ℕ) (p n : ℕ) → n ≤ p →
+    total_dim (listed n (numbered_factor ds ws (p ∷ series))) ≡ total_dim (listed n (numbered_factor ds ws series))
+total_past ds ws series p zero late = total_zero ds ws (p ∷ series) ∙ sym (total_zero ds ws series)
+total_past ds ws series p (suc n) late =
     let next : n + 1 ≡ suc n = omega arith in
     let count : count_of n (p ∷ series) ≡ count_of n series = count_there n p series (λ same. omega (arith, same, late)) in
-    subst (λ k. total_dim (listed k (numbered_factor ds (p ∷ series))) ≡ total_dim (listed k (numbered_factor ds series))) next
-    (total_more ds (p ∷ series) n
-    ∙ ap₂ (λ a b. a + get_or ds n 0 * b) (total_past ds series p n (omega arith)) count
-    ∙ sym (total_more ds series n))
+    subst (λ k. total_dim (listed k (numbered_factor ds ws (p ∷ series))) ≡ total_dim (listed k (numbered_factor ds ws series))) next
+    (total_more ds ws (p ∷ series) n
+    ∙ ap₂ (λ a b. a + get_or ds n 0 * b) (total_past ds ws series p n (omega arith)) count
+    ∙ sym (total_more ds ws series n))
 
 times_more : (a b : ℕ) → a * (1 + b) ≡ a + a * b
 times_more a b = grind arith
 
-total_with : (ds series : List ℕ) (p n : ℕ) → p < n →
-    total_dim (listed n (numbered_factor ds (p ∷ series))) ≡ get_or ds p 0 + total_dim (listed n (numbered_factor ds series))
-total_with ds series p zero below = absurd (omega (arith, below))
-total_with ds series p (suc n) below =
+total_with : (ds : List ℕ) (ws : List WitnessValue) (series : List ℕ) (p n : ℕ) → p < n →
+    total_dim (listed n (numbered_factor ds ws (p ∷ series))) ≡ get_or ds p 0 + total_dim (listed n (numbered_factor ds ws series))
+total_with ds ws series p zero below = absurd (omega (arith, below))
+total_with ds ws series p (suc n) below =
     let next : n + 1 ≡ suc n = omega arith in
-    let more = total_more ds (p ∷ series) n in
-    let old = total_more ds series n in
-    subst (λ k. total_dim (listed k (numbered_factor ds (p ∷ series))) ≡ get_or ds p 0 + total_dim (listed k (numbered_factor ds series))) next
+    let more = total_more ds ws (p ∷ series) n in
+    let old = total_more ds ws series n in
+    subst (λ k. total_dim (listed k (numbered_factor ds ws (p ∷ series))) ≡ get_or ds p 0 + total_dim (listed k (numbered_factor ds ws series))) next
     (elim (cases_lt p n) [
       | inl before ↦
           let count : get_or ds n 0 * count_of n (p ∷ series) ≡ get_or ds n 0 * count_of n series =
           ap (λ k. get_or ds n 0 * k) (count_there n p series (λ same. omega (arith, same, before))) in
-          let rest : total_dim (listed n (numbered_factor ds (p ∷ series))) ≡ get_or ds p 0 + total_dim (listed n (numbered_factor ds series)) =
-          total_with ds series p n before in
+          let rest : total_dim (listed n (numbered_factor ds ws (p ∷ series))) ≡ get_or ds p 0 + total_dim (listed n (numbered_factor ds ws series)) =
+          total_with ds ws series p n before in
           omega (arith, more, old, count, rest)
       | inr ge ↦
           let same : n ≡ p = omega arith in
@@ -147,41 +149,41 @@ total_with ds series p (suc n) below =
           ap (λ k. get_or ds n 0 * count_of n (k ∷ series)) (sym same) ∙ ap (λ k. get_or ds n 0 * k) (count_here n series)
           ∙ times_more (get_or ds n 0) (count_of n series) in
           let here : get_or ds n 0 ≡ get_or ds p 0 = ap (λ k. get_or ds k 0) same in
-          let rest : total_dim (listed n (numbered_factor ds (p ∷ series))) ≡ total_dim (listed n (numbered_factor ds series)) =
-          total_past ds series p n ge in
+          let rest : total_dim (listed n (numbered_factor ds ws (p ∷ series))) ≡ total_dim (listed n (numbered_factor ds ws series)) =
+          total_past ds ws series p n ge in
           omega (arith, more, old, count, rest, here)
     ])
 
 -- dimension times multiplicity add up to the dimensions of the places
-total_of_places : (ds : List ℕ) (n : ℕ) (series : List ℕ) → ((i : ℕ) → i < length series → get_or series i 0 < n) →
-    total_dim (listed n (numbered_factor ds series)) ≡ sum_by (λ p. get_or ds p 0) series
-total_of_places ds n [] within = total_of_none ds n
-total_of_places ds n (p ∷ series) within =
-    total_with ds series p n (within 0 (omega arith))
-    ∙ ap (λ k. get_or ds p 0 + k) (total_of_places ds n series (λ i inside. within (suc i) (omega (arith, inside))))
+total_of_places : (ds : List ℕ) (ws : List WitnessValue) (n : ℕ) (series : List ℕ) → ((i : ℕ) → i < length series → get_or series i 0 < n) →
+    total_dim (listed n (numbered_factor ds ws series)) ≡ sum_by (λ p. get_or ds p 0) series
+total_of_places ds ws n [] within = total_of_none ds ws n
+total_of_places ds ws n (p ∷ series) within =
+    total_with ds ws series p n (within 0 (omega arith))
+    ∙ ap (λ k. get_or ds p 0 + k) (total_of_places ds ws n series (λ i inside. within (suc i) (omega (arith, inside))))
     ∙ sym (sum_by-cons (λ (q : ℕ). get_or ds q 0) p series)
 
 -- ---- the report
 
-module _ (ds series : List ℕ) (are : AreNumbered (length ds) series) (some : (k : ℕ) → k < length ds → 1 ≤ get_or ds k 0) where
+module _ (ds : List ℕ) (ws : List WitnessValue) (series : List ℕ) (are : AreNumbered (length ds) series) (some : (k : ℕ) → k < length ds → 1 ≤ get_or ds k 0) where
   abbrev factors : List FactorValue
-  factors = listed (length ds) (numbered_factor ds series)
+  factors = listed (length ds) (numbered_factor ds ws series)
 
   factor_count : length factors ≡ length ds
-  factor_count = length-map-range_with_len (numbered_factor ds series) 0 (length ds)
+  factor_count = length-map-range_with_len (numbered_factor ds ws series) 0 (length ds)
 
-  factor_at : (k : ℕ) (e : FactorValue) → k < length ds → get_or factors k e ≡ numbered_factor ds series k
-  factor_at k e below = get_or-map-range_with_len (numbered_factor ds series) 0 (length ds) k k e below (omega arith)
+  factor_at : (k : ℕ) (e : FactorValue) → k < length ds → get_or factors k e ≡ numbered_factor ds ws series k
+  factor_at k e below = get_or-map-range_with_len (numbered_factor ds ws series) 0 (length ds) k k e below (omega arith)
 
   -- a list with an entry for each constituent
   entries_are : {X : Type 0} (f : FactorValue → X) (xs : List X) (d : X) → length xs ≡ length ds →
-      ((k : ℕ) → k < length ds → f (numbered_factor ds series k) ≡ get_or xs k d) → map f factors ≡ xs
+      ((k : ℕ) → k < length ds → f (numbered_factor ds ws series k) ≡ get_or xs k d) → map f factors ≡ xs
   entries_are f xs d count each =
       let same : length (map f factors) ≡ length xs = length-map factors f ∙ factor_count ∙ sym count in
       ext_get_or d (map f factors) xs same (λ k inside.
       let below : k < length ds = omega (arith, same, count, inside) in
-      get_or-map f factors k (numbered_factor ds series k) d (omega (arith, below, factor_count))
-      ∙ ap f (factor_at k (numbered_factor ds series k) below) ∙ each k below)
+      get_or-map f factors k (numbered_factor ds ws series k) d (omega (arith, below, factor_count))
+      ∙ ap f (factor_at k (numbered_factor ds ws series k) below) ∙ each k below)
 
   dims_are : dims factors ≡ ds
   dims_are = entries_are (λ (f : FactorValue). f.dim) ds 0 refl (λ k below. refl)
@@ -197,7 +199,7 @@ module _ (ds series : List ℕ) (are : AreNumbered (length ds) series) (some : (
       (λ k below. sym (get_or-map-range_with_len (λ (j : ℕ). count_of j series) 0 (length ds) k k 0 below (omega arith)))
 
   pub numbered_total : total_dim factors ≡ sum_by (λ p. get_or ds p 0) series
-  numbered_total = total_of_places ds (length ds) series are.within
+  numbered_total = total_of_places ds ws (length ds) series are.within
 
   -- each multiplicity is at least 1
   some_multiplicity : (k : ℕ) → k < length ds → 1 ≤ get_or (multiplicities factors) k 0
@@ -216,12 +218,19 @@ module _ (ds series : List ℕ) (are : AreNumbered (length ds) series) (some : (
     fits = omega (arith, numbered_total, whole);
   }
 
+  -- each has its witness
+  numbered_witnessed : (header : ReportHeader) → ((k : ℕ) → k < length ds → IsWitnessIn header.version header (slice_get ws k)) → AreWitnessed header factors
+  numbered_witnessed header each = All-from_get_or (IsWitnessed header) factors (numbered_factor ds ws series 0) (λ k inside.
+      let below : k < length ds = omega (arith, inside, factor_count) in
+      subst (IsWitnessed header) (sym (factor_at k (numbered_factor ds ws series 0) below)) (each k below))
+
   -- the dimensions of the places make up that of the module
-  pub numbered_report : (header : ReportHeader) → IsReportHeader header → sum_by (λ p. get_or ds p 0) series ≡ header.dim →
+  pub numbered_report : (header : ReportHeader) → IsReportHeader header → ((k : ℕ) → k < length ds → IsWitnessIn header.version header (slice_get ws k)) → sum_by (λ p. get_or ds p 0) series ≡ header.dim →
       IsReport (record { header = header; factors = factors; series = series })
-  numbered_report header is whole = record {
+  numbered_report header is each whole = record {
     header = is;
     factors = numbered_factors header.dim whole;
+    witnessed = numbered_witnessed header each;
     whole = numbered_total ∙ whole;
     series = record {
       order = numbered_first (length ds) series are ∙ ap (λ (k : ℕ). range_with_len 0 k) (sym factor_count);
@@ -229,19 +238,25 @@ module _ (ds series : List ℕ) (are : AreNumbered (length ds) series) (some : (
     };
   }
 
--- constituents with the names of these dimensions, the dimensions, and how often each stands in the series are these
-pub numbered_by_parts : (ds series : List ℕ) (fs : List FactorValue) → names fs ≡ names_of ds → dims fs ≡ ds →
-    multiplicities fs ≡ counts_in series (length ds) → fs ≡ listed (length ds) (numbered_factor ds series)
+some_at : (ws : List WitnessValue) (k : ℕ) → get_or (map (λ (w : WitnessValue). Some w) ws) k None ≡ slice_get ws k
+some_at [] k = refl
+some_at (w ∷ ws) zero = refl
+some_at (w ∷ ws) (suc k) = some_at ws k
+
+-- constituents with the names of these dimensions, the dimensions, how often each stands in the series, and these
+-- witnesses are these
+pub numbered_by_parts : (ds : List ℕ) (ws : List WitnessValue) (series : List ℕ) (fs : List FactorValue) → names fs ≡ names_of ds → dims fs ≡ ds →
+    multiplicities fs ≡ counts_in series (length ds) → map (λ (f : FactorValue). f.witness) fs ≡ map (λ (w : WitnessValue). Some w) ws → fs ≡ listed (length ds) (numbered_factor ds ws series)
 unfolding counts_in
-numbered_by_parts ds series fs named sized counted = fill_by_all (numbered_factor ds series) fs (length ds) none count each
+numbered_by_parts ds ws series fs named sized counted seen = fill_by_all (numbered_factor ds ws series) fs (length ds) none count each
   where
     none : FactorValue
-    none = record { name = []; dim = 0; multiplicity = 0 }
+    none = record { name = []; dim = 0; multiplicity = 0; witness = None }
 
     count : length fs ≡ length ds
     count = sym (length-map fs (λ (f : FactorValue). f.dim)) ∙ ap (λ (l : List ℕ). length l) sized
 
-    each : (k : ℕ) → k < length ds → get_or fs k none ≡ numbered_factor ds series k
+    each : (k : ℕ) → k < length ds → get_or fs k none ≡ numbered_factor ds ws series k
     each k below =
         let inside : k < length fs = omega (arith, count, below) in
         let name : (get_or fs k none).name ≡ get_or (names_of ds) k [] =
@@ -251,4 +266,6 @@ numbered_by_parts ds series fs named sized counted = fill_by_all (numbered_facto
         let multiplicity : (get_or fs k none).multiplicity ≡ count_of k series =
         sym (get_or-map (λ (f : FactorValue). f.multiplicity) fs k none 0 inside) ∙ ap (λ (l : List ℕ). get_or l k 0) counted
         ∙ get_or-map-range_with_len (λ (j : ℕ). count_of j series) 0 (length ds) k k 0 below (omega arith) in
-        λ i. record { name = name i; dim = dim i; multiplicity = multiplicity i }
+        let witness : (get_or fs k none).witness ≡ slice_get ws k =
+        sym (get_or-map (λ (f : FactorValue). f.witness) fs k none None inside) ∙ ap (λ (l : List (Option WitnessValue)). get_or l k None) seen ∙ some_at ws k in
+        λ i. record { name = name i; dim = dim i; multiplicity = multiplicity i; witness = witness i }

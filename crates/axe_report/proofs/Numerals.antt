@@ -7,7 +7,7 @@ use Rattle.axe_report.specs.Names.{letters, constituent_name}
 use Rattle.axe_report.proofs.Fronts.{Passes, passes_append, front_unique, cancel_front}
 use Rattle.axe_report.proofs.Letters.{AreLetters, are_letters, some_letter, letters_injective}
 
-digit_passes : (d : ℕ) → d < 10 → is_digit (48 + d) ≡ true
+pub digit_passes : (d : ℕ) → d < 10 → is_digit (48 + d) ≡ true
 digit_passes d lt = and_from (leb 48 (48 + d)) (ltb (48 + d) 58) (le-leb 48 (48 + d) (omega arith)) (lt-ltb (48 + d) 58 (omega arith))
 
 pub decimal_digits : (n : ℕ) → n < 2 ^ 64 → Passes is_digit (decimal n)

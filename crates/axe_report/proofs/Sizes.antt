@@ -1,20 +1,27 @@
 -- How long a report is.
-use Rattle.std.proofs.Common.{◌≡◌, ℕ, zero, suc, ◌+◌, ◌*◌, ◌^◌, ◌<◌, ◌≤◌, cond, eqb, ltb, List, [], ◌∷◌, ◌++◌, length, map, get_or, decimal, sum, refl, sym, ap, ◌∙◌, inl, inr, arith, length-append}
+use Rattle.std.proofs.Common.{◌≡◌, ℕ, zero, suc, ◌+◌, ◌*◌, ◌^◌, ◌<◌, ◌≤◌, cond, eqb, ltb, List, [], ◌∷◌, ◌++◌, length, map, get_or, decimal, sum, Option, Some, None, refl, sym, ap, ◌∙◌, inl, inr, arith, length-append}
 use Rattle.std.specs.List.{AllByRecursion, flat_map, range_with_len}
 use Rattle.std.proofs.lemmas.Bool.{cases_lt, ne_eqb, eq-eqb, lt-ltb, le-ltb}
 use Rattle.std.proofs.lemmas.Fmt.{length-decimal-le}
 use Rattle.std.proofs.lemmas.List.Sums.{sum_by-cons, count_by-le-length}
-use Rattle.axe_field.specs.Order.{order_number}
+use Rattle.std.proofs.lemmas.List.{length-map}
+use Rattle.std.proofs.lemmas.List.Elements.{All-head, All-tail}
+use Rattle.axe_field.specs.Order.{Order, order_number}
+use Rattle.axe_field.proofs.Orders.{order_number-at_least}
 use Rattle.axe_report.specs.Limits.{most_dimension, most_report_bytes}
 use Rattle.axe_report.specs.Names.{letters, constituent_name, count_of, names_after, names_of}
-use Rattle.axe_report.specs.Reports.{FactorValue, ReportValue, names, dims, multiplicities, total_dim, counts_in, IsReportHeader, AreFactors, IsReport}
-use Rattle.axe_report.specs.Spelling.{header_line, factor_line, place_bytes, series_line, opening_bytes, report_bytes}
+use Rattle.axe_report.specs.Reports.{WitnessValue, FactorValue, ReportValue, names, dims, multiplicities, total_dim, counts_in, version_number, IsReportHeader, AreFactors, IsReport}
+use Rattle.axe_report.specs.Reports.{IsPolyOver, IsWitnessIn, IsWitnessed, AreWitnessed}
+use Rattle.axe_report.specs.Spelling.{header_line, digit_bytes, poly_bytes, witness_bytes, factor_line, place_bytes, series_line, opening_bytes, report_bytes}
 use Rattle.axe_report.specs.declared.report.ReportHeader.{ReportHeader}
+use Rattle.axe_report.specs.declared.report.Version.{Version}
+use Rattle.axe_report.specs.declared.report.Version.TheVariants.{One, Two}
 use Rattle.axe_report.proofs.Counts.{count_cons}
 use Rattle.axe_report.proofs.Letters.{three_letters}
 use Rattle.axe_report.proofs.Plain.{IsPlain, product_some, product_most, all_plain, total_cons, total_none, names_more}
 use Rattle.axe_report.proofs.Members.{places_in_range}
-use Rattle.axe_report.proofs.Unique.{InRange, order_small}
+use Rattle.axe_report.proofs.Unique.{InRange, version_small, order_small}
+use Rattle.axe_report.proofs.WitnessLaws.{few_digits}
 
 -- ---- numbers of constituents
 
@@ -127,13 +134,34 @@ names_short (f ∷ fs) earlier n h le =
     let longer = length-append earlier (f.dim ∷ []) in
     (rw one (name_short f.dim (count_of f.dim earlier) h.0.dim few), names_short fs (earlier ++ f.dim ∷ []) rest h.1 (omega (arith, longer, le)))
 
-factor_short : (f : FactorValue) → IsPlain f → length f.name ≤ 7 → length (factor_line f) ≤ 40
-unfolding factor_line
-factor_short f p n = simp length-append (omega (arith, n, small_decimal f.dim p.dim, small_decimal f.multiplicity p.multiplicity))
+-- word= and poly= take 6 bytes each, the number of a word at most 5 and a polynomial at most 13
+poly_short : (o : Order) (poly : Option (List ℕ)) → IsPolyOver (order_number o) poly → length (poly_bytes poly) ≤ 19
+unfolding poly_bytes digit_bytes
+poly_short o None is = omega arith
+poly_short o (Some digits) is =
+    simp length-append (omega (arith, few_digits (order_number o) digits (order_number-at_least o) is, length-map digits (λ (digit : ℕ). 48 + digit)))
 
-factors_short : (fs : List FactorValue) → AllByRecursion IsPlain fs → AreShort fs → length (flat_map factor_line fs) ≤ 40 * length fs
-factors_short [] h s = omega arith
-factors_short (f ∷ fs) h s = rw (length-append (factor_line f) (flat_map factor_line fs)) (omega (arith, factor_short f h.0 s.0, factors_short fs h.1 s.1))
+witness_short : (h : ReportHeader) → IsReportHeader h → (v : Version) (witness : Option WitnessValue) → IsWitnessIn v h witness → length (witness_bytes witness) ≤ 30
+unfolding witness_bytes
+witness_short h formed One None is = omega arith
+witness_short h formed One (Some witness) is = absurd is
+witness_short h formed Two None is = absurd is
+witness_short h formed Two (Some witness) is =
+    let word : length (decimal witness.word) ≤ 5 =
+    length-decimal-le 5 witness.word (omega arith) (omega (arith, is.word, formed.words)) (omega (arith, is.word, formed.words)) in
+    simp length-append (omega (arith, word, poly_short h.field witness.poly is.poly))
+
+factor_short : (h : ReportHeader) (f : FactorValue) → IsReportHeader h → IsWitnessed h f → IsPlain f → length f.name ≤ 7 → length (factor_line f) ≤ 64
+unfolding factor_line
+factor_short h f formed seen p n =
+    simp length-append (omega (arith, n, small_decimal f.dim p.dim, small_decimal f.multiplicity p.multiplicity, witness_short h formed h.version f.witness seen))
+
+factors_short : (h : ReportHeader) (fs : List FactorValue) → IsReportHeader h → AreWitnessed h fs → AllByRecursion IsPlain fs → AreShort fs → length (flat_map factor_line fs) ≤ 64 * length fs
+factors_short h [] formed seen p s = omega arith
+factors_short h (f ∷ fs) formed seen p s =
+    let one = factor_short h f formed (All-head (IsWitnessed h) f fs seen) p.0 s.0 in
+    let rest = factors_short h fs formed (All-tail (IsWitnessed h) f fs seen) p.1 s.1 in
+    rw (length-append (factor_line f) (flat_map factor_line fs)) (omega (arith, one, rest))
 
 name_at_short : (fs : List FactorValue) (p : ℕ) → AreShort fs → p < length fs → length (get_or (names fs) p []) ≤ 7
 name_at_short [] p h lt = absurd (omega (arith, lt))
@@ -149,15 +177,16 @@ series_short : (fs : List FactorValue) (s : List ℕ) → AreShort fs → InRang
 unfolding series_line
 series_short fs s h r = simp length-append (omega (arith, places_short fs s h r))
 
-header_short : (h : ReportHeader) → IsReportHeader h → length (header_line h) ≤ 150
+header_short : (h : ReportHeader) → IsReportHeader h → length (header_line h) ≤ 170
 unfolding header_line
 header_short h is =
+    let v = any_decimal (version_number h.version) (version_small h.version) in
     let q = any_decimal (order_number h.field) (order_small h.field) in
     let d = any_decimal h.dim (omega (arith, is.dim)) in
     let g = any_decimal h.gens (omega (arith, is.gens)) in
     let s = any_decimal h.seed is.seed in
     let w = any_decimal h.words (omega (arith, is.words)) in
-    simp length-append (omega (arith, q, d, g, s, w))
+    simp length-append (omega (arith, v, q, d, g, s, w))
 
 pub report_within : (r : ReportValue) → IsReport r → length (report_bytes r) ≤ most_report_bytes
 unfolding report_bytes opening_bytes names_of
@@ -170,7 +199,7 @@ report_within r is =
     let long : length r.series ≡ sum (multiplicities r.factors) = series_length (length r.factors) r.series range ∙ ap (λ (l : List ℕ). sum l) (sym is.series.counted) in
     let sums = sum_multiplicities r.factors plain in
     let h = header_short r.header is.header in
-    let f = factors_short r.factors plain short in
+    let f = factors_short r.header r.factors is.header is.witnessed plain short in
     let s = series_short r.factors r.series short range in
     simp length-append (omega (arith, few, long, sums, h, f, s, is.whole, most))
 

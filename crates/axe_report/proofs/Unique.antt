@@ -6,51 +6,68 @@ use Rattle.std.proofs.lemmas.List.{length-map}
 use Rattle.axe_field.specs.Order.{Order, order_number}
 use Rattle.axe_field.proofs.Orders.{order_number-at_most, order_number-injective}
 use Rattle.axe_report.specs.Fronts.{is_no_separator, Stops}
-use Rattle.axe_report.specs.Reports.{FactorValue, ReportValue, names, IsReportHeader, IsReport}
-use Rattle.axe_report.specs.Spelling.{header_line, factor_line, place_bytes, series_line, opening_bytes, report_bytes}
+use Rattle.axe_report.specs.Reports.{FactorValue, ReportValue, names, version_number, IsReportHeader, IsReport}
+use Rattle.axe_report.specs.Spelling.{header_line, witness_bytes, factor_line, place_bytes, series_line, opening_bytes, report_bytes}
+use Rattle.axe_report.specs.declared.report.Version.{Version}
+use Rattle.axe_report.specs.declared.report.Version.TheVariants.{One, Two}
 use Rattle.axe_report.specs.declared.report.ReportHeader.{ReportHeader}
 use Rattle.axe_report.proofs.Fronts.{Passes, front_unique, cancel_front}
 use Rattle.axe_report.proofs.Numerals.{numeral_unique}
 use Rattle.axe_report.proofs.Plain.{IsPlain, AreDistinct, all_plain, all_distinct}
 use Rattle.axe_report.proofs.Members.{places_in_range}
+use Rattle.axe_report.proofs.WitnessLaws.{IsLine, all_lines, witness_stops, witness_unique}
 
 -- ---- the header
 
 pub header_open : (h : ReportHeader) (x : List ℕ) → header_line h ++ x
-    ≡ codes "chop 1 field=" ++ (decimal (order_number h.field) ++ (codes " dim=" ++ (decimal h.dim ++ (codes " gens=" ++ (decimal h.gens ++ (codes " seed=" ++ (decimal h.seed ++ (codes " words=" ++ (decimal h.words ++ (10 ∷ x))))))))))
+    ≡ codes "chop " ++ (decimal (version_number h.version) ++ (codes " field=" ++ (decimal (order_number h.field) ++ (codes " dim=" ++ (decimal h.dim ++ (codes " gens=" ++ (decimal h.gens ++ (codes " seed=" ++ (decimal h.seed ++ (codes " words=" ++ (decimal h.words ++ (10 ∷ x))))))))))))
 unfolding header_line
 header_open h x = simp append_assoc
 
 pub order_small : (o : Order) → order_number o < 2 ^ 64
 order_small o = let most = order_number-at_most o in omega (arith, most)
 
+pub version_small : (v : Version) → version_number v < 2 ^ 64
+version_small One = omega arith
+version_small Two = omega arith
+
+version_injective : (v w : Version) → version_number v ≡ version_number w → v ≡ w
+version_injective One One e = refl
+version_injective One Two e = absurd (omega (arith, e))
+version_injective Two One e = absurd (omega (arith, e))
+version_injective Two Two e = refl
+
 pub header_unique : (h g : ReportHeader) (x y : List ℕ) → IsReportHeader h → IsReportHeader g → header_line h ++ x ≡ header_line g ++ y → (h ≡ g) × (x ≡ y)
 header_unique h g x y ih ig e =
-    let e0 = cancel_front (codes "chop 1 field=") _ _ (sym (header_open h x) ∙ e ∙ header_open g y) in
-    let e1 = numeral_unique (order_number h.field) (order_number g.field) _ _ (order_small h.field) (order_small g.field) refl refl e0 in
+    let e0 = cancel_front (codes "chop ") _ _ (sym (header_open h x) ∙ e ∙ header_open g y) in
+    let v = numeral_unique (version_number h.version) (version_number g.version) _ _ (version_small h.version) (version_small g.version) refl refl e0 in
+    let e1 = numeral_unique (order_number h.field) (order_number g.field) _ _ (order_small h.field) (order_small g.field) refl refl (cancel_front (codes " field=") _ _ v.1) in
     let e2 = numeral_unique h.dim g.dim _ _ (omega (arith, ih.dim)) (omega (arith, ig.dim)) refl refl (cancel_front (codes " dim=") _ _ e1.1) in
     let e3 = numeral_unique h.gens g.gens _ _ (omega (arith, ih.gens)) (omega (arith, ig.gens)) refl refl (cancel_front (codes " gens=") _ _ e2.1) in
     let e4 = numeral_unique h.seed g.seed _ _ ih.seed ig.seed refl refl (cancel_front (codes " seed=") _ _ e3.1) in
     let e5 = numeral_unique h.words g.words _ _ (omega (arith, ih.words)) (omega (arith, ig.words)) refl refl (cancel_front (codes " words=") _ _ e4.1) in
     let field = order_number-injective h.field g.field e1.0 in
-    (λ i. record { field = field i; dim = e2.0 i; gens = e3.0 i; seed = e4.0 i; words = e5.0 i }, cancel_front (10 ∷ []) x y e5.1)
+    let version = version_injective h.version g.version v.0 in
+    (λ i. record { version = version i; field = field i; dim = e2.0 i; gens = e3.0 i; seed = e4.0 i; words = e5.0 i }, cancel_front (10 ∷ []) x y e5.1)
 
 -- ---- constituents
 
-pub factor_open : (f : FactorValue) (x : List ℕ) → factor_line f ++ x ≡ codes "factor " ++ (f.name ++ (codes " dim=" ++ (decimal f.dim ++ (codes " mult=" ++ (decimal f.multiplicity ++ (10 ∷ x))))))
+pub factor_open : (f : FactorValue) (x : List ℕ) → factor_line f ++ x ≡ codes "factor " ++ (f.name ++ (codes " dim=" ++ (decimal f.dim ++ (codes " mult=" ++ (decimal f.multiplicity ++ (witness_bytes f.witness ++ (10 ∷ x)))))))
 unfolding factor_line
 factor_open f x = simp append_assoc
 
-pub factor_unique : (f g : FactorValue) (x y : List ℕ) → IsPlain f → IsPlain g → factor_line f ++ x ≡ factor_line g ++ y → (f ≡ g) × (x ≡ y)
+pub factor_unique : (f g : FactorValue) (x y : List ℕ) → IsLine f → IsLine g → factor_line f ++ x ≡ factor_line g ++ y → (f ≡ g) × (x ≡ y)
 factor_unique f g x y pf pg e =
     let e0 = cancel_front (codes "factor ") _ _ (sym (factor_open f x) ∙ e ∙ factor_open g y) in
-    let e1 = front_unique is_no_separator f.name g.name _ _ pf.name pg.name refl refl e0 in
-    let e2 = numeral_unique f.dim g.dim _ _ (omega (arith, pf.dim)) (omega (arith, pg.dim)) refl refl (cancel_front (codes " dim=") _ _ e1.1) in
-    let e3 = numeral_unique f.multiplicity g.multiplicity _ _ (omega (arith, pf.multiplicity)) (omega (arith, pg.multiplicity)) refl refl (cancel_front (codes " mult=") _ _ e2.1) in
-    (λ i. record { name = e1.0 i; dim = e2.0 i; multiplicity = e3.0 i }, cancel_front (10 ∷ []) x y e3.1)
+    let e1 = front_unique is_no_separator f.name g.name _ _ pf.plain.name pg.plain.name refl refl e0 in
+    let e2 = numeral_unique f.dim g.dim _ _ (omega (arith, pf.plain.dim)) (omega (arith, pg.plain.dim)) refl refl (cancel_front (codes " dim=") _ _ e1.1) in
+    let e3 = numeral_unique f.multiplicity g.multiplicity _ _ (omega (arith, pf.plain.multiplicity)) (omega (arith, pg.plain.multiplicity)) (witness_stops f.witness x) (witness_stops g.witness y)
+    (cancel_front (codes " mult=") _ _ e2.1) in
+    let e4 = witness_unique f.witness g.witness x y pf.witness pg.witness e3.1 in
+    (λ i. record { name = e1.0 i; dim = e2.0 i; multiplicity = e3.0 i; witness = e4.0 i }, e4.1)
 
 -- lines of constituents before others, the shorter list of them first
-pub lines_front : (fs gs : List FactorValue) (x y : List ℕ) → length fs ≤ length gs → AllByRecursion IsPlain fs → AllByRecursion IsPlain gs
+pub lines_front : (fs gs : List FactorValue) (x y : List ℕ) → length fs ≤ length gs → AllByRecursion IsLine fs → AllByRecursion IsLine gs
     → flat_map factor_line fs ++ x ≡ flat_map factor_line gs ++ y → (hs : List FactorValue) × (gs ≡ fs ++ hs) × (x ≡ flat_map factor_line hs ++ y)
 lines_front [] gs x y le pf pg e = (gs, refl, e)
 lines_front (f ∷ fs) [] x y le pf pg e = absurd (omega (arith, le))
@@ -134,7 +151,7 @@ pub none_between : (hs fs : List FactorValue) (s x y : List ℕ) → series_line
 none_between [] fs s x y e = refl
 none_between (h ∷ hs) fs s x y e = absurd (series_is_no_factor h fs s x _ (e ∙ append_assoc (factor_line h) (flat_map factor_line hs) y))
 
-lines_unique : (fs gs : List FactorValue) (s t x y : List ℕ) → AllByRecursion IsPlain fs → AllByRecursion IsPlain gs
+lines_unique : (fs gs : List FactorValue) (s t x y : List ℕ) → AllByRecursion IsLine fs → AllByRecursion IsLine gs
     → flat_map factor_line fs ++ (series_line fs s ++ x) ≡ flat_map factor_line gs ++ (series_line gs t ++ y) → (fs ≡ gs) × (series_line fs s ++ x ≡ series_line gs t ++ y)
 lines_unique fs gs s t x y pf pg e = elim (cases_lt (length gs) (length fs)) [
   | inr le ↦
@@ -151,8 +168,9 @@ pub report_unique : (a b : ReportValue) (x y : List ℕ) → IsReport a → IsRe
 report_unique a b x y ia ib e =
     let e0 = header_unique a.header b.header _ _ ia.header ib.header (sym (report_open a x) ∙ e ∙ report_open b y) in
     let pa = all_plain a.header.dim a.factors ia.header.dim ia.factors in
-    let pb = all_plain b.header.dim b.factors ib.header.dim ib.factors in
-    let e1 = lines_unique a.factors b.factors a.series b.series x y pa pb e0.1 in
+    let la = all_lines a.header a.factors ia.header ia.factors ia.witnessed in
+    let lb = all_lines b.header b.factors ib.header ib.factors ib.witnessed in
+    let e1 = lines_unique a.factors b.factors a.series b.series x y la lb e0.1 in
     let ra = places_in_range a.series (length a.factors) ia.series.order in
     let rb = places_in_range b.series (length b.factors) ib.series.order in
     let rb' : InRange (length a.factors) b.series = subst (λ (l : List FactorValue). InRange (length l) b.series) (sym e1.0) rb in

@@ -13,6 +13,10 @@ most_generators = 16
 abbrev pub most_words : ℕ
 most_words = 10000
 
+-- the most polynomials of its degree that the polynomial of a witness has beside it: order ^ degree is no greater
+abbrev pub most_polynomials : ℕ
+most_polynomials = 4096
+
 -- the most bytes that a report has: 1 MiB, that is 2^20
 abbrev pub most_report_bytes : ℕ
 most_report_bytes = 1048576

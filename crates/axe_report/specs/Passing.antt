@@ -1,19 +1,20 @@
 -- At which line bytes are no report.
 use Rattle.std.specs.Prelude.{◌≡◌, ℕ, ◌+◌, ◌-◌, ◌≤◌, ◌⊎◌, List, ◌++◌, length}
-use Rattle.axe_report.specs.Reports.{FactorValue, ReportValue, IsReportHeader, AreFactors, IsReport}
+use Rattle.axe_report.specs.Reports.{FactorValue, ReportValue, IsReportHeader, AreFactors, AreWitnessed, IsReport}
 use Rattle.axe_report.specs.Spelling.{opening_bytes, report_bytes}
 use Rattle.axe_report.specs.declared.fault.ReportFault.{ReportFault}
 use Rattle.axe_report.specs.declared.fault.ReportFault.TheVariants.{BadReport, Memory}
 use Rattle.axe_report.specs.declared.report.ReportHeader.{ReportHeader}
 
 -- the bytes begin with so many lines of which the first is a header, and the others are the lines of constituents that
--- may be the first ones of a report with this header
+-- may be the first ones of a report with this header, each with its witness by the version of the header
 pub record BeginsWithOpening (bytes : List ℕ) (lines : ℕ) : Type 0 where
   pub header : ReportHeader
   pub factors : List FactorValue
   pub rest : List ℕ
   pub is_header : IsReportHeader header
   pub are_factors : AreFactors header.dim factors
+  pub are_witnessed : AreWitnessed header factors
   pub count : lines ≡ length factors + 1
   pub spelled : bytes ≡ opening_bytes header factors ++ rest
 

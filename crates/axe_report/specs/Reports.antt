@@ -1,17 +1,32 @@
 -- The report of a composition series: its fields, and the relations between them.
-use Rattle.std.specs.Prelude.{◌≡◌, ℕ, ◌+◌, ◌*◌, ◌^◌, ◌<◌, ◌≤◌, not, ◌==◌, List, [], ◌∷◌, length, map, filter, All}
-use Rattle.std.specs.Prelude.{sum_by}
+use Rattle.std.specs.Prelude.{◌≡◌, ℕ, ◌+◌, ◌-◌, ◌*◌, ◌^◌, ◌<◌, ◌≤◌, not, ◌==◌, List, [], ◌∷◌, length, map, filter, All}
+use Rattle.std.specs.Prelude.{sum_by, Option, Some, None, slice_index_or}
 use Rattle.std.specs.List.{range_with_len}
 use Rattle.axe_field.specs.Order.{order_number}
-use Rattle.axe_report.specs.Limits.{most_dimension, most_generators, most_words}
+use Rattle.axe_report.specs.Limits.{most_dimension, most_generators, most_words, most_polynomials}
 use Rattle.axe_report.specs.Names.{constituent_name, count_of, names_of}
 use Rattle.axe_report.specs.declared.report.ReportHeader.{ReportHeader}
+use Rattle.axe_report.specs.declared.report.Version.{Version}
+use Rattle.axe_report.specs.declared.report.Version.TheVariants.{One, Two}
 
--- a constituent: its name, its dimension, and how often it stands in the series
+-- the number of a version, as the first line names it
+abbrev pub version_number : Version → ℕ
+version_number One = 1
+version_number Two = 2
+
+-- by what a constituent was seen to be irreducible: the number of a word, and, where a polynomial decided at the word's
+-- value, its digits, the numbers of its coefficients, the constant one first (Holt and Rees 1994)
+pub record WitnessValue : Type 0 where
+  pub word : ℕ
+  pub poly : Option (List ℕ)
+
+-- a constituent: its name, its dimension, how often it stands in the series, and by what it was seen to be irreducible,
+-- where that is told
 pub record FactorValue : Type 0 where
   pub name : List ℕ
   pub dim : ℕ
   pub multiplicity : ℕ
+  pub witness : Option WitnessValue
 
 -- a report: of which module and words it is, the constituents in order of first appearance, and for each constituent of
 -- the series, from the bottom, its place among these, counted from 0
@@ -46,7 +61,8 @@ pub record IsReportHeader (header : ReportHeader) : Type 0 where
   pub words : header.words ≤ most_words
 
 -- the header has these numbers
-pub record HasNumbers (header : ReportHeader) (order dim gens seed words : ℕ) : Type 0 where
+pub record HasNumbers (header : ReportHeader) (version order dim gens seed words : ℕ) : Type 0 where
+  pub version_is : version_number header.version ≡ version
   pub field : order_number header.field ≡ order
   pub dim_is : header.dim ≡ dim
   pub gens_is : header.gens ≡ gens
@@ -68,6 +84,58 @@ pub record IsFactorAfter (dim : ℕ) (earlier : List FactorValue) (factor : Fact
   pub some_multiplicity : 1 ≤ factor.multiplicity
   pub fits : total_dim earlier + factor.dim * factor.multiplicity ≤ dim
 
+-- ---- by what constituents were seen to be irreducible
+
+-- the digits of a monic polynomial of small degree over the field of this order, the constant one first: its degree is
+-- at least 1, and order ^ degree at most 4,096
+pub record AreDigits (order : ℕ) (digits : List ℕ) : Type 0 where
+  pub some_degree : 2 ≤ length digits
+  pub small : order ^ (length digits - 1) ≤ most_polynomials
+  pub elements : All (λ digit. digit < order) digits
+  pub monic : slice_index_or digits (length digits - 1) 0 ≡ 1
+
+-- where there are digits, each is below this number
+abbrev pub AreDigitsOf : ℕ → Option (List ℕ) → Type 0
+AreDigitsOf base None = Unit {0}
+AreDigitsOf base (Some digits) = All (λ digit. digit < base) digits
+
+-- where there is a polynomial, it is one over the field of this order
+abbrev pub IsPolyOver : ℕ → Option (List ℕ) → Type 0
+IsPolyOver order None = Unit {0}
+IsPolyOver order (Some digits) = AreDigits order digits
+
+-- a witness under a header: its word is one of those that the header names, and its polynomial is one over its field
+pub record IsWitnessUnder (header : ReportHeader) (witness : WitnessValue) : Type 0 where
+  pub word : witness.word ≤ header.words
+  pub poly : IsPolyOver (order_number header.field) witness.poly
+
+-- whether there is a witness goes by the version: none in version 1, and one under the header in version 2
+abbrev pub IsWitnessIn : Version → ReportHeader → Option WitnessValue → Type 0
+IsWitnessIn One header None = Unit {0}
+IsWitnessIn One header (Some witness) = ⊥
+IsWitnessIn Two header None = ⊥
+IsWitnessIn Two header (Some witness) = IsWitnessUnder header witness
+
+-- the constituent has its witness by the version of the header
+abbrev pub IsWitnessed : ReportHeader → FactorValue → Type 0
+IsWitnessed header factor = IsWitnessIn header.version header factor.witness
+
+-- each of the constituents has
+abbrev pub AreWitnessed : ReportHeader → List FactorValue → Type 0
+AreWitnessed header factors = All (IsWitnessed header) factors
+
+-- the number of the word of a witness
+abbrev pub word_of : Option WitnessValue → Option ℕ
+word_of None = None
+word_of (Some witness) = Some witness.word
+
+-- the digits of its polynomial
+abbrev pub poly_of : Option WitnessValue → Option (List ℕ)
+poly_of None = None
+poly_of (Some witness) = witness.poly
+
+-- ---- the series
+
 -- the different members of a list, in order of first appearance
 abbrev pub first_appearances : List ℕ → List ℕ
 first_appearances [] = []
@@ -82,10 +150,11 @@ pub record IsSeriesOf (factors : List FactorValue) (series : List ℕ) : Type 0 
   pub order : first_appearances series ≡ range_with_len 0 (length factors)
   pub counted : multiplicities factors ≡ counts_in series (length factors)
 
--- a report: a header with numbers in range, constituents by the rule, whose dimensions, so often as they stand in the
--- series, make up the module's, and a series that belongs to them
+-- a report: a header with numbers in range, constituents by the rule, each with its witness by the version, whose
+-- dimensions, so often as they stand in the series, make up the module's, and a series that belongs to them
 pub record IsReport (report : ReportValue) : Type 0 where
   pub header : IsReportHeader report.header
   pub factors : AreFactors report.header.dim report.factors
+  pub witnessed : AreWitnessed report.header report.factors
   pub whole : total_dim report.factors ≡ report.header.dim
   pub series : IsSeriesOf report.factors report.series

@@ -5,34 +5,39 @@ ghost use Rattle.std.specs.List.{flat_map};
 ghost use Rattle.axe_report.specs.Limits.{most_dimension};
 ghost use Rattle.axe_report.specs.Names.{count_of};
 ghost use Rattle.axe_report.specs.Reports.{FactorValue, dims, total_dim, AreFactors, IsFactorAfter};
+ghost use Rattle.axe_report.specs.Reports.{IsReportHeader, IsWitnessed, AreWitnessed};
 ghost use Rattle.axe_report.specs.Spelling.{factor_line, factor_start};
 ghost use Rattle.axe_report.specs.declared.fault.ReportFault.TheVariants.{Memory};
+ghost use Rattle.axe_report.specs.declared.report.ReportHeader.{ReportHeader};
 
 use crate::fault::ReportFault;
 use crate::names::constituent_name;
-use crate::parts::{after, setting};
-use crate::report::ReportFactor;
+use crate::parts::setting;
+use crate::report::{ReportFactor, ReportHeader};
+use crate::witnesses::line_end;
 use std::alloc::{AllocError, Global};
 
-/// The constituents whose lines stand at the front, as many as may come before the series of a report on a module of
-/// this dimension, what follows them, and how much of the dimension they leave.
+/// The constituents whose lines stand at the front, as many as may come before the series of a report with this header,
+/// what follows them, and how much of the dimension they leave.
 pub(crate) fn factors<'a>(
     alloc: Global,
     text: &'a [u8],
-    dim: usize,
+    header: &ReportHeader,
 ) -> Result<(Vec<ReportFactor>, &'a [u8], usize), ReportFault>
-    requires { dim ≤ most_dimension }
-    ensures factors { IfOk result (λ found. AreFactors dim found.0.items) }
-    ensures room { IfOk result (λ found. found.2 + total_dim found.0.items ≡ dim) }
+    requires { IsReportHeader header.now }
+    ensures factors { IfOk result (λ found. AreFactors header.now.dim found.0.items) }
+    ensures witnessed { IfOk result (λ found. AreWitnessed header.now found.0.items) }
+    ensures room { IfOk result (λ found. found.2 + total_dim found.0.items ≡ header.now.dim) }
     ensures read { IfOk result (λ found. text.now ≡ flat_map factor_line found.0.items ++ found.1.now) }
     ensures all { IfOk result (λ found. (factor : FactorValue) (rest : List ℕ) →
-        IsFactorAfter dim found.0.items factor → found.1.now ≢ factor_line factor ++ rest) }
+        IsFactorAfter header.now.dim found.0.items factor → IsWitnessed header.now factor →
+        found.1.now ≢ factor_line factor ++ rest) }
     ensures memory { IfErr result (λ fault. fault ≡ Memory) }
 {
     let mut factors = Vec::new(alloc);
     let mut rest = text;
-    let mut room = dim;
-    while let Some((factor, next)) = factor(alloc, rest, &factors, room)? {
+    let mut room = header.dim;
+    while let Some((factor, next)) = factor(alloc, rest, header, &factors, room)? {
         room -= factor.dim() * factor.multiplicity();
         factors.push(factor)?;
         rest = next;
@@ -40,19 +45,21 @@ pub(crate) fn factors<'a>(
     Ok((factors, rest, room))
 }
 
-/// The constituent whose line stands at the front, where it may come after these and so much of the dimension is left,
-/// and what follows it.
+/// The constituent whose line stands at the front, where it may come after these under this header and so much of the
+/// dimension is left, and what follows it.
 fn factor<'a>(
     alloc: Global,
     text: &'a [u8],
+    header: &ReportHeader,
     earlier: &[ReportFactor],
     room: usize,
 ) -> Result<Option<(ReportFactor, &'a [u8])>, AllocError>
-    requires { room ≤ most_dimension }
+    requires header { IsReportHeader header.now }
+    requires room { room ≤ most_dimension }
     ensures { IfOk result (λ answer. MatchOption answer
         ((factor : FactorValue) (rest : List ℕ) → IsFactorAfter (total_dim earlier.now + room) earlier.now factor →
-        text.now ≢ factor_line factor ++ rest)
-        (λ found. IsFactorAfter (total_dim earlier.now + room) earlier.now found.0
+        IsWitnessed header.now factor → text.now ≢ factor_line factor ++ rest)
+        (λ found. IsFactorAfter (total_dim earlier.now + room) earlier.now found.0 × IsWitnessed header.now found.0
         × (text.now ≡ factor_line found.0 ++ found.1.now))) }
 {
     let Some((dim, _)) = setting(text, b"factor ") else {
@@ -70,10 +77,13 @@ fn factor<'a>(
     if multiplicity == 0 || multiplicity > (room / dim) as u64 {
         return Ok(None);
     }
-    let Some(rest) = after(after_numbers, b"\n") else {
+    let Some((witness, rest)) = line_end(alloc, after_numbers, header)? else {
         return Ok(None);
     };
-    Ok(Some((ReportFactor::new(name, dim, multiplicity as usize), rest)))
+    Ok(Some((
+        ReportFactor::new(name, dim, multiplicity as usize, witness),
+        rest,
+    )))
 }
 
 /// What the line of a constituent has before its multiplicity.

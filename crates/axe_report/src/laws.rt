@@ -5,15 +5,16 @@ ghost use Rattle.axe_report.specs.Names.{letters, constituent_name};
 ghost use Rattle.axe_report.specs.Reports.{ReportValue, IsReport};
 ghost use Rattle.axe_report.specs.Spelling.{report_bytes};
 ghost use Rattle.axe_report.specs.Passing.{FailsFirstAt};
-ghost use Rattle.axe_report.specs.Limits.{most_dimension, most_generators, most_words, most_report_bytes};
+ghost use Rattle.axe_report.specs.Limits.{most_dimension, most_generators, most_words, most_polynomials, most_report_bytes};
 
-use crate::{MAX_DIMENSION, MAX_GENERATORS, MAX_WORDS, REPORT_LIMIT};
+use crate::{MAX_DIMENSION, MAX_GENERATORS, MAX_POLYNOMIALS, MAX_WORDS, REPORT_LIMIT};
 
 /// The limits of the code are those of the definitions.
 pub fn limits_are_named()
     ensures dimension { MAX_DIMENSION ≡ most_dimension }
     ensures generators { MAX_GENERATORS ≡ most_generators }
     ensures words { MAX_WORDS ≡ most_words }
+    ensures polynomials { MAX_POLYNOMIALS ≡ most_polynomials }
     ensures report { REPORT_LIMIT ≡ most_report_bytes }
 {}
 

@@ -11,6 +11,7 @@ mod names;
 mod parts;
 mod reading;
 mod report;
+mod witnesses;
 mod writing;
 
 pub use fault::ReportFault;
@@ -20,7 +21,7 @@ pub use laws::{
 };
 pub use names::constituent_name;
 pub use reading::read_report;
-pub use report::{Report, ReportFactor, ReportHeader};
+pub use report::{FactorWitness, Report, ReportFactor, ReportHeader, Version};
 pub use writing::write_report;
 
 /// The greatest dimension that a report names.
@@ -31,6 +32,9 @@ pub const MAX_GENERATORS: usize = 16;
 
 /// The greatest number of a word that a report names.
 pub const MAX_WORDS: u32 = 10_000;
+
+/// The polynomial of a witness has order ^ degree no greater than this.
+pub const MAX_POLYNOMIALS: usize = 4_096;
 
 /// No report is longer than this, in bytes.
 pub const REPORT_LIMIT: usize = 1_048_576;

@@ -15,7 +15,7 @@ fn is_digit(byte: u8) -> bool
 }
 
 /// How many digits stand at the front.
-fn digits_len(text: &[u8]) -> usize
+pub(crate) fn digits_len(text: &[u8]) -> usize
     ensures { result ≡ prefix_len is_digit text.now }
 {
     for (index, byte) in text.iter().enumerate() {

@@ -23,7 +23,7 @@ pub fn read_report(alloc: Global, bytes: &[u8]) -> Result<Report, ReportFault>
     let Some((header, text)) = header(bytes) else {
         return Err(ReportFault::BadReport(1));
     };
-    let (factors, text, room) = factors(alloc, text, header.dim)?;
+    let (factors, text, room) = factors(alloc, text, &header)?;
     let line = factors.len() + 2;
     let Some((series, rest)) = series(alloc, text, &factors)? else {
         return Err(ReportFault::BadReport(line));

@@ -1,15 +1,38 @@
 //! Reports as values.
 
-ghost use Rattle.std.specs.Prelude.{◌≡◌, string_bytes};
-ghost use Rattle.axe_report.specs.Reports.{FactorValue, ReportValue, IsReport};
+ghost use Rattle.std.specs.Prelude.{◌≡◌, string_bytes, option_map, option_copied};
+ghost use Rattle.axe_report.specs.Reports.{WitnessValue, FactorValue, ReportValue, IsReport};
+ghost use Rattle.axe_report.specs.Reports.{version_number, word_of, poly_of};
 
 use axe_field::Field;
 use std::marker::Model;
 
-/// What a report is of: the field of the module, its dimension, the number of its generators, the seed of the words,
-/// and the greatest number of a word that was to be tried.
+/// The version of a report.
+#[derive(Debug, Clone, Copy, PartialEq, Eq)]
+pub enum Version {
+    /// Nothing is told of how the factors were seen to be irreducible.
+    One,
+    /// Each factor has its witness.
+    Two,
+}
+
+impl Version {
+    /// Its number, as the first line of a report names it.
+    pub(crate) fn number(self) -> u8
+        ensures { result ≡ version_number self }
+    {
+        match self {
+            Version::One => 1,
+            Version::Two => 2,
+        }
+    }
+}
+
+/// What a report is of, after its version: the field of the module, its dimension, the number of its generators, the
+/// seed of the words, and the greatest number of a word that was to be tried.
 #[derive(Debug, Clone, Copy, PartialEq, Eq)]
 pub struct ReportHeader {
+    pub version: Version,
     pub field: Field,
     pub dim: usize,
     pub gens: usize,
@@ -17,12 +40,59 @@ pub struct ReportHeader {
     pub words: u32,
 }
 
-/// A constituent: its name, its dimension, and how often it stands in the series.
+/// How a constituent was seen to be irreducible: the number of the word that decided, and the digits of the polynomial
+/// that decided at the word's value, the constant one first, where one did.
+#[derive(Debug, Drop)]
+pub struct FactorWitness {
+    word: u32,
+    poly: Option<Vec<u8>>,
+}
+
+impl Model for FactorWitness {
+    ghost use Rattle.std.specs.Prelude.{option_map};
+    ghost use Rattle.axe_report.specs.Reports.{WitnessValue};
+
+    ghost Value = { WitnessValue };
+
+    ghost view = { λ witness. record {
+      word = witness.word;
+      poly = option_map (λ digits. digits.items) witness.poly;
+    } };
+}
+
+impl FactorWitness {
+    /// The witness with the word of this number, and this polynomial, where one decided.
+    pub fn new(word: u32, poly: Option<Vec<u8>>) -> FactorWitness
+        ensures { result ≡ record { word = word; poly = option_map (λ digits. digits.items) poly } }
+    {
+        FactorWitness { word, poly }
+    }
+
+    /// The number of the word.
+    fn word(&self) -> u32
+        ensures { result ≡ self.now.word }
+    {
+        self.word
+    }
+
+    /// The digits of the polynomial.
+    fn poly(&self) -> Option<&[u8]>
+        ensures { option_copied result ≡ self.now.poly }
+    {
+        match &self.poly {
+            None => None,
+            Some(digits) => Some(digits.as_slice()),
+        }
+    }
+}
+
+/// A constituent: its name, its dimension, how often it stands in the series, and its witness, where one is told.
 #[derive(Debug, Drop)]
 pub struct ReportFactor {
     name: String,
     dim: usize,
     multiplicity: usize,
+    witness: Option<FactorWitness>,
 }
 
 impl Model for ReportFactor {
@@ -35,18 +105,26 @@ impl Model for ReportFactor {
       name = string_bytes factor.name;
       dim = factor.dim;
       multiplicity = factor.multiplicity;
+      witness = factor.witness;
     } };
 }
 
 impl ReportFactor {
-    /// The constituent with this name, dimension and multiplicity.
-    pub fn new(name: String, dim: usize, multiplicity: usize) -> ReportFactor
-        ensures { result ≡ record { name = string_bytes name; dim = dim; multiplicity = multiplicity } }
+    /// The constituent with this name, dimension, multiplicity and witness.
+    pub fn new(
+        name: String,
+        dim: usize,
+        multiplicity: usize,
+        witness: Option<FactorWitness>,
+    ) -> ReportFactor
+        ensures { result ≡
+            record { name = string_bytes name; dim = dim; multiplicity = multiplicity; witness = witness } }
     {
         ReportFactor {
             name,
             dim,
             multiplicity,
+            witness,
         }
     }
 
@@ -69,6 +147,26 @@ impl ReportFactor {
         ensures { result ≡ self.now.multiplicity }
     {
         self.multiplicity
+    }
+
+    /// The number of the word by which it was seen to be irreducible, where that is told.
+    pub fn word(&self) -> Option<u32>
+        ensures { result ≡ word_of self.now.witness }
+    {
+        match &self.witness {
+            None => None,
+            Some(witness) => Some(witness.word()),
+        }
+    }
+
+    /// The digits of the polynomial that decided at that word's value, the constant one first, where one did.
+    pub fn poly(&self) -> Option<&[u8]>
+        ensures { option_copied result ≡ poly_of self.now.witness }
+    {
+        match &self.witness {
+            None => None,
+            Some(witness) => witness.poly(),
+        }
     }
 }
 
@@ -112,6 +210,15 @@ impl Report {
             factors,
             series,
         }
+    }
+
+    /// Its version.
+    pub fn version(&self) -> Version
+        ensures value { result ≡ self.now.header.version }
+        ensures relations { IsReport self.now }
+    {
+        let ReportHeader { version, .. } = self.header;
+        version
     }
 
     /// What the report is of.

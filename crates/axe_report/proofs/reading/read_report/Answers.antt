@@ -13,6 +13,7 @@ returns-in_default-2-clause-fault c =
     let opened : Opened c.args.bytes.now c.in-Some.header c.in_ok-factors.factors.items c.in_ok-factors.text.now = record {
       is_header = c.in-Some.ensures.0;
       factors = c.in_ok-factors.ensures.factors;
+      witnessed = c.in_ok-factors.ensures.witnessed;
       spelled = c.in-Some.ensures.1 ∙ ap (λ (l : List ℕ). header_line c.in-Some.header ++ l) c.in_ok-factors.ensures.read;
       all = c.in_ok-factors.ensures.all;
     } in
@@ -25,6 +26,7 @@ returns-then-room-gt0-clause-fault c =
     let opened : Opened c.args.bytes.now c.in-Some.header c.in_ok-factors.factors.items c.in_ok-factors.text.now = record {
       is_header = c.in-Some.ensures.0;
       factors = c.in_ok-factors.ensures.factors;
+      witnessed = c.in_ok-factors.ensures.witnessed;
       spelled = c.in-Some.ensures.1 ∙ ap (λ (l : List ℕ). header_line c.in-Some.header ++ l) c.in_ok-factors.ensures.read;
       all = c.in_ok-factors.ensures.all;
     } in
@@ -43,6 +45,7 @@ returns-then-not-is_empty-clause-fault c =
     let opened : Opened c.args.bytes.now c.in-Some.header c.in_ok-factors.factors.items c.in_ok-factors.text.now = record {
       is_header = c.in-Some.ensures.0;
       factors = c.in_ok-factors.ensures.factors;
+      witnessed = c.in_ok-factors.ensures.witnessed;
       spelled = c.in-Some.ensures.1 ∙ ap (λ (l : List ℕ). header_line c.in-Some.header ++ l) c.in_ok-factors.ensures.read;
       all = c.in_ok-factors.ensures.all;
     } in
@@ -53,6 +56,7 @@ returns-then-not-is_empty-clause-fault c =
     let is : IsReport report = record {
       header = c.in-Some.ensures.0;
       factors = c.in_ok-factors.ensures.factors;
+      witnessed = c.in_ok-factors.ensures.witnessed;
       whole = omega (arith, c.in_ok-factors.ensures.room, c.if-room-gt0.false);
       series = series;
     } in
@@ -64,6 +68,7 @@ returns-clause-report c =
     let opened : Opened c.args.bytes.now c.in-Some.header c.in_ok-factors.factors.items c.in_ok-factors.text.now = record {
       is_header = c.in-Some.ensures.0;
       factors = c.in_ok-factors.ensures.factors;
+      witnessed = c.in_ok-factors.ensures.witnessed;
       spelled = c.in-Some.ensures.1 ∙ ap (λ (l : List ℕ). header_line c.in-Some.header ++ l) c.in_ok-factors.ensures.read;
       all = c.in_ok-factors.ensures.all;
     } in
@@ -74,6 +79,7 @@ returns-clause-report c =
     let is : IsReport report = record {
       header = c.in-Some.ensures.0;
       factors = c.in_ok-factors.ensures.factors;
+      witnessed = c.in_ok-factors.ensures.witnessed;
       whole = omega (arith, c.in_ok-factors.ensures.room, c.if-room-gt0.false);
       series = series;
     } in
