@@ -296,7 +296,8 @@ is one, it tells which files belong to it. Files of an earlier run that it
 doesn't name stay.";
 
 /// Of the file of a text.
-pub(crate) const IN_TEXT: &str = "The file of the text; with -m the name before the numbers of texts";
+pub(crate) const IN_TEXT: &str =
+    "The file of the text; with -m the name before the numbers of texts";
 
 /// Of the file that a matrix is written to.
 pub(crate) const OUT_MATRIX: &str =
