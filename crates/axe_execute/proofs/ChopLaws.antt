@@ -56,7 +56,7 @@ series_of_outcome stored seed words name files m (complete found) is_module is r
   factors = factors_of_forms found.forms;
   witnesses = witnesses_of_forms found.forms;
   places = found.places;
-  witnessed = run_has_witnesses m is_module seed words found run;
+  witnessed = run_has_witnesses m is seed words found run;
   series = runs_are_true m seed words (complete found) is run;
   plan_is = refl;
 }
