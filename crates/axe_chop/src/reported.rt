@@ -112,9 +112,10 @@ fn digits_of(alloc: Global, poly: &Poly) -> Result<Vec<u8>, AllocError>
     ensures { IfOk result (λ digits. digits.items ≡ poly.now.coefficients) }
 {
     let mut digits = Vec::new(alloc);
-    for exponent in 0..poly.degree() + 1 {
+    for exponent in 0..poly.degree() {
         digits.push(poly.coefficient(exponent))?;
     }
+    digits.push(poly.coefficient(poly.degree()))?;
     Ok(digits)
 }
 

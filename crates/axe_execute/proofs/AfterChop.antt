@@ -11,7 +11,8 @@ use Rattle.axe_report.specs.declared.report.ReportHeader.{ReportHeader}
 use Rattle.axe_report.specs.Passing.{IsSpelling}
 use Rattle.axe_report.proofs.Letters.{some_letter}
 use Rattle.axe_report.proofs.Unique.{no_prefix}
-use Rattle.axe_chop.specs.Reported.{dims_of_factors, module_header, series_report}
+use Rattle.axe_report.specs.Reports.{WitnessValue}
+use Rattle.axe_chop.specs.Reported.{dims_of_factors, module_header, series_report, witnesses_of_forms}
 use Rattle.axe_chop.proofs.SeriesReports.{series_has_report}
 use Rattle.axe_file.specs.Packed.{packed}
 use Rattle.axe_folder.specs.Files.{Files, file_at}
@@ -105,10 +106,10 @@ record PutsReportLast (name : List ℕ) (plan : Plan) : Type 0 where
   spared : Spare (report_file name) middle
   steps_are : plan.steps ≡ Remove (report_file name) ∷ (middle ++ Put (report_file name) plan.shown ∷ [])
 
-series_puts_report_last : (stored : ModuleFiles) (name : List ℕ) (header : ReportHeader) (basis : MatrixValue) (factors : List ModuleValue) (places : List ℕ) →
-    PutsReportLast name (series_plan stored name header basis factors places)
+series_puts_report_last : (stored : ModuleFiles) (name : List ℕ) (header : ReportHeader) (basis : MatrixValue) (factors : List ModuleValue)
+    (witnesses : List WitnessValue) (places : List ℕ) → PutsReportLast name (series_plan stored name header basis factors witnesses places)
 unfolding series_plan
-series_puts_report_last stored name header basis factors places = record {
+series_puts_report_last stored name header basis factors witnesses places = record {
   middle = Put (basis_file name) (packed basis) ∷ put_factors stored name (names_of (dims_of_factors factors)) factors;
   spared = (basis_file_differs name, factors_spare stored name (names_of (dims_of_factors factors)) factors (all_names_nonempty (dims_of_factors factors)));
   steps_are = refl;
@@ -117,7 +118,7 @@ series_puts_report_last stored name header basis factors places = record {
 answer_puts_report_last : (stored : ModuleFiles) (name : List ℕ) (m : ModuleValue) (seed words : ℕ) (outcome : Outcome) →
     IfOk (chop_answer stored name m seed words outcome) (PutsReportLast name)
 answer_puts_report_last stored name m seed words (complete found) =
-    series_puts_report_last stored name (module_header m seed words) (basis_of_rows m found.rows) (factors_of_forms found.forms) found.places
+    series_puts_report_last stored name (module_header m seed words) (basis_of_rows m found.rows) (factors_of_forms found.forms) (witnesses_of_forms found.forms) found.places
 answer_puts_report_last stored name m seed words (open_section rows offset dim) = tt
 
 plan_puts_report_last : (stored : ModuleFiles) (seed words : ℕ) (name : List ℕ) (files : Files) (plan : Plan) → ChopPlan stored seed words name files (Ok plan) →
@@ -184,8 +185,9 @@ shown_is_report : (stored : ModuleFiles) (seed words : ℕ) (name : List ℕ) (f
     IsWordCount words → WritesSeries stored seed words name files plan → IsSpelling plan.shown
 unfolding series_plan
 shown_is_report stored seed words name files plan counted small few writes = (
-  series_report (module_header writes.m seed words) writes.factors writes.places,
-  series_has_report writes.m seed words writes.basis writes.factors writes.places is small (omega (arith, few.fits)) writes.series,
+  series_report (module_header writes.m seed words) writes.factors writes.witnesses writes.places,
+  series_has_report writes.m seed words writes.basis writes.factors writes.witnesses writes.places is small (omega (arith, few.fits)) writes.series
+      writes.witnessed,
   ap (λ (p : Plan). p.shown) writes.plan_is,
 )
   where

@@ -11,7 +11,9 @@ use Rattle.axe_series.specs.Runs.{complete, open_section}
 use Rattle.axe_series.specs.Series.{factors_of_forms}
 use Rattle.axe_report.specs.Names.{names_of}
 use Rattle.axe_report.specs.declared.report.ReportHeader.{ReportHeader}
-use Rattle.axe_chop.specs.Reported.{dims_of_factors, module_header}
+use Rattle.axe_report.specs.Reports.{WitnessValue}
+use Rattle.axe_chop.specs.Reported.{dims_of_factors, module_header, factor_witnesses}
+use Rattle.axe_chop.proofs.FormWitnesses.{witnesses_are}
 use Rattle.axe_chop.specs.Answers.{IsChopped, IsUndecided, factor_modules}
 use Rattle.axe_chop.specs.declared.chopped.Factor.{Factor}
 use Rattle.axe_chop.specs.declared.chopped.Chopped.{Chopped}
@@ -69,13 +71,13 @@ module _ (m : ModuleValue) (seed words : ℕ) (chopped : Chopped) (is : IsChoppe
 
   -- the plan of the series is what is found
   pub found_plan_of_series : (stored : ModuleFiles) (name : List ℕ) (answer : Result Plan Problem) →
-      Is (Ok (series_plan stored name (module_header m seed words) chopped.basis (factor_modules chopped) chopped.series.items)) answer → FoundPlan stored name m seed words answer
+      Is (Ok (series_plan stored name (module_header m seed words) chopped.basis (factor_modules chopped) (factor_witnesses chopped) chopped.series.items)) answer → FoundPlan stored name m seed words answer
   unfolding FoundPlan
   found_plan_of_series stored name answer right = (Ok (complete is.found), is.run, sym plan_is ∙ right)
     where
-      plan_is : Ok (series_plan stored name (module_header m seed words) chopped.basis (factor_modules chopped) chopped.series.items)
+      plan_is : Ok (series_plan stored name (module_header m seed words) chopped.basis (factor_modules chopped) (factor_witnesses chopped) chopped.series.items)
           ≡ chop_answer stored name m seed words (complete is.found)
-      plan_is = λ j. Ok (series_plan stored name (module_header m seed words) (is.basis_is j) (modules_are j) (is.named.series j))
+      plan_is = λ j. Ok (series_plan stored name (module_header m seed words) (is.basis_is j) (modules_are j) (witnesses_are is.found chopped is.named j) (is.named.series j))
 
 -- the section that stays undecided is what is found
 pub found_open_section : (stored : ModuleFiles) (name : List ℕ) (m : ModuleValue) (seed words : ℕ) (basis b : MatrixValue) (offset o dim d : ℕ) → b ≡ basis → o ≡ offset →
@@ -97,11 +99,11 @@ steps_put stored name basis names factors report a b c d e of_b of_c of_d of_e =
     (of_c ∙ ap (λ plan. with_step plan (Put (basis_file name) (packed basis))) of_b))
     ∙ ap (λ (steps : List Step). record { steps = steps; shown = a.shown }) (simp append_assoc)
 
-pub series_drafted : (stored : ModuleFiles) (name stem : List ℕ) (header : ReportHeader) (basis : MatrixValue) (factors : List ModuleValue) (places : List ℕ)
-    (names : List (List ℕ)) (copy text : List ℕ) (before after : Plan) → before ≡ record { steps = []; shown = [] } →
+pub series_drafted : (stored : ModuleFiles) (name stem : List ℕ) (header : ReportHeader) (basis : MatrixValue) (factors : List ModuleValue) (witnesses : List WitnessValue)
+    (places : List ℕ) (names : List (List ℕ)) (copy text : List ℕ) (before after : Plan) → before ≡ record { steps = []; shown = [] } →
     after ≡ with_steps before (series_steps stored stem basis names factors copy) → stem ≡ name → names ≡ constituents_of factors →
-    copy ≡ text → text ≡ series_report_bytes header factors places → with_text after text ≡ series_plan stored name header basis factors places
+    copy ≡ text → text ≡ series_report_bytes header factors witnesses places → with_text after text ≡ series_plan stored name header basis factors witnesses places
 unfolding series_plan
-series_drafted stored name stem header basis factors places names copy text before after is_new is_put is_stem are_names is_copy is_text =
+series_drafted stored name stem header basis factors witnesses places names copy text before after is_new is_put is_stem are_names is_copy is_text =
     ap (λ plan. with_text plan text) (is_put ∙ ap (λ plan. with_steps plan (series_steps stored stem basis names factors copy)) is_new)
     ∙ (λ j. record { steps = series_steps stored (is_stem j) basis (are_names j) factors ((is_copy ∙ is_text) j); shown = is_text j })

@@ -9,7 +9,8 @@ use Rattle.axe_series.proofs.OneOutcome.{outcome_is_one}
 use Rattle.axe_series.proofs.SomeRun.{some_run}
 use Rattle.axe_series.proofs.FewPoints.{small_has_a_series}
 use Rattle.axe_series.specs.Series.{IsOpenSection, basis_of_rows, factors_of_forms}
-use Rattle.axe_chop.specs.Reported.{module_header}
+use Rattle.axe_chop.specs.Reported.{module_header, witnesses_of_forms}
+use Rattle.axe_chop.proofs.FormWitnesses.{run_has_witnesses}
 use Rattle.axe_folder.specs.Files.{Files}
 use Rattle.axe_arguments.specs.Commands.{HasFileCount}
 use Rattle.axe_arguments.specs.declared.command.ModuleFiles.{ModuleFiles}
@@ -53,7 +54,9 @@ series_of_outcome stored seed words name files m (complete found) is_module is r
   is_module = is_module;
   basis = basis_of_rows m found.rows;
   factors = factors_of_forms found.forms;
+  witnesses = witnesses_of_forms found.forms;
   places = found.places;
+  witnessed = run_has_witnesses m is seed words found run;
   series = runs_are_true m seed words (complete found) is run;
   plan_is = refl;
 }
@@ -98,7 +101,7 @@ small_module_has_plan_by : (stored : ModuleFiles) (seed words : ℕ) (name : Lis
     module_in stored name files ≡ Ok m → IsSmallModule m → RunOf m seed words outcome → (plan : Plan) × ChopPlan stored seed words name files (Ok plan)
 unfolding ChopPlan FoundPlan
 small_module_has_plan_by stored seed words name files m (complete found) is is_module small run = (
-  series_plan stored name (module_header m seed words) (basis_of_rows m found.rows) (factors_of_forms found.forms) found.places,
+  series_plan stored name (module_header m seed words) (basis_of_rows m found.rows) (factors_of_forms found.forms) (witnesses_of_forms found.forms) found.places,
   (Ok m, is_module, (Ok (complete found), run, refl)),
 )
 small_module_has_plan_by stored seed words name files m (open_section rows offset dim) is is_module small run =

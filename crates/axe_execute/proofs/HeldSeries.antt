@@ -9,7 +9,8 @@ use Rattle.axe_spin.specs.Modules.{ModuleValue, IsModule}
 use Rattle.axe_series.specs.Series.{IsSeries}
 use Rattle.axe_report.specs.Limits.{most_words}
 use Rattle.axe_report.proofs.Plain.{length_of}
-use Rattle.axe_chop.specs.Reported.{dims_of_factors, module_header}
+use Rattle.axe_report.specs.Reports.{WitnessValue}
+use Rattle.axe_chop.specs.Reported.{dims_of_factors, module_header, AreWitnessesOf}
 use Rattle.axe_chop.proofs.SeriesReports.{header_fits}
 use Rattle.axe_folder.specs.Files.{Files}
 use Rattle.axe_arguments.specs.Counts.{IsWordCount}
@@ -39,11 +40,12 @@ small_dims stored [] are = tt
 small_dims stored (factor ∷ factors) are = (omega (arith, are.0.0.dim_fits), small_dims stored factors are.1)
 
 -- the steps of a series of the module that the files hold
-module _ (stored : ModuleFiles) (m : ModuleValue) (seed words : ℕ) (name : List ℕ) (basis : MatrixValue) (factors : List ModuleValue) (places : List ℕ) (files : Files)
+module _ (stored : ModuleFiles) (m : ModuleValue) (seed words : ℕ) (name : List ℕ) (basis : MatrixValue) (factors : List ModuleValue) (witnesses : List WitnessValue) (places : List ℕ) (files : Files)
     (is : IsModule m) (small : seed < 2 ^ 64) (few : words ≤ most_words) (counted : HasFileCount stored)
-    (so_many : HasAsMany stored (length m.generators)) (read : module_in stored name files ≡ Ok m) (series : IsSeries m basis factors places) where
+    (so_many : HasAsMany stored (length m.generators)) (read : module_in stored name files ≡ Ok m) (series : IsSeries m basis factors places)
+    (witnessed : AreWitnessesOf (module_header m seed words) factors witnesses) where
   abbrev report : List ℕ
-  report = series_report_bytes (module_header m seed words) factors places
+  report = series_report_bytes (module_header m seed words) factors witnesses places
 
   abbrev end : Files
   end = applied (series_steps stored name basis (constituents_of factors) factors report) files
@@ -71,10 +73,12 @@ module _ (stored : ModuleFiles) (m : ModuleValue) (seed words : ℕ) (name : Lis
     header = module_header m seed words;
     basis = basis;
     factors = factors;
+    witnesses = witnesses;
     places = places;
     series = series;
     of_module = refl;
     in_range = header_fits m seed words is small few;
+    witnessed = witnessed;
     report_is = report_put stored name basis (constituents_of factors) factors report files many dotless some differ are;
     basis_is = basis_put stored name basis (constituents_of factors) factors report files many dotless some differ are series.triangular.well_formed;
     module_is = module_stays stored name basis (constituents_of factors) factors report files many dotless some differ are
@@ -82,7 +86,7 @@ module _ (stored : ModuleFiles) (m : ModuleValue) (seed words : ℕ) (name : Lis
     factors_are = constituents_put stored name basis (constituents_of factors) factors report files many dotless some differ are;
   }
 
-  pub series_left : LeavesSeries stored seed words name files (series_plan stored name (module_header m seed words) basis factors places)
+  pub series_left : LeavesSeries stored seed words name files (series_plan stored name (module_header m seed words) basis factors witnesses places)
   unfolding series_plan held
   series_left = record {
     m = m;
@@ -97,9 +101,9 @@ pub series_left_by_plan : (stored : ModuleFiles) (seed words : ℕ) (name : List
     IsWordCount words → ChopPlan stored seed words name files (Ok plan) → LeavesSeries stored seed words name files plan
 series_left_by_plan stored seed words name files plan counted small few right =
     subst (LeavesSeries stored seed words name files) (sym writes.plan_is)
-    (series_left stored writes.m seed words name writes.basis writes.factors writes.places files
+    (series_left stored writes.m seed words name writes.basis writes.factors writes.witnesses writes.places files
     (module_is_module stored name files writes.m counted writes.is_module) small (omega (arith, few.fits)) counted
-    (generators_are_counted stored name files writes.m counted writes.is_module) writes.is_module writes.series)
+    (generators_are_counted stored name files writes.m counted writes.is_module) writes.is_module writes.series writes.witnessed)
   where
     writes : WritesSeries stored seed words name files plan
     writes = plan_of_series stored seed words name files plan counted right

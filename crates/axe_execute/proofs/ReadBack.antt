@@ -85,7 +85,7 @@ generators_listed m = map-map (λ (a : MatrixValue). a.rows) (generator_of m) (r
 
 -- the generators of a module, as matrices
 module _ (m : ModuleValue) (is : IsModule m) where
-  count : ℕ
+  abbrev pub count : ℕ
   count = length m.generators
 
   so_many : length (matrices_of m) ≡ count

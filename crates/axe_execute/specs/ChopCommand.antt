@@ -7,7 +7,8 @@ use Rattle.axe_word.specs.PointsOfMatrix.{point_count, most_points}
 use Rattle.axe_series.specs.Runs.{Outcome, complete, open_section, RunOf}
 use Rattle.axe_series.specs.Series.{IsSeries, IsOpenSection, basis_of_rows, factors_of_forms}
 use Rattle.axe_report.specs.declared.report.ReportHeader.{ReportHeader}
-use Rattle.axe_chop.specs.Reported.{module_header}
+use Rattle.axe_report.specs.Reports.{WitnessValue}
+use Rattle.axe_chop.specs.Reported.{module_header, witnesses_of_forms, AreWitnessesOf}
 use Rattle.axe_file.specs.Packed.{packed}
 use Rattle.axe_folder.specs.Files.{Files, file_at}
 use Rattle.axe_fault.specs.Causes.{Problem, StaysOpen}
@@ -36,18 +37,19 @@ series_steps stored name basis constituents factors report =
 
 -- the plan that a composition series gives: what it changes, where the factors have their names by the rule, with its
 -- report, which is shown, too
-unfoldable pub series_plan : ModuleFiles → List ℕ → ReportHeader → MatrixValue → List ModuleValue → List ℕ → Plan
-series_plan stored name header basis factors places = record {
+unfoldable pub series_plan : ModuleFiles → List ℕ → ReportHeader → MatrixValue → List ModuleValue → List WitnessValue →
+    List ℕ → Plan
+series_plan stored name header basis factors witnesses places = record {
   steps = series_steps stored name basis (constituents_of factors) factors
-      (series_report_bytes header factors places);
-  shown = series_report_bytes header factors places;
+      (series_report_bytes header factors witnesses places);
+  shown = series_report_bytes header factors witnesses places;
 }
 
 -- the answer to what a run finds: the plan of the series, or that a section stays undecided
 abbrev pub chop_answer : ModuleFiles → List ℕ → ModuleValue → ℕ → ℕ → Outcome → Result Plan Problem
 chop_answer stored name m seed words (complete found) =
     Ok (series_plan stored name (module_header m seed words) (basis_of_rows m found.rows)
-    (factors_of_forms found.forms) found.places)
+    (factors_of_forms found.forms) (witnesses_of_forms found.forms) found.places)
 chop_answer stored name m seed words (open_section rows offset dim) =
     Err (StaysOpen (basis_of_rows m rows) offset dim)
 
@@ -78,7 +80,7 @@ pub record LeavesSeries (stored : ModuleFiles) (seed words : ℕ) (name : List �
   pub others : (other : List ℕ) → ¬ (IsOneOf (series_files stored name (constituents_of holds.factors)) other) →
       file_at (applied plan.steps files) other ≡ file_at files other
 
--- the plan is that of a composition series of the module of this name
+-- the plan is that of a composition series of the module of this name, with a witness for each factor
 pub record WritesSeries (stored : ModuleFiles) (seed words : ℕ) (name : List ℕ) (files : Files)
     (plan : Plan) :
     Type 0 where
@@ -86,9 +88,11 @@ pub record WritesSeries (stored : ModuleFiles) (seed words : ℕ) (name : List �
   pub is_module : module_in stored name files ≡ Ok m
   pub basis : MatrixValue
   pub factors : List ModuleValue
+  pub witnesses : List WitnessValue
   pub places : List ℕ
   pub series : IsSeries m basis factors places
-  pub plan_is : plan ≡ series_plan stored name (module_header m seed words) basis factors places
+  pub witnessed : AreWitnessesOf (module_header m seed words) factors witnesses
+  pub plan_is : plan ≡ series_plan stored name (module_header m seed words) basis factors witnesses places
 
 -- each of the words 0 to `words` of the seed leaves the section open that the basis shows of the module of this name
 pub record FindsOpenSection (stored : ModuleFiles) (seed words : ℕ) (name : List ℕ) (files : Files)

@@ -3,7 +3,7 @@ ghost use Rattle.std.specs.Prelude.{◌≡◌, IsTrue, [], map, Ok, IfOk, IfErr,
 ghost use Rattle.indexmap.specs.IndexMap.{keys, values};
 ghost use Rattle.axe_arguments.specs.Counts.{IsWordCount};
 ghost use Rattle.axe_chop.specs.Answers.{factor_modules};
-ghost use Rattle.axe_chop.specs.Reported.{IsFoundUnder};
+ghost use Rattle.axe_chop.specs.Reported.{IsFoundUnder, factor_witnesses};
 ghost use Rattle.axe_chop.specs.declared.chopped.Factor.{Factor};
 ghost use Rattle.axe_fault.specs.declared.fault.Fault.TheVariants.{Memory};
 ghost use Rattle.axe_file.specs.Packed.{packed};
@@ -80,7 +80,7 @@ fn series_draft(
     requires relations { IsReportHeader header }
     requires found { IsFoundUnder header chopped.now }
     ensures { Agrees [] plan_in result (Is (Ok (series_plan files.now name.now header chopped.now.basis
-        (factor_modules chopped.now) chopped.now.series.items))) }
+        (factor_modules chopped.now) (factor_witnesses chopped.now) chopped.now.series.items))) }
 {
     let Ok(report) = report_text(alloc, header, chopped) else {
         return Err(Fault::Memory);
@@ -155,7 +155,8 @@ fn report_text(
     requires relations { IsReportHeader header }
     requires found { IsFoundUnder header chopped.now }
     ensures { IfOk result (λ text. text.items
-        ≡ series_report_bytes header (factor_modules chopped.now) chopped.now.series.items) }
+        ≡ series_report_bytes header (factor_modules chopped.now) (factor_witnesses chopped.now)
+        chopped.now.series.items) }
 {
     let report = report_under(alloc, header, chopped)?;
     write_report(alloc, &report)

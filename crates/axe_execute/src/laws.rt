@@ -58,7 +58,8 @@ pub fn chop_leaves_no_wrong_report()
     ensures left { (stored : ModuleFiles) (seed words : ℕ) (name : List ℕ) (fault : Fault) (old new : Files) →
         ChopFails stored seed words name fault old new → IsLeftByChop stored seed words name old new }
     ensures report { (stored : ModuleFiles) (seed words : ℕ) (name : List ℕ) (fault : Fault) (old new : Files)
-        (bytes : List ℕ) → HasFileCount stored → seed < 2 ^ 64 → IsWordCount words → ChopFails stored seed words name fault old new →
+        (bytes : List ℕ) → HasFileCount stored → seed < 2 ^ 64 → IsWordCount words →
+        ChopFails stored seed words name fault old new →
         file_at new (report_file name) ≡ Some bytes → IsSpelling bytes →
         IsBeforeOrAfterChop stored seed words name old new }
 {}
