@@ -1,5 +1,5 @@
 -- What `chop` finds has witnesses: words of the run, and polynomials of small degree over the module's field.
-use Rattle.std.proofs.Common.{◌≡◌, ℕ, ◌-◌, ◌<◌, ◌≤◌, List, length, map, get_or, All, option_map, Option, Some, None, refl, sym, ap, subst, ◌∙◌, arith}
+use Rattle.std.proofs.Common.{◌≡◌, ℕ, ◌-◌, ◌<◌, ◌≤◌, List, length, get_or, All, option_map, Option, Some, None, sym, ap, subst, ◌∙◌, arith}
 use mathlib.Core.List.{map-map}
 use Rattle.std.specs.List.{slice_get}
 use Rattle.std.proofs.lemmas.List.{length-map, get_or-map}
@@ -7,19 +7,16 @@ use Rattle.std.proofs.lemmas.List.Elements.{All-nil, All-push, All-map, All-get_
 use Rattle.std.proofs.lemmas.Option.{slice_get-get_or}
 use Rattle.indexmap.specs.IndexMap.{values}
 use Rattle.axe_field.specs.Order.{Order, order_number}
-use Rattle.axe_row.specs.Rows.{RowValue}
 use Rattle.axe_poly.specs.Polys.{PolyValue}
 use Rattle.axe_poly.proofs.PolyLaws.{power_fits, below_are_elements}
 use Rattle.axe_spin.specs.Modules.{ModuleValue, IsModule}
-use Rattle.axe_norton.specs.declared.verdicts.Verdict.TheVariants.{Irreducible}
-use Rattle.axe_norton.specs.Verdicts.{Decides}
 use Rattle.axe_iso.specs.Forms.{FormValue, IsForm, HasSmallNullSpace}
 use Rattle.axe_series.specs.Sections.{SectionValue}
 use Rattle.axe_series.specs.Runs.{FoundValue, Outcome, complete, open_section, RunOf, Runs, all_found, undecided, reducible, known, new}
 use Rattle.axe_series.specs.Series.{IsSeries, basis_of_rows, factors_of_forms}
 use Rattle.axe_series.proofs.RunLaws.{runs_are_true}
 use Rattle.axe_chop.specs.Chopped.{IsNamed}
-use Rattle.axe_report.specs.Reports.{WitnessValue, AreDigits, IsPolyOver, IsWitnessUnder}
+use Rattle.axe_report.specs.Reports.{IsPolyOver, IsWitnessUnder}
 use Rattle.axe_chop.specs.Answers.{IsChopped, factor_modules}
 use Rattle.axe_chop.specs.Reported.{witness_of, witnesses_of_forms, factor_witnesses, module_header, AreWitnessesOf}
 use Rattle.axe_chop.specs.declared.chopped.Factor.{Factor}

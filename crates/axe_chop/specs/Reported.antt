@@ -1,12 +1,12 @@
 -- The report of a composition series.
 use Rattle.std.specs.Prelude.{◌≡◌, ℕ, List, [], length, map, get_or, slice_get, string_bytes, String, All}
-use Rattle.std.specs.Prelude.{Option, Some, option_map}
+use Rattle.std.specs.Prelude.{Some, option_map}
 use Rattle.std.specs.declared.alloc.Global.{Global}
+use Rattle.indexmap.specs.IndexMap.{values}
 use Rattle.axe_algebra.specs.Lists.{listed}
 use Rattle.axe_poly.specs.Polys.{PolyValue}
 use Rattle.axe_spin.specs.Modules.{ModuleValue, IsModule}
 use Rattle.axe_iso.specs.Forms.{FormValue}
-use Rattle.indexmap.specs.IndexMap.{values}
 use Rattle.axe_report.specs.Names.{count_of, names_of}
 use Rattle.axe_report.specs.Reports.{WitnessValue, FactorValue, ReportValue, IsWitnessUnder}
 use Rattle.axe_report.specs.declared.report.ReportHeader.{ReportHeader}
