@@ -6,15 +6,16 @@ use Rattle.axe_arguments.specs.declared.command.Command.TheVariants.{Chop}
 use Rattle.axe_arguments.specs.declared.command.ModuleFiles.{ModuleFiles}
 use Rattle.axe_fault.specs.declared.fault.Fault.{Fault}
 use Rattle.axe_plan.specs.Plans.{applied, Plan}
-use Rattle.axe_execute.specs.Means.{Means, names_read}
+use Rattle.axe_plan.specs.Inputs.{module_names}
+use Rattle.axe_execute.specs.Means.{Means}
 use Rattle.axe_execute.specs.Execution.{Executes, HasPlan}
 use Rattle.axe_execute.specs.SeriesFiles.{report_file}
 
--- `chop` of the module of this name may end with this fault, from the one files to the others
+-- `chop` of the module of this name, whose files it reads, may end with this fault, from the one files to the others
 abbrev pub ChopFails : ModuleFiles → ℕ → ℕ → List ℕ → Fault → Files → Files → Type 0
 ChopFails stored seed words name fault old new =
     (let command = Chop stored seed words name in
-    Executes (Err fault) (names_read command old) (Means command old) old new)
+    Executes (Err fault) (module_names stored name) (Means command old) old new)
 
 -- the file of the report has the first bytes of the report that the plan shows, and each other file is as after all
 -- steps of the plan

@@ -13,6 +13,7 @@ mod planning;
 mod quotients;
 mod series_files;
 mod spinning;
+mod verifying;
 
 pub use execution::{Shown, execute};
 pub use laws::{

@@ -1,9 +1,9 @@
 //! What each command is about to do: its files are read, its result is computed, and everything that it will write is
 //! made. Nothing is written here.
-ghost use Rattle.std.specs.Prelude.{IsTrue, [], ◌∷◌, option_copied};
+ghost use Rattle.std.specs.Prelude.{ℕ, List, IsTrue, [], ◌∷◌, option_copied};
 ghost use Rattle.axe_execute.specs.MatrixCommands.{ConversionPlan, PrintingPlan, PlanOfOne, PlanOfTwo};
 ghost use Rattle.axe_execute.specs.Operations.{MadeOfOne, MadeOfTwo};
-ghost use Rattle.axe_execute.specs.Means.{Means, names_read};
+ghost use Rattle.axe_execute.specs.Means.{Means, AreRead};
 ghost use Rattle.axe_plan.specs.Outcome.{Reads};
 ghost use Rattle.axe_plan.specs.Drafts.{plan_in};
 
@@ -13,6 +13,7 @@ use crate::operations::OfOne::{self, Inverse, NullSpace, Transpose};
 use crate::operations::OfTwo::{self, Product, Sum};
 use crate::quotients::quotient_draft;
 use crate::spinning::SeededModule;
+use crate::verifying::verify_draft;
 use axe_arguments::{Command, Name};
 use axe_fault::Fault;
 use axe_folder::Folder;
@@ -25,8 +26,8 @@ pub(crate) fn draft_of<F: Folder>(
     command: &Command,
     folder: &mut F,
 ) -> Result<Draft, Fault>
-    ensures { IsTrue F.tells → Reads F.files F.tally folder.old folder.new
-        (names_read command.now (F.files folder.old)) plan_in result (Means command.now) }
+    ensures { IsTrue F.tells → (read : List (List ℕ)) × AreRead command.now (F.files folder.old) read
+        × Reads F.files F.tally folder.old folder.new read plan_in result (Means command.now) }
 {
     match command {
         Command::Zcv { input, out } => conversion_draft(alloc, input, out, folder),
@@ -64,6 +65,7 @@ pub(crate) fn draft_of<F: Folder>(
             words,
             name,
         } => chop_draft(alloc, files, *seed, *words, name, folder),
+        Command::Verify { layout, name } => verify_draft(alloc, *layout, name, folder),
     }
 }
 
