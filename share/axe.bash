@@ -10,10 +10,11 @@ _axe_options() {
   "$1" "$2" -h 2>/dev/null | sed -nE '/^Options:/,/^$/p' | grep -oE '(^|[ ,])--?[a-z]+' | tr -d ' ,'
 }
 
-# the files here, and the name before the numbers of each module's files
+# the files here, and the name of each module: before the numbers of its files, or before the end of its one file
 _axe_files() {
   compgen -f -- "$1"
   compgen -f -X '!*.1' -- "$1" | sed 's/\.1$//'
+  compgen -f -X '!*.axm' -- "$1" | sed 's/\.axm$//'
 }
 
 _axe() {

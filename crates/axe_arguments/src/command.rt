@@ -2,6 +2,39 @@
 use crate::count::{GeneratorCount, WordCount};
 use crate::name::Name;
 
+/// The files of a module.
+#[derive(Debug, Clone, Copy)]
+pub enum ModuleFiles {
+    /// One for each generator, NAME.1 to NAME.N, packed matrices.
+    Separate(GeneratorCount),
+    /// One for all, NAME.axm, a packed module.
+    Whole,
+}
+
+/// How the files of a module lie, where something else says how many generators it has.
+#[derive(Debug, Clone, Copy)]
+pub enum ModuleLayout {
+    /// Each generator in a file of its own, NAME.1 to NAME.N.
+    Separate,
+    /// All in one file, NAME.axm.
+    Whole,
+}
+
+impl ModuleLayout {
+    ghost use Rattle.std.specs.Prelude.{◌≡◌};
+    ghost use Rattle.axe_arguments.specs.Layouts.{files_with};
+
+    /// The files of a module with so many generators.
+    pub fn files(self, generators: GeneratorCount) -> ModuleFiles
+        ensures { result ≡ files_with self generators }
+    {
+        match self {
+            ModuleLayout::Separate => ModuleFiles::Separate(generators),
+            ModuleLayout::Whole => ModuleFiles::Whole,
+        }
+    }
+}
+
 /// One command of `axe` with its files. Files lie in the working directory, and are packed matrices where nothing
 /// else is said.
 #[derive(Debug, Drop)]
@@ -11,6 +44,16 @@ pub enum Command {
         /// The file of the text.
         input: Name,
         /// The file that the packed matrix is written to, which may be the text's own.
+        out: Name,
+    },
+    /// `zcv -m [-g N] NAME OUT`: converts texts, the generators of a module, to its packed form. They are the files
+    /// NAME.1 to NAME.N.
+    ZcvModule {
+        /// How many generators there are.
+        generators: GeneratorCount,
+        /// The name before the numbers of the texts' files.
+        name: Name,
+        /// The file that the packed module is written to, which may be one of the texts' own.
         out: Name,
     },
     /// `zpr IN [OUT]`: prints a matrix as text.
@@ -88,17 +131,23 @@ pub enum Command {
         /// The name before the numbers of the files that the action is written to.
         out: Name,
     },
-    /// `chop [-g N] [--seed S] [--words W] NAME`: finds a composition series of a module. The module's generators are
-    /// the files NAME.1 to NAME.N.
+    /// `chop [-m] [-g N] [--seed S] [--words W] NAME`: finds a composition series of a module.
     Chop {
-        /// How many generators there are.
-        generators: GeneratorCount,
+        /// The files of the module, and those of each constituent.
+        files: ModuleFiles,
         /// The seed of the words that are tried.
         seed: u64,
         /// How many words are tried after word 0.
         words: WordCount,
-        /// The name before the numbers of the generators' files, and before the rest of the name of each file that is
-        /// written.
+        /// The name of the module, which is the beginning of the name of each file that is read or written.
+        name: Name,
+    },
+    /// `verify [-m] NAME`: checks that what lies beside a module is a composition series of it. The report says how
+    /// many generators there are.
+    Verify {
+        /// How the files of the module lie, and those of each constituent.
+        layout: ModuleLayout,
+        /// The name of the module, which is the beginning of the name of each file that is read.
         name: Name,
     },
 }

@@ -8,7 +8,7 @@ pub mod command;
 pub mod count;
 pub mod name;
 
-pub use command::Command;
+pub use command::{Command, ModuleFiles, ModuleLayout};
 pub use count::{GeneratorCount, WordCount};
 pub use name::{Name, NameFault};
 

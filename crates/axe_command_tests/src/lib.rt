@@ -14,6 +14,8 @@ mod directory;
 #[cfg(test)]
 mod failing;
 #[cfg(test)]
+mod modules;
+#[cfg(test)]
 mod names;
 #[cfg(test)]
 mod null_spaces;

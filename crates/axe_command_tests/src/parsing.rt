@@ -3,13 +3,14 @@
 //! A table has lines `WORD .. -> ANSWER`. The answer is what the command does with which files, or `usage: TEXT` or
 //! `help: TEXT` where the words are no command. Words and texts are spelled as `spelling` says.
 use crate::spelling::{assert_text, parts, plain, words};
-use axe_command::{Command, GeneratorCount, Name, ParseFault, parse};
+use axe_command::{Command, GeneratorCount, ModuleFiles, Name, ParseFault, parse};
 use std::alloc::{AllocError, Global};
 use std::process::Abort;
 
 const COMMANDS: &str = r"
 zcv in.txt A -> convert in.txt to A
 zcv A A -> convert A to A
+zcv -g 3 in.txt A -> convert in.txt to A
 zpr A -> print A
 zpr -- A -> print A
 zpr A in.txt -> print A to in.txt
@@ -34,6 +35,9 @@ zsp -g16 -ba T M S OUT -> spin S by 16 generators of M to OUT, standard true, ac
 zsp M S OUT -g=3 -> spin S by 3 generators of M to OUT, standard false, action none
 zqt S M Q -> quotient by S of 2 generators of M to Q
 zqt -g 16 S M Q -> quotient by S of 16 generators of M to Q
+zcv -m M M.axm -> convert 2 generators of M to the module M.axm
+zcv --module -g 16 M OUT -> convert 16 generators of M to the module OUT
+zcv M -g1 OUT -m -> convert 1 generators of M to the module OUT
 ";
 
 #[test]
@@ -49,6 +53,8 @@ chop --seed 0 --words 0 M -> chop 2 generators of M, seed 0, words 0
 chop --seed=7 --words=20 M -g3 -> chop 3 generators of M, seed 7, words 20
 chop M --seed 18446744073709551615 -> chop 2 generators of M, seed 18446744073709551615, words 400
 chop --words 10000 M -> chop 2 generators of M, seed 1, words 10000
+chop -m M -> chop one file of M, seed 1, words 400
+chop --module -g 16 --seed 2 M -> chop one file of M, seed 2, words 400
 ";
 
 #[test]
@@ -59,7 +65,8 @@ fn words_ask_for_composition_series(rt: HostRuntime) {
 const COUNTS: &str = r"
 zcv -> usage: ..Usage: axe zcv <IN> <OUT>\n
 zcv A -> usage: ..Usage: axe zcv <IN> <OUT>\n
-zcv A B C -> usage: ..Usage: axe zcv <IN> <OUT>\n
+zcv A B C -> usage: ..Usage: axe zcv [OPTIONS] <IN> <OUT>\n
+zcv -m A -> usage: ..Usage: axe zcv --module <IN> <OUT>\n
 zpr -> usage: ..Usage: axe zpr <IN> [OUT]\n
 zpr A B C -> usage: ..Usage: axe zpr <IN> [OUT]\n
 zmu -> usage: ..Usage: axe zmu <A> <B> <OUT>\n
@@ -95,6 +102,8 @@ fn too_few_or_too_many_words_are_usage(rt: HostRuntime) {
 const NUMBERS: &str = r"
 zsp -g 17 M S OUT -> usage: ..invalid value '17' for '-g <N>'
 zsp -g 0 M S OUT -> usage: ..invalid value '0' for '-g <N>'
+zcv -m -g 0 M OUT -> usage: ..invalid value '0' for '-g <N>'
+zcv -m -g 17 M OUT -> usage: ..invalid value '17' for '-g <N>'
 zqt -g x S M Q -> usage: ..invalid value 'x' for '-g <N>'
 zqt S M Q -g -> usage: ..a value is required for '-g <N>'
 chop -g 0 M -> usage: ..invalid value '0' for '-g <N>'
@@ -128,6 +137,8 @@ zsp -c M S OUT
 zqt -b S M Q
 chop -b M
 chop --word 3 M
+chop --modules M
+zpr -m M
 ";
 
 #[test]
@@ -168,6 +179,9 @@ zqt S M ..
 chop a/b
 chop ''
 chop -- -M
+chop -m a/b
+zcv -m a/b OUT
+zcv -m M .axm
 ";
 
 #[test]
@@ -193,7 +207,10 @@ const SHOWN: &str = r"
 help -> help: ..  zmu   Multiply two matrices\n
 help -h -> help: ..  zmu   Multiply two matrices\n
 help --help -> help: ..  zmu   Multiply two matrices\n
-zcv -h -> help: ..Usage: axe zcv <IN> <OUT>\n
+zcv -h -> help: ..Usage: axe zcv [OPTIONS] <IN> <OUT>\n
+zcv -h -> help: ..  -m, --module  Convert the texts IN.1 to IN.N, the generators of a module, to one file\n
+zcv --help -> help: ..With -m it converts a module
+chop --help -> help: ..With -m the module is one file, NAME.axm
 zcv --help -> help: ..  1 3 2 4            matrix field=3 rows=2 cols=4\n
 help zpr -> help: ..Usage: axe zpr <IN> [OUT]\n
 zpr --help -> help: ..lines of 80 digits
@@ -214,7 +231,7 @@ zqt --help -> help: ..the generators of the quotient
 chop -h -> help: ..Usage: axe chop [OPTIONS] <NAME>\n
 chop -h -> help: ..      --seed <S>   The seed that draws the words, 0 to 18446744073709551615 [default: 1]\n
 chop -h -> help: ..      --words <W>  How many words are tried after word 0, 0 to 10000 [default: 400]\n
-chop --help -> help: ..  factor 2a dim=2 mult=1\n
+chop --help -> help: ..  factor 2a dim=2 mult=1 word=0\n
 ";
 
 #[test]
@@ -258,6 +275,14 @@ fn answer(alloc: Global, words: &[String]) -> Result<String, AllocError> {
 fn told(alloc: Global, command: &Command) -> Result<String, AllocError> {
     match command {
         Command::Zcv { input, out } => told_two(alloc, "convert", input, out),
+        Command::ZcvModule {
+            generators,
+            name,
+            out,
+        } => {
+            let (generators, name, out) = (generators.get(), name.as_str(), out.as_str());
+            format!(in alloc; "convert {generators} generators of {name} to the module {out}")
+        }
         Command::Zpr { input, out: None } => format!(in alloc; "print {}", input.as_str()),
         Command::Zpr {
             input,
@@ -287,13 +312,14 @@ fn told(alloc: Global, command: &Command) -> Result<String, AllocError> {
             out,
         } => told_module(alloc, "quotient by", subspace, "of", *generators, name, out),
         Command::Chop {
-            generators,
+            files,
             seed,
             words,
             name,
         } => {
-            let (generators, words, name) = (generators.get(), words.get(), name.as_str());
-            format!(in alloc; "chop {generators} generators of {name}, seed {seed}, words {words}")
+            let files = told_files(alloc, files)?;
+            let (words, name) = (words.get(), name.as_str());
+            format!(in alloc; "chop {files} of {name}, seed {seed}, words {words}")
         }
     }
 }
@@ -327,6 +353,16 @@ fn told_module(
     let (rows, name, out) = (rows.as_str(), name.as_str(), out.as_str());
     let generators = generators.get();
     format!(in alloc; "{verb} {rows} {preposition} {generators} generators of {name} to {out}")
+}
+
+fn told_files(alloc: Global, files: &ModuleFiles) -> Result<String, AllocError> {
+    match files {
+        ModuleFiles::Separate(generators) => {
+            let generators = generators.get();
+            format!(in alloc; "{generators} generators")
+        }
+        ModuleFiles::Whole => String::from_str(alloc, "one file"),
+    }
 }
 
 fn told_action(action: &Option<Name>) -> &str {

@@ -13,8 +13,8 @@
 //! ```
 //!
 //! A CONTENT is `text TEXT`, or `packed ORDER ROWS COLUMNS BYTE ..` for a packed matrix: three decimal numbers, each
-//! below 256, and the bytes of its rows in hexadecimal digits. WORD and TEXT are spelled as `spelling` says. A command
-//! line that prints nothing has no TEXT.
+//! below 256, and the bytes of its rows in hexadecimal digits; or `bytes BYTE ..`, all bytes in such digits. WORD and
+//! TEXT are spelled as `spelling` says. A command line that prints nothing has no TEXT.
 //!
 //! After each command line, and what the lines after it say of files, all files are looked at: each that was put or
 //! spoken of in the scene has its last content, and there is no other. Any other line, and a scene without a command
@@ -24,6 +24,7 @@ use crate::watched::{Seen, Watched};
 use axe_command::{Command, Fault, ParseFault, Shown, execute, line, parse, status};
 use axe_folder::{Folder, MemFolder};
 use std::process::Abort;
+use std::str::SplitWhitespace;
 
 /// Plays the scenes of a script, each on a folder of its own.
 pub(crate) fn play<R: Abort + AllocGlobal>(rt: &R, script: &str) {
@@ -95,6 +96,7 @@ pub(crate) fn bytes<R: Abort + AllocGlobal>(rt: &R, content: &str) -> Vec<u8> {
     match kind {
         "text" => plain(rt, rest).into_bytes(),
         "packed" => packed(rt, rest),
+        "bytes" => with_bytes(rt, Vec::new(rt.alloc()), rest.split_whitespace()),
         _ => rt.panic(content),
     }
 }
@@ -109,6 +111,11 @@ fn packed<R: Abort + AllocGlobal>(rt: &R, matrix: &str) -> Vec<u8> {
             .extend_from_slice(&[number, 0, 0, 0])
             .expect(rt, "memory");
     }
+    with_bytes(rt, bytes, words)
+}
+
+/// Bytes with those behind them that words spell in hexadecimal digits.
+fn with_bytes(rt: &impl Abort, mut bytes: Vec<u8>, words: SplitWhitespace<'_>) -> Vec<u8> {
     for word in words {
         let byte = u8::from_str_radix(word, 16).expect(rt, "two hexadecimal digits");
         bytes.push(byte).expect(rt, "memory");

@@ -11,23 +11,27 @@ use Rattle.axe_report.specs.declared.report.ReportHeader.{ReportHeader}
 use Rattle.axe_report.specs.Passing.{IsSpelling}
 use Rattle.axe_report.proofs.Letters.{some_letter}
 use Rattle.axe_report.proofs.Unique.{no_prefix}
-use Rattle.axe_chop.specs.Reported.{dims_of_factors, module_header, series_report}
+use Rattle.axe_report.specs.Reports.{WitnessValue}
+use Rattle.axe_chop.specs.Reported.{dims_of_factors, module_header, series_report, witnesses_of_forms}
 use Rattle.axe_chop.proofs.SeriesReports.{series_has_report}
 use Rattle.axe_file.specs.Packed.{packed}
 use Rattle.axe_folder.specs.Files.{Files, file_at}
-use Rattle.axe_arguments.specs.Counts.{IsGeneratorCount, IsWordCount}
+use Rattle.axe_arguments.specs.Counts.{IsWordCount}
+use Rattle.axe_arguments.specs.Commands.{HasFileCount}
+use Rattle.axe_arguments.specs.declared.command.ModuleFiles.{ModuleFiles}
 use Rattle.axe_fault.specs.declared.fault.Fault.{Fault}
 use Rattle.axe_fault.specs.Causes.{Cause, Stands, DeviceFailed, NoMemory, NoCommand, cause_of}
 use Rattle.axe_plan.specs.Plans.{Step, Put, Remove, Plan}
 use Rattle.axe_plan.specs.Outcome.{BrokeOff, Halted}
-use Rattle.axe_plan.specs.Inputs.{numbered_names}
-use Rattle.axe_plan.specs.Outputs.{put_generator, put_generators}
+use Rattle.axe_plan.specs.Inputs.{module_names}
+use Rattle.axe_plan.specs.Outputs.{put_module}
 use Rattle.axe_execute.specs.ChopCommand.{put_factors, series_plan, chop_answer, ChopPlan, FoundPlan, WritesSeries}
 use Rattle.axe_execute.specs.Execution.{HasPlan, StopsCommand}
 use Rattle.axe_execute.specs.AfterChop.{ChopFails, IsLeftByChop, IsBeforeOrAfterChop}
 use Rattle.axe_execute.specs.SeriesFiles.{report_file, basis_file, factor_name}
 use Rattle.axe_plan.proofs.ReadModules.{module_is_module}
 use Rattle.axe_execute.proofs.ChopLaws.{plan_of_series}
+use Rattle.axe_plan.proofs.ModuleSteps.{module_spares}
 use Rattle.axe_plan.proofs.BrokenSteps.{Spare, spare_append, Left, unchanged, absent, torn, left_by_broken, left_by_halted, all_if_whole}
 
 -- ---- the file of the report is no other file of a run
@@ -85,20 +89,14 @@ pub all_names_nonempty : (dims : List ℕ) → AreNonempty (names_of dims)
 unfolding names_of
 all_names_nonempty dims = names_nonempty [] dims
 
-generators_spare : (name constituent : List ℕ) (factor : ModuleValue) (indices : List ℕ) → constituent ≢ [] →
-    Spare (report_file name) (map (put_generator (factor_name name constituent) factor) indices)
-generators_spare name constituent factor [] some = tt
-generators_spare name constituent factor (i ∷ indices) some =
-    (constituent_file_differs name constituent (decimal (i + 1)) some, generators_spare name constituent factor indices some)
-
-factors_spare : (name : List ℕ) (constituents : List (List ℕ)) (factors : List ModuleValue) → AreNonempty constituents →
-    Spare (report_file name) (put_factors name constituents factors)
-factors_spare name [] factors some = tt
-factors_spare name (constituent ∷ constituents) [] some = tt
-factors_spare name (constituent ∷ constituents) (factor ∷ factors) some =
-    spare_append (report_file name) (put_generators (factor_name name constituent) factor) (put_factors name constituents factors)
-    (generators_spare name constituent factor (range_with_len 0 (length factor.generators)) some.0)
-    (factors_spare name constituents factors some.1)
+factors_spare : (stored : ModuleFiles) (name : List ℕ) (constituents : List (List ℕ)) (factors : List ModuleValue) → AreNonempty constituents →
+    Spare (report_file name) (put_factors stored name constituents factors)
+factors_spare stored name [] factors some = tt
+factors_spare stored name (constituent ∷ constituents) [] some = tt
+factors_spare stored name (constituent ∷ constituents) (factor ∷ factors) some =
+    spare_append (report_file name) (put_module stored (factor_name name constituent) factor) (put_factors stored name constituents factors)
+    (module_spares stored (report_file name) (factor_name name constituent) factor (λ rest. constituent_file_differs name constituent rest some.0))
+    (factors_spare stored name constituents factors some.1)
 
 -- ---- the plan
 
@@ -108,66 +106,66 @@ record PutsReportLast (name : List ℕ) (plan : Plan) : Type 0 where
   spared : Spare (report_file name) middle
   steps_are : plan.steps ≡ Remove (report_file name) ∷ (middle ++ Put (report_file name) plan.shown ∷ [])
 
-series_puts_report_last : (name : List ℕ) (header : ReportHeader) (basis : MatrixValue) (factors : List ModuleValue) (places : List ℕ) →
-    PutsReportLast name (series_plan name header basis factors places)
+series_puts_report_last : (stored : ModuleFiles) (name : List ℕ) (header : ReportHeader) (basis : MatrixValue) (factors : List ModuleValue)
+    (witnesses : List WitnessValue) (places : List ℕ) → PutsReportLast name (series_plan stored name header basis factors witnesses places)
 unfolding series_plan
-series_puts_report_last name header basis factors places = record {
-  middle = Put (basis_file name) (packed basis) ∷ put_factors name (names_of (dims_of_factors factors)) factors;
-  spared = (basis_file_differs name, factors_spare name (names_of (dims_of_factors factors)) factors (all_names_nonempty (dims_of_factors factors)));
+series_puts_report_last stored name header basis factors witnesses places = record {
+  middle = Put (basis_file name) (packed basis) ∷ put_factors stored name (names_of (dims_of_factors factors)) factors;
+  spared = (basis_file_differs name, factors_spare stored name (names_of (dims_of_factors factors)) factors (all_names_nonempty (dims_of_factors factors)));
   steps_are = refl;
 }
 
-answer_puts_report_last : (name : List ℕ) (m : ModuleValue) (seed words : ℕ) (outcome : Outcome) →
-    IfOk (chop_answer name m seed words outcome) (PutsReportLast name)
-answer_puts_report_last name m seed words (complete found) =
-    series_puts_report_last name (module_header m seed words) (basis_of_rows m found.rows) (factors_of_forms found.forms) found.places
-answer_puts_report_last name m seed words (open_section rows offset dim) = tt
+answer_puts_report_last : (stored : ModuleFiles) (name : List ℕ) (m : ModuleValue) (seed words : ℕ) (outcome : Outcome) →
+    IfOk (chop_answer stored name m seed words outcome) (PutsReportLast name)
+answer_puts_report_last stored name m seed words (complete found) =
+    series_puts_report_last stored name (module_header m seed words) (basis_of_rows m found.rows) (factors_of_forms found.forms) (witnesses_of_forms found.forms) found.places
+answer_puts_report_last stored name m seed words (open_section rows offset dim) = tt
 
-plan_puts_report_last : (generators seed words : ℕ) (name : List ℕ) (files : Files) (plan : Plan) → ChopPlan generators seed words name files (Ok plan) →
+plan_puts_report_last : (stored : ModuleFiles) (seed words : ℕ) (name : List ℕ) (files : Files) (plan : Plan) → ChopPlan stored seed words name files (Ok plan) →
     PutsReportLast name plan
 unfolding ChopPlan FoundPlan
-plan_puts_report_last generators seed words name files plan (Err problem, is, right) =
+plan_puts_report_last stored seed words name files plan (Err problem, is, right) =
     subst (λ answer. IfOk answer (PutsReportLast name)) (sym right) tt
-plan_puts_report_last generators seed words name files plan (Ok m, is, (Err problem, none, right)) = absurd none
-plan_puts_report_last generators seed words name files plan (Ok m, is, (Ok outcome, run, right)) =
-    subst (λ answer. IfOk answer (PutsReportLast name)) right (answer_puts_report_last name m seed words outcome)
+plan_puts_report_last stored seed words name files plan (Ok m, is, (Err problem, none, right)) = absurd none
+plan_puts_report_last stored seed words name files plan (Ok m, is, (Ok outcome, run, right)) =
+    subst (λ answer. IfOk answer (PutsReportLast name)) right (answer_puts_report_last stored name m seed words outcome)
 
 -- ---- what is left
 
-left_by_plan : (generators seed words : ℕ) (name : List ℕ) (old new : Files) (plan : Plan) → ChopPlan generators seed words name old (Ok plan) →
-    Left (report_file name) plan.shown plan.steps old new → IsLeftByChop generators seed words name old new
-left_by_plan generators seed words name old new plan right (unchanged same) = inl same
-left_by_plan generators seed words name old new plan right (absent none) = inr (inl none)
-left_by_plan generators seed words name old new plan right (torn count is others) =
+left_by_plan : (stored : ModuleFiles) (seed words : ℕ) (name : List ℕ) (old new : Files) (plan : Plan) → ChopPlan stored seed words name old (Ok plan) →
+    Left (report_file name) plan.shown plan.steps old new → IsLeftByChop stored seed words name old new
+left_by_plan stored seed words name old new plan right (unchanged same) = inl same
+left_by_plan stored seed words name old new plan right (absent none) = inr (inl none)
+left_by_plan stored seed words name old new plan right (torn count is others) =
     inr (inr (plan, right, record { count = count; report = is; others = others }))
 
-left_by_broken_plan : (generators seed words : ℕ) (name file : List ℕ) (old new : Files) →
-    HasPlan (ChopPlan generators seed words name old) (λ plan. BrokeOff plan.steps file old new) → IsLeftByChop generators seed words name old new
-left_by_broken_plan generators seed words name file old new (plan, right, broke) =
-    let shape = plan_puts_report_last generators seed words name old plan right in
-    left_by_plan generators seed words name old new plan right
+left_by_broken_plan : (stored : ModuleFiles) (seed words : ℕ) (name file : List ℕ) (old new : Files) →
+    HasPlan (ChopPlan stored seed words name old) (λ plan. BrokeOff plan.steps file old new) → IsLeftByChop stored seed words name old new
+left_by_broken_plan stored seed words name file old new (plan, right, broke) =
+    let shape = plan_puts_report_last stored seed words name old plan right in
+    left_by_plan stored seed words name old new plan right
     (left_by_broken (report_file name) plan.shown shape.middle old shape.spared plan.steps file new shape.steps_are broke)
 
-left_by_halted_plan : (generators seed words : ℕ) (name : List ℕ) (old new : Files) →
-    HasPlan (ChopPlan generators seed words name old) (λ plan. Halted plan.steps old new) → IsLeftByChop generators seed words name old new
-left_by_halted_plan generators seed words name old new (plan, right, halted) =
-    let shape = plan_puts_report_last generators seed words name old plan right in
-    left_by_plan generators seed words name old new plan right
+left_by_halted_plan : (stored : ModuleFiles) (seed words : ℕ) (name : List ℕ) (old new : Files) →
+    HasPlan (ChopPlan stored seed words name old) (λ plan. Halted plan.steps old new) → IsLeftByChop stored seed words name old new
+left_by_halted_plan stored seed words name old new (plan, right, halted) =
+    let shape = plan_puts_report_last stored seed words name old plan right in
+    left_by_plan stored seed words name old new plan right
     (left_by_halted (report_file name) plan.shown shape.middle old shape.spared plan.steps new shape.steps_are halted)
 
-left_where_stopped : (generators seed words : ℕ) (name : List ℕ) (cause : Cause) (names : List (List ℕ)) (old new : Files) →
-    StopsCommand cause names (ChopPlan generators seed words name old) old new → IsLeftByChop generators seed words name old new
-left_where_stopped generators seed words name (Stands problem) names old new stops = inl stops.1
-left_where_stopped generators seed words name (DeviceFailed file) names old new (inl unread) = inl unread.1
-left_where_stopped generators seed words name (DeviceFailed file) names old new (inr broke) = left_by_broken_plan generators seed words name file old new broke
-left_where_stopped generators seed words name NoMemory names old new (inl same) = inl same
-left_where_stopped generators seed words name NoMemory names old new (inr halted) = left_by_halted_plan generators seed words name old new halted
-left_where_stopped generators seed words name NoCommand names old new stops = absurd stops
+left_where_stopped : (stored : ModuleFiles) (seed words : ℕ) (name : List ℕ) (cause : Cause) (names : List (List ℕ)) (old new : Files) →
+    StopsCommand cause names (ChopPlan stored seed words name old) old new → IsLeftByChop stored seed words name old new
+left_where_stopped stored seed words name (Stands problem) names old new stops = inl stops.1
+left_where_stopped stored seed words name (DeviceFailed file) names old new (inl unread) = inl unread.1
+left_where_stopped stored seed words name (DeviceFailed file) names old new (inr broke) = left_by_broken_plan stored seed words name file old new broke
+left_where_stopped stored seed words name NoMemory names old new (inl same) = inl same
+left_where_stopped stored seed words name NoMemory names old new (inr halted) = left_by_halted_plan stored seed words name old new halted
+left_where_stopped stored seed words name NoCommand names old new stops = absurd stops
 
-pub left_by_chop : (generators seed words : ℕ) (name : List ℕ) (fault : Fault) (old new : Files) → ChopFails generators seed words name fault old new →
-    IsLeftByChop generators seed words name old new
-left_by_chop generators seed words name fault old new fails =
-    left_where_stopped generators seed words name (cause_of fault) (numbered_names name generators) old new fails
+pub left_by_chop : (stored : ModuleFiles) (seed words : ℕ) (name : List ℕ) (fault : Fault) (old new : Files) → ChopFails stored seed words name fault old new →
+    IsLeftByChop stored seed words name old new
+left_by_chop stored seed words name fault old new fails =
+    left_where_stopped stored seed words name (cause_of fault) (module_names stored name) old new fails
 
 -- ---- what can be read as a report
 
@@ -183,33 +181,34 @@ whole_if_spelling text bytes count (a, is_a, spells_a) (b, is_b, spells_b) first
     no_rest = no_prefix b a (drop count text) is_b is_a (ap (λ front. front ++ drop count text) (sym spells_b) ∙ joined ∙ spells_a)
 
 -- what a plan of `chop` shows is a report
-shown_is_report : (generators seed words : ℕ) (name : List ℕ) (files : Files) (plan : Plan) → IsGeneratorCount generators → seed < 2 ^ 64 →
-    IsWordCount words → WritesSeries generators seed words name files plan → IsSpelling plan.shown
+shown_is_report : (stored : ModuleFiles) (seed words : ℕ) (name : List ℕ) (files : Files) (plan : Plan) → HasFileCount stored → seed < 2 ^ 64 →
+    IsWordCount words → WritesSeries stored seed words name files plan → IsSpelling plan.shown
 unfolding series_plan
-shown_is_report generators seed words name files plan counted small few writes = (
-  series_report (module_header writes.m seed words) writes.factors writes.places,
-  series_has_report writes.m seed words writes.basis writes.factors writes.places is small (omega (arith, few.fits)) writes.series,
+shown_is_report stored seed words name files plan counted small few writes = (
+  series_report (module_header writes.m seed words) writes.factors writes.witnesses writes.places,
+  series_has_report writes.m seed words writes.basis writes.factors writes.witnesses writes.places is small (omega (arith, few.fits)) writes.series
+      writes.witnessed,
   ap (λ (p : Plan). p.shown) writes.plan_is,
 )
   where
     is : IsModule writes.m
-    is = subst (λ answer. IfOk answer IsModule) writes.is_module (module_is_module generators name files counted)
+    is = module_is_module stored name files writes.m counted writes.is_module
 
-pub before_or_after : (generators seed words : ℕ) (name : List ℕ) (fault : Fault) (old new : Files) (bytes : List ℕ) → IsGeneratorCount generators →
-    seed < 2 ^ 64 → IsWordCount words → ChopFails generators seed words name fault old new → file_at new (report_file name) ≡ Some bytes →
-    IsSpelling bytes → IsBeforeOrAfterChop generators seed words name old new
-before_or_after generators seed words name fault old new bytes counted small few fails here spelling =
-    cases (left_by_chop generators seed words name fault old new fails)
+pub before_or_after : (stored : ModuleFiles) (seed words : ℕ) (name : List ℕ) (fault : Fault) (old new : Files) (bytes : List ℕ) → HasFileCount stored →
+    seed < 2 ^ 64 → IsWordCount words → ChopFails stored seed words name fault old new → file_at new (report_file name) ≡ Some bytes →
+    IsSpelling bytes → IsBeforeOrAfterChop stored seed words name old new
+before_or_after stored seed words name fault old new bytes counted small few fails here spelling =
+    cases (left_by_chop stored seed words name fault old new fails)
   where
     some : {x y : List ℕ} → Some x ≡ Some y → x ≡ y
     some e = cc
 
-    cases : IsLeftByChop generators seed words name old new → IsBeforeOrAfterChop generators seed words name old new
+    cases : IsLeftByChop stored seed words name old new → IsBeforeOrAfterChop stored seed words name old new
     cases (inl same) = inl same
     cases (inr (inl none)) = absurd (let no : Some bytes ≡ None = sym here ∙ none in cc)
     cases (inr (inr (plan, right, part))) =
-        let shape = plan_puts_report_last generators seed words name old plan right in
-        let shown = shown_is_report generators seed words name old plan counted small few (plan_of_series generators seed words name old plan counted right) in
+        let shape = plan_puts_report_last stored seed words name old plan right in
+        let shown = shown_is_report stored seed words name old plan counted small few (plan_of_series stored seed words name old plan counted right) in
         let all : bytes ≡ plan.shown = whole_if_spelling plan.shown bytes part.count shown spelling (some (sym here ∙ part.report)) in
         inr (
           plan,

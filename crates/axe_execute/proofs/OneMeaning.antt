@@ -9,11 +9,12 @@ use Rattle.axe_echelon.specs.Echelons.{null_space_refusal, IsNullSpaceMatrix, in
 use Rattle.axe_folder.specs.Files.{Files}
 use Rattle.axe_arguments.specs.Commands.{HasCounts}
 use Rattle.axe_arguments.specs.declared.command.Command.{Command}
-use Rattle.axe_arguments.specs.declared.command.Command.TheVariants.{Zcv, Zpr, Zmu, Zad, Ztr, Ziv, Znu, Zsp, Zqt, Chop}
+use Rattle.axe_arguments.specs.declared.command.Command.TheVariants.{Zcv, ZcvModule, Zpr, Zmu, Zad, Ztr, Ziv, Znu, Zsp, Zqt, Chop, Verify}
 use Rattle.axe_execute.proofs.PlanParts.{matrix_then_one, matrix_then_some, put_one, put_some}
-use Rattle.axe_execute.proofs.OneModulePlan.{spin_plan_one, quotient_plan_one}
-use Rattle.axe_execute.proofs.SomeModulePlan.{spin_plan_some, quotient_plan_some}
+use Rattle.axe_execute.proofs.OneModulePlan.{module_conversion_plan_one, spin_plan_one, quotient_plan_one}
+use Rattle.axe_execute.proofs.SomeModulePlan.{module_conversion_plan_some, spin_plan_some, quotient_plan_some}
 use Rattle.axe_execute.proofs.ChopLaws.{chop_plan_one, chop_plan_some}
+use Rattle.axe_execute.proofs.VerifyMeanings.{verify_plan_one, verify_plan_some}
 use Rattle.axe_plan.proofs.OneAnswer.{is_one, has_one, has_or_one, unless_refused_one}
 use Rattle.axe_echelon.proofs.OneMatrix.{null_space_is_one, inverse_is_one}
 use Rattle.axe_plan.proofs.SomeAnswer.{unless_refused_some}
@@ -149,6 +150,7 @@ transpose_some a well = equal_some _ _
 
 pub at_most_one_meaning : (command : Command) (files : Files) → HasCounts command → AtMostOne (Means command files)
 at_most_one_meaning (Zcv input out) files counts = conversion_plan_one input out files
+at_most_one_meaning (ZcvModule generators name out) files counts = module_conversion_plan_one generators name out files
 at_most_one_meaning (Zpr input out) files counts = printing_plan_one input out files
 at_most_one_meaning (Zmu left right out) files counts = two_then_one ProductOf left right out files product_one
 at_most_one_meaning (Zad left right out) files counts = two_then_one SumOf left right out files sum_one
@@ -157,10 +159,12 @@ at_most_one_meaning (Ziv input out) files counts = one_then_one InverseOf input 
 at_most_one_meaning (Znu input out) files counts = one_then_one NullSpaceOf input out files (λ a well. null_space_one a)
 at_most_one_meaning (Zsp generators standard action name seed out) files counts = spin_plan_one generators standard action name seed out files
 at_most_one_meaning (Zqt generators subspace name out) files counts = quotient_plan_one generators subspace name out files
-at_most_one_meaning (Chop generators seed words name) files counts = chop_plan_one generators seed words name files counts.0
+at_most_one_meaning (Chop stored seed words name) files counts = chop_plan_one stored seed words name files counts.0
+at_most_one_meaning (Verify layout name) files counts = verify_plan_one layout name files
 
 pub some_meaning : (command : Command) (files : Files) → HasCounts command → Answered (Means command files)
 some_meaning (Zcv input out) files counts = conversion_plan_some input out files
+some_meaning (ZcvModule generators name out) files counts = module_conversion_plan_some generators name out files
 some_meaning (Zpr input out) files counts = printing_plan_some input out files
 some_meaning (Zmu left right out) files counts = two_then_some ProductOf left right out files product_some
 some_meaning (Zad left right out) files counts = two_then_some SumOf left right out files sum_some
@@ -169,4 +173,5 @@ some_meaning (Ziv input out) files counts = one_then_some InverseOf input out fi
 some_meaning (Znu input out) files counts = one_then_some NullSpaceOf input out files null_space_some
 some_meaning (Zsp generators standard action name seed out) files counts = spin_plan_some generators standard action name seed out files
 some_meaning (Zqt generators subspace name out) files counts = quotient_plan_some generators subspace name out files
-some_meaning (Chop generators seed words name) files counts = chop_plan_some generators seed words name files counts.0
+some_meaning (Chop stored seed words name) files counts = chop_plan_some stored seed words name files counts.0
+some_meaning (Verify layout name) files counts = verify_plan_some layout name files

@@ -12,12 +12,12 @@ use Rattle.axe_spin.specs.Spinning.{seed_refusal}
 use Rattle.axe_spin.specs.Modules.{rows_refusal}
 use Rattle.axe_folder.specs.Files.{Files}
 use Rattle.axe_fault.specs.Causes.{Problem}
-use Rattle.axe_plan.specs.Inputs.{matrices_in, numbered_names, checked_module, seeded_module}
+use Rattle.axe_plan.specs.Inputs.{matrices_in, text_matrices_in, numbered_names, checked_module, seeded_module}
 use Rattle.axe_plan.specs.Outputs.{put_packed}
 use Rattle.axe_plan.specs.Meanings.{AtMostOne, Is, Has, HasOr, UnlessRefused}
 use Rattle.axe_spin.specs.Spinning.{HasSpunRows, IsSubmoduleBasis}
 use Rattle.axe_spin.specs.Modules.{HasSquareGenerators}
-use Rattle.axe_execute.specs.ModuleCommands.{RowsOf, ActionOn, ActionModulo, RowsPlan, SpunPlan, SpinPlan, QuotientPlan}
+use Rattle.axe_execute.specs.ModuleCommands.{ModuleConversionPlan, RowsOf, ActionOn, ActionModulo, RowsPlan, SpunPlan, SpinPlan, QuotientPlan}
 use Rattle.axe_plan.proofs.OneAnswer.{is_one, has_one, has_or_one, unless_refused_one, then_one}
 use Rattle.axe_spin.proofs.OneSpun.{spun_matrix_is_one}
 use Rattle.axe_spin.proofs.SeedLaws.{vectors_of, vectors_over}
@@ -26,6 +26,14 @@ use Rattle.axe_action.proofs.OneAction.{basis_action_is_one, quotient_is_one}
 use Rattle.axe_action.specs.Actions.{IsProperActionModulo, quotient_late}
 use Rattle.axe_plan.proofs.ReadModules.{IsReadModule, made_is_module, matrices_are_matrices, seeded_is_module}
 use Rattle.axe_execute.proofs.PlanParts.{any_value, matrix_then_one}
+
+-- ---- from texts
+
+pub module_conversion_plan_one : (count : ℕ) (name out : List ℕ) (files : Files) → AtMostOne (ModuleConversionPlan count name out files)
+unfolding ModuleConversionPlan
+module_conversion_plan_one count name out files =
+    then_one (λ matrices. ⊤) (Is (text_matrices_in files (numbered_names name count))) _ (λ before right. any_value before) (is_one _) (λ matrices known.
+    then_one (λ m. ⊤) (Is (checked_module matrices)) _ (λ before right. any_value before) (is_one _) (λ m is. is_one _))
 
 -- ---- spinning
 

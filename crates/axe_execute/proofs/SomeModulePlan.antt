@@ -7,10 +7,10 @@ use Rattle.axe_spin.specs.Modules.{ModuleValue}
 use Rattle.axe_spin.specs.Spinning.{seed_refusal}
 use Rattle.axe_spin.specs.Modules.{rows_refusal}
 use Rattle.axe_folder.specs.Files.{Files}
-use Rattle.axe_plan.specs.Inputs.{matrices_in, numbered_names, checked_module, seeded_module}
+use Rattle.axe_plan.specs.Inputs.{matrices_in, text_matrices_in, numbered_names, checked_module, seeded_module}
 use Rattle.axe_plan.specs.Meanings.{Answered, Is, Has, HasOr}
 use Rattle.axe_spin.specs.Spinning.{HasSpunRows, IsSubmoduleBasis}
-use Rattle.axe_execute.specs.ModuleCommands.{RowsOf, ActionOn, ActionModulo, RowsPlan, SpunPlan, SpinPlan, QuotientPlan}
+use Rattle.axe_execute.specs.ModuleCommands.{ModuleConversionPlan, RowsOf, ActionOn, ActionModulo, RowsPlan, SpunPlan, SpinPlan, QuotientPlan}
 use Rattle.axe_plan.proofs.SomeAnswer.{unless_refused_some, then_some}
 use Rattle.axe_spin.proofs.SeedLaws.{seed_if_not_refused}
 use Rattle.axe_plan.proofs.ReadModules.{IsReadModule}
@@ -29,6 +29,14 @@ use Rattle.axe_spin.proofs.SomeSpun.{some_spun_matrix}
 use Rattle.axe_action.specs.Actions.{IsProperActionModulo, quotient_late}
 use Rattle.axe_action.proofs.SomeAction.{some_basis_action, some_quotient}
 use Rattle.axe_fault.specs.Causes.{Refuses}
+
+-- ---- from texts
+
+pub module_conversion_plan_some : (count : ℕ) (name out : List ℕ) (files : Files) → Answered (ModuleConversionPlan count name out files)
+unfolding ModuleConversionPlan
+module_conversion_plan_some count name out files =
+    then_some (λ matrices. ⊤) (Is (text_matrices_in files (numbered_names name count))) _ (λ before right. any_value before) (_, refl) (λ matrices known.
+    then_some (λ m. ⊤) (Is (checked_module matrices)) _ (λ before right. any_value before) (_, refl) (λ m is. (_, refl)))
 
 -- ---- spinning
 

@@ -2,6 +2,7 @@ pub mod MatrixCommands
 pub mod ModuleCommands
 pub mod SeriesFiles
 pub mod ChopCommand
+pub mod VerifyCommand
 pub mod Means
 pub mod Operations
 pub mod Execution

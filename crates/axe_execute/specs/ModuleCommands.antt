@@ -8,8 +8,16 @@ use Rattle.axe_file.specs.Packed.{packed}
 use Rattle.axe_folder.specs.Files.{Files}
 use Rattle.axe_plan.specs.Plans.{Put, Plan}
 use Rattle.axe_plan.specs.Meanings.{Meaning, Is, Has, HasOr, UnlessRefused, ◌>>=◌}
-use Rattle.axe_plan.specs.Inputs.{matrix_in, matrices_in, numbered_names, seeded_module, checked_module}
-use Rattle.axe_plan.specs.Outputs.{put_packed, put_generators}
+use Rattle.axe_plan.specs.Inputs.{matrix_in, matrices_in, text_matrices_in, numbered_names}
+use Rattle.axe_plan.specs.Inputs.{seeded_module, checked_module}
+use Rattle.axe_plan.specs.Outputs.{put_packed, put_packed_module, put_generators}
+
+-- `zcv -m`: the module is put, packed, of whose generators files are texts
+unfoldable pub ModuleConversionPlan : ℕ → List ℕ → List ℕ → Files → Meaning Plan
+ModuleConversionPlan count name out files = do
+  matrices ← Is (text_matrices_in files (numbered_names name count))
+  m ← Is (checked_module matrices)
+  Is (Ok (put_packed_module out m))
 
 -- what spinning a seed in a module gives, unless the seed is refused
 unfoldable pub RowsOf : Bool → ModuleValue → MatrixValue → Meaning MatrixValue

@@ -5,12 +5,13 @@ use Rattle.axe_matrix.specs.Matrices.{MatrixValue}
 use Rattle.axe_spin.specs.Modules.{ModuleValue}
 use Rattle.axe_series.specs.Series.{IsSeries}
 use Rattle.axe_report.specs.Names.{names_of}
-use Rattle.axe_report.specs.Reports.{IsReportHeader}
+use Rattle.axe_report.specs.Reports.{WitnessValue, IsReportHeader}
 use Rattle.axe_report.specs.Spelling.{report_bytes}
 use Rattle.axe_report.specs.declared.report.ReportHeader.{ReportHeader}
-use Rattle.axe_chop.specs.Reported.{dims_of_factors, module_header, series_report}
+use Rattle.axe_chop.specs.Reported.{dims_of_factors, module_header, series_report, AreWitnessesOf}
 use Rattle.axe_folder.specs.Files.{Files, file_at}
-use Rattle.axe_plan.specs.Inputs.{matrix_in, numbered_names, module_in}
+use Rattle.axe_arguments.specs.declared.command.ModuleFiles.{ModuleFiles}
+use Rattle.axe_plan.specs.Inputs.{matrix_in, module_names, module_in}
 
 -- ---- names
 
@@ -30,35 +31,38 @@ factor_name name constituent = name ++ constituent
 abbrev pub constituents_of : List ModuleValue → List (List ℕ)
 constituents_of factors = names_of (dims_of_factors factors)
 
--- the files of the generators of constituents, each of so many
-abbrev pub factor_files : ℕ → List ℕ → List (List ℕ) → List (List ℕ)
-factor_files count name [] = []
-factor_files count name (constituent ∷ constituents) =
-    numbered_names (factor_name name constituent) count ++ factor_files count name constituents
+-- the files of constituents, each a module of its own
+abbrev pub factor_files : ModuleFiles → List ℕ → List (List ℕ) → List (List ℕ)
+factor_files stored name [] = []
+factor_files stored name (constituent ∷ constituents) =
+    module_names stored (factor_name name constituent) ++ factor_files stored name constituents
 
 -- the files that a composition series has under a name, beside those of the module itself
-abbrev pub series_files : ℕ → List ℕ → List (List ℕ) → List (List ℕ)
-series_files count name constituents = report_file name ∷ basis_file name ∷ factor_files count name constituents
+abbrev pub series_files : ModuleFiles → List ℕ → List (List ℕ) → List (List ℕ)
+series_files stored name constituents = report_file name ∷ basis_file name ∷ factor_files stored name constituents
 
 -- ---- what they hold
 
 -- the bytes of the report of a composition series
-abbrev pub series_report_bytes : ReportHeader → List ModuleValue → List ℕ → List ℕ
-series_report_bytes header factors places = report_bytes (series_report header factors places)
+abbrev pub series_report_bytes : ReportHeader → List ModuleValue → List WitnessValue → List ℕ → List ℕ
+series_report_bytes header factors witnesses places = report_bytes (series_report header factors witnesses places)
 
--- the files under a name hold a composition series of the module m: its generators; a basis; each factor, as a module
--- under its name by the rule; and the report on them, in whose header the numbers are those of the module
-pub record HoldsSeries (m : ModuleValue) (name : List ℕ) (files : Files) : Type 0 where
+-- the files under a name hold a composition series of the module m: the module itself; a basis; each factor, as a
+-- module under its name by the rule; and the report on them, in whose header the numbers are those of the module, with
+-- a witness for each factor. All modules lie in such files
+pub record HoldsSeries (stored : ModuleFiles) (m : ModuleValue) (name : List ℕ) (files : Files) : Type 0 where
   pub header : ReportHeader
   pub basis : MatrixValue
   pub factors : List ModuleValue
+  pub witnesses : List WitnessValue
   pub places : List ℕ
   pub series : IsSeries m basis factors places
   pub of_module : header ≡ module_header m header.seed header.words
   pub in_range : IsReportHeader header
-  pub report_is : file_at files (report_file name) ≡ Some (series_report_bytes header factors places)
+  pub witnessed : AreWitnessesOf header factors witnesses
+  pub report_is : file_at files (report_file name) ≡ Some (series_report_bytes header factors witnesses places)
   pub basis_is : matrix_in files (basis_file name) ≡ Ok basis
-  pub module_is : module_in header.gens name files ≡ Ok m
+  pub module_is : module_in stored name files ≡ Ok m
   pub factors_are :
-      AllZip (λ constituent factor. module_in header.gens (factor_name name constituent) files ≡ Ok factor)
+      AllZip (λ constituent factor. module_in stored (factor_name name constituent) files ≡ Ok factor)
       (constituents_of factors) factors

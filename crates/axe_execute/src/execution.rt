@@ -1,7 +1,6 @@
 //! Commands, executed.
-ghost use Rattle.std.specs.Prelude.{◌≡◌, IsTrue};
-ghost use Rattle.axe_execute.specs.Means.{names_read};
-ghost use Rattle.axe_execute.specs.Means.{Means};
+ghost use Rattle.std.specs.Prelude.{◌≡◌, ℕ, List, IsTrue};
+ghost use Rattle.axe_execute.specs.Means.{Means, AreRead};
 ghost use Rattle.axe_plan.specs.Outcome.{Counted};
 ghost use Rattle.axe_execute.specs.Execution.{Executes};
 
@@ -29,10 +28,9 @@ pub struct Shown {
 /// every other answer the tally is as it was. Where the folder doesn't tell its files nothing is promised but that the
 /// call returns.
 pub fn execute<F: Folder>(alloc: Global, command: &Command, folder: &mut F) -> Result<Shown, Fault>
-    ensures outcome { IsTrue F.tells →
-        (let meaning = Means command.now (F.files folder.old) in
-        Executes result (names_read command.now (F.files folder.old)) meaning (F.files folder.old)
-        (F.files folder.new)) }
+    ensures outcome { IsTrue F.tells → (read : List (List ℕ)) × AreRead command.now (F.files folder.old) read
+        × (let meaning = Means command.now (F.files folder.old) in
+        Executes result read meaning (F.files folder.old) (F.files folder.new)) }
     ensures counted { IsTrue F.tells → (let unchanged = F.files folder.new ≡ F.files folder.old in
         Counted unchanged result (F.tally folder.old) (F.tally folder.new)) }
 {

@@ -5,8 +5,9 @@ ghost use Rattle.axe_matrix.specs.Matrices.{MatrixValue};
 ghost use Rattle.axe_spin.specs.Modules.{ModuleValue};
 ghost use Rattle.axe_report.specs.Passing.{IsSpelling};
 ghost use Rattle.axe_folder.specs.Files.{Files, file_at};
-ghost use Rattle.axe_arguments.specs.Commands.{HasCounts};
-ghost use Rattle.axe_arguments.specs.Counts.{IsGeneratorCount, IsWordCount};
+ghost use Rattle.axe_arguments.specs.Commands.{HasCounts, HasFileCount};
+ghost use Rattle.axe_arguments.specs.Counts.{IsWordCount};
+ghost use Rattle.axe_arguments.specs.declared.command.ModuleFiles.{ModuleFiles};
 ghost use Rattle.axe_arguments.specs.declared.command.Command.{Command};
 ghost use Rattle.axe_fault.specs.declared.fault.Fault.{Fault};
 ghost use Rattle.axe_fault.specs.declared.fault.Fault.TheVariants.{Undecided};
@@ -28,37 +29,37 @@ pub fn commands_have_one_meaning()
 /// What `chop` writes is a composition series: after all steps of its plan the files hold one, and the steps are those
 /// that a series has. And what it leaves undecided is open.
 pub fn chop_writes_a_series()
-    ensures files { (count seed words : ℕ) (name : List ℕ) (files : Files) (plan : Plan) →
-        IsGeneratorCount count → seed < 2 ^ 64 → IsWordCount words → ChopPlan count seed words name files (Ok plan) →
-        LeavesSeries count seed words name files plan }
-    ensures series { (count seed words : ℕ) (name : List ℕ) (files : Files) (plan : Plan) →
-        IsGeneratorCount count → ChopPlan count seed words name files (Ok plan) →
-        WritesSeries count seed words name files plan }
-    ensures open_section { (count seed words : ℕ) (name : List ℕ) (files : Files) (basis : MatrixValue)
-        (offset dim : ℕ) → IsGeneratorCount count →
-        ChopPlan count seed words name files (Err (StaysOpen basis offset dim)) →
-        FindsOpenSection count seed words name files basis offset dim }
+    ensures files { (stored : ModuleFiles) (seed words : ℕ) (name : List ℕ) (files : Files) (plan : Plan) →
+        HasFileCount stored → seed < 2 ^ 64 → IsWordCount words → ChopPlan stored seed words name files (Ok plan) →
+        LeavesSeries stored seed words name files plan }
+    ensures series { (stored : ModuleFiles) (seed words : ℕ) (name : List ℕ) (files : Files) (plan : Plan) →
+        HasFileCount stored → ChopPlan stored seed words name files (Ok plan) →
+        WritesSeries stored seed words name files plan }
+    ensures open_section { (stored : ModuleFiles) (seed words : ℕ) (name : List ℕ) (files : Files) (basis : MatrixValue)
+        (offset dim : ℕ) → HasFileCount stored →
+        ChopPlan stored seed words name files (Err (StaysOpen basis offset dim)) →
+        FindsOpenSection stored seed words name files basis offset dim }
 {}
 
 /// `chop` has a plan for each module with at most 1,000 points, and never ends with such a module undecided.
 pub fn chop_decides_small_modules()
-    ensures plan { (count seed words : ℕ) (name : List ℕ) (files : Files) (m : ModuleValue) → IsGeneratorCount count →
-        module_in count name files ≡ Ok m → IsSmallModule m →
-        (plan : Plan) × ChopPlan count seed words name files (Ok plan) }
-    ensures decided { (count seed words : ℕ) (name : List ℕ) (basis : MatrixValue) (offset dim : ℕ)
-        (old new : Files) (m : ModuleValue) → IsGeneratorCount count → module_in count name old ≡ Ok m → IsSmallModule m →
-        ¬ (ChopFails count seed words name (Undecided basis offset dim) old new) }
+    ensures plan { (stored : ModuleFiles) (seed words : ℕ) (name : List ℕ) (files : Files) (m : ModuleValue) →
+        HasFileCount stored → module_in stored name files ≡ Ok m → IsSmallModule m →
+        (plan : Plan) × ChopPlan stored seed words name files (Ok plan) }
+    ensures decided { (stored : ModuleFiles) (seed words : ℕ) (name : List ℕ) (basis : MatrixValue) (offset dim : ℕ)
+        (old new : Files) (m : ModuleValue) → HasFileCount stored → module_in stored name old ≡ Ok m → IsSmallModule m →
+        ¬ (ChopFails stored seed words name (Undecided basis offset dim) old new) }
 {}
 
 /// Whatever fault `chop` ends with, every file is as it was, or there is no report, or the report has the first bytes
 /// of this run's, with all other files of this run. So what can be read as a report is the one from before, with every
 /// file as it was, or this run's, with all its files.
 pub fn chop_leaves_no_wrong_report()
-    ensures left { (generators seed words : ℕ) (name : List ℕ) (fault : Fault) (old new : Files) →
-        ChopFails generators seed words name fault old new → IsLeftByChop generators seed words name old new }
-    ensures report { (generators seed words : ℕ) (name : List ℕ) (fault : Fault) (old new : Files) (bytes : List ℕ) →
-        IsGeneratorCount generators → seed < 2 ^ 64 → IsWordCount words →
-        ChopFails generators seed words name fault old new →
+    ensures left { (stored : ModuleFiles) (seed words : ℕ) (name : List ℕ) (fault : Fault) (old new : Files) →
+        ChopFails stored seed words name fault old new → IsLeftByChop stored seed words name old new }
+    ensures report { (stored : ModuleFiles) (seed words : ℕ) (name : List ℕ) (fault : Fault) (old new : Files)
+        (bytes : List ℕ) → HasFileCount stored → seed < 2 ^ 64 → IsWordCount words →
+        ChopFails stored seed words name fault old new →
         file_at new (report_file name) ≡ Some bytes → IsSpelling bytes →
-        IsBeforeOrAfterChop generators seed words name old new }
+        IsBeforeOrAfterChop stored seed words name old new }
 {}

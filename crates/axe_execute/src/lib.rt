@@ -5,6 +5,7 @@
 #![tactic(auto)]
 
 mod chopping;
+mod conversion;
 mod execution;
 mod laws;
 mod operations;
@@ -12,6 +13,7 @@ mod planning;
 mod quotients;
 mod series_files;
 mod spinning;
+mod verifying;
 
 pub use execution::{Shown, execute};
 pub use laws::{

@@ -1,17 +1,19 @@
 //! What each command is about to do: its files are read, its result is computed, and everything that it will write is
 //! made. Nothing is written here.
-ghost use Rattle.std.specs.Prelude.{IsTrue, [], ◌∷◌, option_copied};
+ghost use Rattle.std.specs.Prelude.{ℕ, List, IsTrue, [], ◌∷◌, option_copied};
 ghost use Rattle.axe_execute.specs.MatrixCommands.{ConversionPlan, PrintingPlan, PlanOfOne, PlanOfTwo};
 ghost use Rattle.axe_execute.specs.Operations.{MadeOfOne, MadeOfTwo};
-ghost use Rattle.axe_execute.specs.Means.{Means, names_read};
+ghost use Rattle.axe_execute.specs.Means.{Means, AreRead};
 ghost use Rattle.axe_plan.specs.Outcome.{Reads};
 ghost use Rattle.axe_plan.specs.Drafts.{plan_in};
 
 use crate::chopping::chop_draft;
+use crate::conversion::module_conversion_draft;
 use crate::operations::OfOne::{self, Inverse, NullSpace, Transpose};
 use crate::operations::OfTwo::{self, Product, Sum};
 use crate::quotients::quotient_draft;
 use crate::spinning::SeededModule;
+use crate::verifying::verify_draft;
 use axe_arguments::{Command, Name};
 use axe_fault::Fault;
 use axe_folder::Folder;
@@ -24,11 +26,16 @@ pub(crate) fn draft_of<F: Folder>(
     command: &Command,
     folder: &mut F,
 ) -> Result<Draft, Fault>
-    ensures { IsTrue F.tells → Reads F.files F.tally folder.old folder.new
-        (names_read command.now (F.files folder.old)) plan_in result (Means command.now) }
+    ensures { IsTrue F.tells → (read : List (List ℕ)) × AreRead command.now (F.files folder.old) read
+        × Reads F.files F.tally folder.old folder.new read plan_in result (Means command.now) }
 {
     match command {
         Command::Zcv { input, out } => conversion_draft(alloc, input, out, folder),
+        Command::ZcvModule {
+            generators,
+            name,
+            out,
+        } => module_conversion_draft(alloc, *generators, name, out, folder),
         Command::Zpr { input, out } => printing_draft(alloc, input, out.as_ref(), folder),
         Command::Zmu { left, right, out } => draft_of_two(alloc, Product, left, right, out, folder),
         Command::Zad { left, right, out } => draft_of_two(alloc, Sum, left, right, out, folder),
@@ -53,11 +60,12 @@ pub(crate) fn draft_of<F: Folder>(
             out,
         } => quotient_draft(alloc, *generators, subspace, name, out, folder),
         Command::Chop {
-            generators,
+            files,
             seed,
             words,
             name,
-        } => chop_draft(alloc, *generators, *seed, *words, name, folder),
+        } => chop_draft(alloc, files, *seed, *words, name, folder),
+        Command::Verify { layout, name } => verify_draft(alloc, *layout, name, folder),
     }
 }
 

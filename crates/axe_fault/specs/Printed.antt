@@ -2,12 +2,17 @@
 use Rattle.std.specs.Prelude.{ℕ, List, [], ◌++◌, Option, Some, None, codes, decimal, string_bytes}
 use Rattle.axe_row.specs.declared.refusals.Refusal.{Refusal}
 use Rattle.axe_row.specs.declared.refusals.Refusal.TheVariants as refusal
+use Rattle.axe_report.specs.declared.fault.ReportFault.{ReportFault}
+use Rattle.axe_report.specs.declared.fault.ReportFault.TheVariants as report
+use Rattle.axe_report.specs.declared.reasons.Reason.{Reason}
+use Rattle.axe_report.specs.Reasons.{reason_text}
 use Rattle.axe_file.specs.declared.fault.FileFault.{FileFault}
 use Rattle.axe_file.specs.declared.fault.FileFault.TheVariants as file
 use Rattle.axe_folder.specs.declared.fault.FolderFault.{FolderFault}
 use Rattle.axe_folder.specs.declared.fault.FolderFault.TheVariants as folder
 use Rattle.axe_fault.specs.declared.fault.Fault.{Fault}
-use Rattle.axe_fault.specs.declared.fault.Fault.TheVariants.{File, Folder, Refused, Undecided, Usage, Memory}
+use Rattle.axe_fault.specs.declared.fault.Fault.TheVariants.{File, Report, Folder, Refused, Undecided, NotVerified}
+use Rattle.axe_fault.specs.declared.fault.Fault.TheVariants.{Usage, Memory}
 
 -- the number of a fault in a file's bytes
 abbrev pub file_number : FileFault → ℕ
@@ -49,12 +54,20 @@ folder_number folder.TooLong = 41
 folder_number folder.Device = 42
 folder_number folder.Memory = 50
 
+-- the number of a fault in a report's bytes
+abbrev pub report_number : ReportFault → ℕ
+report_number (report.BadReport line) = 61
+report_number report.OldReport = 62
+report_number report.Memory = 50
+
 -- the number of a fault
 abbrev pub fault_number : Fault → ℕ
 fault_number (File name fault) = file_number fault
+fault_number (Report name fault) = report_number fault
 fault_number (Folder name fault) = folder_number fault
 fault_number (Refused refusal) = refusal_number refusal
 fault_number (Undecided basis offset dim) = 30
+fault_number (NotVerified reason) = 63
 fault_number (Usage text) = 60
 fault_number Memory = 50
 
@@ -62,6 +75,11 @@ fault_number Memory = 50
 abbrev pub file_status : FileFault → ℕ
 file_status file.Memory = 7
 file_status fault = 3
+
+-- the exit status for a fault in a report's bytes
+abbrev pub report_status : ReportFault → ℕ
+report_status report.Memory = 7
+report_status fault = 3
 
 -- the exit status for a folder's fault
 abbrev pub folder_status : FolderFault → ℕ
@@ -76,9 +94,11 @@ refusal_status refusal = 4
 -- the exit status for a fault
 abbrev pub status_of : Fault → ℕ
 status_of (File name fault) = file_status fault
+status_of (Report name fault) = report_status fault
 status_of (Folder name fault) = folder_status fault
 status_of (Refused refusal) = refusal_status refusal
 status_of (Undecided basis offset dim) = 5
+status_of (NotVerified reason) = 8
 status_of (Usage text) = 2
 status_of Memory = 7
 
@@ -101,6 +121,12 @@ file_text (file.BadDigit offset) = codes "BadDigit"
 file_text file.TooFewDigits = codes "TooFewDigits"
 file_text (file.TrailingText offset) = codes "TrailingText"
 file_text file.Memory = codes "Memory"
+
+-- how a fault in a report's bytes is printed: its name, and the line where it stands if it has one
+abbrev pub report_text : ReportFault → List ℕ
+report_text (report.BadReport line) = codes "BadReport line " ++ decimal line
+report_text report.OldReport = codes "OldReport"
+report_text report.Memory = codes "Memory"
 
 -- the printed name of a folder's fault
 abbrev pub folder_text : FolderFault → List ℕ
@@ -148,11 +174,21 @@ file_line name text offset = program_line (name ++ codes ": " ++ text ++ offset_
 abbrev pub undecided_text : ℕ → ℕ → List ℕ
 undecided_text offset dim = codes "Undecided offset=" ++ decimal offset ++ codes " dim=" ++ decimal dim
 
+-- a line of the program on a report: its file's name, and the fault
+abbrev pub report_line : List ℕ → ReportFault → List ℕ
+report_line name fault = program_line (name ++ codes ": " ++ report_text fault)
+
+-- how the reason is printed why a certificate is not right
+abbrev pub reason_line : Reason → List ℕ
+reason_line reason = program_line (codes "NotVerified " ++ reason_text reason)
+
 -- the printed line of a fault. The text of a Usage is its line
 abbrev pub line_of : Fault → List ℕ
 line_of (File name fault) = file_line (string_bytes name) (file_text fault) (file_offset fault)
+line_of (Report name fault) = report_line (string_bytes name) fault
 line_of (Folder name fault) = file_line (string_bytes name) (folder_text fault) None
 line_of (Refused refusal) = program_line (refusal_text refusal)
 line_of (Undecided basis offset dim) = program_line (undecided_text offset dim)
+line_of (NotVerified reason) = reason_line reason
 line_of (Usage text) = string_bytes text
 line_of Memory = program_line (codes "Memory")

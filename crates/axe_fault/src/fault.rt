@@ -2,6 +2,7 @@
 use axe_file::FileFault;
 use axe_folder::FolderFault;
 use axe_matrix::Matrix;
+use axe_report::{Reason, ReportFault};
 use axe_row::Refusal;
 use std::alloc::{AllocError, AllocFailed};
 use std::fmt;
@@ -17,6 +18,14 @@ pub enum Fault {
         name: String,
         /// What is wrong with its bytes.
         fault: FileFault,
+    },
+    /// The bytes of a file are no report that the command can use.
+    #[error("{name}: {fault}")]
+    Report {
+        /// The file's name.
+        name: String,
+        /// What is wrong with its bytes.
+        fault: ReportFault,
     },
     /// The folder could not give or take a file.
     #[error("{name}: {fault}")]
@@ -40,6 +49,9 @@ pub enum Fault {
         /// The section's dimension.
         dim: usize,
     },
+    /// What stands beside a report is no composition series of the module, for this reason.
+    #[error("NotVerified")]
+    NotVerified(Reason),
     /// The words are no command; the text is what is printed.
     #[error("{0}")]
     Usage(String),
@@ -93,7 +105,7 @@ impl From<Refusal> for Fault {
 
 impl Fault {
     ghost use Rattle.std.specs.Prelude.{◌≡◌};
-    ghost use Rattle.axe_fault.specs.Faults.{file_fault, folder_fault};
+    ghost use Rattle.axe_fault.specs.Faults.{file_fault, report_fault, folder_fault};
 
     /// The fault of a command from that of a file's bytes. Memory is Memory whatever the file.
     pub fn of_file(name: String, fault: FileFault) -> Fault
@@ -102,6 +114,16 @@ impl Fault {
         match fault {
             FileFault::Memory => Fault::Memory,
             fault => Fault::File { name, fault },
+        }
+    }
+
+    /// The fault of a command from that of a report's bytes. Memory is Memory whatever the file.
+    pub fn of_report(name: String, fault: ReportFault) -> Fault
+        ensures { result ≡ report_fault name fault }
+    {
+        match fault {
+            ReportFault::Memory => Fault::Memory,
+            fault => Fault::Report { name, fault },
         }
     }
 

@@ -1,27 +1,32 @@
 //! What is printed of a fault, and the status with which the program ends.
-ghost use Rattle.std.specs.Prelude.{◌≡◌, IfOk, IfErr};
+ghost use Rattle.std.specs.Prelude.{◌≡◌, IfOk, IfErr, string_bytes};
 ghost use Rattle.axe_fault.specs.Printed.{file_status, folder_status, refusal_status, status_of};
 ghost use Rattle.axe_fault.specs.Printed.{file_number, folder_number, refusal_number, fault_number};
 ghost use Rattle.axe_fault.specs.Printed.{file_text, folder_text, refusal_text, file_offset, program_line, file_line};
+ghost use Rattle.axe_fault.specs.Printed.{report_number, report_status, report_text, report_line, reason_line};
 ghost use Rattle.axe_fault.specs.Printed.{undecided_text, line_of};
 
 use crate::fault::Fault;
 use axe_file::FileFault;
 use axe_folder::FolderFault;
+use axe_report::{Reason, ReportFault};
 use axe_row::Refusal;
 use itoa::Buffer;
 use std::alloc::{AllocError, Global};
 
-/// The exit status for a fault: 2 for words that are no command, 3 for the bytes of a file, 4 for a refusal, 5
-/// for a section that no word decides, 6 for the folder, and 7 for want of memory wherever it arose.
+/// The exit status for a fault: 2 for words that are no command, 3 for the bytes of a file or of a report, 4 for a
+/// refusal, 5 for a section that no word decides, 6 for the folder, 7 for want of memory wherever it arose, and 8 for
+/// what is no composition series.
 pub fn status(fault: &Fault) -> u8
     ensures { result ≡ status_of fault.now }
 {
     match fault {
         Fault::File { fault, .. } => file_status(*fault),
+        Fault::Report { fault, .. } => report_status(*fault),
         Fault::Folder { fault, .. } => folder_status(*fault),
         Fault::Refused(refusal) => refusal_status(*refusal),
         Fault::Undecided { .. } => 5,
+        Fault::NotVerified(_) => 8,
         Fault::Usage(_) => 2,
         Fault::Memory => 7,
     }
@@ -33,6 +38,16 @@ fn file_status(fault: FileFault) -> u8
 {
     match fault {
         FileFault::Memory => 7,
+        _ => 3,
+    }
+}
+
+/// The exit status for a fault in the bytes of a report.
+fn report_status(fault: ReportFault) -> u8
+    ensures { result ≡ report_status fault }
+{
+    match fault {
+        ReportFault::Memory => 7,
         _ => 3,
     }
 }
@@ -63,9 +78,11 @@ pub fn number(fault: &Fault) -> u8
 {
     match fault {
         Fault::File { fault, .. } => file_number(*fault),
+        Fault::Report { fault, .. } => report_number(*fault),
         Fault::Folder { fault, .. } => folder_number(*fault),
         Fault::Refused(refusal) => refusal_number(*refusal),
         Fault::Undecided { .. } => 30,
+        Fault::NotVerified(_) => 63,
         Fault::Usage(_) => 60,
         Fault::Memory => 50,
     }
@@ -93,6 +110,17 @@ fn file_number(fault: FileFault) -> u8
         FileFault::TrailingText(_) => 15,
         FileFault::BadGens => 16,
         FileFault::Memory => 50,
+    }
+}
+
+/// The number of a fault in a report's bytes.
+fn report_number(fault: ReportFault) -> u8
+    ensures { result ≡ report_number fault }
+{
+    match fault {
+        ReportFault::BadReport(_) => 61,
+        ReportFault::OldReport => 62,
+        ReportFault::Memory => 50,
     }
 }
 
@@ -138,9 +166,11 @@ pub fn line(alloc: Global, fault: &Fault) -> Result<Vec<u8>, Fault>
             file_text(*fault),
             file_offset(*fault),
         )?,
+        Fault::Report { name, fault } => report_line(alloc, name, *fault)?,
         Fault::Folder { name, fault } => file_line(alloc, name, folder_text(*fault), None)?,
         Fault::Refused(refusal) => program_line(alloc, refusal_text(*refusal))?,
         Fault::Undecided { offset, dim, .. } => undecided_line(alloc, *offset, *dim)?,
+        Fault::NotVerified(reason) => reason_line(alloc, reason)?,
         Fault::Usage(text) => Vec::from_slice(alloc, text.as_bytes())?,
         Fault::Memory => program_line(alloc, "Memory")?,
     };
@@ -163,6 +193,36 @@ fn undecided_line(alloc: Global, offset: usize, dim: usize) -> Result<Vec<u8>, A
 {
     let line = format!(in alloc; "axe: Undecided offset={offset} dim={dim}\n")?;
     Ok(line.into_bytes())
+}
+
+/// The line of a reason why a certificate is not right.
+fn reason_line(alloc: Global, reason: &Reason) -> Result<Vec<u8>, AllocError>
+    ensures { IfOk result (λ line. line.items ≡ reason_line reason.now) }
+{
+    let text = reason.text(alloc)?;
+    let mut line = Vec::from_slice(alloc, b"axe: NotVerified ")?;
+    line.extend_from_slice(text.as_bytes())?;
+    line.extend_from_slice(b"\n")?;
+    Ok(line)
+}
+
+/// A line of the program on a report.
+fn report_line(alloc: Global, name: &str, fault: ReportFault) -> Result<Vec<u8>, AllocError>
+    ensures { IfOk result (λ line. line.items ≡ report_line name.now fault) }
+{
+    let text = report_text(alloc, fault)?;
+    file_line(alloc, name, text.as_str(), None)
+}
+
+/// How a fault in a report's bytes is printed.
+fn report_text(alloc: Global, fault: ReportFault) -> Result<String, AllocError>
+    ensures { IfOk result (λ text. string_bytes text ≡ report_text fault) }
+{
+    match fault {
+        ReportFault::BadReport(line) => format!(in alloc; "BadReport line {line}"),
+        ReportFault::OldReport => String::from_str(alloc, "OldReport"),
+        ReportFault::Memory => String::from_str(alloc, "Memory"),
+    }
 }
 
 /// A line of the program on a file.

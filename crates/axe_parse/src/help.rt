@@ -6,7 +6,8 @@ pub(crate) const ABOUT: &str = "A workbench for modules of matrices over small f
 /// Of the program.
 pub(crate) const LONG_ABOUT: &str = "\
 A workbench for modules of matrices over the
-fields of order 2, 3, 4, 5, 7, 8 and 9. It finds composition series of modules.
+fields of order 2, 3, 4, 5, 7, 8 and 9. It finds composition series of modules,
+and checks them.
 It takes matrices in as text and prints them, multiplies, adds, transposes and
 inverts them, finds their null spaces, spins vectors in modules, and takes
 quotients of modules.";
@@ -40,7 +41,13 @@ they are polynomials in x modulo x^2+x+1, x^3+x+1 and x^2+2x+2, and the number
 of a polynomial is its value where x is 2, 2 and 3: over the field of order 9,
 x+2 has the number 5.
 
-OUT is written when all of IN has been read, so it may be IN itself. Where
+With -m it converts a module: IN stands for the texts IN.1 to IN.N, its
+generators, and OUT is one packed file of all of them, as chop -m reads it. So
+axe zcv -m M M.axm reads M.1 and M.2, and writes M.axm. The generators are
+square matrices of one size over one field. Without -m the number N says
+nothing.
+
+OUT is written when all texts have been read, so it may be one of them. Where
 anything is wrong before that, no file changes. Where all goes well, nothing is
 printed.";
 
@@ -243,7 +250,8 @@ pub(crate) const CHOP_ABOUT: &str = "Find a composition series of a module";
 pub(crate) const CHOP_LONG_ABOUT: &str = "\
 Find a composition series of a module: read the generators from NAME.1 to
 NAME.N, write a basis and the irreducible constituents, and show a report of
-them.
+them. With -m the module is one file, NAME.axm, as zcv -m makes it, and so is
+each constituent; N then says nothing.
 
 A module is irreducible where no submodule lies between zero and all of it. A
 composition series is a chain of submodules, from zero up to the module, in
@@ -254,6 +262,7 @@ constituents, are irreducible.
                      generator g, and the blocks on its diagonal are the
                      constituents, from the bottom
   NAME2a.1 .. .N     the constituent 2a, a module of its own; so for each
+  NAME2a.axm         with -m, in the place of these
   NAME.rep           the report, which is shown, too
 
 A constituent's name is its dimension and letters: the first of dimension 2 is
@@ -261,14 +270,17 @@ A constituent's name is its dimension and letters: the first of dimension 2 is
 example, with M.1 and M.2 the permutations of three points over the field of
 order 2, axe chop M shows
 
-  chop 1 field=2 dim=3 gens=2 seed=1 words=400
-  factor 2a dim=2 mult=1
-  factor 1a dim=1 mult=1
+  chop 2 field=2 dim=3 gens=2 seed=1 words=400
+  factor 2a dim=2 mult=1 word=0
+  factor 1a dim=1 mult=1 word=0
   series 2a 1a
 
 So there is one constituent of dimension 2 and one of dimension 1, each stands
-once in the series, and 2a is the lower one. The files are M.bas, M2a.1, M2a.2,
-M1a.1, M1a.2 and M.rep.
+once in the series, and 2a is the lower one. Word 0 shows both irreducible;
+where it takes a polynomial at the value of a word to show that, the line goes
+on with its coefficients, the constant one first, as in poly=1101. The files
+are M.bas, M2a.1, M2a.2, M1a.1, M1a.2 and M.rep; with -m they are M.bas,
+M2a.axm, M1a.axm and M.rep.
 
 Each section of the module is looked at with the words 0 to W in the
 generators, which the seed draws, until one shows that it is irreducible or
@@ -284,8 +296,57 @@ is taken away before the first file is written, and written last: where there
 is one, it tells which files belong to it. Files of an earlier run that it
 doesn't name stay.";
 
+/// Of `verify`, in a line.
+pub(crate) const VERIFY_ABOUT: &str = "Check a composition series of a module";
+
+/// Of `verify`.
+pub(crate) const VERIFY_LONG_ABOUT: &str = "\
+Check a composition series of a module: read the report NAME.rep, the module
+from NAME.1 to NAME.N, the basis NAME.bas, and the constituents that the report
+names, as chop writes them, and tell whether they are one. With -m the module
+is one file, NAME.axm, and so is each constituent. The report says what N is.
+Nothing is written. Where all is well,
+
+  verified
+
+is shown. Whoever wrote the files, and by whatever program, that means: each
+constituent is irreducible, no two of them are isomorphic, and conjugated by
+the basis P each generator g gives a matrix P g P^-1 that is block lower
+triangular, with the constituents on its diagonal in the order of the report's
+series, from the bottom. So the report tells the truth of the module: which
+constituents it has, and how often each.
+
+To let somebody else check an answer, hand over all these files: the module's,
+NAME.bas, NAME.rep and those of the constituents. Nothing has to be believed
+of how they came to be, since all that is told of the module is checked anew:
+the report only names the word, and maybe a polynomial, by which each
+constituent is seen to be irreducible, so that nothing has to be searched for.
+A report of the older form, which begins with chop 1, names no words; chop
+writes one that does.
+
+Where something is wrong, the first reason is told, as by the line
+axe: NotVerified same 2a 2b, in this order:
+
+  header        the report is of another field, dimension or number N than the
+                module has
+  basis         the basis is over another field, not square of the module's
+                dimension, or has no inverse
+  shape 2a      the matrices of 2a are over another field, more or fewer than
+                N, or not square of the dimension that the report gives 2a
+  blocks        some P g P^-1 has not the constituents as its diagonal blocks,
+                or not only zeros above them
+  open 2a       the word that the report names does not decide whether 2a is
+                irreducible
+  reducible 2a  2a is reducible
+  same 2a 2b    2a and 2b are isomorphic";
+
+/// Of the file of a text.
+pub(crate) const IN_TEXT: &str =
+    "The file of the text; with -m the name before the numbers of texts";
+
 /// Of the file that a matrix is written to.
-pub(crate) const OUT_MATRIX: &str = "The file to write the matrix to; what it held is replaced";
+pub(crate) const OUT_MATRIX: &str =
+    "The file to write the matrix, or with -m the module, to; what it held is replaced";
 
 /// Of the file that a text is written to.
 pub(crate) const OUT_TEXT: &str = "The file to write the text to. Without it the text is shown";
@@ -317,6 +378,10 @@ pub(crate) const GENERATORS: &str = "How many generators the module has, 1 to 16
 pub(crate) const NAME_GENERATORS: &str =
     "The module: its generators are in the files NAME.1 to NAME.N";
 
+/// Of the name of a module that may be kept in one file.
+pub(crate) const NAME_MODULE: &str =
+    "The module: its generators are in the files NAME.1 to NAME.N, with -m in NAME.axm";
+
 /// Of the name of the module that is written.
 pub(crate) const OUT_NAME_GENERATORS: &str =
     "The quotient: its generators are written to OUTNAME.1 to OUTNAME.N";
@@ -335,19 +400,23 @@ Files:
   zcv makes such a file of a text, and zpr makes a text of such a file. A
   file's name has 1 to 100 characters: letters and digits of ASCII and the
   signs . _ - +, of which none comes first. A module NAME with N generators is
-  kept in N such files, NAME.1 to NAME.N.
+  kept in N such files, NAME.1 to NAME.N, or for chop -m and verify -m in one
+  file NAME.axm, which begins with the letters AXP2 and is made by zcv -m.
 
 Exit status:
   0  the command is done, or help was printed
   2  the words are no command line of axe, or one of them is no file name
-  3  a file is damaged: it is no packed matrix or, for zcv, no text of a matrix
+  3  a file is damaged: it is no packed matrix or, for zcv, no text of a
+     matrix, or, for chop -m and verify -m, no packed module, or, for verify,
+     no report that names words
   4  the command is refused: of the matrices that are read, two are over
-     different fields or their shapes do not fit (zmu, zad, zsp, zqt, chop), one
-     has no rows (ztr, znu, and as a generator), one is not square (ziv, and as
-     a generator), or it has no inverse (ziv); SEED has only zeros (zsp); the
-     span of SUB is not invariant, or is everything (zqt)
+     different fields or their shapes do not fit (zmu, zad, zsp, zqt, chop,
+     verify, zcv -m), one has no rows (ztr, znu, and as a generator), one is not square
+     (ziv, and as a generator), or it has no inverse (ziv); SEED has only zeros
+     (zsp); the span of SUB is not invariant, or is everything (zqt)
   5  no word decides a section of the module (chop)
   6  a file is missing or too long, or its device failed
   7  there was not enough memory
+  8  the files are no composition series of the module (verify)
 
 What went wrong is told on standard error, for example as: axe: B: Missing";

@@ -7,14 +7,16 @@
 
 ghost use Rattle.std.specs.Prelude.{◌≡◌, true, IfOk, IfSome};
 ghost use Rattle.axe_arguments.specs.Names.{is_name};
-ghost use Rattle.axe_arguments.specs.Commands.{HasNames, HasCounts};
+ghost use Rattle.axe_arguments.specs.Commands.{HasNames, HasCounts, HasFileCount};
 ghost use Rattle.axe_arguments.specs.Counts.{IsGeneratorCount, IsWordCount};
 
 mod help;
 mod lines;
 mod program;
 
-use axe_arguments::{Command, GeneratorCount, Name, NameFault, WordCount};
+use axe_arguments::{
+    Command, GeneratorCount, ModuleFiles, ModuleLayout, Name, NameFault, WordCount,
+};
 use clap::ArgMatches;
 use clap::error::ErrorKind;
 use std::alloc::{AllocError, Global};
@@ -100,17 +102,25 @@ fn command_of(alloc: Global, command: &str, found: &ArgMatches<'_>) -> Result<Co
         lines::ZSP => zsp_of(alloc, found),
         lines::ZQT => zqt_of(alloc, found),
         lines::CHOP => chop_of(alloc, found),
+        lines::VERIFY => verify_of(alloc, found),
         _ => Err(no_command(alloc)?),
     }
 }
 
-/// The command `zcv IN OUT`.
+/// The command `zcv IN OUT`, or `zcv -m [-g N] NAME OUT`.
 fn zcv_of(alloc: Global, found: &ArgMatches<'_>) -> Result<Command, ParseFault>
     ensures names { IfOk result HasNames }
     ensures counts { IfOk result HasCounts }
 {
     let (input, out) = two_names_of(alloc, found, lines::IN, lines::OUT)?;
-    Ok(Command::Zcv { input, out })
+    if !found.get_flag(lines::MODULE) {
+        return Ok(Command::Zcv { input, out });
+    }
+    Ok(Command::ZcvModule {
+        generators: generators_of(alloc, found)?,
+        name: input,
+        out,
+    })
 }
 
 /// The command `zpr IN [OUT]`.
@@ -208,19 +218,46 @@ fn zqt_of(alloc: Global, found: &ArgMatches<'_>) -> Result<Command, ParseFault>
     })
 }
 
-/// The command `chop [-g N] [--seed S] [--words W] NAME`.
+/// The command `chop [-m] [-g N] [--seed S] [--words W] NAME`.
 fn chop_of(alloc: Global, found: &ArgMatches<'_>) -> Result<Command, ParseFault>
     ensures names { IfOk result HasNames }
     ensures counts { IfOk result HasCounts }
 {
-    let generators = generators_of(alloc, found)?;
+    let files = module_files_of(alloc, found)?;
     let words = words_of(alloc, found)?;
     Ok(Command::Chop {
-        generators,
+        files,
         seed: found.get_one::<u64>(lines::WORD_SEED).unwrap_or(1),
         words,
         name: name_of(alloc, found, lines::NAME)?,
     })
+}
+
+/// The command `verify [-m] NAME`.
+fn verify_of(alloc: Global, found: &ArgMatches<'_>) -> Result<Command, ParseFault>
+    ensures names { IfOk result HasNames }
+    ensures counts { IfOk result HasCounts }
+{
+    let layout = if found.get_flag(lines::MODULE) {
+        ModuleLayout::Whole
+    } else {
+        ModuleLayout::Separate
+    };
+    Ok(Command::Verify {
+        layout,
+        name: name_of(alloc, found, lines::NAME)?,
+    })
+}
+
+/// The files of a module: with `-m` one for all generators, and else one for each.
+fn module_files_of(alloc: Global, found: &ArgMatches<'_>) -> Result<ModuleFiles, ParseFault>
+    ensures { IfOk result HasFileCount }
+{
+    if found.get_flag(lines::MODULE) {
+        Ok(ModuleFiles::Whole)
+    } else {
+        Ok(ModuleFiles::Separate(generators_of(alloc, found)?))
+    }
 }
 
 /// The number of a module's generators. A number that is missing, or is not 1 to 16, has been refused by `clap`

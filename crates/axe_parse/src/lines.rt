@@ -32,6 +32,9 @@ pub(crate) const ZQT: &str = "zqt";
 /// The word for a composition series of a module.
 pub(crate) const CHOP: &str = "chop";
 
+/// The word for the check of a composition series.
+pub(crate) const VERIFY: &str = "verify";
+
 /// The file that is converted or printed, as help calls it.
 pub(crate) const IN: &str = "IN";
 
@@ -46,6 +49,9 @@ pub(crate) const OUT: &str = "OUT";
 
 /// The number of generators, as help calls it.
 pub(crate) const GENERATORS: &str = "N";
+
+/// Whether a module is asked for that is kept in one file.
+pub(crate) const MODULE: &str = "module";
 
 /// Whether a standard basis is asked for.
 pub(crate) const STANDARD: &str = "standard";
@@ -103,6 +109,8 @@ pub(crate) enum WordKind {
     FileOption(char),
     /// This letter after a hyphen, which may be left out.
     Flag(char),
+    /// As [`WordKind::Flag`], or the word's name after two hyphens.
+    NamedFlag(char),
     /// This letter after a hyphen, and then a number of generators. They may be left out.
     Count(char),
     /// An option with a number, which may be left out.
@@ -120,22 +128,41 @@ pub(crate) struct NumberOption {
 }
 
 /// All command lines of `axe`, in the order in which help shows them.
-pub(crate) fn command_lines() -> [&'static CommandLine; 10] {
+pub(crate) fn command_lines() -> [&'static CommandLine; 11] {
     [
-        &ZCV_LINE, &ZPR_LINE, &ZMU_LINE, &ZAD_LINE, &ZTR_LINE, &ZIV_LINE, &ZNU_LINE, &ZSP_LINE,
-        &ZQT_LINE, &CHOP_LINE,
+        &ZCV_LINE,
+        &ZPR_LINE,
+        &ZMU_LINE,
+        &ZAD_LINE,
+        &ZTR_LINE,
+        &ZIV_LINE,
+        &ZNU_LINE,
+        &ZSP_LINE,
+        &ZQT_LINE,
+        &CHOP_LINE,
+        &VERIFY_LINE,
     ]
 }
 
-/// `zcv IN OUT`.
+/// `zcv [-m] [-g N] IN OUT`.
 static ZCV_LINE: CommandLine = CommandLine {
     name: ZCV,
     about: help::ZCV_ABOUT,
     long_about: help::ZCV_LONG_ABOUT,
     words: &[
         Word {
+            name: MODULE,
+            help: "Convert the texts IN.1 to IN.N, the generators of a module, to one file",
+            kind: WordKind::NamedFlag('m'),
+        },
+        Word {
+            name: GENERATORS,
+            help: help::GENERATORS,
+            kind: WordKind::Count('g'),
+        },
+        Word {
             name: IN,
-            help: "The file of the text",
+            help: help::IN_TEXT,
             kind: WordKind::File,
         },
         Word {
@@ -338,12 +365,17 @@ static ZQT_LINE: CommandLine = CommandLine {
     ],
 };
 
-/// `chop [-g N] [--seed S] [--words W] NAME`.
+/// `chop [-m] [-g N] [--seed S] [--words W] NAME`.
 static CHOP_LINE: CommandLine = CommandLine {
     name: CHOP,
     about: help::CHOP_ABOUT,
     long_about: help::CHOP_LONG_ABOUT,
     words: &[
+        Word {
+            name: MODULE,
+            help: "Read the module from the file NAME.axm, and write each constituent to one file",
+            kind: WordKind::NamedFlag('m'),
+        },
         Word {
             name: GENERATORS,
             help: help::GENERATORS,
@@ -369,7 +401,26 @@ static CHOP_LINE: CommandLine = CommandLine {
         },
         Word {
             name: NAME,
-            help: help::NAME_GENERATORS,
+            help: help::NAME_MODULE,
+            kind: WordKind::File,
+        },
+    ],
+};
+
+/// `verify [-m] NAME`.
+static VERIFY_LINE: CommandLine = CommandLine {
+    name: VERIFY,
+    about: help::VERIFY_ABOUT,
+    long_about: help::VERIFY_LONG_ABOUT,
+    words: &[
+        Word {
+            name: MODULE,
+            help: "Read the module from the file NAME.axm, and each constituent from one file",
+            kind: WordKind::NamedFlag('m'),
+        },
+        Word {
+            name: NAME,
+            help: help::NAME_MODULE,
             kind: WordKind::File,
         },
     ],

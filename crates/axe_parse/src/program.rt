@@ -51,6 +51,10 @@ fn argument<'a>(alloc: Global, word: &Word) -> Arg<'a> {
         WordKind::OptionalFile => argument,
         WordKind::FileOption(letter) => argument.short(letter),
         WordKind::Flag(letter) => argument.short(letter).action(ArgAction::SetTrue),
+        WordKind::NamedFlag(letter) => argument
+            .short(letter)
+            .long(word.name)
+            .action(ArgAction::SetTrue),
         WordKind::Count(letter) => count(argument.short(letter)),
         WordKind::Number(ref option) => number(argument, option),
     }

@@ -4,9 +4,12 @@ pub mod Sequences
 pub mod NumberedFiles
 pub mod ModulePlans
 pub mod ReadModules
+pub mod WholeModules
 pub mod Refused
 pub mod ReadCalls
 pub mod OneAnswer
 pub mod SomeAnswer
 pub mod BrokenSteps
 pub mod ReadingEnds
+pub mod ModuleSteps
+pub mod ReportAnswers

@@ -1,10 +1,11 @@
--- A module and a seed that are read one after the other.
+-- Modules that are read, and a module and a seed that are read one after the other.
 use Rattle.std.proofs.Common.{◌≡◌, sym, ◌∙◌, ap, ℕ, List, Result, Ok, Err}
 use Rattle.axe_matrix.specs.Matrices.{MatrixValue}
 use Rattle.axe_spin.specs.Modules.{ModuleValue}
 use Rattle.axe_folder.specs.Files.{Files}
 use Rattle.axe_fault.specs.Causes.{Problem}
-use Rattle.axe_plan.specs.Inputs.{and_then, matrix_in, matrices_in, numbered_names, checked_module, seeded_module}
+use Rattle.axe_arguments.specs.declared.command.ModuleFiles.{ModuleFiles}
+use Rattle.axe_plan.specs.Inputs.{and_then, matrix_in, matrices_in, numbered_names, generators_in, checked_module, module_in, seeded_module}
 use Rattle.axe_plan.specs.Meanings.{Meaning, Is, ◌>>=◌}
 
 -- what is read after another thing is what both readings give
@@ -12,6 +13,15 @@ pub read_after : {A B : Type 0} (first : Result A Problem) (next : A → Result 
     and_then first next ≡ answer
 read_after first next answer (Ok value, is, right) = ap (λ found. and_then found next) is ∙ right
 read_after first next answer (Err problem, is, right) = ap (λ found. and_then found next) is ∙ sym right
+
+-- a module, made of matrices that are read
+abbrev pub ModuleReading : ModuleFiles → List ℕ → Files → Meaning ModuleValue
+ModuleReading stored name files = Is (generators_in stored name files) >>= λ matrices. Is (checked_module matrices)
+
+pub module_reading : (stored : ModuleFiles) (name : List ℕ) (files : Files) (answer : Result ModuleValue Problem) → ModuleReading stored name files answer →
+    Is (module_in stored name files) answer
+unfolding module_in
+module_reading stored name files answer reading = read_after (generators_in stored name files) checked_module answer reading
 
 -- a module and a seed, read one after the other
 abbrev pub SeededReading : ℕ → List ℕ → List ℕ → Files → Meaning (ModuleValue × MatrixValue)

@@ -6,7 +6,8 @@ use Rattle.std.proofs.lemmas.List.FromFn.{get_or-map-range_with_len, length-map-
 use Rattle.axe_matrix.specs.Matrices.{MatrixValue}
 use Rattle.axe_folder.specs.Files.{Files}
 use Rattle.axe_fault.specs.Causes.{Problem}
-use Rattle.axe_plan.specs.Inputs.{and_then, matrix_in, matrices_in, numbered, numbered_names}
+use Rattle.axe_plan.specs.declared.reading.Spelling.{Spelling}
+use Rattle.axe_plan.specs.Inputs.{and_then, spelled_in, all_spelled_in, numbered, numbered_names}
 use Rattle.axe_plan.specs.Outcome.{IsOneOf}
 use Rattle.axe_fault.specs.declared.fault.Fault.{Fault}
 use Rattle.axe_plan.specs.Meanings.{Is}
@@ -23,23 +24,23 @@ first_of_names name i count below =
     ap (names_from name (i + 1)) (let e : count - i ≡ suc (count - (i + 1)) = omega arith in e)
 
 -- matrices that are there, and after them those of the files of these names
-abbrev pub read_after : Files → List MatrixValue → List (List ℕ) → Result (List MatrixValue) Problem
-read_after files before names = and_then (matrices_in files names) (λ rest. Ok (before ++ rest))
+abbrev pub read_after : Spelling → Files → List MatrixValue → List (List ℕ) → Result (List MatrixValue) Problem
+read_after spelling files before names = and_then (all_spelled_in spelling files names) (λ rest. Ok (before ++ rest))
 
-pub read_more : (files : Files) (before : List MatrixValue) (name : List ℕ) (names : List (List ℕ)) (m : MatrixValue) → matrix_in files name ≡ Ok m →
-    read_after files before (name ∷ names) ≡ read_after files (before ++ m ∷ []) names
-read_more files before name names m e =
-    ap (λ first. and_then (and_then first (λ a. and_then (matrices_in files names) (λ rest. Ok (a ∷ rest)))) (λ rest. Ok (before ++ rest))) e ∙ cases (matrices_in files names)
+pub read_more : (spelling : Spelling) (files : Files) (before : List MatrixValue) (name : List ℕ) (names : List (List ℕ)) (m : MatrixValue) → spelled_in spelling files name ≡ Ok m →
+    read_after spelling files before (name ∷ names) ≡ read_after spelling files (before ++ m ∷ []) names
+read_more spelling files before name names m e =
+    ap (λ first. and_then (and_then first (λ a. and_then (all_spelled_in spelling files names) (λ rest. Ok (a ∷ rest)))) (λ rest. Ok (before ++ rest))) e ∙ cases (all_spelled_in spelling files names)
   where
     cases : (rest : Result (List MatrixValue) Problem) →
         and_then (and_then rest (λ rest. Ok (m ∷ rest))) (λ rest. Ok (before ++ rest)) ≡ and_then rest (λ rest. Ok ((before ++ m ∷ []) ++ rest))
     cases (Ok rest) = ap Ok (sym (append_assoc before (m ∷ []) rest))
     cases (Err problem) = refl
 
-pub read_problem : (files : Files) (before : List MatrixValue) (name : List ℕ) (names : List (List ℕ)) (problem : Problem) → matrix_in files name ≡ Err problem →
-    read_after files before (name ∷ names) ≡ Err problem
-read_problem files before name names problem e =
-    ap (λ first. and_then (and_then first (λ a. and_then (matrices_in files names) (λ rest. Ok (a ∷ rest)))) (λ rest. Ok (before ++ rest))) e
+pub read_problem : (spelling : Spelling) (files : Files) (before : List MatrixValue) (name : List ℕ) (names : List (List ℕ)) (problem : Problem) → spelled_in spelling files name ≡ Err problem →
+    read_after spelling files before (name ∷ names) ≡ Err problem
+read_problem spelling files before name names problem e =
+    ap (λ first. and_then (and_then first (λ a. and_then (all_spelled_in spelling files names) (λ rest. Ok (a ∷ rest)))) (λ rest. Ok (before ++ rest))) e
 
 -- one more matrix was read
 pub length_of_more : (before after : List MatrixValue) (m : MatrixValue) (count : ℕ) → after ≡ before ++ m ∷ [] → length before ≡ count →
@@ -67,24 +68,24 @@ file_among name i count below = record { each = at }
     at file (inr none) = absurd none
 
 -- the reading of one more of the files, from a folder that still has these files
-pub read_next : (files now : Files) (before after : List MatrixValue) (name file : List ℕ) (i count : ℕ) (m : MatrixValue) → i < count → now ≡ files →
-    file ≡ numbered name (i + 1) → matrices_in files (numbered_names name count) ≡ read_after files before (names_from name (i + 1) (count - i)) →
-    matrix_in now file ≡ Ok m → after ≡ before ++ m ∷ [] →
-    matrices_in files (numbered_names name count) ≡ read_after files after (names_from name (i + 1 + 1) (count - (i + 1)))
-read_next files now before after name file i count m below same is so_far e pushed =
-    so_far ∙ ap (read_after files before) (first_of_names name i count below)
-    ∙ read_more files before (numbered name (i + 1)) (names_from name (i + 1 + 1) (count - (i + 1))) m (sym (λ j. matrix_in (same j) (is j)) ∙ e)
-    ∙ ap (λ (read : List MatrixValue). read_after files read (names_from name (i + 1 + 1) (count - (i + 1)))) (sym pushed)
+pub read_next : (spelling : Spelling) (files now : Files) (before after : List MatrixValue) (name file : List ℕ) (i count : ℕ) (m : MatrixValue) → i < count → now ≡ files →
+    file ≡ numbered name (i + 1) → all_spelled_in spelling files (numbered_names name count) ≡ read_after spelling files before (names_from name (i + 1) (count - i)) →
+    spelled_in spelling now file ≡ Ok m → after ≡ before ++ m ∷ [] →
+    all_spelled_in spelling files (numbered_names name count) ≡ read_after spelling files after (names_from name (i + 1 + 1) (count - (i + 1)))
+read_next spelling files now before after name file i count m below same is so_far e pushed =
+    so_far ∙ ap (read_after spelling files before) (first_of_names name i count below)
+    ∙ read_more spelling files before (numbered name (i + 1)) (names_from name (i + 1 + 1) (count - (i + 1))) m (sym (λ j. spelled_in spelling (same j) (is j)) ∙ e)
+    ∙ ap (λ (read : List MatrixValue). read_after spelling files read (names_from name (i + 1 + 1) (count - (i + 1)))) (sym pushed)
 
 -- a fault of one of the files is a fault of them all
-pub fault_of_next : {U : Type 0} (files now : Files) (before : List MatrixValue) (name file : List ℕ) (i count : ℕ) (other : U → List MatrixValue) (fault : Fault) →
+pub fault_of_next : {U : Type 0} (spelling : Spelling) (files now : Files) (before : List MatrixValue) (name file : List ℕ) (i count : ℕ) (other : U → List MatrixValue) (fault : Fault) →
     i < count → now ≡ files → file ≡ numbered name (i + 1) →
-    matrices_in files (numbered_names name count) ≡ read_after files before (names_from name (i + 1) (count - i)) →
-    Agrees (file ∷ []) (λ (m : MatrixValue). m) (Err fault) (Is (matrix_in now file)) →
-    Agrees (numbered_names name count) other (Err fault) (Is (matrices_in files (numbered_names name count)))
-fault_of_next files now before name file i count other fault below same is so_far right =
+    all_spelled_in spelling files (numbered_names name count) ≡ read_after spelling files before (names_from name (i + 1) (count - i)) →
+    Agrees (file ∷ []) (λ (m : MatrixValue). m) (Err fault) (Is (spelled_in spelling now file)) →
+    Agrees (numbered_names name count) other (Err fault) (Is (all_spelled_in spelling files (numbered_names name count)))
+fault_of_next spelling files now before name file i count other fault below same is so_far right =
     fault_carries (numbered name (i + 1) ∷ []) (numbered_names name count) (λ (m : MatrixValue). m) other fault
-    (Is (matrix_in files (numbered name (i + 1)))) (Is (matrices_in files (numbered_names name count))) (file_among name i count below)
-    (λ problem e. so_far ∙ ap (read_after files before) (first_of_names name i count below)
-    ∙ read_problem files before (numbered name (i + 1)) (names_from name (i + 1 + 1) (count - (i + 1))) problem e)
-    (coe 0 1 (j. Agrees (is j ∷ []) (λ (m : MatrixValue). m) (Err fault) (Is (matrix_in (same j) (is j)))) right)
+    (Is (spelled_in spelling files (numbered name (i + 1)))) (Is (all_spelled_in spelling files (numbered_names name count))) (file_among name i count below)
+    (λ problem e. so_far ∙ ap (read_after spelling files before) (first_of_names name i count below)
+    ∙ read_problem spelling files before (numbered name (i + 1)) (names_from name (i + 1 + 1) (count - (i + 1))) problem e)
+    (coe 0 1 (j. Agrees (is j ∷ []) (λ (m : MatrixValue). m) (Err fault) (Is (spelled_in spelling (same j) (is j)))) right)

@@ -1,22 +1,29 @@
 -- Modules that are made of matrices that were read.
-use Rattle.std.proofs.Common.{◌≡◌, refl, ◌∙◌, subst, ℕ, ◌≤◌, List, [], ◌∷◌, length, Option, Some, None, Result, Ok, Err, IfOk, arith}
+use Rattle.std.proofs.Common.{◌≡◌, refl, sym, ◌∙◌, subst, ℕ, ◌≤◌, List, [], ◌∷◌, length, Option, Some, None, Result, Ok, Err, IfOk, arith}
+use Rattle.std.specs.Prelude.{⊤}
 use Rattle.std.specs.List.{All}
 use Rattle.std.proofs.lemmas.List.{length-map}
 use Rattle.std.proofs.lemmas.List.FromFn.{length-map-range_with_len}
-use Rattle.std.proofs.lemmas.List.Elements.{All-nil, All-cons, All-head}
+use Rattle.std.proofs.lemmas.List.Elements.{All-nil, All-cons, All-head, All-tail}
 use Rattle.axe_algebra.specs.Lists.{IsModuleOver}
+use Rattle.axe_field.specs.Order.{Order}
 use Rattle.axe_field.specs.NumberFields.{number_field}
 use Rattle.axe_row.specs.declared.refusals.Refusal.{Refusal}
 use Rattle.axe_matrix.specs.Limits.{most_columns}
 use Rattle.axe_matrix.specs.Matrices.{MatrixValue, IsMatrix}
 use Rattle.axe_row.specs.Refusals.{unless_refused}
+use Rattle.axe_spin.specs.Limits.{most_generators}
 use Rattle.axe_spin.specs.Modules.{ModuleValue, IsModule, generators_refusal, rows_of_each}
+use Rattle.axe_file.specs.PackedModules.{IsGenerator, first_order, first_columns, AreGenerators}
 use Rattle.axe_arguments.specs.Counts.{IsGeneratorCount}
+use Rattle.axe_arguments.specs.Commands.{HasFileCount}
+use Rattle.axe_arguments.specs.declared.command.ModuleFiles.{ModuleFiles}
+use Rattle.axe_arguments.specs.declared.command.ModuleFiles.TheVariants.{Separate, Whole}
 use Rattle.axe_folder.specs.Files.{Files}
 use Rattle.axe_fault.specs.Causes.{Problem}
-use Rattle.axe_plan.specs.Inputs.{and_then, or_refuses, matrix_in, matrices_in, numbered, numbered_names, checked_module, module_in, seeded_module}
+use Rattle.axe_plan.specs.Inputs.{and_then, or_refuses, matrix_in, matrices_in, packed_generators_in, numbered, numbered_names, module_file, generators_in, checked_module, module_in, seeded_module}
 use Rattle.axe_plan.specs.Meanings.{Is}
-use Rattle.axe_plan.proofs.Readings.{matrix_in_is_matrix}
+use Rattle.axe_plan.proofs.Readings.{matrix_in_is_matrix, packed_generators_are_generators}
 use Rattle.axe_spin.proofs.SquareGenerators.{squares_if_not_refused}
 
 -- a dimension within the limits, and square generators of that dimension
@@ -99,56 +106,87 @@ many_are_made (first ∷ rest) = cases (generators_refusal first.order first.col
     cases None = length-map (first ∷ rest) (λ (m : MatrixValue). m.rows)
     cases (Some refusal) = tt
 
--- a module has as many generators as files are read
-pub generators_are_counted : (count : ℕ) (name : List ℕ) (files : Files) → IfOk (module_in count name files) (λ m. length m.generators ≡ count)
-unfolding module_in
-generators_are_counted count name files = cases (matrices_in files names) (many_are_read files names)
-  where
-    names : List (List ℕ)
-    names = numbered_names name count
+-- matrices that may be the generators of a module: there are some, and not too many
+pub record AreRead (matrices : List MatrixValue) : Type 0 where
+  pub well : All IsMatrix matrices
+  pub some : 1 ≤ length matrices
+  pub few : length matrices ≤ most_generators
 
-    made : (matrices : List MatrixValue) (answer : Result ModuleValue Problem) → length matrices ≡ count → IfOk answer (λ m. length m.generators ≡ length matrices) →
-        IfOk answer (λ m. length m.generators ≡ count)
-    made matrices (Ok m) many generators = generators ∙ many
-    made matrices (Err problem) many generators = tt
+-- where a module has a file for each generator, it has so many generators
+abbrev pub HasAsMany : ModuleFiles → ℕ → Type 0
+HasAsMany (Separate count) number = number ≡ count
+HasAsMany Whole number = ⊤
 
-    cases : (matrices : Result (List MatrixValue) Problem) → IfOk matrices (λ read. length read ≡ length names) →
-        IfOk (and_then matrices checked_module) (λ m. length m.generators ≡ count)
-    cases (Ok matrices) many =
-        made matrices (checked_module matrices) (many ∙ length-map-range_with_len (numbered name) 1 count) (many_are_made matrices)
-    cases (Err problem) many = tt
+generators_are_matrices : (order : Order) (dim : ℕ) (matrices : List MatrixValue) → All (IsGenerator order dim) matrices → All IsMatrix matrices
+generators_are_matrices order dim [] each = All-nil IsMatrix
+generators_are_matrices order dim (first ∷ rest) each =
+    All-cons IsMatrix first rest (All-head (IsGenerator order dim) first rest each).well_formed
+    (generators_are_matrices order dim rest (All-tail (IsGenerator order dim) first rest each))
 
--- with a number of generators that a module may have, it is one
-whole_module : (m : ModuleValue) (count : ℕ) → IsGeneratorCount count → IsReadModule m → length m.generators ≡ count → IsModule m
-whole_module m count counted is many = record {
-  over = is.over;
-  dim_fits = is.dim_fits;
-  some_generator = omega (arith, counted.some, many);
-  generators_fit = omega (arith, counted.fits, many);
-}
-
-made_of_read : (count : ℕ) (matrices : List MatrixValue) → IsGeneratorCount count → All IsMatrix matrices → length matrices ≡ count →
-    IfOk (checked_module matrices) IsModule
-made_of_read count matrices counted wells many = cases (checked_module matrices) (made_is_module matrices wells) (many_are_made matrices)
-  where
-    cases : (made : Result ModuleValue Problem) → IfOk made IsReadModule → IfOk made (λ m. length m.generators ≡ length matrices) → IfOk made IsModule
-    cases (Ok m) is generators = whole_module m count counted is (generators ∙ many)
-    cases (Err problem) is generators = tt
-
-pub module_is_module : (count : ℕ) (name : List ℕ) (files : Files) → IsGeneratorCount count → IfOk (module_in count name files) IsModule
-unfolding module_in
-module_is_module count name files counted =
+-- what is read of a module's files
+pub generators_are_read : (stored : ModuleFiles) (name : List ℕ) (files : Files) → HasFileCount stored →
+    IfOk (generators_in stored name files) (λ matrices. AreRead matrices × HasAsMany stored (length matrices))
+generators_are_read (Separate count) name files counted =
     cases (matrices_in files names) (matrices_are_matrices files names) (many_are_read files names)
   where
     names : List (List ℕ)
     names = numbered_names name count
 
     cases : (matrices : Result (List MatrixValue) Problem) → IfOk matrices (All IsMatrix) → IfOk matrices (λ read. length read ≡ length names) →
-        IfOk (and_then matrices checked_module) IsModule
+        IfOk matrices (λ matrices. AreRead matrices × (length matrices ≡ count))
     cases (Ok matrices) wells many =
-        made_of_read count matrices counted wells (many ∙ length-map-range_with_len (numbered name) 1 count)
+        let so_many : length matrices ≡ count = many ∙ length-map-range_with_len (numbered name) 1 count in
+        (record { well = wells; some = omega (arith, so_many, counted.some); few = omega (arith, so_many, counted.fits) }, so_many)
     cases (Err problem) wells many = tt
+generators_are_read Whole name files counted =
+    cases (packed_generators_in files (module_file name)) (packed_generators_are_generators files (module_file name))
+  where
+    cases : (matrices : Result (List MatrixValue) Problem) → IfOk matrices AreGenerators → IfOk matrices (λ matrices. AreRead matrices × ⊤)
+    cases (Ok matrices) are =
+        (record { well = generators_are_matrices (first_order matrices) (first_columns matrices) matrices are.each; some = are.some; few = are.few }, tt)
+    cases (Err problem) are = tt
 
-pub module_if_read : (count : ℕ) (name : List ℕ) (files : Files) → IsGeneratorCount count → (before : Result ModuleValue Problem) →
-    Is (module_in count name files) before → IfOk before IsModule
-module_if_read count name files counted before e = subst (λ answer. IfOk answer IsModule) e (module_is_module count name files counted)
+-- a module that is made of them
+made_of_read : (stored : ModuleFiles) (matrices : List MatrixValue) → AreRead matrices × HasAsMany stored (length matrices) →
+    IfOk (checked_module matrices) (λ m. IsModule m × HasAsMany stored (length m.generators))
+made_of_read stored matrices (are, so_many) = cases (checked_module matrices) (made_is_module matrices are.well) (many_are_made matrices)
+  where
+    cases : (made : Result ModuleValue Problem) → IfOk made IsReadModule → IfOk made (λ m. length m.generators ≡ length matrices) →
+        IfOk made (λ m. IsModule m × HasAsMany stored (length m.generators))
+    cases (Ok m) is generators = (
+      record {
+        over = is.over;
+        dim_fits = is.dim_fits;
+        some_generator = omega (arith, are.some, generators);
+        generators_fit = omega (arith, are.few, generators);
+      },
+      subst (HasAsMany stored) (sym generators) so_many,
+    )
+    cases (Err problem) is generators = tt
+
+read_is_module : (stored : ModuleFiles) (name : List ℕ) (files : Files) → HasFileCount stored →
+    IfOk (module_in stored name files) (λ m. IsModule m × HasAsMany stored (length m.generators))
+unfolding module_in
+read_is_module stored name files counted = cases (generators_in stored name files) (generators_are_read stored name files counted)
+  where
+    cases : (matrices : Result (List MatrixValue) Problem) → IfOk matrices (λ matrices. AreRead matrices × HasAsMany stored (length matrices)) →
+        IfOk (and_then matrices checked_module) (λ m. IsModule m × HasAsMany stored (length m.generators))
+    cases (Ok matrices) are = made_of_read stored matrices are
+    cases (Err problem) are = tt
+
+-- a module has as many generators as files are read
+pub generators_are_counted : (stored : ModuleFiles) (name : List ℕ) (files : Files) (m : ModuleValue) → HasFileCount stored →
+    module_in stored name files ≡ Ok m → HasAsMany stored (length m.generators)
+generators_are_counted stored name files m counted e =
+    (subst (λ answer. IfOk answer (λ m. IsModule m × HasAsMany stored (length m.generators))) e (read_is_module stored name files counted)).1
+
+-- and is one
+pub module_is_module : (stored : ModuleFiles) (name : List ℕ) (files : Files) (m : ModuleValue) → HasFileCount stored → module_in stored name files ≡ Ok m →
+    IsModule m
+module_is_module stored name files m counted e =
+    (subst (λ answer. IfOk answer (λ m. IsModule m × HasAsMany stored (length m.generators))) e (read_is_module stored name files counted)).0
+
+pub module_if_read : (stored : ModuleFiles) (name : List ℕ) (files : Files) → HasFileCount stored → (before : Result ModuleValue Problem) →
+    Is (module_in stored name files) before → IfOk before IsModule
+module_if_read stored name files counted (Ok m) e = module_is_module stored name files m counted e
+module_if_read stored name files counted (Err problem) e = tt

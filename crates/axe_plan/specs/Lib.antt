@@ -4,3 +4,4 @@ pub mod Inputs
 pub mod Outputs
 pub mod Outcome
 pub mod Drafts
+pub mod ReportFiles

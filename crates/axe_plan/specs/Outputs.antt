@@ -4,9 +4,12 @@ use Rattle.axe_algebra.specs.Lists.{listed}
 use Rattle.axe_matrix.specs.Matrices.{MatrixValue}
 use Rattle.axe_spin.specs.Modules.{ModuleValue, generator_of}
 use Rattle.axe_file.specs.Packed.{packed}
+use Rattle.axe_file.specs.PackedModules.{packed_module}
 use Rattle.axe_file.specs.TextWriting.{text_of}
+use Rattle.axe_arguments.specs.declared.command.ModuleFiles.{ModuleFiles}
+use Rattle.axe_arguments.specs.declared.command.ModuleFiles.TheVariants.{Separate, Whole}
 use Rattle.axe_plan.specs.Plans.{Step, Put, Plan}
-use Rattle.axe_plan.specs.Inputs.{numbered}
+use Rattle.axe_plan.specs.Inputs.{numbered, module_file}
 
 -- the plan that puts a matrix under a name, packed, and shows nothing
 abbrev pub put_packed : List ℕ → MatrixValue → Plan
@@ -24,3 +27,16 @@ put_generator name m i = Put (numbered name (i + 1)) (packed (generator_of m i))
 -- the steps that put the generators of a module in order
 abbrev pub put_generators : List ℕ → ModuleValue → List Step
 put_generators name m = listed (length m.generators) (put_generator name m)
+
+-- the generators of a module as matrices, in order
+abbrev pub matrices_of : ModuleValue → List MatrixValue
+matrices_of m = listed (length m.generators) (generator_of m)
+
+-- the plan that puts a whole module under a name, packed, and shows nothing
+abbrev pub put_packed_module : List ℕ → ModuleValue → Plan
+put_packed_module name m = record { steps = Put name (packed_module (matrices_of m)) ∷ []; shown = [] }
+
+-- the steps that put a module under a name, packed, in its files
+abbrev pub put_module : ModuleFiles → List ℕ → ModuleValue → List Step
+put_module (Separate count) name m = put_generators name m
+put_module Whole name m = Put (module_file name) (packed_module (matrices_of m)) ∷ []

@@ -3,10 +3,10 @@ ghost use Rattle.std.specs.Prelude.{IsTrue, map};
 ghost use Rattle.axe_plan.specs.Drafts.{step_in};
 ghost use Rattle.axe_plan.specs.Outcome.{Agrees, Carries, Counted};
 
-use crate::modules::numbered;
-use axe_arguments::Name;
+use crate::modules::{module_file, numbered};
+use axe_arguments::{ModuleFiles, Name};
 use axe_fault::Fault;
-use axe_file::{write_packed, write_text};
+use axe_file::{write_module, write_packed, write_text};
 use axe_folder::Folder;
 use axe_matrix::Matrix;
 use axe_spin::Module;
@@ -54,11 +54,13 @@ impl Change {
 impl Draft {
     ghost use Rattle.std.specs.Prelude.{◌≡◌, [], Ok, OnOk, IfErr, option_copied, string_bytes};
     ghost use Rattle.axe_file.specs.Packed.{packed};
+    ghost use Rattle.axe_file.specs.PackedModules.{packed_module};
     ghost use Rattle.axe_file.specs.TextWriting.{text_of};
     ghost use Rattle.axe_fault.specs.declared.fault.Fault.TheVariants.{Memory};
     ghost use Rattle.axe_plan.specs.Plans.{Put, Remove};
     ghost use Rattle.axe_plan.specs.Meanings.{Is};
     ghost use Rattle.axe_plan.specs.Outputs.{put_packed, put_or_show_text, put_generators};
+    ghost use Rattle.axe_plan.specs.Outputs.{matrices_of, put_packed_module, put_module};
     ghost use Rattle.axe_plan.specs.Drafts.{plan_in, with_step, with_steps, with_text, HasFirstGenerators};
 
     /// The draft that changes nothing and shows nothing.
@@ -100,6 +102,65 @@ impl Draft {
         let mut draft = Draft::new(alloc);
         draft.put_generators(alloc, name.as_str(), module)?;
         Ok(draft)
+    }
+
+    /// The draft that gives the name the packed spelling of a whole module, and shows nothing.
+    pub fn of_module(alloc: Global, name: &Name, module: Module) -> Result<Draft, Fault>
+        ensures { Agrees [] plan_in result (Is (Ok (put_packed_module name.now «module»))) }
+    {
+        let mut draft = Draft::new(alloc);
+        let out = String::from_str(alloc, name.as_str())?;
+        draft.put_module_file(alloc, out, module)?;
+        Ok(draft)
+    }
+
+    /// Adds that a module is put under a name, packed: each generator in a file of its own, in order, or all in one.
+    /// Where memory is refused, some first of the files may be added.
+    pub fn put_module(
+        &mut self,
+        alloc: Global,
+        files: &ModuleFiles,
+        name: &str,
+        module: &Module,
+    ) -> Result<(), Fault>
+        ensures put { OnOk result
+            (plan_in self.new ≡ with_steps (plan_in self.old) (put_module files.now name.now «module».now)) }
+        ensures memory { IfErr result (λ fault. fault ≡ Memory) }
+    {
+        match files {
+            ModuleFiles::Separate(_) => self.put_generators(alloc, name, module),
+            ModuleFiles::Whole => {
+                let file = module_file(alloc, name)?;
+                self.put_copy(alloc, file, module)
+            }
+        }
+    }
+
+    /// Adds that the file of this name is given the packed spelling of a whole module, which is kept.
+    fn put_copy(&mut self, alloc: Global, name: String, module: &Module) -> Result<(), Fault>
+        ensures put { OnOk result (plan_in self.new
+            ≡ with_step (plan_in self.old) (Put (string_bytes name) (packed_module (matrices_of «module».now)))) }
+        ensures memory { IfErr result (λ fault. fault ≡ Memory) }
+        ensures kept { IfErr result (λ _. plan_in self.new ≡ plan_in self.old) }
+    {
+        match module.copy(alloc) {
+            Ok(copy) => self.put_module_file(alloc, name, copy),
+            Err(_) => Err(Fault::Memory),
+        }
+    }
+
+    /// Adds that the file of this name is given the packed spelling of a whole module.
+    fn put_module_file(&mut self, alloc: Global, name: String, module: Module) -> Result<(), Fault>
+        ensures put { OnOk result (plan_in self.new
+            ≡ with_step (plan_in self.old) (Put (string_bytes name) (packed_module (matrices_of «module»)))) }
+        ensures memory { IfErr result (λ fault. fault ≡ Memory) }
+        ensures kept { IfErr result (λ _. plan_in self.new ≡ plan_in self.old) }
+    {
+        let generators = module.into_generators();
+        match write_module(alloc, &generators) {
+            Ok(bytes) => self.put(name, bytes),
+            Err(_) => Err(Fault::Memory),
+        }
     }
 
     /// Adds that the name is given the packed spelling of a matrix.

@@ -5,7 +5,11 @@
 mod draft;
 mod modules;
 mod reading;
+mod report_files;
 
 pub use draft::{Change, Draft, make_all};
-pub use modules::{module_of, numbered, read_generators};
-pub use reading::{read_matrix, read_text_matrix};
+pub use modules::{
+    module_of, numbered, read_generators, read_module, read_stored, read_text_generators,
+};
+pub use reading::{read_matrix, read_matrix_file, read_text_matrix};
+pub use report_files::read_report_file;

@@ -147,7 +147,7 @@ last_of (f ∷ fs) = elim (last_of fs) [
   | inr s ↦ inr (f ∷ s.0, s.1, ap (λ (l : List FactorValue). f ∷ l) s.2)
 ]
 
-flat_map_last : (gs : List FactorValue) (f : FactorValue) (y : List ℕ) → flat_map factor_line (gs ++ f ∷ []) ++ y ≡ flat_map factor_line gs ++ (factor_line f ++ y)
+pub flat_map_last : (gs : List FactorValue) (f : FactorValue) (y : List ℕ) → flat_map factor_line (gs ++ f ∷ []) ++ y ≡ flat_map factor_line gs ++ (factor_line f ++ y)
 flat_map_last [] f y = ap (λ (l : List ℕ). l ++ y) (append-nil (factor_line f))
 flat_map_last (g ∷ gs) f y =
     append_assoc (factor_line g) (flat_map factor_line (gs ++ f ∷ [])) y

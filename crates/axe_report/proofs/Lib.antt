@@ -15,3 +15,5 @@ pub mod FirstLines
 pub mod LastLines
 pub mod Failing
 pub mod Lines
+pub mod Searching
+pub mod Deciding

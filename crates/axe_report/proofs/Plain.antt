@@ -22,7 +22,7 @@ pub record IsPlain (f : FactorValue) : Type 0 where
   pub some_multiplicity : 1 ≤ f.multiplicity
 
 -- a product of two numbers from 1 on bounds both
-product_bounds : (a b bound : ℕ) → 1 ≤ a → 1 ≤ b → a * b ≤ bound → (a ≤ bound) × (b ≤ bound)
+pub product_bounds : (a b bound : ℕ) → 1 ≤ a → 1 ≤ b → a * b ≤ bound → (a ≤ bound) × (b ≤ bound)
 product_bounds zero b bound p q le = absurd (omega (arith, p))
 product_bounds (suc a) zero bound p q le = absurd (omega (arith, q))
 product_bounds (suc a) (suc b) bound p q le =

@@ -4,3 +4,4 @@ pub mod Reports
 pub mod Spelling
 pub mod Passing
 pub mod Fronts
+pub mod Reasons

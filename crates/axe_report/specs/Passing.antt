@@ -3,7 +3,7 @@ use Rattle.std.specs.Prelude.{◌≡◌, ℕ, ◌+◌, ◌-◌, ◌≤◌, ◌�
 use Rattle.axe_report.specs.Reports.{FactorValue, ReportValue, IsReportHeader, AreFactors, AreWitnessed, IsReport}
 use Rattle.axe_report.specs.Spelling.{opening_bytes, report_bytes}
 use Rattle.axe_report.specs.declared.fault.ReportFault.{ReportFault}
-use Rattle.axe_report.specs.declared.fault.ReportFault.TheVariants.{BadReport, Memory}
+use Rattle.axe_report.specs.declared.fault.ReportFault.TheVariants.{BadReport, OldReport, Memory}
 use Rattle.axe_report.specs.declared.report.ReportHeader.{ReportHeader}
 
 -- the bytes begin with so many lines of which the first is a header, and the others are the lines of constituents that
@@ -46,4 +46,5 @@ pub record FailsFirstAt (bytes : List ℕ) (line : ℕ) : Type 0 where
 -- the reader may refuse with this fault
 abbrev pub RefusesReport : List ℕ → ReportFault → Type 0
 RefusesReport bytes (BadReport line) = FailsFirstAt bytes line
+RefusesReport bytes OldReport = ⊥
 RefusesReport bytes Memory = Unit {0}

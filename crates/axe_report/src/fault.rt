@@ -8,8 +8,12 @@ use thiserror::Error;
 pub enum ReportFault {
     /// This line, counted from 1, is the first that fails. The rest of the bytes after a whole report counts as a line
     /// that fails.
-    #[error("BadReport at {0}")]
+    #[error("BadReport line {0}")]
     BadReport(usize),
+    /// It is a report of version 1, which does not tell how the factors were seen to be irreducible. A reader of both
+    /// versions never answers this.
+    #[error("OldReport")]
+    OldReport,
     /// There was no memory for the report or for its bytes.
     #[error("Memory")]
     Memory,

@@ -1,10 +1,10 @@
 //! What holds of names and of reports.
 
-ghost use Rattle.std.specs.Prelude.{◌≡◌, ℕ, ◌^◌, ◌<◌, ◌≤◌, List, [], ◌++◌, length};
+ghost use Rattle.std.specs.Prelude.{◌≡◌, ℕ, ◌^◌, ◌<◌, ◌≤◌, ◌⊎◌, List, [], ◌++◌, length};
 ghost use Rattle.axe_report.specs.Names.{letters, constituent_name};
 ghost use Rattle.axe_report.specs.Reports.{ReportValue, IsReport};
 ghost use Rattle.axe_report.specs.Spelling.{report_bytes};
-ghost use Rattle.axe_report.specs.Passing.{FailsFirstAt};
+ghost use Rattle.axe_report.specs.Passing.{IsSpelling, FailsFirstAt};
 ghost use Rattle.axe_report.specs.Limits.{most_dimension, most_generators, most_words, most_polynomials, most_report_bytes};
 
 use crate::{MAX_DIMENSION, MAX_GENERATORS, MAX_POLYNOMIALS, MAX_WORDS, REPORT_LIMIT};
@@ -45,4 +45,9 @@ pub fn prefixes_are_no_reports()
 pub fn one_line_fails_first()
     ensures line { (bytes : List ℕ) (i j : ℕ) → FailsFirstAt bytes i → FailsFirstAt bytes j → i ≡ j }
     ensures report { (report : ReportValue) (line : ℕ) → IsReport report → FailsFirstAt (report_bytes report) line → ⊥ }
+{}
+
+/// Bytes are a report, or some line of them is the first that fails.
+pub fn bytes_are_a_report_or_fail()
+    ensures { (bytes : List ℕ) → IsSpelling bytes ⊎ ((line : ℕ) × FailsFirstAt bytes line) }
 {}

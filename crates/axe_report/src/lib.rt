@@ -10,17 +10,19 @@ mod laws;
 mod names;
 mod parts;
 mod reading;
+mod reasons;
 mod report;
 mod witnesses;
 mod writing;
 
 pub use fault::ReportFault;
 pub use laws::{
-    limits_are_named, names_tell_constituents, one_line_fails_first, prefixes_are_no_reports,
-    reports_are_apart, reports_keep_the_limit,
+    bytes_are_a_report_or_fail, limits_are_named, names_tell_constituents, one_line_fails_first,
+    prefixes_are_no_reports, reports_are_apart, reports_keep_the_limit,
 };
 pub use names::constituent_name;
 pub use reading::read_report;
+pub use reasons::Reason;
 pub use report::{FactorWitness, Report, ReportFactor, ReportHeader, Version};
 pub use writing::write_report;
 

@@ -12,7 +12,7 @@ use Rattle.axe_norton.specs.declared.verdicts.Verdict.TheVariants.{Irreducible}
 use Rattle.axe_norton.specs.Spaces.{GeneratesModule}
 use Rattle.axe_norton.specs.SmallFactors.{IsFittingFactor}
 use Rattle.axe_norton.specs.OneVector.{ShowsIrreducibleByOne}
-use Rattle.axe_norton.specs.Verdicts.{ShowsIrreducible, TellsByFactor, Decides, DecidesAt}
+use Rattle.axe_norton.specs.Verdicts.{ShowsIrreducible, TellsByFactor, Says, Decides, word_of_seed}
 use Rattle.axe_iso.specs.Forms.{FormValue, HasSmallNullSpaceOf, IsNullVectorOf, IsNullSpaceOf}
 use Rattle.axe_iso.specs.Forms.{IsFormFrom}
 use Rattle.axe_iso.proofs.Forming.{form_is_kept}
@@ -31,9 +31,9 @@ pub record IsShownBy (m : ModuleValue) (seed number : ℕ) (poly : Option PolyVa
 
 -- ---- by the points of a word's value
 
-shown_by_points : (m : ModuleValue) (seed words number : ℕ) (v : RowValue) →
-    DecidesAt m seed words number (At.TheVariants.Irreducible None v) → IsShownBy m seed number None v
-shown_by_points m seed words number v decides = record {
+shown_by_points : (m : ModuleValue) (seed number : ℕ) (v : RowValue) →
+    Says m (word_of_seed m seed number) (At.TheVariants.Irreducible None v) → IsShownBy m seed number None v
+shown_by_points m seed number v says = record {
   of_module =
       point_is_vector m seed number None t.null_space space 0 shows.some_point v shows.first shows.field;
   generates = subst (GeneratesModule m) (sym shows.first)
@@ -43,34 +43,34 @@ shown_by_points m seed words number v decides = record {
 }
   where
     t : Tested
-    t = decides.says.tested
+    t = says.tested
 
     space : IsNullSpaceOf m seed number None t.null_space
-    space = record { matrix = t.matrix; is_tested = decides.says.is_tested }
+    space = record { matrix = t.matrix; is_tested = says.is_tested }
 
     shows : ShowsIrreducible m t.matrix t.null_space v
-    shows = decides.says.tells
+    shows = says.tells
 
 -- ---- by a polynomial
 
-module _ (m : ModuleValue) (seed words number : ℕ) (p : PolyValue) (v : RowValue)
-    (decides : DecidesAt m seed words number (At.TheVariants.Irreducible (Some p) v)) where
-  abbrev told : TellsByFactor m decides.says.tested.matrix decides.says.tested.null_space
+module _ (m : ModuleValue) (seed number : ℕ) (p : PolyValue) (v : RowValue)
+    (says : Says m (word_of_seed m seed number) (At.TheVariants.Irreducible (Some p) v)) where
+  abbrev told : TellsByFactor m says.tested.matrix says.tested.null_space
       (At.TheVariants.Irreducible (Some p) v)
-  told = decides.says.tells
+  told = says.tells
 
   abbrev q : PolyValue
   q = told.poly
 
-  abbrev fitting : IsFittingFactor decides.says.tested.matrix q
+  abbrev fitting : IsFittingFactor says.tested.matrix q
   fitting = told.first.fitting
 
   space_by_poly : IsNullSpaceOf m seed number (Some q) told.tested.null_space
   space_by_poly = record {
     matrix = told.tested.matrix;
     is_tested = record {
-      argument = decides.says.tested.matrix;
-      is_value = decides.says.is_tested.value;
+      argument = says.tested.matrix;
+      is_value = says.is_tested.value;
       tested_at = told.is_tested;
     };
   }
@@ -86,7 +86,7 @@ module _ (m : ModuleValue) (seed words number : ℕ) (p : PolyValue) (v : RowVal
         point_is_null_vector m seed number (Some q) told.tested.null_space space_by_poly 0 shows.some_point v
         shows.first;
     small =
-        fitting_is_small m seed number q decides.says.tested.matrix decides.says.is_tested.value fitting.factor.field
+        fitting_is_small m seed number q says.tested.matrix says.is_tested.value fitting.factor.field
         fitting.factor.factor.irreducible fitting.factor.factor.bound fitting.fits;
   }
 
@@ -96,11 +96,16 @@ module _ (m : ModuleValue) (seed words number : ℕ) (p : PolyValue) (v : RowVal
 
 -- ---- both
 
--- an irreducible verdict shows such a vector
+-- a word that shows the module to be irreducible gives such a vector
+pub said_is_shown : (m : ModuleValue) (seed number : ℕ) (poly : Option PolyValue) (v : RowValue) →
+    Says m (word_of_seed m seed number) (At.TheVariants.Irreducible poly v) → IsShownBy m seed number poly v
+said_is_shown m seed number None v says = shown_by_points m seed number v says
+said_is_shown m seed number (Some p) v says = shown_by_poly m seed number p v says
+
+-- so does an irreducible verdict
 pub irreducible_is_shown : (m : ModuleValue) (seed words number : ℕ) (poly : Option PolyValue) (v : RowValue) →
     Decides m seed words (Irreducible number poly v) → IsShownBy m seed number poly v
-irreducible_is_shown m seed words number None v decides = shown_by_points m seed words number v decides
-irreducible_is_shown m seed words number (Some p) v decides = shown_by_poly m seed words number p v decides
+irreducible_is_shown m seed words number poly v decides = said_is_shown m seed number poly v decides.says
 
 -- a module that is shown to be irreducible has a form
 pub some_new_form : (m : ModuleValue) (seed words number : ℕ) (poly : Option PolyValue) (v : RowValue) → IsModule m →

@@ -5,4 +5,4 @@ use Rattle.axe_execute.proofs.chopping.put_factors.Given as goal
 
 abbrev pub invariant-loop-constituent : goal.invariant-loop-constituent
 invariant-loop-constituent l =
-    with_steps (plan_in l.draft) (put_entries l.name l.constituent-iterator) ≡ with_steps (plan_in l.fn.draft) (put_entries l.name l.factors.entries)
+    with_steps (plan_in l.draft) (put_entries l.files l.name l.constituent-iterator) ≡ with_steps (plan_in l.fn.draft) (put_entries l.files l.name l.factors.entries)

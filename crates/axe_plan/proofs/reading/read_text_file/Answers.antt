@@ -1,6 +1,6 @@
 use Rattle.std.proofs.Common.{rules}
 use Rattle.axe_plan.specs.Inputs.{text_matrix_in}
-use Rattle.axe_plan.proofs.reading.read_text_matrix.Goals as goal
+use Rattle.axe_plan.proofs.reading.read_text_file.Goals as goal
 
 pub returns-in_err-bytes-clause-reads : goal.returns-in_err-bytes-clause-reads
 unfolding text_matrix_in

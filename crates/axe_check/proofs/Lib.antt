@@ -1,0 +1,11 @@
+pub mod OneReason
+pub mod ReportedSeries
+pub mod RightCertificates
+pub mod OneConjugate
+pub mod BlockLaws
+pub mod ProperSubmodules
+pub mod WordLaws
+pub mod PairLaws
+pub mod WitnessLaws
+pub mod StepLaws
+pub mod Certifying

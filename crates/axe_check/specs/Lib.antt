@@ -1,0 +1,3 @@
+pub mod Certificates
+pub mod Reasons
+pub mod Steps
