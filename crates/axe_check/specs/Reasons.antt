@@ -113,4 +113,4 @@ reason_text (Shape name) = codes "shape " ++ string_bytes name
 reason_text Blocks = codes "blocks"
 reason_text (Open name) = codes "open " ++ string_bytes name
 reason_text (Reducible name) = codes "reducible " ++ string_bytes name
-reason_text (Same a b) = codes "same " ++ string_bytes a ++ codes " " ++ string_bytes b
+reason_text (Same a b) = codes "same " ++ (string_bytes a ++ (codes " " ++ string_bytes b))
