@@ -1,5 +1,5 @@
 //! Files of which a byte is changed, or whose end is cut off: refused, or the spelling of another value.
-use crate::reports::REPORT;
+use crate::reports::{REPORT, WITNESSED};
 use axe_file::{FileFault, read_packed, write_packed};
 use axe_report::{ReportFault, read_report, write_report};
 use std::alloc::{AllocError, Global};
@@ -63,13 +63,15 @@ fn a_packed_file_with_another_byte_is_refused_or_another_file(
 fn a_report_with_another_byte_is_refused_or_another_report(
     rt: HostRuntime,
 ) -> Result<(), ReportFault> {
-    for place in 0..REPORT.len() {
-        for byte in 0..=u8::MAX {
-            let bytes = with_byte(rt.alloc(), REPORT.as_bytes(), place, byte)?;
-            assert!(&rt;
-                is_refused_or_reported(rt.alloc(), &bytes)?,
-                "{byte} at {place}"
-            );
+    for report in [REPORT, WITNESSED] {
+        for place in 0..report.len() {
+            for byte in 0..=u8::MAX {
+                let bytes = with_byte(rt.alloc(), report.as_bytes(), place, byte)?;
+                assert!(&rt;
+                    is_refused_or_reported(rt.alloc(), &bytes)?,
+                    "{byte} at {place}"
+                );
+            }
         }
     }
     Ok(())
@@ -90,11 +92,13 @@ fn a_packed_file_that_is_cut_is_refused(rt: HostRuntime) {
 
 #[test]
 fn a_report_that_is_cut_is_refused(rt: HostRuntime) {
-    for length in 0..REPORT.len() {
-        let answer = read_report(rt.alloc(), &REPORT.as_bytes()[..length]);
-        assert!(&rt;
-            matches!(answer, Err(ReportFault::BadReport(_))),
-            "{length} bytes"
-        );
+    for report in [REPORT, WITNESSED] {
+        for length in 0..report.len() {
+            let answer = read_report(rt.alloc(), &report.as_bytes()[..length]);
+            assert!(&rt;
+                matches!(answer, Err(ReportFault::BadReport(_))),
+                "{length} bytes"
+            );
+        }
     }
 }

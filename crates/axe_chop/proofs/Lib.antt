@@ -7,4 +7,5 @@ pub mod Cutting
 pub mod Stepping
 pub mod Factors
 pub mod AnswerLaws
+pub mod FormWitnesses
 pub mod SeriesReports

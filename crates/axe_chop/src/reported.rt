@@ -6,13 +6,17 @@ ghost use Rattle.axe_spin.specs.Modules.{ModuleValue, IsModule};
 ghost use Rattle.axe_norton.specs.Verdicts.{last_word};
 ghost use Rattle.axe_series.specs.Series.{IsSeries};
 ghost use Rattle.axe_report.specs.Limits.{most_words};
-ghost use Rattle.axe_report.specs.Reports.{IsReportHeader, IsReport};
+ghost use Rattle.axe_report.specs.Reports.{WitnessValue, IsReportHeader, IsReport};
 ghost use Rattle.axe_report.specs.declared.fault.ReportFault.TheVariants.{Memory};
 ghost use Rattle.axe_chop.specs.Answers.{IsChopped, factor_modules};
 ghost use Rattle.axe_chop.specs.Reported.{entry_factor, module_header, series_report, IsFoundUnder};
+ghost use Rattle.axe_chop.specs.Reported.{witness_of, factor_witnesses, AreWitnessesOf};
+ghost use Rattle.axe_chop.specs.declared.chopped.Chopped.{Chopped};
 
 use crate::chopped::{Chopped, Factor};
-use axe_report::{Report, ReportFactor, ReportFault, ReportHeader};
+use axe_iso::Form;
+use axe_poly::Poly;
+use axe_report::{FactorWitness, Report, ReportFactor, ReportFault, ReportHeader, Version};
 use axe_spin::Module;
 use std::alloc::{AllocError, Global};
 
@@ -28,7 +32,8 @@ pub fn report_of(
     requires words { words ≤ last_word }
     requires chopped { IsChopped «module».now seed words chopped.now }
     ensures report { IfOk result (λ report. report
-        ≡ series_report (module_header «module».now seed words) (factor_modules chopped.now) chopped.now.series.items) }
+        ≡ series_report (module_header «module».now seed words) (factor_modules chopped.now)
+        (factor_witnesses chopped.now) chopped.now.series.items) }
     ensures memory { IfErr result (λ fault. fault ≡ Memory) }
 {
     report_under(alloc, header_of(module, seed, words), chopped)
@@ -42,6 +47,7 @@ pub fn header_of(module: &Module, seed: u64, words: u32) -> ReportHeader
     ensures well_formed { IsModule «module».now }
 {
     ReportHeader {
+        version: Version::Two,
         field: *module.field(),
         dim: module.dim(),
         gens: module.gens(),
@@ -60,7 +66,8 @@ pub fn report_under(
     requires relations { IsReportHeader header }
     requires found { IsFoundUnder header chopped.now }
     ensures report { IfOk result (λ report. report
-        ≡ series_report header (factor_modules chopped.now) chopped.now.series.items) }
+        ≡ series_report header (factor_modules chopped.now) (factor_witnesses chopped.now)
+        chopped.now.series.items) }
     ensures memory { IfErr result (λ fault. fault ≡ Memory) }
 {
     let factors = report_factors(alloc, chopped)?;
@@ -74,22 +81,53 @@ fn report_factors(alloc: Global, chopped: &Chopped) -> Result<Vec<ReportFactor>,
 {
     let mut factors = Vec::new(alloc);
     for (name, factor) in &chopped.factors {
-        factors.push(report_factor(name, factor)?)?;
+        factors.push(report_factor(alloc, name, factor)?)?;
     }
     Ok(factors)
 }
 
 /// What a report says of a factor under its name.
-fn report_factor(name: &String, factor: &Factor) -> Result<ReportFactor, AllocError>
+fn report_factor(alloc: Global, name: &String, factor: &Factor) -> Result<ReportFactor, AllocError>
     ensures { IfOk result (λ reported. reported ≡ entry_factor (name.now, factor.now)) }
 {
     let dim = factor.form.matrices().dim();
-    Ok(ReportFactor::new(name.clone()?, dim, factor.multiplicity))
+    let witness = witness_of(alloc, &factor.form)?;
+    let reported = ReportFactor::new(name.clone()?, dim, factor.multiplicity, Some(witness));
+    Ok(reported)
 }
 
-/// Each composition series of a module has a report, whatever the seed and the number of the last word.
+/// By what a form shows its factor to be irreducible.
+fn witness_of(alloc: Global, form: &Form) -> Result<FactorWitness, AllocError>
+    ensures { IfOk result (λ witness. witness ≡ witness_of form.now) }
+{
+    let poly = match form.poly() {
+        None => None,
+        Some(poly) => Some(digits_of(alloc, poly)?),
+    };
+    Ok(FactorWitness::new(form.word(), poly))
+}
+
+/// The digits of a polynomial: the numbers of its coefficients, the constant one first.
+fn digits_of(alloc: Global, poly: &Poly) -> Result<Vec<u8>, AllocError>
+    ensures { IfOk result (λ digits. digits.items ≡ poly.now.coefficients) }
+{
+    let mut digits = Vec::new(alloc);
+    for exponent in 0..poly.degree() {
+        digits.push(poly.coefficient(exponent))?;
+    }
+    digits.push(poly.coefficient(poly.degree()))?;
+    Ok(digits)
+}
+
+/// Each composition series of a module has a report, whatever the seed and the number of the last word, with any
+/// witnesses of its factors; and what [`crate::chop`] finds has witnesses.
 pub fn series_have_reports()
-    ensures { (m : ModuleValue) (seed words : ℕ) (basis : MatrixValue) (factors : List ModuleValue) (places : List ℕ) →
+    ensures reports { (m : ModuleValue) (seed words : ℕ) (basis : MatrixValue) (factors : List ModuleValue)
+        (witnesses : List WitnessValue) (places : List ℕ) →
         IsModule m → seed < 2 ^ 64 → words ≤ most_words → IsSeries m basis factors places →
-        IsReport (series_report (module_header m seed words) factors places) }
+        AreWitnessesOf (module_header m seed words) factors witnesses →
+        IsReport (series_report (module_header m seed words) factors witnesses places) }
+    ensures witnesses { (m : ModuleValue) (seed words : ℕ) (chopped : Chopped) →
+        IsModule m → IsChopped m seed words chopped →
+        AreWitnessesOf (module_header m seed words) (factor_modules chopped) (factor_witnesses chopped) }
 {}

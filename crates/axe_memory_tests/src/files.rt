@@ -20,9 +20,9 @@ const TEXT: &[u8] = b"matrix field=2 rows=2 cols=2\n01\n11\n";
 
 /// A report.
 const REPORT: &[u8] = b"\
-chop 1 field=2 dim=3 gens=2 seed=1 words=400
-factor 2a dim=2 mult=1
-factor 1a dim=1 mult=1
+chop 2 field=2 dim=3 gens=2 seed=1 words=400
+factor 2a dim=2 mult=1 word=7 poly=111
+factor 1a dim=1 mult=1 word=0
 series 2a 1a
 ";
 

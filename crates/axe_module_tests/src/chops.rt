@@ -39,38 +39,45 @@ chop_owned | 2: 0100000000/0010000000/0001000000/0000100000/0000010000/000000100
 2: 0000000001/1001000000/0100100000/0010010000/0001001000/0000100100/0000010010/0000001001/1001000100/0100100010
 ";
 
-/// The same modules, and the reports of their composition series.
-const REPORTS: [(&str, &str); 7] = [
+/// The same modules, and the reports of their composition series: word 0 decides each section of them with at most 1,000
+/// points, and a polynomial the last.
+const REPORTS: [(&str, &str); 8] = [
     (
         "2: 01/11",
-        "chop 1 field=2 dim=2 gens=1 seed=1 words=400\nfactor 2a dim=2 mult=1\nseries 2a\n",
+        "chop 2 field=2 dim=2 gens=1 seed=1 words=400\nfactor 2a dim=2 mult=1 word=0\nseries 2a\n",
     ),
     (
         "3: 010/100/001, 3: 010/001/100",
-        "chop 1 field=3 dim=3 gens=2 seed=1 words=400\n\
-         factor 1a dim=1 mult=2\nfactor 1b dim=1 mult=1\nseries 1a 1b 1a\n",
+        "chop 2 field=3 dim=3 gens=2 seed=1 words=400\n\
+         factor 1a dim=1 mult=2 word=0\nfactor 1b dim=1 mult=1 word=0\nseries 1a 1b 1a\n",
     ),
     (
         "2: 010/100/001, 2: 010/001/100",
-        "chop 1 field=2 dim=3 gens=2 seed=1 words=400\n\
-         factor 2a dim=2 mult=1\nfactor 1a dim=1 mult=1\nseries 2a 1a\n",
+        "chop 2 field=2 dim=3 gens=2 seed=1 words=400\n\
+         factor 2a dim=2 mult=1 word=0\nfactor 1a dim=1 mult=1 word=0\nseries 2a 1a\n",
     ),
     (
         "2: 0100/1100/0011/0010",
-        "chop 1 field=2 dim=4 gens=1 seed=1 words=400\nfactor 2a dim=2 mult=2\nseries 2a 2a\n",
+        "chop 2 field=2 dim=4 gens=1 seed=1 words=400\nfactor 2a dim=2 mult=2 word=0\nseries 2a 2a\n",
     ),
     (
         "4: 20/03",
-        "chop 1 field=4 dim=2 gens=1 seed=1 words=400\n\
-         factor 1a dim=1 mult=1\nfactor 1b dim=1 mult=1\nseries 1a 1b\n",
+        "chop 2 field=4 dim=2 gens=1 seed=1 words=400\n\
+         factor 1a dim=1 mult=1 word=0\nfactor 1b dim=1 mult=1 word=0\nseries 1a 1b\n",
     ),
     (
         "5: 0",
-        "chop 1 field=5 dim=1 gens=1 seed=1 words=400\nfactor 1a dim=1 mult=1\nseries 1a\n",
+        "chop 2 field=5 dim=1 gens=1 seed=1 words=400\nfactor 1a dim=1 mult=1 word=0\nseries 1a\n",
     ),
     (
         "2: 1000/0100/0010/0001",
-        "chop 1 field=2 dim=4 gens=1 seed=1 words=400\nfactor 1a dim=1 mult=4\nseries 1a 1a 1a 1a\n",
+        "chop 2 field=2 dim=4 gens=1 seed=1 words=400\nfactor 1a dim=1 mult=4 word=0\nseries 1a 1a 1a 1a\n",
+    ),
+    (
+        "2: 0100000000/0010000000/0001000000/0000100000/0000010000/0000001000/0000000100/0000000010/\
+         0000000001/1001000000",
+        "chop 2 field=2 dim=10 gens=1 seed=1 words=400\n\
+         factor 10a dim=10 mult=1 word=1 poly=10110000101\nseries 10a\n",
     ),
 ];
 

@@ -1,10 +1,12 @@
 use Rattle.std.proofs.Common.{arith, sym, subst}
 use Rattle.axe_report.specs.Reports.{IsReportHeader}
+use Rattle.axe_report.specs.declared.report.Version.TheVariants.{Two}
 use Rattle.axe_chop.proofs.SeriesReports.{header_fits}
 use Rattle.axe_chop.proofs.reported.header_of.Goals as goal
 
 pub returns-clause-header : goal.returns-clause-header
 returns-clause-header c = λ i. record {
+  version = Two;
   field = c.field.ensures.order i;
   dim = c.dim.ensures.count i;
   gens = c.gens.ensures.count i;
@@ -15,6 +17,7 @@ returns-clause-header c = λ i. record {
 pub returns-clause-relations : goal.returns-clause-relations
 returns-clause-relations c =
     subst IsReportHeader (sym (λ i. record {
+      version = Two;
       field = c.field.ensures.order i;
       dim = c.dim.ensures.count i;
       gens = c.gens.ensures.count i;
