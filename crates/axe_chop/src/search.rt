@@ -16,7 +16,8 @@ ghost use Rattle.axe_chop.specs.declared.search.Searched.TheVariants.{Open};
 use crate::found::Found;
 use crate::section::{Action, Section, Witness};
 use axe_matrix::{Matrix, Refusal};
-use axe_norton::{Verdict, decide};
+use axe_norton::{Verdict, decide_with};
+use axe_poly::Irreducibles;
 use std::alloc::Global;
 use std::collections::VecDeque;
 
@@ -66,9 +67,11 @@ fn decide_all<'a>(
     ensures { Answers None
         (AreDecided (acting_module action.entry) seed words found.new sections.new.items) result }
 {
+    // The irreducible polynomials are found once for all sections.
+    let mut table = Irreducibles::new(alloc, *action.module().field());
     sections.push_front(Section::whole(action))?;
     while let Some(section) = sections.pop_front() {
-        let left = decide_section(alloc, found, sections, section, seed, words)?;
+        let left = decide_section(alloc, found, sections, section, &mut table, seed, words)?;
         if let Some(undecided) = left {
             return Ok(Some(undecided));
         }
@@ -94,12 +97,13 @@ fn outcome_of(
 }
 
 /// Decides a section: an irreducible one has the next place, and the two parts of a reducible one come before the other
-/// sections. One that the words leave undecided is given back.
+/// sections. One that the words leave undecided is given back. The table has irreducible polynomials over its field.
 fn decide_section<'a>(
     alloc: Global,
     found: &mut Found,
     sections: &mut VecDeque<Section<'a>>,
     section: Section<'a>,
+    table: &mut Irreducibles,
     seed: u64,
     words: u32,
 ) -> Result<Option<Section<'a>>, Refusal>
@@ -109,10 +113,12 @@ fn decide_section<'a>(
     requires fits { found.old.basis.cols ≡ section.rows.cols }
     requires room { length found.old.basis.rows + section.action.dim ≤ most_rows }
     requires few_forms { length found.old.forms.items ≤ length found.old.basis.rows }
-    ensures { Answers None
+    requires table_field { table.old.order ≡ section.action.order }
+    ensures decided { Answers None
         (IsDecided seed words section.entry found.old sections.old.items found.new sections.new.items) result }
+    ensures same_field { table.new.order ≡ section.entry.action.order }
 {
-    match decide(alloc, section.action(), seed, words)? {
+    match decide_with(alloc, section.action(), table, seed, words)? {
         Verdict::Irreducible { word, poly, vector } => {
             let witness = Witness { word, poly, vector };
             found.place_owned(alloc, section, seed, witness)?;

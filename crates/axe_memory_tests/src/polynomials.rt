@@ -29,7 +29,7 @@ value | 2: 1001 | 2: 001/001/001 | 2: 101/011/000
 ";
 
 /// The polynomial that is written so.
-fn poly_of(alloc: Global, text: &str) -> Result<Poly, TableFault> {
+pub(crate) fn poly_of(alloc: Global, text: &str) -> Result<Poly, TableFault> {
     let (order, digits) = text.split_once(": ").ok_or(TableFault::NotWritten)?;
     let field = field_of(order)?;
     let digits: Vec<u8> = digits

@@ -1,2 +1,1 @@
 pub mod ActedSpans
-pub mod FittingPolynomials

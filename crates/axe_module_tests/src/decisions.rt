@@ -1,17 +1,17 @@
 //! Norton's test: what a word says of a module, alone or with a polynomial, and what the words of a seed decide.
 
-ghost use Rattle.std.specs.Prelude.{IsTrue, IfOk};
-ghost use Rattle.axe_polynomial_algebra.specs.PolynomialsOfLists.{IsIrreduciblePolynomial};
-ghost use Rattle.axe_field.specs.NumberFields.{number_field};
+ghost use Rattle.std.specs.Prelude.{◌≡◌, ◌≤◌, IfOk};
+ghost use Rattle.axe_polynomial_algebra.specs.PolynomialsOfLists.{degree_of};
+ghost use Rattle.axe_poly.specs.Limits.{greatest_degree};
 ghost use Rattle.axe_word.specs.Words.{IsWordIn};
-ghost use Rattle.axe_norton.specs.OneVector.{FitsWord};
 
 use crate::tables::{Topic, each_call};
 use crate::values::{module_of, poly_over};
-use axe_echelon::null_space;
-use axe_matrix::{Matrix, Refusal, Row};
-use axe_norton::{At, MAX_WORDS, Verdict, decide, decide_at, decide_poly};
-use axe_poly::{Poly, factors_up_to, greatest_degree};
+use axe_matrix::{Matrix, Row};
+use axe_norton::{
+    At, MAX_WORDS, Verdict, decide, decide_at, decide_poly, decide_poly_where_fits, fits,
+};
+use axe_poly::{Poly, greatest_degree};
 use axe_spin::Module;
 use axe_test_values::{
     TableFault, first_field, is_row, is_same_matrix, number_of, small_number_of, three_fields,
@@ -86,6 +86,27 @@ decide_poly | 2: 01/11 | 0 | 111 | irreducible by 111: 2: 01
 decide_poly | 2: 00/01, 2: 11/01 | 0 | 01 | reducible: 2: 01
 # The one null point 01 is fixed.
 decide_poly | 2: 11/01 | 0 | 11 | reducible: 2: 01
+";
+
+/// A module, the number of a generator, the coefficients of a polynomial, the constant one first, and whether it is
+/// irreducible and fits the word that is this generator; or what it says by the word where it does, and else `nothing`.
+const FITTING: &str = "\
+fits | 2: 01/11 | 0 | 111 | true
+# x times x: its value is zero, so that the null space has two dimensions, but it is not irreducible.
+fits | 2: 01/00 | 0 | 001 | false
+# Nor is the square of x^2 + x + 1, of which the same holds in four dimensions.
+fits | 2: 0100/1100/0001/0011 | 0 | 10101 | false
+# x + 1 is irreducible: all vectors, of two dimensions, are null vectors of its value, or none but zero is.
+fits | 2: 10/01 | 0 | 11 | false
+fits | 2: 01/11 | 0 | 11 | false
+fits | 9: 3 | 0 | 61 | true
+# An irreducible polynomial of the greatest degree, and x^12 + 1.
+fits | 2: 010000000000/001000000000/000100000000/000010000000/000001000000/000000100000/000000010000/000000001000/000000000100/000000000010/000000000001/110010100000 | 0 | 1100101000001 | true
+fits | 2: 010000000000/001000000000/000100000000/000010000000/000001000000/000000100000/000000010000/000000001000/000000000100/000000000010/000000000001/100000000000 | 0 | 1000000000001 | false
+decide_poly_where_fits | 2: 01/11 | 0 | 111 | irreducible by 111: 2: 01
+decide_poly_where_fits | 2: 00/01, 2: 11/01 | 0 | 01 | reducible: 2: 01
+decide_poly_where_fits | 2: 01/00 | 0 | 001 | nothing
+decide_poly_where_fits | 2: 10/01 | 0 | 11 | nothing
 ";
 
 /// Whether the reduced basis of a submodule is the one that is written so.
@@ -168,39 +189,6 @@ fn generator_word(rt: &impl Abort, module: &Module, number: u8) -> Word
     word
 }
 
-/// Whether a polynomial is irreducible: then it is the first of its irreducible divisors.
-fn is_irreducible(rt: &impl Abort, alloc: Global, poly: &Poly) -> Result<bool, Refusal>
-    ensures { IfOk result (λ is. IsTrue is →
-        IsIrreduciblePolynomial (number_field poly.now.order) poly.now.coefficients) }
-{
-    let degree = poly.degree();
-    assert!(rt; degree <= greatest_degree(poly.field()));
-    let factors = factors_up_to(alloc, poly, degree)?;
-    match factors.first() {
-        Some(factor) => Ok(factor.same(poly)),
-        None => Ok(false),
-    }
-}
-
-/// Whether a polynomial is irreducible, and fits the value of a word in a module.
-fn fits(
-    rt: &impl Abort,
-    alloc: Global,
-    module: &Module,
-    word: &Word,
-    poly: &Poly,
-) -> Result<bool, Refusal>
-    requires { IsWordIn «module».now word.now }
-    ensures { IfOk result (λ fits. IsTrue fits → FitsWord «module».now word.now poly.now) }
-{
-    if poly.field() != module.field() {
-        return Ok(false);
-    }
-    let value = poly.value_at(alloc, &word.value(alloc, module)?)?;
-    let null_space = null_space(alloc, &value)?;
-    Ok(null_space.rows() == poly.degree() && is_irreducible(rt, alloc, poly)?)
-}
-
 /// Whether the polynomial and the point that show a module to be irreducible are those that are written so.
 fn is_point(
     alloc: Global,
@@ -231,16 +219,45 @@ fn says(rt: &impl Abort, alloc: Global, module: &Module, line: &str) -> Result<b
     is_said(alloc, &decide_at(alloc, module, &word)?, wanted)
 }
 
-fn says_by_poly(
+/// The polynomial over the field of a module, of at most the greatest degree, that is written so.
+fn small_poly(
     rt: &impl Abort,
     alloc: Global,
+    module: &Module,
+    coefficients: &str,
+) -> Result<Poly, TableFault>
+    ensures field { IfOk result (λ poly. poly.order ≡ «module».now.order) }
+    ensures small { IfOk result (λ poly. degree_of poly.coefficients ≤ greatest_degree «module».now.order) }
+{
+    let poly = poly_over(alloc, *module.field(), coefficients)?;
+    assert!(rt; poly.field().order() == module.field().order());
+    assert!(rt; poly.degree() <= greatest_degree(module.field()));
+    Ok(poly)
+}
+
+/// What a polynomial tells of a word that is a generator: whether it fits, or what it says, alone or where it fits.
+fn tells_by_poly(
+    rt: &impl Abort,
+    alloc: Global,
+    call: &str,
     module: &Module,
     line: &str,
 ) -> Result<bool, TableFault> {
     let (number, coefficients, wanted) = three_fields(line)?;
     let word = generator_word(rt, module, small_number_of(number)?);
-    let poly = poly_over(alloc, *module.field(), coefficients)?;
-    assert!(rt; fits(rt, alloc, module, &word, &poly)?);
+    let poly = small_poly(rt, alloc, module, coefficients)?;
+    let is_fitting = fits(alloc, module, &word, &poly)?;
+    if call == "fits" {
+        return Ok(wanted == if is_fitting { "true" } else { "false" });
+    }
+    if call == "decide_poly_where_fits" {
+        let said = decide_poly_where_fits(alloc, module, &word, &poly)?;
+        return match said {
+            Some(said) => is_said(alloc, &said, wanted),
+            None => Ok(wanted == "nothing"),
+        };
+    }
+    assert!(rt; is_fitting);
     is_said(alloc, &decide_poly(alloc, module, &word, &poly)?, wanted)
 }
 
@@ -256,7 +273,9 @@ pub(crate) fn answers(
     match call {
         "decide" => decides(rt, alloc, &module, line),
         "decide_at" => says(rt, alloc, &module, line),
-        "decide_poly" => says_by_poly(rt, alloc, &module, line),
+        "fits" | "decide_poly" | "decide_poly_where_fits" => {
+            tells_by_poly(rt, alloc, call, &module, line)
+        }
         _ => Err(TableFault::NotWritten),
     }
 }
@@ -279,4 +298,9 @@ fn a_word_says_what_its_value_tells(rt: HostRuntime) -> Result<(), TableFault> {
 #[test]
 fn a_polynomial_that_fits_a_word_decides(rt: HostRuntime) -> Result<(), TableFault> {
     each_call(&rt, rt.alloc(), Topic::Decisions, SAID_BY_POLYNOMIALS)
+}
+
+#[test]
+fn a_polynomial_decides_where_it_fits(rt: HostRuntime) -> Result<(), TableFault> {
+    each_call(&rt, rt.alloc(), Topic::Decisions, FITTING)
 }

@@ -8,4 +8,5 @@ pub mod DecisionLaws
 pub mod PointRuns
 pub mod UniqueLaws
 pub mod OneVectorLaws
+pub mod FittingLaws
 pub mod SaidLaws

@@ -1,5 +1,5 @@
 -- What a polynomial at the value of a word says of a module: the one-vector rule (Holt and Rees 1994).
-use Rattle.std.specs.Prelude.{◌≡◌, ◌<◌, ◌⊎◌, length, Some, None}
+use Rattle.std.specs.Prelude.{◌≡◌, ◌<◌, ◌⊎◌, length, Option, Some, None}
 use Rattle.axe_polynomial_algebra.specs.PolynomialsOfLists.{IsIrreduciblePolynomial, Fits}
 use Rattle.axe_field.specs.NumberFields.{number_field}
 use Rattle.axe_row.specs.Rows.{RowValue}
@@ -50,3 +50,8 @@ pub record SaysByPoly (m : ModuleValue) (word : WordValue) (p : PolyValue) (answ
   pub tested : Tested
   pub is_tested : IsTestedByPoly m word p tested
   pub tells : TellsByOne m p tested.matrix tested.null_space answer
+
+-- what p says of a module by a word where it fits the word's value; nothing exactly where it doesn't
+abbrev pub SaysWhereFits : ModuleValue → WordValue → PolyValue → Option At → Type 0
+SaysWhereFits m word p None = ¬ (FitsWord m word p)
+SaysWhereFits m word p (Some answer) = FitsWord m word p × SaysByPoly m word p answer

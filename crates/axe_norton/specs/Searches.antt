@@ -12,7 +12,7 @@ use Rattle.axe_spin.specs.Modules.{ModuleValue}
 use Rattle.axe_spin.specs.Spinning.{IsGeneratedSpace}
 use Rattle.axe_action.specs.Actions.{dual_module, IsAnnihilatorMatrix}
 use Rattle.axe_word.specs.declared.tested.Tested.{Tested}
-use Rattle.axe_word.specs.Tested.{IsTestedAt, IsTestedBy}
+use Rattle.axe_word.specs.Tested.{IsTestedAt, IsTestedBy, IsTestedByPoly}
 use Rattle.axe_word.specs.Words.{WordValue, IsWordIn}
 use Rattle.axe_word.specs.PointsOfMatrix.{IsReduced}
 use Rattle.axe_norton.specs.declared.factors.Fitted.{Fitted}
@@ -21,7 +21,7 @@ use Rattle.axe_norton.specs.declared.verdicts.At.TheVariants.{Irreducible, Reduc
 use Rattle.axe_norton.specs.Spaces.{GeneratesModule, GeneratesProper, TriedGenerate, IsFirstProperSpace, point_of}
 use Rattle.axe_norton.specs.Spaces.{TransposedPoint}
 use Rattle.axe_norton.specs.SmallFactors.{IsFirstFitting, NoneFits}
-use Rattle.axe_norton.specs.OneVector.{TellsByOne}
+use Rattle.axe_norton.specs.OneVector.{FitsWord, TellsByOne}
 
 -- the matrix has as rows the reduced basis of a space of vectors of the module
 pub record IsReducedIn (m : ModuleValue) (basis : MatrixValue) : Type 0 where
@@ -98,6 +98,11 @@ pub record IsTestedWord (m : ModuleValue) (t : Tested) : Type 0 where
 abbrev pub FindsFits : MatrixValue → PolyValue → Option Tested → Type 0
 FindsFits x p None = ¬ (Fits (number_field x.order) x.rows p.coefficients)
 FindsFits x p (Some t) = Fits (number_field x.order) x.rows p.coefficients × IsTestedAt p x t
+
+-- whether p is irreducible and fits the value x of a word: p(x) with its null space where it does
+abbrev pub FindsFitsWord : ModuleValue → WordValue → PolyValue → Option Tested → Type 0
+FindsFitsWord m word p None = ¬ (FitsWord m word p)
+FindsFitsWord m word p (Some t) = FitsWord m word p × IsTestedByPoly m word p t
 
 -- the first of some polynomials that fits x
 pub record IsFirstIn (x : MatrixValue) (polys : List PolyValue) (found : Fitted) : Type 0 where

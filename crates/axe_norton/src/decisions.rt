@@ -53,13 +53,30 @@ pub fn decide(alloc: Global, module: &Module, seed: u64, words: u32) -> Result<V
     ensures decides { Answers None (Decides «module».now seed words) result }
     ensures holds { Answers None (IsTrueVerdict «module».now) result }
 {
+    let mut table = Irreducibles::new(alloc, *module.field());
+    decide_with(alloc, module, &mut table, seed, words)
+}
+
+/// What [`decide`] tells, with a table of irreducible polynomials over the module's field. It has those that were found
+/// for other modules, and keeps those that are found for this one.
+pub fn decide_with(
+    alloc: Global,
+    module: &Module,
+    table: &mut Irreducibles,
+    seed: u64,
+    words: u32,
+) -> Result<Verdict, Refusal>
+    requires words { words ≤ last_word }
+    requires field { table.old.order ≡ «module».now.order }
+    ensures decides { Answers None (Decides «module».now seed words) result }
+    ensures holds { Answers None (IsTrueVerdict «module».now) result }
+    ensures same_field { table.new.order ≡ «module».now.order }
+{
     let order = module.field().order();
     let gens = module.gens() as u8;
-    // The irreducible polynomials are found once for all words.
-    let mut table = Irreducibles::new(alloc, *module.field());
     for number in 0..words + 1 {
         let word = nth_word(seed, number, order, gens);
-        match test_word_of_seed(alloc, module, &mut table, &word, seed, number)? {
+        match test_word_of_seed(alloc, module, table, &word, seed, number)? {
             At::Irreducible { poly, vector } => {
                 return Ok(Verdict::Irreducible {
                     word: number,

@@ -3,14 +3,16 @@
 
 mod decisions;
 mod factors;
+mod fitting;
 pub mod laws;
 mod one_vector;
 mod others;
 mod spaces;
 mod verdicts;
 
-pub use decisions::{decide, decide_at};
-pub use one_vector::decide_poly;
+pub use decisions::{decide, decide_at, decide_with};
+pub use fitting::fits;
+pub use one_vector::{decide_poly, decide_poly_where_fits};
 pub use verdicts::{At, Verdict};
 
 /// The most points of a null space that are all tried. Of a null space with more points the first alone is.

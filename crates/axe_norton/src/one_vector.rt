@@ -1,15 +1,18 @@
 //! What a polynomial at the value of a word says of a module, by one vector.
 
-ghost use Rattle.std.specs.Prelude.{◌≡◌, ◌<◌, length, None};
+ghost use Rattle.std.specs.Prelude.{◌≡◌, ◌<◌, ◌≤◌, length, None, IfSome};
+ghost use Rattle.axe_polynomial_algebra.specs.PolynomialsOfLists.{degree_of};
 ghost use Rattle.axe_row.specs.Refusals.{Answers};
+ghost use Rattle.axe_poly.specs.Limits.{greatest_degree};
 ghost use Rattle.axe_spin.specs.Modules.{IsModule};
 ghost use Rattle.axe_word.specs.Words.{IsWordIn};
 ghost use Rattle.axe_word.specs.Tested.{IsTested};
 ghost use Rattle.axe_norton.specs.Searches.{IsSquareIn, TellsByFirst};
 ghost use Rattle.axe_norton.specs.Verdicts.{IsTrueOf};
-ghost use Rattle.axe_norton.specs.OneVector.{FitsWord, TellsByOne, SaysByPoly};
+ghost use Rattle.axe_norton.specs.OneVector.{FitsWord, TellsByOne, SaysByPoly, SaysWhereFits};
 
 use crate::factors::first_fitting;
+use crate::fitting::tested_where_word_fits;
 use crate::spaces::{proper_space, transposed_point, transposed_space};
 use crate::verdicts::At;
 use axe_matrix::{Matrix, Refusal};
@@ -32,6 +35,27 @@ pub fn decide_poly(alloc: Global, module: &Module, word: &Word, poly: &Poly) -> 
     let tested = word.tested_by_poly(alloc, module, poly)?;
     let poly = poly.copy(alloc)?;
     test_by_one(alloc, module, poly, tested)
+}
+
+/// What [`decide_poly`] says by a polynomial p over the module's field, of at most the greatest degree; nothing exactly
+/// where p is not irreducible or doesn't fit the word's value, as [`crate::fits`] tells.
+pub fn decide_poly_where_fits(
+    alloc: Global,
+    module: &Module,
+    word: &Word,
+    poly: &Poly,
+) -> Result<Option<At>, Refusal>
+    requires word { IsWordIn «module».now word.now }
+    requires field { poly.now.order ≡ «module».now.order }
+    requires small { degree_of poly.now.coefficients ≤ greatest_degree «module».now.order }
+    ensures says { Answers None (SaysWhereFits «module».now word.now poly.now) result }
+    ensures holds { Answers None (λ said. IfSome said (IsTrueOf «module».now)) result }
+{
+    let Some(tested) = tested_where_word_fits(alloc, module, word, poly)? else {
+        return Ok(None);
+    };
+    let poly = poly.copy(alloc)?;
+    Ok(Some(test_by_one(alloc, module, poly, tested)?))
 }
 
 /// What the first small factor that fits a square matrix tells of a module by one vector; the module is left open where

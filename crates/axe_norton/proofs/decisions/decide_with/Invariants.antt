@@ -1,6 +1,6 @@
 use Rattle.std.proofs.Common.{◌≡◌}
 use Rattle.axe_norton.specs.Verdicts.{LeaveOpenBefore}
-use Rattle.axe_norton.proofs.decisions.decide.Given as goal
+use Rattle.axe_norton.proofs.decisions.decide_with.Given as goal
 
 abbrev pub invariant-loop-number : goal.invariant-loop-number
 invariant-loop-number l = record {
