@@ -9,3 +9,8 @@ pub mod PairLaws
 pub mod WitnessLaws
 pub mod StepLaws
 pub mod Certifying
+pub mod PlaceLaws
+pub mod BlockEntries
+pub mod ShapeLaws
+pub mod SeenLaws
+pub mod StepsOfCheck

@@ -1,14 +1,16 @@
 -- A form of a constituent is one of another exactly where the two are isomorphic.
-use Rattle.std.proofs.Common.{◌≡◌, ℕ, Option, Some, None, length, refl, sym, ap, subst, ◌∙◌}
+use Rattle.std.proofs.Common.{◌≡◌, ℕ, ◌+◌, ◌<◌, List, [], length, get_or, All, Option, Some, None, true, false, refl, sym, ap, subst, ◌∙◌, arith}
+use Rattle.std.specs.Option.{is_some}
+use Rattle.std.proofs.lemmas.List.{get_or_default, get_or-map}
+use Rattle.axe_report.specs.Reports.{FactorValue, names}
 use Rattle.axe_algebra.specs.NumberField.{NumberField}
 use Rattle.axe_algebra.specs.Field.{Field}
-use Rattle.axe_algebra.specs.Modules.{Module, HasSquareMatrices}
-use Rattle.axe_algebra.specs.Spans
+use Rattle.axe_algebra.specs.Modules.{HasSquareMatrices}
 use Rattle.axe_algebra.specs.Actions
 use Rattle.axe_algebra.specs.Irreducible
 use Rattle.axe_algebra.specs.Bridge.{matrix_of, module_of}
 use Rattle.axe_algebra.specs.Lists.{IsSquareOver}
-use Rattle.axe_algebra.specs.ModulesOfLists.{IsSubAction, AreIsomorphic}
+use Rattle.axe_algebra.specs.ModulesOfLists.{AreIsomorphic}
 use Rattle.axe_algebra.proofs.IsomorphismLaws.{isomorphic_trans, isomorphic_sym}
 use Rattle.axe_algebra.proofs.ListEntries.{square_shape}
 use Rattle.axe_algebra.proofs.ListModules.{module_shape}
@@ -18,11 +20,12 @@ use Rattle.axe_spin.specs.Modules.{ModuleValue, IsModule}
 use Rattle.axe_action.proofs.OneAction.{squares_of}
 use Rattle.axe_norton.proofs.TruthLaws.{rows_over_field}
 use Rattle.axe_iso.specs.Forms.{FormValue, IsFormFrom}
-use Rattle.axe_iso.specs.Matches.{IsMatch, IsFirstMatch}
+use Rattle.axe_iso.specs.Matches.{IsMatch}
 use Rattle.axe_iso.proofs.OneForm.{isomorphic_by_match}
 use Rattle.axe_series.specs.Series.{IsIsomorphicTo}
 use Rattle.axe_series.proofs.IrreducibleImages.{basis_is_isomorphism}
-use Rattle.axe_check.specs.Steps.{IsFormOf}
+use Rattle.axe_check.specs.Steps.{IsFormOf, AreIsomorphicAt, IsApartTo}
+use native.Mathlib.Decide.{ℕ_discrete}
 
 module _ (m : ModuleValue) (form : FormValue) (is : IsModule m) (of : IsFormOf m form) where
   abbrev K : NumberField
@@ -37,11 +40,8 @@ module _ (m : ModuleValue) (form : FormValue) (is : IsModule m) (of : IsFormOf m
   from : IsFormFrom m form.seed form.word of.poly of.vector form
   from = of.from
 
-  pub form_field : form.matrices.order ≡ m.order
+  form_field : form.matrices.order ≡ m.order
   form_field = from.acts.field
-
-  pub form_count : length form.matrices.generators ≡ length m.generators
-  form_count = sym from.acts.acts.count
 
   form_dimension : form.matrices.dim ≡ d
   form_dimension = from.acts.dimension ∙ from.square
@@ -94,3 +94,43 @@ module _ (m : ModuleValue) (form : FormValue) (is : IsModule m) (of : IsFormOf m
     unmatched_is_not none iso =
         none (there
         (isomorphic_trans F (module_of K d form.matrices.generators) (module_of K d m.generators) (module_of K other.dim other.generators) to_module iso))
+
+-- ---- the same of a list of constituents
+
+module _ (factors : List ModuleValue) (first second : ℕ) (other : ModuleValue) (form : FormValue) (are : All IsModule factors) (less : first < second)
+    (inside : second < length factors) (other_is : other ≡ get_or factors second other) (of : (d : ModuleValue) → IsFormOf (get_or factors first d) form) where
+  abbrev one : ModuleValue
+  one = get_or factors first other
+
+  is_one : IsModule one
+  is_one = are first other (omega (arith, less, inside))
+
+  pub matched_pair : (t : MatrixValue) → IsMatch form other (Some t) → AreIsomorphicAt factors first second
+  matched_pair t match d e =
+      let here : IsIsomorphicTo one other = matched_is_isomorphic one form is_one (of other) other t match in
+      subst (λ (x : ModuleValue). IsIsomorphicTo x (get_or factors second e)) (get_or_default factors first other d (omega (arith, less, inside)))
+      (subst (IsIsomorphicTo one) (other_is ∙ get_or_default factors second other e inside) here)
+
+  pub pair_apart : IsMatch form other None → IsApartTo factors first second → IsApartTo factors first (second + 1)
+  pair_apart none apart k later before same = cases (ℕ_discrete k second)
+    where
+      cases : Dec (k ≡ second) → ⊥
+      cases (no earlier) = apart k later (omega arith) same
+      cases (yes here) =
+          unmatched_is_not one form is_one (of other) other none
+          (subst (IsIsomorphicTo one) (sym other_is) (subst (λ n. AreIsomorphicAt factors first n) here same other other))
+
+  pub matched_some : (answer : Option MatrixValue) → true ≡ is_some answer → IsMatch form other answer → AreIsomorphicAt factors first second
+  matched_some None some match = absurd cc
+  matched_some (Some t) some match = matched_pair t match
+
+  pub matched_none : (answer : Option MatrixValue) → false ≡ is_some answer → IsMatch form other answer → IsApartTo factors first second →
+      IsApartTo factors first (second + 1)
+  matched_none None none match apart = pair_apart match apart
+  matched_none (Some t) none match apart = absurd cc
+
+-- the name that stands at a number
+pub name_read : (reported : List FactorValue) (number : ℕ) (one : FactorValue) → number < length reported → one ≡ get_or reported number one →
+    one.name ≡ get_or (names reported) number []
+name_read reported number one below is =
+    ap (λ (f : FactorValue). f.name) is ∙ sym (get_or-map (λ (f : FactorValue). f.name) reported number one [] below)

@@ -1,7 +1,7 @@
 -- A module with a submodule other than zero and everything is reducible.
-use Rattle.std.proofs.Common.{◌≡◌, ℕ, ◌<◌, ◌≤◌, ◌⊎◌, inl, inr, length, refl, sym, ap, ◌∙◌, arith}
+use Rattle.std.proofs.Common.{ℕ, ◌<◌, ◌≤◌, ◌⊎◌, inl, inr, length, sym, ◌∙◌, arith}
 use Rattle.axe_algebra.specs.Field.{Field}
-use Rattle.axe_algebra.specs.Vectors.{Matrix, zero_vector, unit_vector, unit_matrix}
+use Rattle.axe_algebra.specs.Vectors.{Matrix, unit_vector, unit_matrix}
 use Rattle.axe_algebra.specs.Spans.{IsIndependent, SpansZero, SpansAll}
 use Rattle.axe_algebra.specs.Bridge.{matrix_of}
 use Rattle.axe_algebra.specs.Lists.{IsMatrixOver}
@@ -27,17 +27,17 @@ few_rows_not_all F n k v few all =
     (λ t below. all (unit_matrix F n t) ((unit_is_matrix F n).columns t)) in
     omega (arith, many, few)
 
-pub proper_is_reducible : (m : ModuleValue) (space : MatrixValue) → IsProperSubmodule m space → ¬ (IsIrreducibleModule m)
-proper_is_reducible m space proper irreducible =
-    by_span (irreducible.spans (length space.rows) v (rows_length (number_field m.order) m.dim space.rows over) proper.invariant)
-  where
-    v : Matrix (gf m.order)
-    v = matrix_of (number_field m.order) space.rows
+module _ (m : ModuleValue) (space : MatrixValue) (proper : IsProperSubmodule m space) where
+  abbrev v : Matrix (gf m.order)
+  v = matrix_of (number_field m.order) space.rows
 
-    over : IsMatrixOver (number_field m.order) m.dim space.rows
-    over = rows_over_field m.order m.dim space proper.field proper.columns proper.well_formed
+  over : IsMatrixOver (number_field m.order) m.dim space.rows
+  over = rows_over_field m.order m.dim space proper.field proper.columns proper.well_formed
 
-    by_span : SpansZero (gf m.order) (length space.rows) v ⊎ SpansAll (gf m.order) m.dim (length space.rows) v → ⊥
-    unfolding v
-    by_span (inl zeros) = some_rows_not_zero (gf m.order) (length space.rows) v proper.independent proper.nonzero zeros
-    by_span (inr all) = few_rows_not_all (gf m.order) m.dim (length space.rows) v proper.proper all
+  not_both : SpansZero (gf m.order) (length space.rows) v ⊎ SpansAll (gf m.order) m.dim (length space.rows) v → ⊥
+  not_both (inl zeros) = some_rows_not_zero (gf m.order) (length space.rows) v proper.independent proper.nonzero zeros
+  not_both (inr all) = few_rows_not_all (gf m.order) m.dim (length space.rows) v proper.proper all
+
+  pub proper_is_reducible : ¬ (IsIrreducibleModule m)
+  proper_is_reducible irreducible =
+      not_both (irreducible.spans (length space.rows) v (rows_length (number_field m.order) m.dim space.rows over) proper.invariant)

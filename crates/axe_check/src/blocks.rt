@@ -28,6 +28,8 @@ pub(crate) fn check_blocks(
     ensures { Passes (λ _. HasAllBlocks conjugates.now factors.now series.now)
         (IsBlockReason conjugates.now factors.now series.now) result }
 {
+    // Called for what it ensures beside the number: that the module is one.
+    prove!(conjugates.dim() >= 1);
     let mut start = 0;
     for &number in series {
         let factor = &factors[usize::from(number)];
@@ -85,20 +87,16 @@ fn has_block_at(
 }
 
 /// Whether the rows of a matrix from `start` on, so many, have zeros from column `start + size` on.
-fn has_zeros_at(
-    alloc: Global,
-    matrix: &Matrix,
-    start: usize,
-    size: usize,
-) -> Result<bool, Refusal>
+fn has_zeros_at(alloc: Global, matrix: &Matrix, start: usize, size: usize) -> Result<bool, Refusal>
     requires rows { start + size ≤ length matrix.now.rows }
     requires columns { start + size ≤ matrix.now.cols }
     ensures { Answers None (λ has. IsTrue has ↔ HasZerosAt matrix.now start size) result }
 {
+    let cols = matrix.cols();
     let end = start + size;
-    if end == matrix.cols() {
+    if end == cols {
         return Ok(true);
     }
-    let right = matrix.block(alloc, start, size, end, matrix.cols() - end)?;
+    let right = matrix.block(alloc, start, size, end, cols - end)?;
     Ok(right.has_only_zeros())
 }

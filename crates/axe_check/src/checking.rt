@@ -103,7 +103,8 @@ fn conjugated(alloc: Global, module: &Module, basis: &Matrix) -> Result<Module, 
     ensures module_well_formed { IsModule «module».now }
 {
     // Called for what they ensure beside the numbers: that the matrix and the module are ones.
-    prove!(basis.cols() >= 1 && module.dim() >= 1);
+    prove!(basis.cols() >= 1);
+    prove!(module.dim() >= 1);
     match conjugate(alloc, module, basis) {
         Ok(conjugates) => Ok(conjugates),
         Err(Refusal::Memory) => Err(Stop::Memory),

@@ -1,7 +1,7 @@
 //! Pairs of constituents that are isomorphic.
 
 ghost use Rattle.std.specs.Prelude.{◌≡◌, ◌<◌, length, get_or, All};
-ghost use Rattle.axe_spin.specs.Modules.{ModuleValue};
+ghost use Rattle.axe_spin.specs.Modules.{ModuleValue, IsModule};
 ghost use Rattle.axe_check.specs.Steps.{Passes, IsLikeModule, IsFormOf, AreFormsOf, IsApartTo, AreApartTo};
 ghost use Rattle.axe_check.specs.Steps.{IsSameReason, IsFirstSameReason};
 
@@ -20,6 +20,7 @@ pub(crate) fn check_pairs(
 ) -> Result<(), Stop>
     requires count { length reported.now ≡ length factors.now }
     requires like { (m : ModuleValue) × All (IsLikeModule m) factors.now }
+    requires well_formed { All IsModule factors.now }
     requires forms { AreFormsOf factors.now forms.now }
     requires all { length forms.now ≡ length factors.now }
     ensures { Passes (λ _. AreApartTo factors.now (length factors.now))
@@ -41,6 +42,7 @@ fn check_later(
 ) -> Result<(), Stop>
     requires count { length reported.now ≡ length factors.now }
     requires like { (m : ModuleValue) × All (IsLikeModule m) factors.now }
+    requires well_formed { All IsModule factors.now }
     requires first { first < length factors.now }
     requires form { (d : ModuleValue) → IsFormOf (get_or factors.now first d) form.now }
     ensures { Passes (λ _. IsApartTo factors.now first (length factors.now))

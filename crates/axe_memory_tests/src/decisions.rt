@@ -7,9 +7,7 @@ use crate::tables::{Topic, each_call, is_row, is_still};
 use crate::values::{is_still_module, module_of};
 use axe_iso::{Form, form_of, form_of_owned, matches};
 use axe_matrix::Refusal;
-use axe_norton::{
-    At, Verdict, decide, decide_at, decide_poly, decide_poly_where_fits, fits,
-};
+use axe_norton::{At, Verdict, decide, decide_at, decide_poly, decide_poly_where_fits, fits};
 use axe_poly::{Poly, greatest_degree};
 use axe_spin::Module;
 use axe_test_values::{TableFault, three_fields, two_fields};

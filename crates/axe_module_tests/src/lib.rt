@@ -11,6 +11,8 @@
 #[cfg(test)]
 mod actions;
 #[cfg(test)]
+mod certificates;
+#[cfg(test)]
 mod chops;
 #[cfg(test)]
 mod decisions;
