@@ -1,5 +1,5 @@
 -- What blocks of matrices tell of entries.
-use Rattle.std.proofs.Common.{◌≡◌, ℕ, ◌+◌, ◌-◌, ◌<◌, ◌≤◌, ◌↔◌, List, [], length, get_or, Bool, true, false, All, IsTrue, Result, Ok, Err, None, refl, sym, ap, subst, ◌∙◌, arith}
+use Rattle.std.proofs.Common.{◌≡◌, ℕ, ◌+◌, ◌-◌, ◌<◌, ◌↔◌, List, [], length, get_or, Bool, true, false, All, IsTrue, Result, Ok, Err, None, sym, ap, subst, ◌∙◌, arith}
 use Rattle.axe_algebra.specs.Lists.{entry, table, listed}
 use Rattle.axe_algebra.proofs.ListEntries.{listed_length, listed_at, table_length, table_row, table_entry}
 use Rattle.axe_row.specs.Operations.{IsZeroVector}

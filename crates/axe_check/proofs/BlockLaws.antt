@@ -1,21 +1,20 @@
 -- Blocks, entry by entry: the conjugated generators are block lower triangular with the factors on the diagonal exactly where they have the entries
 -- of these, and zeros to the right.
-use Rattle.std.proofs.Common.{◌≡◌, ℕ, zero, suc, ◌+◌, ◌-◌, ◌<◌, ◌≤◌, ◌↔◌, List, [], length, map, get_or, slice_get, Some, Bool, true, false, All, IsTrue, refl, sym, ap, ap₂, subst, ◌∙◌, arith}
+use Rattle.std.proofs.Common.{◌≡◌, ℕ, suc, ◌+◌, ◌-◌, ◌<◌, ◌≤◌, List, [], length, map, get_or, slice_get, Some, All, refl, sym, ap, subst, ◌∙◌, arith}
 use Rattle.std.proofs.lemmas.List.{length-map, get_or-map, get_or_default}
 use Rattle.std.proofs.lemmas.Option.{slice_get_within, slice_get-get_or, get_or_from_slice_get}
 use Rattle.axe_algebra.specs.NumberField.{NumberField}
-use Rattle.axe_algebra.specs.Field.{Field}
 use Rattle.axe_algebra.specs.Bridge.{field_of, element, matrix_of, zero_of}
 use Rattle.axe_algebra.specs.Blocks.{block_start, block_size, AreBlockSizes}
 use Rattle.axe_algebra.specs.Blocks
 use Rattle.axe_algebra.specs.BlocksOfLists.{IsBlockLowerTriangular, IsDiagonalBlock}
-use Rattle.axe_algebra.specs.Lists.{entry, table, IsSquareOver}
+use Rattle.axe_algebra.specs.Lists.{entry, IsSquareOver}
 use Rattle.axe_algebra.proofs.ElementNumbers.{same_number, element_zero, zero-below}
-use Rattle.axe_algebra.proofs.ListEntries.{table_length, table_entry, square_shape, matrix_entry-below}
+use Rattle.axe_algebra.proofs.ListEntries.{square_shape, matrix_entry-below}
 use Rattle.axe_algebra.proofs.ListModules.{generator_over}
 use Rattle.axe_algebra.proofs.Flags.{block_start_next}
-use Rattle.axe_field.specs.NumberFields.{number_field, gf}
-use Rattle.axe_matrix.specs.Matrices.{MatrixValue, IsMatrix, matrix_block}
+use Rattle.axe_field.specs.NumberFields.{number_field}
+use Rattle.axe_matrix.specs.Matrices.{MatrixValue}
 use Rattle.axe_spin.specs.Modules.{ModuleValue, IsModule, generator_of}
 use Rattle.axe_action.specs.Actions.{IsConjugateModule}
 use Rattle.axe_action.proofs.OneAction.{squares_of}

@@ -1,27 +1,25 @@
 -- From what the steps of a check find to the certificate: that it is right, or the first reason why it is not.
-use Rattle.std.proofs.Common.{◌≡◌, ℕ, ◌<◌, ◌≤◌, ◌⊎◌, inl, inr, List, [], length, map, get_or, slice_get, Option, Some, None, string_bytes, String, refl, sym, ap, ap₂, subst, ◌∙◌, ext_get_or, arith}
+use Rattle.std.proofs.Common.{◌≡◌, ℕ, ◌<◌, ◌≤◌, inl, inr, List, [], length, map, get_or, None, refl, sym, ap, subst, ◌∙◌, ext_get_or, arith}
 use Rattle.std.specs.List.{All}
-use Rattle.std.specs.declared.alloc.Global.{Global}
 use Rattle.std.proofs.lemmas.List.{length-map, get_or-map}
 use Rattle.std.proofs.lemmas.Option.{slice_get_within, get_or_from_slice_get}
 use Rattle.axe_algebra.specs.Blocks.{AreBlockSizes}
-use Rattle.axe_field.specs.NumberFields.{number_field}
 use Rattle.axe_matrix.specs.Matrices.{MatrixValue, IsMatrix}
 use Rattle.axe_spin.specs.Modules.{ModuleValue, IsModule}
 use Rattle.axe_action.specs.Actions.{IsConjugateModule}
 use Rattle.axe_norton.specs.Spaces.{IsIrreducibleModule}
-use Rattle.axe_series.specs.Series.{IsIsomorphicTo, IsPlaceOf, IsBlockOf, IsTriangularBy, IsSeries, AreInOrderOfAppearance, sizes_of_places}
+use Rattle.axe_series.specs.Series.{IsIsomorphicTo, IsPlaceOf, IsBlockOf, IsTriangularBy, AreInOrderOfAppearance, sizes_of_places}
 use Rattle.axe_series.proofs.SeriesOfChain.{isomorphic_back, isomorphic_to_itself}
 use Rattle.axe_series.proofs.TriangularBasis.{block_is_one}
-use Rattle.axe_report.specs.Reports.{FactorValue, ReportValue, WitnessValue, names, dims, IsReport}
+use Rattle.axe_report.specs.Reports.{FactorValue, names, dims, IsReport}
 use Rattle.axe_report.specs.declared.report.Version.TheVariants.{Two}
-use Rattle.axe_check.specs.Certificates.{Certificate, HasHeader, IsBasisOf, factor_count, dim_of, matrices_of, factor_of, factors_of, IsShaped, HasBlocks, AreBlocked, witnesses, IsLeftOpen, IsCertified}
+use Rattle.axe_check.specs.Certificates.{Certificate, HasHeader, factor_count, matrices_of, factor_of, factors_of, HasBlocks, witnesses, IsLeftOpen, IsCertified}
 use Rattle.axe_check.specs.Reasons.{IsSeenIrreducible, IsEarlierPair, HasRightBasis, HasRightShapes, HasRightBlocks, HasRightFactors, AreSameFactors, IsFirstReason}
 use Rattle.axe_check.specs.Steps.{IsHeaderReason, IsBasisReason, AreShapedAs, IsFirstShapeReason, IsLikeModule, HasAllBlocks, IsBlockReason, IsWitnessOver, IsSeenBy, AreSeenTo}
-use Rattle.axe_check.specs.Steps.{LeavesOpenBy, IsOpenReason, IsReducibleReason, IsUnseenReason, IsFirstUnseenReason, AreIsomorphicAt, AreApartTo, IsFirstSameReason}
+use Rattle.axe_check.specs.Steps.{LeavesOpenBy, IsUnseenReason, IsFirstUnseenReason, AreIsomorphicAt, AreApartTo, IsFirstSameReason}
 use Rattle.axe_report.specs.declared.reasons.Reason.{Reason}
 use Rattle.axe_check.proofs.RightCertificates.{count_of_factors, factor_at, factor_is_listed}
-use Rattle.axe_check.proofs.ReportedSeries.{reported_order, reported_sizes, some_dimension, place_sizes}
+use Rattle.axe_check.proofs.ReportedSeries.{reported_order, reported_sizes, place_sizes}
 use Rattle.axe_check.proofs.OneConjugate.{square_basis, conjugate_is_one}
 use Rattle.axe_check.proofs.BlockLaws.{has_blocks, all_blocks}
 use Rattle.axe_check.proofs.WitnessLaws.{witness_over}
@@ -198,7 +196,7 @@ module _ (c : Certificate) (is : IsReport c.report) (is_module : IsModule c.m) (
     left_open_from : (i : ℕ) (d : ModuleValue) → i < factor_count c → LeavesOpenBy (get_or modules i d) c.report.header.seed (get_or (witnesses reported) i None) → IsLeftOpen c i
     left_open_from i d below left =
         let (witness, named, says) =
-            subst (λ (f : ModuleValue). LeavesOpenBy f c.report.header.seed (get_or (witnesses reported) i None)) (module_at i d below) left in
+        subst (λ (f : ModuleValue). LeavesOpenBy f c.report.header.seed (get_or (witnesses reported) i None)) (module_at i d below) left in
         record { witness = witness; named = named; says = says }
 
     seen_at : (i : ℕ) → i < factor_count c → IsSeenBy (get_or modules i c.m) c.report.header.seed (get_or (witnesses reported) i None) → IsSeenIrreducible c i
@@ -325,9 +323,11 @@ module _ (c : Certificate) (is : IsReport c.report) (is_module : IsModule c.m) (
       block_at a i block place of =
           let inside : a < length c.report.series = slice_get_within c.report.series a i place in
           let number : get_or c.report.series a 0 ≡ i = get_or_from_slice_get c.report.series a i 0 place in
-          let below : i < factor_count c = omega (arith, places a 0 inside, number, count_of_factors c) in
-          (below, block_is_one h.conjugates (sizes_of_places (factors_of c) c.report.series) a block (factor_of c i) of
-          (h.diagonal a i (factor_of c i) place (factor_is_listed c i below)))
+          let below : i < factor_count c = omega (arith, places a 0 inside, number, count_of_factors c) in (
+            below,
+            block_is_one h.conjugates (sizes_of_places (factors_of c) c.report.series) a block (factor_of c i) of
+                (h.diagonal a i (factor_of c i) place (factor_is_listed c i below)),
+          )
 
       pub certified : IsCertified c
       certified = record {
@@ -342,8 +342,7 @@ module _ (c : Certificate) (is : IsReport c.report) (is_module : IsModule c.m) (
               subst IsIrreducibleModule (sym (factor_at c i d below)) (factors.seen i below).irreducible;
           one_number = λ a b i j block other place there of other_of.
               let (below, is_block) = block_at a i block place of in
-              let (below_j, is_other) = block_at b j other there other_of in
-              (
+              let (below_j, is_other) = block_at b j other there other_of in (
                 λ same. subst (λ (x : ModuleValue). IsIsomorphicTo x other) (sym is_block)
                     (subst (IsIsomorphicTo (factor_of c i)) (ap (factor_of c) same ∙ sym is_other) (isomorphic_to_itself (factor_of c i) (is_factor i below))),
                 λ iso. numbers i j below below_j

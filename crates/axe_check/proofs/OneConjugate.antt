@@ -12,7 +12,6 @@ use Rattle.axe_matrix.specs.Matrices.{MatrixValue, IsMatrix}
 use Rattle.axe_row.specs.Refusals.{AnswersOr}
 use Rattle.axe_row.specs.declared.refusals.Refusal.{Refusal}
 use Rattle.axe_algebra.specs.ListArithmetic.{IsInverse}
-use Rattle.axe_reduction.specs.Solutions.{IsInvertibleMatrix}
 use Rattle.axe_spin.specs.Modules.{ModuleValue, IsModule}
 use Rattle.axe_action.specs.Actions.{IsConjugateModule, conjugate_refusal}
 use Rattle.axe_action.proofs.ConjugateLaws.{basis_if_accepted}
@@ -57,8 +56,7 @@ pub basis_of_conjugate : (m : ModuleValue) (p : MatrixValue) (late : Refusal →
 basis_of_conjugate m p late conjugates is answer =
     let (none, conjugate) = answered (conjugate_refusal m p) (IsConjugateModule m p) late conjugates answer in
     let fits = basis_if_accepted m p none in
-    let first = conjugate.each 0 (omega (arith, is.some_generator)) in
-    (
+    let first = conjugate.each 0 (omega (arith, is.some_generator)) in (
       record {
         field = fits.field;
         rows = fits.rows;

@@ -1,11 +1,11 @@
 -- A certificate has at most one first reason.
-use Rattle.std.proofs.Common.{◌≡◌, ℕ, ◌<◌, ◌⊎◌, inl, inr, List, [], ◌++◌, get_or, codes, string_bytes, String, refl, sym, ap, ap₂, subst, ◌∙◌, arith}
+use Rattle.std.proofs.Common.{◌≡◌, ℕ, ◌<◌, inl, inr, List, [], ◌++◌, get_or, codes, string_bytes, String, refl, sym, ap, ap₂, subst, ◌∙◌, arith}
 use Rattle.std.specs.declared.alloc.Global.{Global}
 use Rattle.axe_report.specs.Reports.{names}
-use Rattle.axe_check.specs.Certificates.{Certificate, HasHeader, IsBasisOf, factor_count, IsShaped, AreBlocked, IsLeftOpen}
+use Rattle.axe_check.specs.Certificates.{Certificate, IsShaped, IsLeftOpen}
 use Rattle.axe_check.specs.Reasons.{IsSeenIrreducible, IsFirstMisshapen, IsFirstUnseen, IsReducibleFactor, IsFirstSame, IsFirstReason}
 use Rattle.axe_report.specs.Reasons.{reason_text}
-use Rattle.axe_check.specs.Reasons.{IsEarlierPair, AreSameFactors, IsNameOf}
+use Rattle.axe_check.specs.Reasons.{IsEarlierPair, IsNameOf}
 use Rattle.axe_report.specs.declared.reasons.Reason.{Reason}
 use Rattle.axe_report.specs.declared.reasons.Reason.TheVariants.{Header, Basis, Shape, Blocks, Open, Reducible, Same}
 use native.Mathlib.Decide.{dec_lt}

@@ -5,13 +5,12 @@ use Rattle.std.proofs.lemmas.List.{get_or_default, get_or-map}
 use Rattle.axe_report.specs.Reports.{FactorValue, names}
 use Rattle.axe_algebra.specs.NumberField.{NumberField}
 use Rattle.axe_algebra.specs.Field.{Field}
-use Rattle.axe_algebra.specs.Modules.{Module, HasSquareMatrices}
-use Rattle.axe_algebra.specs.Spans
+use Rattle.axe_algebra.specs.Modules.{HasSquareMatrices}
 use Rattle.axe_algebra.specs.Actions
 use Rattle.axe_algebra.specs.Irreducible
 use Rattle.axe_algebra.specs.Bridge.{matrix_of, module_of}
 use Rattle.axe_algebra.specs.Lists.{IsSquareOver}
-use Rattle.axe_algebra.specs.ModulesOfLists.{IsSubAction, AreIsomorphic}
+use Rattle.axe_algebra.specs.ModulesOfLists.{AreIsomorphic}
 use Rattle.axe_algebra.proofs.IsomorphismLaws.{isomorphic_trans, isomorphic_sym}
 use Rattle.axe_algebra.proofs.ListEntries.{square_shape}
 use Rattle.axe_algebra.proofs.ListModules.{module_shape}
@@ -21,7 +20,7 @@ use Rattle.axe_spin.specs.Modules.{ModuleValue, IsModule}
 use Rattle.axe_action.proofs.OneAction.{squares_of}
 use Rattle.axe_norton.proofs.TruthLaws.{rows_over_field}
 use Rattle.axe_iso.specs.Forms.{FormValue, IsFormFrom}
-use Rattle.axe_iso.specs.Matches.{IsMatch, IsFirstMatch}
+use Rattle.axe_iso.specs.Matches.{IsMatch}
 use Rattle.axe_iso.proofs.OneForm.{isomorphic_by_match}
 use Rattle.axe_series.specs.Series.{IsIsomorphicTo}
 use Rattle.axe_series.proofs.IrreducibleImages.{basis_is_isomorphism}

@@ -1,7 +1,7 @@
 -- The blocks of places, one after the other.
-use Rattle.std.proofs.Common.{◌≡◌, ℕ, suc, ◌+◌, ◌<◌, ◌≤◌, List, [], length, map, get_or, slice_get, Some, Option, All, refl, sym, ap, subst, ◌∙◌, arith}
+use Rattle.std.proofs.Common.{◌≡◌, ℕ, suc, ◌+◌, ◌<◌, ◌≤◌, List, length, map, get_or, slice_get, Some, sym, ap, subst, ◌∙◌, arith}
 use Rattle.std.proofs.lemmas.List.{length-map, get_or-map}
-use Rattle.std.proofs.lemmas.Option.{slice_get_within, slice_get-get_or, get_or_from_slice_get}
+use Rattle.std.proofs.lemmas.Option.{slice_get_within, slice_get-get_or}
 use Rattle.axe_algebra.specs.Blocks.{block_start, block_size, AreBlockSizes}
 use Rattle.axe_algebra.proofs.Flags.{block_start_next, block_start_mono}
 use Rattle.axe_spin.specs.Modules.{ModuleValue}

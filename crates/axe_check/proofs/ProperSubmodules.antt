@@ -1,7 +1,7 @@
 -- A module with a submodule other than zero and everything is reducible.
-use Rattle.std.proofs.Common.{◌≡◌, ℕ, ◌<◌, ◌≤◌, ◌⊎◌, inl, inr, length, refl, sym, ap, ◌∙◌, arith}
+use Rattle.std.proofs.Common.{ℕ, ◌<◌, ◌≤◌, ◌⊎◌, inl, inr, length, sym, ◌∙◌, arith}
 use Rattle.axe_algebra.specs.Field.{Field}
-use Rattle.axe_algebra.specs.Vectors.{Matrix, zero_vector, unit_vector, unit_matrix}
+use Rattle.axe_algebra.specs.Vectors.{Matrix, unit_vector, unit_matrix}
 use Rattle.axe_algebra.specs.Spans.{IsIndependent, SpansZero, SpansAll}
 use Rattle.axe_algebra.specs.Bridge.{matrix_of}
 use Rattle.axe_algebra.specs.Lists.{IsMatrixOver}

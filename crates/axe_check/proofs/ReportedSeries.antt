@@ -1,18 +1,18 @@
 -- The series of a report: its constituents appear in their order, and their dimensions make up that of the module.
-use Rattle.std.proofs.Common.{◌≡◌, ℕ, zero, suc, ◌+◌, ◌*◌, ◌<◌, ◌≤◌, eqb, cond, List, [], ◌∷◌, length, map, take, get_or, slice_get, Some, sum_by, All, ext_get_or, inl, inr, refl, sym, ap, subst, ◌∙◌, arith}
+use Rattle.std.proofs.Common.{◌≡◌, ℕ, zero, suc, ◌+◌, ◌*◌, ◌<◌, ◌≤◌, eqb, cond, List, [], ◌∷◌, length, map, take, get_or, slice_get, Some, sum_by, ext_get_or, inl, inr, refl, sym, ap, subst, ◌∙◌, arith}
 use Rattle.std.specs.List.{range_with_len}
 use Rattle.std.proofs.lemmas.Bool.{cases_lt}
 use Rattle.std.proofs.lemmas.List.{length-map, get_or-map}
 use Rattle.std.proofs.lemmas.List.Sums.{sum_by-cons}
 use Rattle.std.proofs.lemmas.Option.{slice_get_within, get_or_from_slice_get}
-use Rattle.axe_algebra.specs.Blocks.{block_start, block_size, AreBlockSizes}
+use Rattle.axe_algebra.specs.Blocks.{block_start, AreBlockSizes}
 use Rattle.axe_algebra.specs.Lists.{listed}
 use Rattle.axe_algebra.proofs.ListEntries.{listed_length, listed_at}
 use Rattle.axe_report.specs.Names.{count_of}
 use Rattle.axe_report.specs.Reports.{FactorValue, ReportValue, dims, multiplicities, total_dim, first_appearances, counts_in, IsReport}
 use Rattle.axe_report.proofs.NumberedFactors.{AreNumbered, numbered_factor, numbered_total}
 use Rattle.axe_report.proofs.Plain.{total_cons}
-use Rattle.axe_report.proofs.Orders.{Has, has_from_first, has_range, range_has, first_from_has, InOrderTo, in_order_begun, in_order_more, out_of_order}
+use Rattle.axe_report.proofs.Orders.{Has, has_from_first, has_range, InOrderTo, in_order_begun, in_order_more, out_of_order}
 use Rattle.axe_report.proofs.Members.{places_fit}
 use Rattle.axe_series.specs.Series.{IsPlaceOf, AreInOrderOfAppearance}
 
@@ -47,9 +47,11 @@ module _ (series : List ℕ) (count : ℕ) (order : first_appearances series ≡
       next : (seen : ℕ) × InOrderTo series i seen → (seen : ℕ) × InOrderTo series (suc i) seen
       next (seen, inv) =
           let one_more : i + 1 ≡ suc i = omega arith in
-          let more : ℕ = cond (eqb (get_or series i 0) seen) 1 0 in
-          (seen + more, subst (λ (k : ℕ). InOrderTo series k (seen + more)) one_more
-          (in_order_more series i seen more (omega arith) (no_gap i seen (omega arith) inv) refl inv))
+          let more : ℕ = cond (eqb (get_or series i 0) seen) 1 0 in (
+            seen + more,
+            subst (λ (k : ℕ). InOrderTo series k (seen + more)) one_more
+                (in_order_more series i seen more (omega arith) (no_gap i seen (omega arith) inv) refl inv),
+          )
 
   earlier_place : (b smaller : ℕ) → b < length series → smaller < get_or series b 0 → (a : ℕ) × (a < b) × IsPlaceOf series a smaller
   earlier_place b smaller inside less = by_seen (seen_to b (omega arith))

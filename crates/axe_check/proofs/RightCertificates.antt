@@ -1,13 +1,12 @@
 -- A right certificate has no reason, and one that passes each step is right.
-use Rattle.std.proofs.Common.{◌≡◌, ℕ, ◌<◌, ◌⊎◌, inl, inr, List, [], length, map, get_or, slice_get, Some, refl, sym, ap, subst, ◌∙◌, arith}
-use Rattle.std.specs.List.{All}
+use Rattle.std.proofs.Common.{◌≡◌, ℕ, ◌<◌, length, get_or, slice_get, Some, ap, subst, ◌∙◌, arith}
 use Rattle.std.proofs.lemmas.Option.{slice_get-get_or}
 use Rattle.axe_algebra.proofs.ListEntries.{listed_length, listed_at}
 use Rattle.axe_spin.specs.Modules.{ModuleValue}
 use Rattle.axe_norton.specs.Spaces.{IsIrreducibleModule}
-use Rattle.axe_series.specs.Series.{IsBlockOf, IsIsomorphicTo, IsPlaceOf, IsSeries, sizes_of_places}
-use Rattle.axe_check.specs.Certificates.{Certificate, factor_count, factor_of, factors_of, IsShaped, HasBlocks, AreBlocked, IsLeftOpen, IsBasisOf, IsCertified}
-use Rattle.axe_check.specs.Reasons.{IsSeenIrreducible, HasRightBasis, HasRightShapes, HasRightBlocks, HasRightFactors, AreSameFactors, IsFirstReason}
+use Rattle.axe_series.specs.Series.{IsBlockOf, IsPlaceOf, IsSeries, sizes_of_places}
+use Rattle.axe_check.specs.Certificates.{Certificate, factor_count, factor_of, factors_of, IsCertified}
+use Rattle.axe_check.specs.Reasons.{HasRightBasis, HasRightBlocks, HasRightFactors, AreSameFactors, IsFirstReason}
 use Rattle.axe_report.specs.declared.reasons.Reason.{Reason}
 use Rattle.axe_report.specs.declared.reasons.Reason.TheVariants.{Header, Basis, Shape, Blocks, Open, Reducible, Same}
 

@@ -1,12 +1,12 @@
 -- Constituents that are seen to be irreducible, one after the other, with their forms.
-use Rattle.std.proofs.Common.{◌≡◌, ℕ, ◌+◌, ◌<◌, ◌≤◌, List, [], ◌∷◌, ◌++◌, length, get_or, None, refl, sym, ap, subst, ◌∙◌, length-append, arith}
+use Rattle.std.proofs.Common.{◌≡◌, ℕ, ◌+◌, ◌<◌, List, [], ◌∷◌, ◌++◌, length, get_or, None, sym, ap, subst, ◌∙◌, length-append, arith}
 use Rattle.std.proofs.lemmas.List.{get_or_default, get_or_append_left, get_or-append-add}
 use Rattle.axe_spin.specs.Modules.{ModuleValue}
 use Rattle.axe_iso.specs.Forms.{FormValue}
 use Rattle.axe_report.specs.Reports.{FactorValue}
 use Rattle.axe_check.specs.Certificates.{witnesses}
 use Rattle.axe_check.specs.Steps.{IsSeenBy, AreSeenTo, IsFormOf, AreFormsOf, IsUnseenReason, IsFirstUnseenReason}
-use Rattle.axe_check.specs.declared.reasons.Reason.{Reason}
+use Rattle.axe_report.specs.declared.reasons.Reason.{Reason}
 use Rattle.axe_check.proofs.Certifying.{witness_at}
 use native.Mathlib.Decide.{ℕ_discrete}
 

@@ -1,20 +1,18 @@
 -- The shapes of constituents' matrices, one after the other, and the modules that they make.
-use Rattle.std.proofs.Common.{◌≡◌, ℕ, ◌+◌, ◌<◌, ◌≤◌, List, [], ◌∷◌, ◌++◌, length, map, get_or, All, Result, Ok, None, refl, sym, ap, subst, ◌∙◌, arith}
+use Rattle.std.proofs.Common.{◌≡◌, ℕ, ◌+◌, ◌<◌, List, [], ◌∷◌, ◌++◌, length, get_or, All, Result, Ok, None, refl, sym, ap, subst, ◌∙◌, arith}
 use Rattle.std.proofs.lemmas.List.{get_or-map, length-map}
 use Rattle.std.proofs.lemmas.List.FromFn.{map-range_with_len_more}
 use Rattle.std.specs.declared.alloc.Global.{Global}
 use Rattle.std.specs.declared.vec.Vec.{Vec}
-use Rattle.axe_algebra.specs.Lists.{listed}
 use Rattle.axe_row.specs.Refusals.{Answers}
 use Rattle.axe_row.specs.declared.refusals.Refusal.{Refusal}
 use Rattle.axe_matrix.specs.Matrices.{MatrixValue, IsMatrix}
-use Rattle.axe_spin.specs.Modules.{ModuleValue, IsModule, module_of_matrices, rows_of_each}
-use Rattle.axe_spin.specs.Generators.{IsGeneratorMatrix}
+use Rattle.axe_spin.specs.Modules.{ModuleValue, IsModule, module_of_matrices}
 use Rattle.axe_action.proofs.GeneratorLists.{module_of_generators}
 use Rattle.axe_report.specs.Reports.{FactorValue, dims}
 use Rattle.axe_check.specs.Certificates.{HasShape, IsSquareOfSize, module_with, lists_of}
 use Rattle.axe_check.specs.Steps.{IsShapedAs, IsShapeReason, HasShapeAt, AreShapedTo, IsFirstShapeReason}
-use Rattle.axe_check.specs.declared.reasons.Reason.{Reason}
+use Rattle.axe_report.specs.declared.reasons.Reason.{Reason}
 use native.Mathlib.Decide.{ℕ_discrete}
 
 -- matrices of a shape make their module

@@ -5,7 +5,7 @@ use Rattle.axe_report.specs.declared.reasons.Reason.{Reason}
 use Rattle.axe_check.specs.declared.reasons.Stop.{Stop}
 use Rattle.axe_check.specs.declared.reasons.Stop.TheVariants.{Because, Memory}
 use Rattle.axe_check.specs.Steps.{Passes}
-use mathlib.Core.Path.{sym, ap, subst}
+use mathlib.Core.Path.{sym, subst}
 
 -- the step within it stopped: for its reason, or for want of memory
 pub stopped : {S T : Type 0} (P : S → Type 0) (Q R : Reason → Type 0) (V : T → Type 0) (result : Result T Stop) (stop : Stop) →

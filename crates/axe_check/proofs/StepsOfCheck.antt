@@ -1,8 +1,7 @@
 -- What is known in a check once the constituents are modules, and what comes of its further steps.
-use Rattle.std.proofs.Common.{◌≡◌, ℕ, ◌<◌, ◌≤◌, List, length, get_or, None, Result, Err, refl, sym, ap, subst, ◌∙◌}
+use Rattle.std.proofs.Common.{◌≡◌, ℕ, ◌<◌, List, length, get_or, None, Result, sym, ap, subst, ◌∙◌}
 use Rattle.std.specs.List.{All}
 use Rattle.std.specs.Prelude.{⊤}
-use Rattle.std.specs.Result.{IsErrAnd}
 use Rattle.std.specs.declared.alloc.Global.{Global}
 use Rattle.std.specs.declared.vec.Vec.{Vec}
 use Rattle.axe_algebra.specs.Blocks.{AreBlockSizes}
@@ -16,10 +15,10 @@ use Rattle.axe_report.specs.declared.report.Version.TheVariants.{Two}
 use Rattle.axe_check.specs.Certificates.{Certificate, certificate, lists_of, HasHeader, IsBasisOf, witnesses, IsCertified}
 use Rattle.axe_check.specs.Reasons.{HasRightBasis, HasRightBlocks, HasRightFactors, IsFirstReason}
 use Rattle.axe_check.specs.Steps.{Passes, AreShapedAs, IsFirstShapeReason, IsLikeModule, HasAllBlocks, IsBlockReason, IsWitnessOver, AreSeenAs, IsFirstUnseenReason, AreApartTo, IsFirstSameReason}
-use Rattle.axe_check.specs.declared.reasons.Reason.{Reason}
+use Rattle.axe_report.specs.declared.reasons.Reason.{Reason}
 use Rattle.axe_check.specs.declared.reasons.Stop.{Stop}
 use Rattle.axe_check.proofs.ShapeLaws.{count_of_lists}
-use Rattle.axe_check.proofs.StepLaws.{stopped, passes_more}
+use Rattle.axe_check.proofs.StepLaws.{passes_more}
 use Rattle.axe_check.proofs.Certifying.{shape_first, modules_count, like_modules, sizes_fit, places_fit, like_fit, block_first, right_blocks, witnesses_over, right_factors, unseen_first, same_first, certified}
 
 -- what is known before the shapes are looked at

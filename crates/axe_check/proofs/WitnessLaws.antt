@@ -1,10 +1,9 @@
 -- The witnesses of a report of version 2.
-use Rattle.std.proofs.Common.{◌≡◌, ℕ, suc, ◌+◌, ◌-◌, ◌^◌, ◌<◌, ◌≤◌, List, length, map, get_or, All, Option, Some, None, inl, inr, refl, sym, ap, subst, ◌∙◌, arith}
+use Rattle.std.proofs.Common.{◌≡◌, ℕ, ◌+◌, ◌-◌, ◌^◌, ◌<◌, ◌≤◌, List, length, All, Option, Some, None, inl, inr, refl, sym, subst, arith}
 use Rattle.std.proofs.Math.Nat.{pow-le-pow_right}
 use Rattle.std.proofs.lemmas.Bool.{cases_lt}
 use Rattle.axe_polynomial_algebra.specs.PolynomialsOfLists.{degree_of}
 use Rattle.axe_field.specs.Order.{Order, order_number}
-use Rattle.axe_field.specs.NumberFields.{number_field}
 use Rattle.axe_field.proofs.NumberFields.{number_field-order}
 use Rattle.axe_field.proofs.Orders.{order_number-at_least}
 use Rattle.axe_poly.specs.Limits.{greatest_degree}

@@ -1,6 +1,5 @@
 -- What the words that are named say of constituents.
-use Rattle.std.proofs.Common.{◌≡◌, ◌≢◌, ℕ, ◌+◌, ◌^◌, ◌<◌, ◌≤◌, ◌⊎◌, inl, inr, List, Option, Some, None, string_bytes, String, refl, sym, ap, subst, ◌∙◌, arith}
-use Rattle.axe_algebra.specs.ModulesOfLists.{GeneratesEverything}
+use Rattle.std.proofs.Common.{◌≡◌, ◌≢◌, ℕ, ◌≤◌, inl, inr, List, Option, Some, None, string_bytes, String, refl, sym, ap, subst, ◌∙◌}
 use Rattle.axe_polynomial_algebra.specs.PolynomialsOfLists.{degree_of, IsIrreduciblePolynomial, Fits}
 use Rattle.axe_field.specs.Order.{Order}
 use Rattle.axe_field.specs.NumberFields.{number_field}
@@ -14,15 +13,15 @@ use Rattle.axe_norton.specs.declared.verdicts.At.{At}
 use Rattle.axe_norton.specs.declared.verdicts.At.TheVariants.{Irreducible, Reducible, Left}
 use Rattle.axe_norton.specs.Spaces.{GeneratesModule}
 use Rattle.axe_norton.specs.OneVector.{FitsWord, SaysByPoly, ShowsIrreducibleByOne}
-use Rattle.axe_norton.specs.Verdicts.{Says, IsTrueOf, word_of_seed}
+use Rattle.axe_norton.specs.Verdicts.{IsTrueOf, word_of_seed}
 use Rattle.axe_norton.proofs.UniqueLaws.{says_one, poly_says_one}
 use Rattle.axe_iso.specs.Forms.{FormValue, IsForm, IsFormFrom, IsNullSpaceOf}
 use Rattle.axe_iso.proofs.PointForms.{fitting_is_small, point_is_null_vector, point_is_vector}
 use Rattle.axe_series.proofs.SomeForm.{IsShownBy, said_is_shown}
 use Rattle.axe_report.specs.Reports.{FactorValue, WitnessValue, word_of, poly_of}
 use Rattle.axe_check.specs.Certificates.{SaysWith, named_poly, WitnessSays}
-use Rattle.axe_check.specs.Steps.{IsSmallPoly, AreDigitsOver, IsWitnessOver, LeavesOpenBy, IsSeenBy, IsFormOf, IsReducibleReason}
-use Rattle.axe_check.specs.declared.reasons.Reason
+use Rattle.axe_check.specs.Steps.{AreDigitsOver, IsWitnessOver, LeavesOpenBy, IsSeenBy, IsFormOf, IsReducibleReason}
+use Rattle.axe_report.specs.declared.reasons.Reason
 use Rattle.axe_check.proofs.ProperSubmodules.{proper_is_reducible}
 use Rattle.std.specs.declared.alloc.Global.{Global}
 

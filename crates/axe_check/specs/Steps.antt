@@ -18,7 +18,6 @@ use Rattle.axe_series.specs.Series.{IsIsomorphicTo, IsPlaceOf, sizes_of_places}
 use Rattle.axe_report.specs.Reports.{FactorValue, WitnessValue, names, dims}
 use Rattle.axe_report.specs.declared.report.ReportHeader.{ReportHeader}
 use Rattle.axe_check.specs.Certificates.{HasHeader, IsBasisOf, HasShape, module_with, witnesses, WitnessSays}
-use Rattle.axe_check.specs.Reasons.{IsEarlierPair}
 use Rattle.axe_report.specs.declared.reasons.Reason.{Reason}
 use Rattle.axe_report.specs.declared.reasons.Reason.TheVariants.{Header, Basis, Shape, Blocks, Open, Reducible, Same}
 use Rattle.axe_check.specs.declared.reasons.Stop.{Stop}

@@ -87,12 +87,7 @@ fn has_block_at(
 }
 
 /// Whether the rows of a matrix from `start` on, so many, have zeros from column `start + size` on.
-fn has_zeros_at(
-    alloc: Global,
-    matrix: &Matrix,
-    start: usize,
-    size: usize,
-) -> Result<bool, Refusal>
+fn has_zeros_at(alloc: Global, matrix: &Matrix, start: usize, size: usize) -> Result<bool, Refusal>
     requires rows { start + size ≤ length matrix.now.rows }
     requires columns { start + size ≤ matrix.now.cols }
     ensures { Answers None (λ has. IsTrue has ↔ HasZerosAt matrix.now start size) result }

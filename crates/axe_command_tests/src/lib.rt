@@ -34,4 +34,6 @@ mod sums;
 #[cfg(test)]
 mod texts;
 #[cfg(test)]
+mod verifying;
+#[cfg(test)]
 mod watched;

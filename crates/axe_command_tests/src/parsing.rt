@@ -3,7 +3,7 @@
 //! A table has lines `WORD .. -> ANSWER`. The answer is what the command does with which files, or `usage: TEXT` or
 //! `help: TEXT` where the words are no command. Words and texts are spelled as `spelling` says.
 use crate::spelling::{assert_text, parts, plain, words};
-use axe_command::{Command, GeneratorCount, ModuleFiles, Name, ParseFault, parse};
+use axe_command::{Command, GeneratorCount, ModuleFiles, ModuleLayout, Name, ParseFault, parse};
 use std::alloc::{AllocError, Global};
 use std::process::Abort;
 
@@ -55,6 +55,9 @@ chop M --seed 18446744073709551615 -> chop 2 generators of M, seed 1844674407370
 chop --words 10000 M -> chop 2 generators of M, seed 1, words 10000
 chop -m M -> chop one file of M, seed 1, words 400
 chop --module -g 16 --seed 2 M -> chop one file of M, seed 2, words 400
+verify M -> verify a file for each generator of M
+verify -m M -> verify one file of M
+verify M --module -> verify one file of M
 ";
 
 #[test]
@@ -92,6 +95,8 @@ zqt S M -> usage: ..Usage: axe zqt <SUB> <NAME> <OUTNAME>\n
 zqt S M Q A -> usage: ..Usage: axe zqt [OPTIONS] <SUB> <NAME> <OUTNAME>\n
 chop -> usage: ..Usage: axe chop <NAME>\n
 chop M A -> usage: ..Usage: axe chop [OPTIONS] <NAME>\n
+verify -> usage: ..Usage: axe verify <NAME>\n
+verify M A -> usage: ..Usage: axe verify [OPTIONS] <NAME>\n
 ";
 
 #[test]
@@ -139,6 +144,7 @@ chop -b M
 chop --word 3 M
 chop --modules M
 zpr -m M
+verify -g 2 M
 ";
 
 #[test]
@@ -180,6 +186,8 @@ chop a/b
 chop ''
 chop -- -M
 chop -m a/b
+verify a/b
+verify -m -- -M
 zcv -m a/b OUT
 zcv -m M .axm
 ";
@@ -192,21 +200,22 @@ fn bad_names_have_a_text_of_their_own(rt: HostRuntime) {
 const SHOWN: &str = r"
 --version -> help: ..axe 0.1.0\n
 -V -> help: ..axe 0.1.0\n
--h -> help: ..  zcv   Convert the text of a matrix to a packed file\n
--h -> help: ..  zpr   Print a matrix as text\n
--h -> help: ..  zmu   Multiply two matrices\n
--h -> help: ..  zad   Add two matrices\n
--h -> help: ..  ztr   Transpose a matrix\n
--h -> help: ..  ziv   Invert a matrix\n
--h -> help: ..  znu   Find the null space of a matrix\n
--h -> help: ..  zsp   Spin vectors in a module\n
--h -> help: ..  zqt   Take the quotient of a module by a submodule\n
--h -> help: ..  chop  Find a composition series of a module\n
+-h -> help: ..  zcv     Convert the text of a matrix to a packed file\n
+-h -> help: ..  zpr     Print a matrix as text\n
+-h -> help: ..  zmu     Multiply two matrices\n
+-h -> help: ..  zad     Add two matrices\n
+-h -> help: ..  ztr     Transpose a matrix\n
+-h -> help: ..  ziv     Invert a matrix\n
+-h -> help: ..  znu     Find the null space of a matrix\n
+-h -> help: ..  zsp     Spin vectors in a module\n
+-h -> help: ..  zqt     Take the quotient of a module by a submodule\n
+-h -> help: ..  chop    Find a composition series of a module\n
+-h -> help: ..  verify  Check a composition series of a module\n
 --help -> help: ..fields of order 2, 3, 4, 5, 7, 8 and 9
---help -> help: ..  zmu   Multiply two matrices\n
-help -> help: ..  zmu   Multiply two matrices\n
-help -h -> help: ..  zmu   Multiply two matrices\n
-help --help -> help: ..  zmu   Multiply two matrices\n
+--help -> help: ..  zmu     Multiply two matrices\n
+help -> help: ..  zmu     Multiply two matrices\n
+help -h -> help: ..  zmu     Multiply two matrices\n
+help --help -> help: ..  zmu     Multiply two matrices\n
 zcv -h -> help: ..Usage: axe zcv [OPTIONS] <IN> <OUT>\n
 zcv -h -> help: ..  -m, --module  Convert the texts IN.1 to IN.N, the generators of a module, to one file\n
 zcv --help -> help: ..With -m it converts a module
@@ -232,6 +241,9 @@ chop -h -> help: ..Usage: axe chop [OPTIONS] <NAME>\n
 chop -h -> help: ..      --seed <S>   The seed that draws the words, 0 to 18446744073709551615 [default: 1]\n
 chop -h -> help: ..      --words <W>  How many words are tried after word 0, 0 to 10000 [default: 400]\n
 chop --help -> help: ..  factor 2a dim=2 mult=1 word=0\n
+verify -h -> help: ..Usage: axe verify [OPTIONS] <NAME>\n
+verify --help -> help: ..Whoever wrote the files, and by whatever program
+help verify -> help: ..axe: NotVerified same 2a 2b
 ";
 
 #[test]
@@ -321,6 +333,7 @@ fn told(alloc: Global, command: &Command) -> Result<String, AllocError> {
             let (words, name) = (words.get(), name.as_str());
             format!(in alloc; "chop {files} of {name}, seed {seed}, words {words}")
         }
+        Command::Verify { layout, name } => told_layout(alloc, *layout, name),
     }
 }
 
@@ -363,6 +376,15 @@ fn told_files(alloc: Global, files: &ModuleFiles) -> Result<String, AllocError> 
         }
         ModuleFiles::Whole => String::from_str(alloc, "one file"),
     }
+}
+
+fn told_layout(alloc: Global, layout: ModuleLayout, name: &Name) -> Result<String, AllocError> {
+    let files = match layout {
+        ModuleLayout::Separate => "a file for each generator",
+        ModuleLayout::Whole => "one file",
+    };
+    let name = name.as_str();
+    format!(in alloc; "verify {files} of {name}")
 }
 
 fn told_action(action: &Option<Name>) -> &str {

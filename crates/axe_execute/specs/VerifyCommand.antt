@@ -1,6 +1,7 @@
 -- What `verify` means: whether what lies beside a module is a composition series of it is checked.
-use Rattle.std.specs.Prelude.{◌≡◌, ◌⊎◌, ℕ, List, [], ◌∷◌, ◌++◌, codes, Result, Ok, Err}
+use Rattle.std.specs.Prelude.{◌≡◌, ◌⊎◌, ℕ, List, [], ◌∷◌, ◌++◌, length, codes, Result, Ok, Err}
 use Rattle.axe_matrix.specs.Matrices.{MatrixValue}
+use Rattle.axe_spin.specs.Modules.{ModuleValue}
 use Rattle.axe_report.specs.Reasons.{reason_text}
 use Rattle.axe_report.specs.Reports.{ReportValue, names}
 use Rattle.axe_report.specs.declared.fault.ReportFault.TheVariants.{OldReport}
@@ -18,7 +19,7 @@ use Rattle.axe_plan.specs.Plans.{Plan}
 use Rattle.axe_plan.specs.Meanings.{Meaning, Is, ◌>>=◌}
 use Rattle.axe_plan.specs.Inputs.{and_then, matrix_in, module_names, generators_in, checked_module}
 use Rattle.axe_plan.specs.ReportFiles.{ReportIn}
-use Rattle.axe_execute.specs.SeriesFiles.{report_file, basis_file, factor_name, factor_files}
+use Rattle.axe_execute.specs.SeriesFiles.{report_file, basis_file, factor_name, factor_files, HoldsSeries}
 
 -- ---- what is read
 
@@ -81,3 +82,12 @@ AreReadToVerify layout name files read =
     (read ≡ report_file name ∷ [])
     ⊎ ((report : ReportValue) × CurrentReport (report_file name) files (Ok report)
     × (read ≡ report_file name ∷ reported_files (files_with layout report.header.gens) name (names report.factors)))
+
+-- ---- what is true of it
+
+-- the files under the name hold a composition series of the module of this name, whoever wrote them, and the plan is
+-- that of a yes
+pub record FindsSeries (layout : ModuleLayout) (name : List ℕ) (files : Files) (plan : Plan) : Type 0 where
+  pub m : ModuleValue
+  pub holds : HoldsSeries (files_with layout (length m.generators)) m name files
+  pub plan_is : plan ≡ verified_plan

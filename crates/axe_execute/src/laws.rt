@@ -8,6 +8,7 @@ ghost use Rattle.axe_folder.specs.Files.{Files, file_at};
 ghost use Rattle.axe_arguments.specs.Commands.{HasCounts, HasFileCount};
 ghost use Rattle.axe_arguments.specs.Counts.{IsWordCount};
 ghost use Rattle.axe_arguments.specs.declared.command.ModuleFiles.{ModuleFiles};
+ghost use Rattle.axe_arguments.specs.declared.command.ModuleLayout.{ModuleLayout};
 ghost use Rattle.axe_arguments.specs.declared.command.Command.{Command};
 ghost use Rattle.axe_fault.specs.declared.fault.Fault.{Fault};
 ghost use Rattle.axe_fault.specs.declared.fault.Fault.TheVariants.{Undecided};
@@ -16,6 +17,7 @@ ghost use Rattle.axe_plan.specs.Plans.{Plan};
 ghost use Rattle.axe_plan.specs.Meanings.{Answered, AtMostOne};
 ghost use Rattle.axe_plan.specs.Inputs.{module_in};
 ghost use Rattle.axe_execute.specs.ChopCommand.{ChopPlan, LeavesSeries, WritesSeries, FindsOpenSection, IsSmallModule};
+ghost use Rattle.axe_execute.specs.VerifyCommand.{VerifyPlan, FindsSeries};
 ghost use Rattle.axe_execute.specs.Means.{Means};
 ghost use Rattle.axe_execute.specs.SeriesFiles.{report_file};
 ghost use Rattle.axe_execute.specs.AfterChop.{ChopFails, IsLeftByChop, IsBeforeOrAfterChop};
@@ -62,4 +64,10 @@ pub fn chop_leaves_no_wrong_report()
         ChopFails stored seed words name fault old new →
         file_at new (report_file name) ≡ Some bytes → IsSpelling bytes →
         IsBeforeOrAfterChop stored seed words name old new }
+{}
+
+/// Where `verify` says yes, the files hold a composition series of the module, whoever wrote them.
+pub fn verify_finds_a_series()
+    ensures { (layout : ModuleLayout) (name : List ℕ) (files : Files) (plan : Plan) →
+        VerifyPlan layout name files (Ok plan) → FindsSeries layout name files plan }
 {}

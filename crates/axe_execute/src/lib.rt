@@ -18,5 +18,5 @@ mod verifying;
 pub use execution::{Shown, execute};
 pub use laws::{
     chop_decides_small_modules, chop_leaves_no_wrong_report, chop_writes_a_series,
-    commands_have_one_meaning,
+    commands_have_one_meaning, verify_finds_a_series,
 };

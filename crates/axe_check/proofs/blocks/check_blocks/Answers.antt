@@ -1,9 +1,7 @@
-use Rattle.std.proofs.Common.{◌≡◌, ◌+◌, ◌<◌, ◌≤◌, length, refl, sym, ap, subst, ◌∙◌, arith}
-use Rattle.axe_algebra.specs.Blocks.{block_start}
-use Rattle.axe_series.specs.Series.{sizes_of_places}
+use Rattle.std.proofs.Common.{◌+◌, ◌<◌, length, refl, sym, subst, ◌∙◌, arith}
 use Rattle.axe_check.specs.Steps.{HasBlocksAt}
 use Rattle.axe_check.proofs.BlockEntries.{not_both}
-use Rattle.axe_check.proofs.PlaceLaws.{none_to, all_to, next_start, next_fits, more_to, wrong_here}
+use Rattle.axe_check.proofs.PlaceLaws.{all_to, next_start, next_fits, more_to, wrong_here}
 use Rattle.axe_check.proofs.blocks.check_blocks.Goals as goal
 
 pub has_blocks_at-requires-clause-fits : goal.has_blocks_at-requires-clause-fits
@@ -22,8 +20,7 @@ overflow_add-start c =
 
 pub returns-then-not-branch : goal.returns-then-not-branch
 returns-then-not-branch c =
-    let below : c.from.result < length c.args.factors.now = subst (λ n. n < length c.args.factors.now) (sym c.from.ensures) (c.requires.places c.loop-number.number-index 0 c.loop-number-test.true) in
-    (
+    let below : c.from.result < length c.args.factors.now = subst (λ n. n < length c.args.factors.now) (sym c.from.ensures) (c.requires.places c.loop-number.number-index 0 c.loop-number-test.true) in (
       refl,
       wrong_here c.args.conjugates.now c.args.factors.now c.args.series.now c.loop-number.number-index c.from.result c.index-factors-from.result
           c.loop-number-test.true c.from.ensures below c.index-factors-from.is

@@ -1,4 +1,4 @@
-use Rattle.std.proofs.Common.{◌≡◌, sym, ◌∙◌}
+use Rattle.std.proofs.Common.{sym, ◌∙◌}
 use Rattle.axe_check.proofs.BlockEntries.{same_of_entries, block_if_zeros, not_both}
 use Rattle.axe_check.proofs.blocks.has_block_at.Goals as goal
 

@@ -19,7 +19,7 @@ returns-then-is_some c = record {
       c.index-reported-second.is;
   apart = c.loop-second.invariant;
   same = matched_some c.args.factors.now c.args.first c.loop-second.second c.index-factors-second.result c.args.form.now c.requires.well_formed
-    (omega (arith, c.loop-second.auto.second)) c.loop-second-test.true c.index-factors-second.is c.requires.form c.in_ok-matches.field-0
+      (omega (arith, c.loop-second.auto.second)) c.loop-second-test.true c.index-factors-second.is c.requires.form c.in_ok-matches.field-0
       c.if-is_some.ensures c.in_ok-matches.ensures.answer;
 }
 

@@ -1,7 +1,6 @@
-use Rattle.std.proofs.Common.{take, refl, sym, subst, ◌∙◌, take_all, arith}
+use Rattle.std.proofs.Common.{refl, sym, subst, ◌∙◌, take_all}
 use Rattle.std.specs.List.{All}
 use Rattle.std.proofs.lemmas.List.Elements.{All-more}
-use Rattle.axe_matrix.specs.Matrices.{MatrixValue}
 use Rattle.axe_matrix.proofs.MatrixLaws.{one_field}
 use Rattle.axe_check.specs.Certificates.{IsSquareOfSize}
 use Rattle.axe_check.proofs.shapes.are_square.Goals as goal

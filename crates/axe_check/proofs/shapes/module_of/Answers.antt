@@ -1,7 +1,7 @@
-use Rattle.std.proofs.Common.{refl, sym, subst, take_all, ◌∙◌, arith}
+use Rattle.std.proofs.Common.{refl, sym, subst}
 use Rattle.std.specs.List.{All}
 use Rattle.std.proofs.lemmas.List.Elements.{All-push}
-use Rattle.axe_matrix.specs.Matrices.{MatrixValue, IsMatrix}
+use Rattle.axe_matrix.specs.Matrices.{IsMatrix}
 use Rattle.axe_spin.proofs.ModuleLaws.{copies_more, copies_all}
 use Rattle.axe_check.proofs.ShapeLaws.{module_is_made}
 use Rattle.axe_check.proofs.shapes.module_of.Goals as goal

@@ -1,5 +1,5 @@
 use Rattle.std.proofs.Common.{inl, inr, option_copied, refl}
-use Rattle.axe_check.proofs.WordLaws.{not_left, left_open, seen_shown, seen_by, reducible_reason, form_of_itself}
+use Rattle.axe_check.proofs.WordLaws.{left_open, seen_shown, seen_by, reducible_reason, form_of_itself}
 use Rattle.axe_check.proofs.words.seen_form.Goals as goal
 
 pub form_of-requires-clause-vector : goal.form_of-requires-clause-vector
@@ -29,7 +29,7 @@ form_of-requires-clause-small c =
 pub returns-in-Irreducible : goal.returns-in-Irreducible
 returns-in-Irreducible c = (
   seen_by c.args.factor.now c.args.seed c.args.reported.now.witness c.requires.witness c.word.result c.in-Some.number (option_copied c.poly.result)
-    c.in_ok-poly.field-0 c.word.ensures c.in-Some.is c.poly.ensures c.in_ok-poly.ensures.says c.in-Irreducible.poly c.in-Irreducible.vector c.in-Irreducible.is
+      c.in_ok-poly.field-0 c.word.ensures c.in-Some.is c.poly.ensures c.in_ok-poly.ensures.says c.in-Irreducible.poly c.in-Irreducible.vector c.in-Irreducible.is
       c.in_ok-poly.ensures.holds,
   form_of_itself c.args.factor.now c.args.seed c.in-Some.number (option_copied c.as_ref.result) c.in-Irreducible.vector
       c.in_ok-form_of-in-Irreducible.field-0 c.in_ok-form_of-in-Irreducible.ensures.well_formed c.in_ok-form_of-in-Irreducible.ensures.form,
@@ -48,5 +48,5 @@ returns c = inl (record {
   is = refl;
   named = c.in_ok-name_of-in-Left.ensures;
   wrong = left_open c.args.factor.now c.args.seed c.args.reported.now.witness c.requires.witness c.word.result c.in-Some.number (option_copied c.poly.result)
-    c.in_ok-poly.field-0 c.word.ensures c.in-Some.is c.poly.ensures c.in_ok-poly.ensures.says c.in-Left.is;
+      c.in_ok-poly.field-0 c.word.ensures c.in-Some.is c.poly.ensures c.in_ok-poly.ensures.says c.in-Left.is;
 })

@@ -1,4 +1,4 @@
-use Rattle.std.proofs.Common.{◌≡◌, ◌+◌, ◌<◌, [], ◌∷◌, length, sym, ap, ◌∙◌, length-append, arith}
+use Rattle.std.proofs.Common.{◌+◌, [], ◌∷◌, length, ap, ◌∙◌, length-append}
 use Rattle.axe_iso.specs.Forms.{FormValue}
 use Rattle.axe_check.specs.Steps.{IsSeenBy, IsFormOf, IsUnseenReason, IsFirstUnseenReason}
 use Rattle.axe_check.proofs.StepLaws.{stopped}
