@@ -133,4 +133,4 @@ module _ (c : Certificate) where
   one_reason (Same a b) Blocks first second = absurd (second.1 first.before.before.blocks)
   one_reason (Same a b) (Open d) first second = absurd ((first.before.seen second.number second.below).decided second.wrong)
   one_reason (Same a b) (Reducible d) first second = absurd (second.wrong.reducible (first.before.seen second.number second.below).irreducible)
-  one_reason (Same a b) (Same d e) first second = ap₂ (λ (x y : List ℕ). codes "same " ++ (x ++ (codes " " ++ y))) (same_first a b d e first second) (same_second a b d e first second)
+  one_reason (Same a b) (Same d e) first second = ap₂ (λ (x y : List ℕ). codes "same " ++ x ++ codes " " ++ y) (same_first a b d e first second) (same_second a b d e first second)
