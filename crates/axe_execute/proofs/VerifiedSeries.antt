@@ -9,7 +9,6 @@ use Rattle.axe_algebra.proofs.ListEntries.{listed_length, listed_at}
 use Rattle.axe_matrix.specs.Matrices.{MatrixValue, IsMatrix}
 use Rattle.axe_spin.specs.Modules.{ModuleValue, IsModule, rows_of_each}
 use Rattle.axe_action.proofs.GeneratorLists.{module_of_generators}
-use Rattle.axe_norton.specs.declared.verdicts.At.TheVariants.{Left}
 use Rattle.axe_report.specs.Limits.{most_report_bytes}
 use Rattle.axe_report.specs.Names.{count_of, names_of}
 use Rattle.axe_report.specs.Reports.{WitnessValue, FactorValue, ReportValue, names, dims, multiplicities, counts_in, IsReportHeader, IsWitnessUnder, IsWitnessIn, IsWitnessed, AreWitnessed, IsReport}
@@ -17,8 +16,8 @@ use Rattle.axe_report.specs.Spelling.{report_bytes}
 use Rattle.axe_report.specs.declared.report.ReportHeader.{ReportHeader}
 use Rattle.axe_report.specs.declared.report.Version.{Version}
 use Rattle.axe_report.specs.declared.report.Version.TheVariants.{One, Two}
-use Rattle.axe_report.proofs.NumberedFactors.{numbered_by_parts}
-use Rattle.axe_check.specs.Certificates.{Certificate, IsCertified, HasShape, IsSquareOfSize, module_with, witnesses, WitnessSays, factor_of, factors_of, factor_count, dim_of, matrices_of}
+use Rattle.axe_report.proofs.NumberedFactors.{numbered_factor, numbered_by_parts}
+use Rattle.axe_check.specs.Certificates.{Certificate, IsCertified, HasShape, IsSquareOfSize, module_with, factor_of, factors_of, factor_count, dim_of, matrices_of}
 use Rattle.axe_chop.specs.Reported.{dims_of_factors, reported_factor, module_header, series_report, AreWitnessesOf}
 use Rattle.axe_folder.specs.declared.fault.FolderFault.{FolderFault}
 use Rattle.axe_folder.specs.declared.fault.FolderFault.TheVariants.{TooLong}
@@ -74,10 +73,10 @@ file_of_bytes files name limit bytes e = cases (file_at files name) e
     cases (Some file) fine = ap (λ (l : List ℕ). Some l) (whole file (nat_lt limit (length file)) fine)
 
 -- a report that is read from a file
-record IsReadFrom (file : List ℕ) (files : Files) (report : ReportValue) : Type 0 where
-  here : file_at files file ≡ Some (report_bytes report)
-  is_report : IsReport report
-  version : report.header.version ≡ Two
+pub record IsReadFrom (file : List ℕ) (files : Files) (report : ReportValue) : Type 0 where
+  pub here : file_at files file ≡ Some (report_bytes report)
+  pub is_report : IsReport report
+  pub version : report.header.version ≡ Two
 
 read_from : (file : List ℕ) (files : Files) (report : ReportValue) → CurrentReport file files (Ok report) → IsReadFrom file files report
 unfolding CurrentReport ReportIn
@@ -225,15 +224,13 @@ module _ (stored : ModuleFiles) (name : List ℕ) (files : Files) (c : Certifica
   factors_listed =
       numbered_by_parts (dims fs) ws c.report.series fs from.is_report.factors.named refl
       (from.is_report.series.counted ∙ ap (counts_in c.report.series) (sym (length-map fs (λ (f : FactorValue). f.dim)))) (all_seen c.report.header fs from.version from.is_report.witnessed)
-      ∙ (λ i. listed (counts i) (λ number. record {
-        name = get_or (names_of (dims_are (inverse i))) number [];
-        dim = get_or (dims_are (inverse i)) number 0;
-        multiplicity = count_of number c.report.series;
-        witness = slice_get ws number;
-      }))
+      ∙ (λ i. listed (counts i) (numbered_factor (sized i) ws c.report.series))
     where
       counts : length (dims fs) ≡ length (factors_of c)
       counts = length-map fs (λ (f : FactorValue). f.dim) ∙ sym many ∙ sym (listed_length (factor_count c) (factor_of c))
+
+      sized : dims fs ≡ dims_of_factors (factors_of c)
+      sized = sym dims_are
 
   report_listed : c.report ≡ series_report c.report.header (factors_of c) ws c.report.series
   unfolding series_report
