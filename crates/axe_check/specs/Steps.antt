@@ -177,7 +177,8 @@ AreSeenTo factors seed reported count = (i : ℕ) (d : ModuleValue) → i < coun
 -- the forms are those of the first factors
 pub record AreFormsOf (factors : List ModuleValue) (forms : List FormValue) : Type 0 where
   pub no_more : length forms ≤ length factors
-  pub each : (i : ℕ) (d : ModuleValue) (e : FormValue) → i < length forms → IsFormOf (get_or factors i d) (get_or forms i e)
+  pub each : (i : ℕ) (d : ModuleValue) (e : FormValue) → i < length forms →
+      IsFormOf (get_or factors i d) (get_or forms i e)
 
 -- all are seen to be irreducible, and have these forms
 pub record AreSeenAs (factors : List ModuleValue) (seed : ℕ) (reported : List FactorValue) (forms : List FormValue) :

@@ -41,8 +41,8 @@ pub(crate) fn check_blocks(
     Ok(())
 }
 
-/// Whether each generator of a module has, in the rows from `start` on, a factor's generator from column `start` on, and
-/// zeros after it.
+/// Whether each generator of a module has, in the rows from `start` on, a factor's generator from column `start` on,
+/// and zeros after it.
 fn has_blocks_at(
     alloc: Global,
     conjugates: &Module,

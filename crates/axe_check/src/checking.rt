@@ -22,17 +22,17 @@ use axe_spin::Module;
 use std::alloc::Global;
 
 /// Checks a certificate that what `chop` wrote beside a module is a composition series of it: the report, which is of
-/// version 2, the basis, and for each constituent of the report the list of its matrices. No field and no shape is asked
-/// of these: they are checked. `None` says that the certificate is right: the report is of the module's field, dimension
-/// and number of generators; by the basis, the constituents' matrices and the report's series it is a composition
+/// version 2, the basis, and for each constituent of the report the list of its matrices. No field and no shape is
+/// asked of these: they are checked. `None` says that the certificate is right: the report is of the module's field,
+/// dimension and number of generators; the basis, the constituents' matrices and the report's series are a composition
 /// series; and no word that the report names leaves its constituent open. Where it is not right the first reason is
 /// answered, in this order: [`Reason::Header`]; [`Reason::Basis`]; [`Reason::Shape`] of the first constituent of which
 /// it holds; [`Reason::Blocks`]; then for each constituent in order [`Reason::Open`] and [`Reason::Reducible`]; and
 /// [`Reason::Same`] of the first pair, in order of the first and then of the second.
 ///
-/// A constituent's word is the report's seed's of the number that it names. A polynomial that is named beside it, is
-/// irreducible and fits the word's value tells as [`axe_norton::decide_poly`] does; else the word tells as
-/// [`axe_norton::decide_at`] does. The only fault is Memory.
+/// A constituent's word is that of the report's seed and of the number that the report names. A polynomial that is
+/// named beside it, is irreducible and fits the word's value tells as [`axe_norton::decide_poly`] does; else the word
+/// tells as [`axe_norton::decide_at`] does. The only fault is Memory.
 pub fn check(
     alloc: Global,
     report: &Report,

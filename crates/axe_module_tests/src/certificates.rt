@@ -24,17 +24,19 @@ const POINTS: &str = "2: 010/001/100, 2: 010/100/001";
 const POINTS_REPORT: &str = "chop 2 field=2 dim=3 gens=2 seed=1 words=400\n\
     factor 2a dim=2 mult=1 word=0\nfactor 1a dim=1 mult=1 word=0\nseries 2a 1a\n";
 
-/// On 011, 110 and 100 the first generator takes 011 to 101, which is their sum, 110 to 011, and 100 to 010, which is the
-/// sum of 110 and 100; the second takes 011 to 101, 110 to itself, and 100 to 010.
+/// On 011, 110 and 100: the first generator takes 011 to 101, which is the sum of 011 and 110; 110 to 011; and 100 to
+/// 010, which is the sum of 110 and 100. The second takes 011 to 101, 110 to itself, and 100 to 010.
 const POINTS_BASIS: &str = "2: 011/110/100";
 
 const POINTS_FACTORS: &[&str] = &["2: 11/10, 2: 11/01", "2: 1, 2: 1"];
 
 /// The companion matrix of x^10 + x^3 + 1.
-const COMPANION: &str = "2: 0100000000/0010000000/0001000000/0000100000/0000010000/0000001000/0000000100/0000000010/\
+const COMPANION: &str =
+    "2: 0100000000/0010000000/0001000000/0000100000/0000010000/0000001000/0000000100/0000000010/\
     0000000001/1001000000";
 
-const UNIT_VECTORS: &str = "2: 1000000000/0100000000/0010000000/0001000000/0000100000/0000010000/0000001000/0000000100/\
+const UNIT_VECTORS: &str =
+    "2: 1000000000/0100000000/0010000000/0001000000/0000100000/0000010000/0000001000/0000000100/\
     0000000010/0000000001";
 
 const CALLS: &[Call] = &[
@@ -218,7 +220,10 @@ fn is_answered(alloc: Global, call: &Call) -> Result<bool, TableFault> {
     let module = module_of(alloc, call.module)?;
     let basis = matrix_of(alloc, call.basis)?;
     let factors = lists_of(alloc, call.factors)?;
-    match (text_of(alloc, &report, &module, &basis, &factors)?, call.answer) {
+    match (
+        text_of(alloc, &report, &module, &basis, &factors)?,
+        call.answer,
+    ) {
         (None, None) => Ok(true),
         (Some(text), Some(wanted)) => Ok(text.as_str() == wanted),
         _ => Ok(false),
