@@ -51,6 +51,3 @@ unfolding VerifyPlan
 verify_plan_one layout name files =
     then_one (λ report. ⊤) (CurrentReport (report_file name) files) _ (λ before right. any_value before) (current_report_one (report_file name) files)
     (λ report known. reported_plan_one (files_with layout report.header.gens) name report files)
-
-pub verify_plan_some : (layout : ModuleLayout) (name : List ℕ) (files : Files) → Answered (VerifyPlan layout name files)
-verify_plan_some layout name files = ?
