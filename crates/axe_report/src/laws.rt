@@ -5,7 +5,8 @@ ghost use Rattle.axe_report.specs.Names.{letters, constituent_name};
 ghost use Rattle.axe_report.specs.Reports.{ReportValue, IsReport};
 ghost use Rattle.axe_report.specs.Spelling.{report_bytes};
 ghost use Rattle.axe_report.specs.Passing.{FailsFirstAt};
-ghost use Rattle.axe_report.specs.Limits.{most_dimension, most_generators, most_words, most_polynomials, most_report_bytes};
+ghost use Rattle.axe_report.specs.Limits.{most_dimension, most_generators, most_words, most_polynomials};
+ghost use Rattle.axe_report.specs.Limits.{most_report_bytes};
 
 use crate::{MAX_DIMENSION, MAX_GENERATORS, MAX_POLYNOMIALS, MAX_WORDS, REPORT_LIMIT};
 

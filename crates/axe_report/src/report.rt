@@ -173,7 +173,8 @@ impl ReportFactor {
 /// The report of a composition series.
 ///
 /// Its factors are named by the rule, in order of first appearance in the series, from the bottom; each stands there so
-/// often as its multiplicity says, and the dimensions make up that of the module.
+/// often as its multiplicity says, and the dimensions make up that of the module. In version 2 each has its witness: a
+/// word that the header names, and, where there is one, a polynomial over its field.
 #[derive(Debug, Drop)]
 pub struct Report {
     header: ReportHeader,

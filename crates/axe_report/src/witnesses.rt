@@ -53,7 +53,8 @@ fn witness<'a>(
     ensures { IfOk result (λ answer. MatchOption answer
         ((witness : WitnessValue) (rest : List ℕ) → IsWitnessUnder header.now witness →
         text.now ≢ witness_bytes (Some witness) ++ (10 ∷ rest))
-        (λ found. IsWitnessUnder header.now found.0 × (text.now ≡ witness_bytes (Some found.0) ++ (10 ∷ found.1.now)))) }
+        (λ found. IsWitnessUnder header.now found.0
+        × (text.now ≡ witness_bytes (Some found.0) ++ (10 ∷ found.1.now)))) }
 {
     let Some((word, after_word)) = setting(text, b" word=") else {
         return Ok(None);
