@@ -105,7 +105,8 @@ pub record HasBlocks (m : ModuleValue) (basis : MatrixValue) (factors : List Mod
   pub diagonal : (a number : ℕ) (factor : ModuleValue) → IsPlaceOf places a number →
       slice_get factors number ≡ Some factor → IsBlockOf conjugates (sizes_of_places factors places) a factor
 
--- the certificate's blocks are so
+-- conjugated by the certificate's basis the generators are block lower triangular by the report's series, with the
+-- constituents' matrices on the diagonal
 abbrev pub AreBlocked : Certificate → Type 0
 AreBlocked c = HasBlocks c.m c.basis (factors_of c) c.report.series
 
@@ -138,7 +139,7 @@ pub record SaysOfFactor (c : Certificate) (number : ℕ) (answer : At) : Type 0 
   pub named : get_or (witnesses c.report.factors) number None ≡ Some witness
   pub says : WitnessSays (factor_of c number) c.report.header.seed witness answer
 
--- it leaves the constituent open
+-- the word that the report names for constituent `number` leaves it open
 abbrev pub IsLeftOpen : Certificate → ℕ → Type 0
 IsLeftOpen c number = SaysOfFactor c number Left
 

@@ -16,7 +16,7 @@ use Rattle.axe_report.specs.declared.reasons.Reason.TheVariants.{Header, Basis, 
 abbrev pub IsIrreducibleFactor : Certificate → ℕ → Type 0
 IsIrreducibleFactor c number = IsIrreducibleModule (factor_of c number)
 
--- its word does not leave constituent `number` open, and it is irreducible
+-- its word does not leave constituent `number` open, and that is irreducible
 pub record IsSeenIrreducible (c : Certificate) (number : ℕ) : Type 0 where
   pub decided : ¬ (IsLeftOpen c number)
   pub irreducible : IsIrreducibleFactor c number
@@ -36,17 +36,17 @@ pub record HasRightBasis (c : Certificate) : Type 0 where
   pub header : HasHeader c.report.header c.m
   pub basis : IsBasisOf c.m c.basis
 
--- and so are the shapes
+-- the header, the basis and the shapes are right
 pub record HasRightShapes (c : Certificate) : Type 0 where
   pub before : HasRightBasis c
   pub shapes : (number : ℕ) → number < factor_count c → IsShaped c number
 
--- and so are the blocks
+-- the header, the basis, the shapes and the blocks are right
 pub record HasRightBlocks (c : Certificate) : Type 0 where
   pub before : HasRightShapes c
   pub blocks : AreBlocked c
 
--- and the word of each constituent shows it to be irreducible
+-- all these are right, and the word of each constituent shows it to be irreducible
 pub record HasRightFactors (c : Certificate) : Type 0 where
   pub before : HasRightBlocks c
   pub seen : (number : ℕ) → number < factor_count c → IsSeenIrreducible c number
@@ -75,7 +75,7 @@ pub record IsFirstUnseen (c : Certificate) (name : String Global) (Wrong : ℕ �
   pub earlier : (i : ℕ) → i < number → IsSeenIrreducible c i
   pub wrong : Wrong number
 
--- its word does not leave constituent `number` open, and it is reducible
+-- its word does not leave constituent `number` open, and that is reducible
 pub record IsReducibleFactor (c : Certificate) (number : ℕ) : Type 0 where
   pub decided : ¬ (IsLeftOpen c number)
   pub reducible : ¬ (IsIrreducibleFactor c number)
