@@ -40,6 +40,8 @@ fn is_refused_or_reported(alloc: Global, bytes: &[u8]) -> Result<bool, ReportFau
         Ok(report) => Ok(write_report(alloc, &report)?.as_slice() == bytes),
         Err(ReportFault::Memory) => Err(ReportFault::Memory),
         Err(ReportFault::BadReport(_)) => Ok(true),
+        // No reader answers this one.
+        Err(ReportFault::OldReport) => Ok(false),
     }
 }
 

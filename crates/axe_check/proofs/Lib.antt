@@ -14,3 +14,4 @@ pub mod BlockEntries
 pub mod ShapeLaws
 pub mod SeenLaws
 pub mod StepsOfCheck
+pub mod FormDecisions

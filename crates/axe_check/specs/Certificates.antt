@@ -133,6 +133,10 @@ abbrev pub WitnessSays : ModuleValue → ℕ → WitnessValue → At → Type 0
 WitnessSays m seed witness answer =
     SaysWith m (word_of_seed m seed witness.word) (named_poly m.order witness.poly) answer
 
+-- it leaves the module open
+abbrev pub WitnessLeavesOpen : ModuleValue → ℕ → WitnessValue → Type 0
+WitnessLeavesOpen m seed witness = WitnessSays m seed witness Left
+
 -- the report names a word for constituent `number`, and this is what it says of it, with the polynomial if one is named
 pub record SaysOfFactor (c : Certificate) (number : ℕ) (answer : At) : Type 0 where
   pub witness : WitnessValue

@@ -10,8 +10,8 @@ ghost use Rattle.axe_check.specs.Steps.{IsLikeModule};
 
 use crate::reasons::Stop;
 use axe_matrix::{Matrix, Refusal};
-use axe_spin::Module;
 use axe_report::Reason;
+use axe_spin::Module;
 use std::alloc::Global;
 
 /// Whether the conjugated generators are block lower triangular with the factors of a series on their diagonal, by

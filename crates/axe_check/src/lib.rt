@@ -10,5 +10,5 @@ mod reasons;
 mod shapes;
 mod words;
 
-pub use checking::check;
 pub use axe_report::Reason;
+pub use checking::check;

@@ -25,25 +25,27 @@ use Rattle.axe_chop.specs.declared.chopped.Chopped.{Chopped}
 -- ---- words
 
 -- a form by one of the words of a run
-pub record IsFormBy (words : ℕ) (form : FormValue) : Type 0 where
+pub record IsFormBy (seed words : ℕ) (form : FormValue) : Type 0 where
   pub is_form : IsForm form
   pub within : form.word ≤ words
+  pub of_seed : form.seed ≡ seed
 
 -- what a run finds, after what was found so far
-abbrev AreAllBy : ℕ → Outcome → Type 0
-AreAllBy words (complete found) = All (IsFormBy words) found.forms
-AreAllBy words (open_section rows offset dim) = Unit {0}
+abbrev AreAllBy : ℕ → ℕ → Outcome → Type 0
+AreAllBy seed words (complete found) = All (IsFormBy seed words) found.forms
+AreAllBy seed words (open_section rows offset dim) = Unit {0}
 
 forms_of_run : (seed words : ℕ) {sections : List SectionValue} {found : FoundValue} {outcome : Outcome} → Runs seed words sections found outcome →
-    All (IsFormBy words) found.forms → AreAllBy words outcome
+    All (IsFormBy seed words) found.forms → AreAllBy seed words outcome
 forms_of_run seed words all_found all = all
 forms_of_run seed words (undecided decides) all = tt
 forms_of_run seed words (reducible space sub quotient decides cut run) all = forms_of_run seed words run all
 forms_of_run seed words (known word poly v number t decides is_known run) all = forms_of_run seed words run all
 forms_of_run seed words {found = found} (new word poly v form decides others is_new run) all =
-    forms_of_run seed words run (All-push (IsFormBy words) found.forms form all (record {
+    forms_of_run seed words run (All-push (IsFormBy seed words) found.forms form all (record {
       is_form = is_new.is_form;
       within = omega (arith, is_new.from.word_is, decides.within);
+      of_seed = is_new.from.seed_is;
     }))
 
 -- ---- polynomials
@@ -75,8 +77,8 @@ module _ (m : ModuleValue) (is : IsModule m) (seed words : ℕ) (found : FoundVa
   abbrev factors : List ModuleValue
   factors = factors_of_forms found.forms
 
-  all_by : All (IsFormBy words) found.forms
-  all_by = forms_of_run seed words run (All-nil (IsFormBy words))
+  pub all_by : All (IsFormBy seed words) found.forms
+  all_by = forms_of_run seed words run (All-nil (IsFormBy seed words))
 
   each_over : (k : ℕ) (d : FormValue) → k < length found.forms → (get_or found.forms k d).matrices.order ≡ m.order
   each_over k d below =
@@ -87,7 +89,7 @@ module _ (m : ModuleValue) (is : IsModule m) (seed words : ℕ) (found : FoundVa
 
   each_under : All (λ (form : FormValue). IsWitnessUnder (module_header m seed words) (witness_of form)) found.forms
   each_under k d below =
-      let by = All-get_or (IsFormBy words) found.forms k d below all_by in
+      let by = All-get_or (IsFormBy seed words) found.forms k d below all_by in
       record {
         word = by.within;
         poly = subst (λ (o : Order). IsPolyOver (order_number o) (option_map (λ (p : PolyValue). p.coefficients) (get_or found.forms k d).poly)) (each_over k d below)

@@ -4,7 +4,9 @@
 //! `line` and `status` say what is printed and answered where that fails. Each part stands in a crate of its own.
 #![tactic(auto)]
 
-pub use axe_arguments::{Command, GeneratorCount, ModuleFiles, ModuleLayout, Name, NameFault, WordCount};
+pub use axe_arguments::{
+    Command, GeneratorCount, ModuleFiles, ModuleLayout, Name, NameFault, WordCount,
+};
 pub use axe_execute::{Shown, execute};
 pub use axe_fault::{Fault, line, status};
 pub use axe_parse::{ParseFault, parse};

@@ -10,7 +10,7 @@ use Rattle.axe_series.proofs.SomeRun.{some_run}
 use Rattle.axe_series.proofs.FewPoints.{small_has_a_series}
 use Rattle.axe_series.specs.Series.{IsOpenSection, basis_of_rows, factors_of_forms}
 use Rattle.axe_chop.specs.Reported.{module_header, witnesses_of_forms}
-use Rattle.axe_chop.proofs.FormWitnesses.{run_has_witnesses}
+use Rattle.axe_chop.proofs.FormWitnesses.{run_has_witnesses, all_by}
 use Rattle.axe_folder.specs.Files.{Files}
 use Rattle.axe_arguments.specs.Commands.{HasFileCount}
 use Rattle.axe_arguments.specs.declared.command.ModuleFiles.{ModuleFiles}
@@ -26,6 +26,7 @@ use Rattle.axe_plan.proofs.SomeAnswer.{then_some}
 use Rattle.axe_plan.proofs.ReadModules.{module_if_read}
 use Rattle.axe_plan.proofs.ReadingEnds.{EndsInReading, module_ends}
 use Rattle.axe_execute.proofs.PlanParts.{any_value}
+use Rattle.axe_execute.proofs.DecidedRuns.{forms_decide}
 
 -- ---- one plan, or one problem
 
@@ -57,6 +58,7 @@ series_of_outcome stored seed words name files m (complete found) is_module is r
   witnesses = witnesses_of_forms found.forms;
   places = found.places;
   witnessed = run_has_witnesses m is seed words found run;
+  decided = forms_decide seed words found.forms (all_by m is seed words found run);
   series = runs_are_true m seed words (complete found) is run;
   plan_is = refl;
 }

@@ -30,7 +30,7 @@ use Rattle.axe_plan.proofs.WholeModules.{generators_are_spelled}
 
 -- ---- spellings
 
-fetched_whole : (bytes : List ℕ) (limit : ℕ) → length bytes ≤ limit → fetched (Some bytes) limit ≡ Ok bytes
+pub fetched_whole : (bytes : List ℕ) (limit : ℕ) → length bytes ≤ limit → fetched (Some bytes) limit ≡ Ok bytes
 fetched_whole bytes limit fits = rw (le-ltb limit (length bytes) fits) refl
 
 pub matrix_of_spelling : (files : Files) (name : List ℕ) (a : MatrixValue) → IsMatrix a → file_at files name ≡ Some (packed a) → matrix_in files name ≡ Ok a

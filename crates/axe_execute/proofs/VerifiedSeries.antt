@@ -17,7 +17,7 @@ use Rattle.axe_report.specs.declared.report.ReportHeader.{ReportHeader}
 use Rattle.axe_report.specs.declared.report.Version.{Version}
 use Rattle.axe_report.specs.declared.report.Version.TheVariants.{One, Two}
 use Rattle.axe_report.proofs.NumberedFactors.{numbered_factor, numbered_by_parts}
-use Rattle.axe_check.specs.Certificates.{Certificate, IsCertified, HasShape, IsSquareOfSize, module_with, factor_of, factors_of, factor_count, dim_of, matrices_of}
+use Rattle.axe_check.specs.Certificates.{Certificate, IsCertified, HasShape, IsSquareOfSize, module_with, WitnessLeavesOpen, factor_of, factors_of, factor_count, dim_of, matrices_of}
 use Rattle.axe_chop.specs.Reported.{dims_of_factors, reported_factor, module_header, series_report, AreWitnessesOf}
 use Rattle.axe_folder.specs.declared.fault.FolderFault.{FolderFault}
 use Rattle.axe_folder.specs.declared.fault.FolderFault.TheVariants.{TooLong}
@@ -49,7 +49,7 @@ pub both_read : {A B : Type 0} (first : Result A Problem) (next : A → Result B
 both_read (Ok a) next b e = (a, refl, e)
 both_read (Err problem) next b e = absurd cc
 
-same_value : {A : Type 0} (a b : A) → ◌≡◌ {A = Result A Problem} (Ok a) (Ok b) → a ≡ b
+pub same_value : {A : Type 0} (a b : A) → ◌≡◌ {A = Result A Problem} (Ok a) (Ok b) → a ≡ b
 same_value a b e = cc
 
 -- ---- the report
@@ -166,13 +166,13 @@ zip_from R (x ∷ xs) first (suc n) f count each =
           subst (λ k. R (get_or xs i d) (f k)) next (each (suc i) d (omega arith))),
     )
 
-zip_at : {A B : Type 0} (R : A → B → Type 0) (xs : List A) (ys : List B) (i : ℕ) (d : A) (e : B) → AllZip R xs ys → i < length xs → R (get_or xs i d) (get_or ys i e)
+pub zip_at : {A B : Type 0} (R : A → B → Type 0) (xs : List A) (ys : List B) (i : ℕ) (d : A) (e : B) → AllZip R xs ys → i < length xs → R (get_or xs i d) (get_or ys i e)
 zip_at R [] ys i d e all below = absurd (omega arith)
 zip_at R (x ∷ xs) [] i d e all below = absurd all
 zip_at R (x ∷ xs) (y ∷ ys) zero d e all below = all.0
 zip_at R (x ∷ xs) (y ∷ ys) (suc i) d e all below = zip_at R xs ys i d e all.1 (omega arith)
 
-zip_length : {A B : Type 0} (R : A → B → Type 0) (xs : List A) (ys : List B) → AllZip R xs ys → length ys ≡ length xs
+pub zip_length : {A B : Type 0} (R : A → B → Type 0) (xs : List A) (ys : List B) → AllZip R xs ys → length ys ≡ length xs
 zip_length R [] [] all = refl
 zip_length R [] (y ∷ ys) all = absurd all
 zip_length R (x ∷ xs) [] all = absurd all
@@ -256,6 +256,18 @@ module _ (stored : ModuleFiles) (name : List ℕ) (files : Files) (c : Certifica
       count = length-map fs (λ (f : FactorValue). witness_value f.witness) ∙ sym many ∙ sym (listed_length (factor_count c) (factor_of c));
       each = all_under c.report.header fs from.version from.is_report.witnessed;
     };
+    decided = λ number factor witness at there left.
+        let below : number < factor_count c = omega (arith, slice_get_within (factors_of c) number factor at, listed_length (factor_count c) (factor_of c)) in
+        let is : factor ≡ factor_of c number =
+        sym (get_or_from_slice_get (factors_of c) number factor factor at) ∙ listed_at (factor_count c) (factor_of c) number factor below in
+        right.decided number below (record {
+          witness = witness;
+          named =
+              ap (λ (l : List (Option WitnessValue)). get_or l number None) (all_seen c.report.header fs from.version from.is_report.witnessed)
+              ∙ get_or-map (λ (w : WitnessValue). Some w) ws number witness None (slice_get_within ws number witness there)
+              ∙ ap (λ (w : WitnessValue). Some w) (get_or_from_slice_get ws number witness witness there);
+          says = subst (λ (m : ModuleValue). WitnessLeavesOpen m c.report.header.seed witness) is left;
+        });
     report_is = from.here ∙ ap (λ (r : ReportValue). Some (report_bytes r)) report_listed;
     basis_is = basis_is;
     module_is = module_is;
@@ -269,7 +281,7 @@ module _ (stored : ModuleFiles) (name : List ℕ) (files : Files) (c : Certifica
 
 -- ---- a yes
 
-counted_files : (layout : ModuleLayout) (count : ℕ) → IsGeneratorCount count → HasFileCount (files_with layout count)
+pub counted_files : (layout : ModuleLayout) (count : ℕ) → IsGeneratorCount count → HasFileCount (files_with layout count)
 counted_files Separate count is = is
 counted_files Whole count is = tt
 

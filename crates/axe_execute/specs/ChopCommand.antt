@@ -19,7 +19,7 @@ use Rattle.axe_plan.specs.Inputs.{module_in}
 use Rattle.axe_plan.specs.Outcome.{IsOneOf}
 use Rattle.axe_plan.specs.Outputs.{put_module}
 use Rattle.axe_execute.specs.SeriesFiles.{report_file, basis_file, factor_name, constituents_of, series_files}
-use Rattle.axe_execute.specs.SeriesFiles.{series_report_bytes, HoldsSeries}
+use Rattle.axe_execute.specs.SeriesFiles.{series_report_bytes, AllDecide, HoldsSeries}
 
 -- the steps that put factors in order, each as a module under the module's name and then the factor's
 abbrev pub put_factors : ModuleFiles → List ℕ → List (List ℕ) → List ModuleValue → List Step
@@ -92,6 +92,7 @@ pub record WritesSeries (stored : ModuleFiles) (seed words : ℕ) (name : List �
   pub places : List ℕ
   pub series : IsSeries m basis factors places
   pub witnessed : AreWitnessesOf (module_header m seed words) factors witnesses
+  pub decided : AllDecide seed factors witnesses
   pub plan_is : plan ≡ series_plan stored name (module_header m seed words) basis factors witnesses places
 
 -- each of the words 0 to `words` of the seed leaves the section open that the basis shows of the module of this name

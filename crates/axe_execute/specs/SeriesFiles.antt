@@ -1,5 +1,5 @@
 -- The files of a composition series: their names, and when files hold one.
-use Rattle.std.specs.Prelude.{◌≡◌, ℕ, List, [], ◌∷◌, ◌++◌, codes, Some, Ok}
+use Rattle.std.specs.Prelude.{◌≡◌, ℕ, List, [], ◌∷◌, ◌++◌, codes, slice_get, Some, Ok}
 use Rattle.std.specs.List.{AllZip}
 use Rattle.axe_matrix.specs.Matrices.{MatrixValue}
 use Rattle.axe_spin.specs.Modules.{ModuleValue}
@@ -8,6 +8,7 @@ use Rattle.axe_report.specs.Names.{names_of}
 use Rattle.axe_report.specs.Reports.{WitnessValue, IsReportHeader}
 use Rattle.axe_report.specs.Spelling.{report_bytes}
 use Rattle.axe_report.specs.declared.report.ReportHeader.{ReportHeader}
+use Rattle.axe_check.specs.Certificates.{WitnessLeavesOpen}
 use Rattle.axe_chop.specs.Reported.{dims_of_factors, module_header, series_report, AreWitnessesOf}
 use Rattle.axe_folder.specs.Files.{Files, file_at}
 use Rattle.axe_arguments.specs.declared.command.ModuleFiles.{ModuleFiles}
@@ -47,9 +48,15 @@ series_files stored name constituents = report_file name ∷ basis_file name ∷
 abbrev pub series_report_bytes : ReportHeader → List ModuleValue → List WitnessValue → List ℕ → List ℕ
 series_report_bytes header factors witnesses places = report_bytes (series_report header factors witnesses places)
 
+-- no witness leaves its factor open, by the words of this seed
+abbrev pub AllDecide : ℕ → List ModuleValue → List WitnessValue → Type 0
+AllDecide seed factors witnesses =
+    (number : ℕ) (factor : ModuleValue) (witness : WitnessValue) → slice_get factors number ≡ Some factor →
+    slice_get witnesses number ≡ Some witness → ¬ (WitnessLeavesOpen factor seed witness)
+
 -- the files under a name hold a composition series of the module m: the module itself; a basis; each factor, as a
 -- module under its name by the rule; and the report on them, in whose header the numbers are those of the module, with
--- a witness for each factor. All modules lie in such files
+-- a witness for each factor, none of which leaves its factor open. All modules lie in such files
 pub record HoldsSeries (stored : ModuleFiles) (m : ModuleValue) (name : List ℕ) (files : Files) : Type 0 where
   pub header : ReportHeader
   pub basis : MatrixValue
@@ -60,6 +67,7 @@ pub record HoldsSeries (stored : ModuleFiles) (m : ModuleValue) (name : List ℕ
   pub of_module : header ≡ module_header m header.seed header.words
   pub in_range : IsReportHeader header
   pub witnessed : AreWitnessesOf header factors witnesses
+  pub decided : AllDecide header.seed factors witnesses
   pub report_is : file_at files (report_file name) ≡ Some (series_report_bytes header factors witnesses places)
   pub basis_is : matrix_in files (basis_file name) ≡ Ok basis
   pub module_is : module_in stored name files ≡ Ok m

@@ -1,6 +1,6 @@
 //! What holds of the meanings of commands.
 
-ghost use Rattle.std.specs.Prelude.{◌≡◌, ℕ, ◌^◌, ◌<◌, List, Some, Ok, Err};
+ghost use Rattle.std.specs.Prelude.{◌≡◌, ℕ, ◌^◌, ◌<◌, List, length, Some, Ok, Err};
 ghost use Rattle.axe_matrix.specs.Matrices.{MatrixValue};
 ghost use Rattle.axe_spin.specs.Modules.{ModuleValue};
 ghost use Rattle.axe_report.specs.Passing.{IsSpelling};
@@ -8,18 +8,19 @@ ghost use Rattle.axe_folder.specs.Files.{Files, file_at};
 ghost use Rattle.axe_arguments.specs.Commands.{HasCounts, HasFileCount};
 ghost use Rattle.axe_arguments.specs.Counts.{IsWordCount};
 ghost use Rattle.axe_arguments.specs.declared.command.ModuleFiles.{ModuleFiles};
+ghost use Rattle.axe_arguments.specs.Layouts.{files_with};
 ghost use Rattle.axe_arguments.specs.declared.command.ModuleLayout.{ModuleLayout};
 ghost use Rattle.axe_arguments.specs.declared.command.Command.{Command};
 ghost use Rattle.axe_fault.specs.declared.fault.Fault.{Fault};
 ghost use Rattle.axe_fault.specs.declared.fault.Fault.TheVariants.{Undecided};
 ghost use Rattle.axe_fault.specs.Causes.{StaysOpen};
-ghost use Rattle.axe_plan.specs.Plans.{Plan};
+ghost use Rattle.axe_plan.specs.Plans.{Plan, applied};
 ghost use Rattle.axe_plan.specs.Meanings.{Answered, AtMostOne};
 ghost use Rattle.axe_plan.specs.Inputs.{module_in};
 ghost use Rattle.axe_execute.specs.ChopCommand.{ChopPlan, LeavesSeries, WritesSeries, FindsOpenSection, IsSmallModule};
-ghost use Rattle.axe_execute.specs.VerifyCommand.{VerifyPlan, FindsSeries};
+ghost use Rattle.axe_execute.specs.VerifyCommand.{verified_plan, VerifyPlan, FindsSeries};
 ghost use Rattle.axe_execute.specs.Means.{Means, IsVerify};
-ghost use Rattle.axe_execute.specs.SeriesFiles.{report_file};
+ghost use Rattle.axe_execute.specs.SeriesFiles.{report_file, HoldsSeries};
 ghost use Rattle.axe_execute.specs.AfterChop.{ChopFails, IsLeftByChop, IsBeforeOrAfterChop};
 
 /// A command has exactly one meaning: on the files of a folder it has one plan, or one problem stands against it. Of
@@ -68,8 +69,16 @@ pub fn chop_leaves_no_wrong_report()
         IsBeforeOrAfterChop stored seed words name old new }
 {}
 
-/// Where `verify` says yes, the files hold a composition series of the module, whoever wrote them.
+/// Where `verify` says yes, the files hold a composition series of the module, whoever wrote them; and where they hold
+/// one, as after `chop`, it says yes.
 pub fn verify_finds_a_series()
-    ensures { (layout : ModuleLayout) (name : List ℕ) (files : Files) (plan : Plan) →
+    ensures yes { (layout : ModuleLayout) (name : List ℕ) (files : Files) (plan : Plan) →
         VerifyPlan layout name files (Ok plan) → FindsSeries layout name files plan }
+    ensures held { (layout : ModuleLayout) (m : ModuleValue) (name : List ℕ) (files : Files) →
+        HoldsSeries (files_with layout (length m.generators)) m name files →
+        VerifyPlan layout name files (Ok verified_plan) }
+    ensures chopped { (layout : ModuleLayout) (count seed words : ℕ) (name : List ℕ) (files : Files) (plan : Plan) →
+        HasFileCount (files_with layout count) → seed < 2 ^ 64 → IsWordCount words →
+        ChopPlan (files_with layout count) seed words name files (Ok plan) →
+        VerifyPlan layout name (applied plan.steps files) (Ok verified_plan) }
 {}

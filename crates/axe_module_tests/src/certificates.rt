@@ -191,7 +191,7 @@ fn lists_of(alloc: Global, texts: &[&str]) -> Result<Vec<Vec<Matrix>>, TableFaul
 fn report_of(alloc: Global, text: &str) -> Result<Report, TableFault> {
     match read_report(alloc, text.as_bytes()) {
         Ok(report) => Ok(report),
-        Err(ReportFault::BadReport(_)) => Err(TableFault::NotWritten),
+        Err(ReportFault::BadReport(_) | ReportFault::OldReport) => Err(TableFault::NotWritten),
         Err(ReportFault::Memory) => Err(TableFault::Refused(Refusal::Memory)),
     }
 }

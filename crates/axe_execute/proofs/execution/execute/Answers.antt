@@ -25,9 +25,13 @@ pub returns-in_err-make_all-clause-outcome : goal.returns-in_err-make_all-clause
 returns-in_err-make_all-clause-outcome g c = λ tells.
     let p = err_from_is_err_and c.from_residual-in_err-make_all.result c.from_residual-in_err-make_all.ensures.1 in
     let reads = c.in_ok-changes.ensures tells in
-    rw (p.1, p.2) (reads.0, reads.1, broken _ _ _ (plan_in c.in_ok-changes.field-0) _ _ reads.2.agrees
-    (subst (λ (files : Files). Carries (Err c.in_err-make_all.field-0.0) (map step_in c.in_ok-changes.field-0.changes.items) files
-    (g.F.Folder.files c.make_all.new.folder)) reads.2.kept (c.in_err-make_all.ensures.carried tells)))
+    rw (p.1, p.2) (
+      reads.0,
+      reads.1,
+      broken _ _ _ (plan_in c.in_ok-changes.field-0) _ _ reads.2.agrees
+          (subst (λ (files : Files). Carries (Err c.in_err-make_all.field-0.0) (map step_in c.in_ok-changes.field-0.changes.items) files
+          (g.F.Folder.files c.make_all.new.folder)) reads.2.kept (c.in_err-make_all.ensures.carried tells)),
+    )
 
 pub returns-in_err-make_all-clause-counted : goal.returns-in_err-make_all-clause-counted
 returns-in_err-make_all-clause-counted g c = λ tells.

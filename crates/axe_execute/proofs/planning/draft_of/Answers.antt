@@ -39,14 +39,22 @@ returns-in-Chop g c = λ tells. rw (c.in-Chop.is) (_, refl, c.chop_draft.ensures
 pub returns-in_err-seeded-in-Zsp : goal.returns-in_err-seeded-in-Zsp
 returns-in_err-seeded-in-Zsp g c = λ tells.
     let p = err_from_is_err_and c.from_residual.result c.from_residual.ensures.1 in
-    rw (p.1, p.2, c.in-Zsp.is) (_, refl, reads_no_more g.F.Folder.files g.F.Folder.tally _ _ _ _ _ _ _ _ _ (among_same _)
-    (c.in_err-seeded-in-Zsp.ensures.reads tells))
+    rw (p.1, p.2, c.in-Zsp.is) (
+      _,
+      refl,
+      reads_no_more g.F.Folder.files g.F.Folder.tally _ _ _ _ _ _ _ _ _ (among_same _)
+          (c.in_err-seeded-in-Zsp.ensures.reads tells),
+    )
 
 pub returns-in_ok-seeded-in-Zsp : goal.returns-in_ok-seeded-in-Zsp
 returns-in_ok-seeded-in-Zsp g c = λ tells.
     let right = c.draft.ensures in
-    rw (c.in-Zsp.is) (_, refl, reads_all g.F.Folder.files g.F.Folder.tally _ _ _ _ _ _ _ _ _ (c.in_ok-seeded-in-Zsp.ensures.reads tells)
-    (record { agrees = rw c.as_ref-in-Zsp.ensures.value at right }))
+    rw (c.in-Zsp.is) (
+      _,
+      refl,
+      reads_all g.F.Folder.files g.F.Folder.tally _ _ _ _ _ _ _ _ _ (c.in_ok-seeded-in-Zsp.ensures.reads tells)
+          (record { agrees = rw c.as_ref-in-Zsp.ensures.value at right }),
+    )
 
 pub returns-in-Verify : goal.returns-in-Verify
 returns-in-Verify g c = λ tells. rw (c.in-Verify.is) (c.verify_draft.ensures tells)

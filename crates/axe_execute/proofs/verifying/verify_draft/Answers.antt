@@ -23,8 +23,7 @@ unfolding VerifyPlan
 returns g c = λ tells.
     let read = c.in_ok-report.ensures.reads tells in
     let reported = c.reported_draft.ensures tells in
-    let first = rw (c.deref.ensures ∙ c.in_ok-file.ensures, c.as_str.ensures.text) at read in
-    (
+    let first = rw (c.deref.ensures ∙ c.in_ok-file.ensures, c.as_str.ensures.text) at read in (
       _,
       inr (c.in_ok-report.report, first.agrees, refl),
       reads_on g.F.Folder.files g.F.Folder.tally _ _ _ _ _ _ _ _ _ _ _ first
