@@ -19,7 +19,7 @@ use Rattle.axe_arguments.specs.declared.command.ModuleFiles.{ModuleFiles}
 use Rattle.axe_plan.specs.Plans.{Plan, applied}
 use Rattle.axe_plan.specs.Inputs.{module_in}
 use Rattle.axe_plan.proofs.ReadModules.{HasAsMany, module_is_module, generators_are_counted}
-use Rattle.axe_execute.specs.SeriesFiles.{constituents_of, series_report_bytes, AllDecide, HoldsSeries}
+use Rattle.axe_execute.specs.SeriesFiles.{constituents_of, series_report_bytes, AllDecide, HoldsSeries, HoldsCertificate}
 use Rattle.axe_execute.specs.ChopCommand.{series_steps, series_plan, ChopPlan, WritesSeries, LeavesSeries}
 use Rattle.axe_execute.proofs.ConstituentNames.{HasNoDot, AreDifferent, AreSmall, names_without_dot, names_differ}
 use Rattle.axe_execute.proofs.SeriesSteps.{AreFactorModules, report_put, basis_put, constituents_put, module_stays, others_stay}
@@ -43,7 +43,7 @@ small_dims stored (factor ∷ factors) are = (omega (arith, are.0.0.dim_fits), s
 module _ (stored : ModuleFiles) (m : ModuleValue) (seed words : ℕ) (name : List ℕ) (basis : MatrixValue) (factors : List ModuleValue) (witnesses : List WitnessValue) (places : List ℕ) (files : Files)
     (is : IsModule m) (small : seed < 2 ^ 64) (few : words ≤ most_words) (counted : HasFileCount stored)
     (so_many : HasAsMany stored (length m.generators)) (read : module_in stored name files ≡ Ok m) (series : IsSeries m basis factors places)
-    (witnessed : AreWitnessesOf (module_header m seed words) factors witnesses) (decided : AllDecide seed factors witnesses) where
+    (witnessed : AreWitnessesOf (module_header m seed words) factors witnesses) where
   abbrev report : List ℕ
   report = series_report_bytes (module_header m seed words) factors witnesses places
 
@@ -79,7 +79,6 @@ module _ (stored : ModuleFiles) (m : ModuleValue) (seed words : ℕ) (name : Lis
     of_module = refl;
     in_range = header_fits m seed words is small few;
     witnessed = witnessed;
-    decided = decided;
     report_is = report_put stored name basis (constituents_of factors) factors report files many dotless some differ are;
     basis_is = basis_put stored name basis (constituents_of factors) factors report files many dotless some differ are series.triangular.well_formed;
     module_is = module_stays stored name basis (constituents_of factors) factors report files many dotless some differ are
@@ -98,13 +97,34 @@ module _ (stored : ModuleFiles) (m : ModuleValue) (seed words : ℕ) (name : Lis
     others = λ other none. others_stay stored name basis (constituents_of factors) factors report files other are none;
   }
 
+  -- where no witness leaves its factor open, the files hold a certificate then
+  pub certificate_left : AllDecide seed factors witnesses →
+      HoldsCertificate stored m name (applied (series_plan stored name (module_header m seed words) basis factors witnesses places).steps files)
+  unfolding series_plan held
+  certificate_left decided = record { holds = held; decided = decided }
+
 pub series_left_by_plan : (stored : ModuleFiles) (seed words : ℕ) (name : List ℕ) (files : Files) (plan : Plan) → HasFileCount stored → seed < 2 ^ 64 →
     IsWordCount words → ChopPlan stored seed words name files (Ok plan) → LeavesSeries stored seed words name files plan
 series_left_by_plan stored seed words name files plan counted small few right =
     subst (LeavesSeries stored seed words name files) (sym writes.plan_is)
     (series_left stored writes.m seed words name writes.basis writes.factors writes.witnesses writes.places files
     (module_is_module stored name files writes.m counted writes.is_module) small (omega (arith, few.fits)) counted
-    (generators_are_counted stored name files writes.m counted writes.is_module) writes.is_module writes.series writes.witnessed writes.decided)
+    (generators_are_counted stored name files writes.m counted writes.is_module) writes.is_module writes.series writes.witnessed)
+  where
+    writes : WritesSeries stored seed words name files plan
+    writes = plan_of_series stored seed words name files plan counted right
+
+pub certificate_left_by_plan : (stored : ModuleFiles) (seed words : ℕ) (name : List ℕ) (files : Files) (plan : Plan) → HasFileCount stored → seed < 2 ^ 64 →
+    IsWordCount words → ChopPlan stored seed words name files (Ok plan) →
+    (m : ModuleValue) × (module_in stored name files ≡ Ok m) × HoldsCertificate stored m name (applied plan.steps files)
+certificate_left_by_plan stored seed words name files plan counted small few right = (
+  writes.m,
+  writes.is_module,
+  subst (λ (p : Plan). HoldsCertificate stored writes.m name (applied p.steps files)) (sym writes.plan_is)
+      (certificate_left stored writes.m seed words name writes.basis writes.factors writes.witnesses writes.places files
+      (module_is_module stored name files writes.m counted writes.is_module) small (omega (arith, few.fits)) counted
+      (generators_are_counted stored name files writes.m counted writes.is_module) writes.is_module writes.series writes.witnessed writes.decided),
+)
   where
     writes : WritesSeries stored seed words name files plan
     writes = plan_of_series stored seed words name files plan counted right

@@ -38,10 +38,10 @@ use Rattle.axe_plan.specs.Plans.{Plan, applied}
 use Rattle.axe_plan.specs.Inputs.{and_then, fetch_named, or_refuses, bytes_in, generators_in, checked_module, module_in}
 use Rattle.axe_plan.specs.ReportFiles.{ReportIn}
 use Rattle.axe_plan.proofs.ReadModules.{HasAsMany, module_is_module, generators_are_counted}
-use Rattle.axe_execute.specs.SeriesFiles.{report_file, basis_file, factor_name, constituents_of, HoldsSeries}
+use Rattle.axe_execute.specs.SeriesFiles.{report_file, basis_file, factor_name, constituents_of, HoldsSeries, HoldsCertificate}
 use Rattle.axe_execute.specs.VerifyCommand.{unless_old, CurrentReport, constituents_in, verified_plan, ReportedPlan, VerifyPlan}
-use Rattle.axe_execute.specs.ChopCommand.{ChopPlan, LeavesSeries}
-use Rattle.axe_execute.proofs.HeldSeries.{series_left_by_plan}
+use Rattle.axe_execute.specs.ChopCommand.{ChopPlan}
+use Rattle.axe_execute.proofs.HeldSeries.{certificate_left_by_plan}
 use Rattle.axe_execute.proofs.ReadBack.{fetched_whole}
 use Rattle.axe_execute.proofs.VerifiedSeries.{both_read, same_value, zip_at, zip_length, counted_files}
 
@@ -112,7 +112,10 @@ lists_of_factors stored name files (c ∷ constituents) (factor ∷ factors) all
 
 -- ---- a series that is held
 
-module _ (layout : ModuleLayout) (m : ModuleValue) (name : List ℕ) (files : Files) (h : HoldsSeries (files_with layout (length m.generators)) m name files) where
+module _ (layout : ModuleLayout) (m : ModuleValue) (name : List ℕ) (files : Files) (certificate : HoldsCertificate (files_with layout (length m.generators)) m name files) where
+  abbrev h : HoldsSeries (files_with layout (length m.generators)) m name files
+  h = certificate.holds
+
   abbrev stored : ModuleFiles
   stored = files_with layout (length m.generators)
 
@@ -240,7 +243,7 @@ module _ (layout : ModuleLayout) (m : ModuleValue) (name : List ℕ) (files : Fi
     shapes = shaped;
     series = subst (λ (factors : List ModuleValue). IsSeries m h.basis factors h.places) (sym factors_are) h.series;
     decided = λ i below left.
-        h.decided i (factor i below) left.witness (there i below) (sym (witness_is i (inside i below)) ∙ left.named)
+        certificate.decided i (factor i below) left.witness (there i below) (sym (witness_is i (inside i below)) ∙ left.named)
         (subst (λ (f : ModuleValue). WitnessLeavesOpen f h.header.seed left.witness) (same_factor i below) left.says);
   }
 
@@ -274,9 +277,7 @@ same_files Whole number generators so_many = refl
 pub chopped_is_verified : (layout : ModuleLayout) (count seed words : ℕ) (name : List ℕ) (files : Files) (plan : Plan) → HasFileCount (files_with layout count) → seed < 2 ^ 64 →
     IsWordCount words → ChopPlan (files_with layout count) seed words name files (Ok plan) → VerifyPlan layout name (applied plan.steps files) (Ok verified_plan)
 chopped_is_verified layout count seed words name files plan counted small few right =
-    held_is_verified layout leaves.m name (applied plan.steps files)
-    (subst (λ (stored : ModuleFiles). HoldsSeries stored leaves.m name (applied plan.steps files))
-    (same_files layout count (length leaves.m.generators) (generators_are_counted (files_with layout count) name files leaves.m counted leaves.is_module)) leaves.holds)
-  where
-    leaves : LeavesSeries (files_with layout count) seed words name files plan
-    leaves = series_left_by_plan (files_with layout count) seed words name files plan counted small few right
+    let left = certificate_left_by_plan (files_with layout count) seed words name files plan counted small few right in
+    held_is_verified layout left.0 name (applied plan.steps files)
+    (subst (λ (stored : ModuleFiles). HoldsCertificate stored left.0 name (applied plan.steps files))
+    (same_files layout count (length left.0.generators) (generators_are_counted (files_with layout count) name files left.0 counted left.1)) left.2)

@@ -35,7 +35,7 @@ use Rattle.axe_plan.specs.Meanings.{Meaning, Is, ◌>>=◌}
 use Rattle.axe_plan.specs.Inputs.{and_then, fetch_named, or_refuses, bytes_in, matrix_in, generators_in, checked_module, module_in}
 use Rattle.axe_plan.specs.ReportFiles.{SpellsReport, ReportIn}
 use Rattle.axe_plan.proofs.ReadModules.{AreRead, HasAsMany, generators_are_read}
-use Rattle.axe_execute.specs.SeriesFiles.{report_file, basis_file, factor_name, constituents_of, series_report_bytes, HoldsSeries}
+use Rattle.axe_execute.specs.SeriesFiles.{report_file, basis_file, factor_name, constituents_of, series_report_bytes, HoldsSeries, HoldsCertificate}
 use Rattle.axe_execute.specs.VerifyCommand.{unless_old, CurrentReport, constituents_in, verified_plan, Verifies, ReportedPlan, VerifyPlan, FindsSeries}
 
 -- ---- one thing after another, with a value at the end
@@ -256,6 +256,22 @@ module _ (stored : ModuleFiles) (name : List ℕ) (files : Files) (c : Certifica
       count = length-map fs (λ (f : FactorValue). witness_value f.witness) ∙ sym many ∙ sym (listed_length (factor_count c) (factor_of c));
       each = all_under c.report.header fs from.version from.is_report.witnessed;
     };
+    report_is = from.here ∙ ap (λ (r : ReportValue). Some (report_bytes r)) report_listed;
+    basis_is = basis_is;
+    module_is = module_is;
+    factors_are =
+        subst (λ (constituents : List (List ℕ)). AllZip (λ constituent factor. module_in stored (factor_name name constituent) files ≡ Ok factor) constituents (factors_of c)) (sym names_are)
+        (zip_from (λ constituent factor. module_in stored (factor_name name constituent) files ≡ Ok factor) (names fs) 0 (factor_count c) (factor_of c)
+        (length-map fs (λ (f : FactorValue). f.name) ∙ sym many) (λ i d below.
+        let same : 0 + i ≡ i = omega arith in
+        subst (λ k. module_in stored (factor_name name (get_or (names fs) i d)) files ≡ Ok (factor_of c k)) (sym same) (constituent_is i d below)));
+  }
+
+  -- and so do the witnesses
+  pub found_certificate : HoldsCertificate stored c.m name files
+  unfolding found_series
+  found_certificate = record {
+    holds = found_series;
     decided = λ number factor witness at there left.
         let below : number < factor_count c = omega (arith, slice_get_within (factors_of c) number factor at, listed_length (factor_count c) (factor_of c)) in
         let is : factor ≡ factor_of c number =
@@ -268,15 +284,6 @@ module _ (stored : ModuleFiles) (name : List ℕ) (files : Files) (c : Certifica
               ∙ ap (λ (w : WitnessValue). Some w) (get_or_from_slice_get ws number witness witness there);
           says = subst (λ (m : ModuleValue). WitnessLeavesOpen m c.report.header.seed witness) is left;
         });
-    report_is = from.here ∙ ap (λ (r : ReportValue). Some (report_bytes r)) report_listed;
-    basis_is = basis_is;
-    module_is = module_is;
-    factors_are =
-        subst (λ (constituents : List (List ℕ)). AllZip (λ constituent factor. module_in stored (factor_name name constituent) files ≡ Ok factor) constituents (factors_of c)) (sym names_are)
-        (zip_from (λ constituent factor. module_in stored (factor_name name constituent) files ≡ Ok factor) (names fs) 0 (factor_count c) (factor_of c)
-        (length-map fs (λ (f : FactorValue). f.name) ∙ sym many) (λ i d below.
-        let same : 0 + i ≡ i = omega arith in
-        subst (λ k. module_in stored (factor_name name (get_or (names fs) i d)) files ≡ Ok (factor_of c k)) (sym same) (constituent_is i d below)));
   }
 
 -- ---- a yes
@@ -299,7 +306,7 @@ series_found layout name files plan meaning =
     let counted = counted_files layout r.0.header.gens (record { some = from.is_report.header.some_generator; fits = from.is_report.header.gens }) in
     record {
       m = made.0;
-      holds = subst (λ (count : ℕ). HoldsSeries (files_with layout count) made.0 name files) made.2.0.header.count
-          (found_series stored name files c from counted (ap (λ found. and_then found checked_module) g.1 ∙ made.1) b.1 f.1 made.2.0);
+      holds = subst (λ (count : ℕ). HoldsCertificate (files_with layout count) made.0 name files) made.2.0.header.count
+          (found_certificate stored name files c from counted (ap (λ found. and_then found checked_module) g.1 ∙ made.1) b.1 f.1 made.2.0);
       plan_is = made.2.1;
     }

@@ -48,15 +48,9 @@ series_files stored name constituents = report_file name ∷ basis_file name ∷
 abbrev pub series_report_bytes : ReportHeader → List ModuleValue → List WitnessValue → List ℕ → List ℕ
 series_report_bytes header factors witnesses places = report_bytes (series_report header factors witnesses places)
 
--- no witness leaves its factor open, by the words of this seed
-abbrev pub AllDecide : ℕ → List ModuleValue → List WitnessValue → Type 0
-AllDecide seed factors witnesses =
-    (number : ℕ) (factor : ModuleValue) (witness : WitnessValue) → slice_get factors number ≡ Some factor →
-    slice_get witnesses number ≡ Some witness → ¬ (WitnessLeavesOpen factor seed witness)
-
 -- the files under a name hold a composition series of the module m: the module itself; a basis; each factor, as a
 -- module under its name by the rule; and the report on them, in whose header the numbers are those of the module, with
--- a witness for each factor, none of which leaves its factor open. All modules lie in such files
+-- a witness for each factor. All modules lie in such files
 pub record HoldsSeries (stored : ModuleFiles) (m : ModuleValue) (name : List ℕ) (files : Files) : Type 0 where
   pub header : ReportHeader
   pub basis : MatrixValue
@@ -67,10 +61,21 @@ pub record HoldsSeries (stored : ModuleFiles) (m : ModuleValue) (name : List ℕ
   pub of_module : header ≡ module_header m header.seed header.words
   pub in_range : IsReportHeader header
   pub witnessed : AreWitnessesOf header factors witnesses
-  pub decided : AllDecide header.seed factors witnesses
   pub report_is : file_at files (report_file name) ≡ Some (series_report_bytes header factors witnesses places)
   pub basis_is : matrix_in files (basis_file name) ≡ Ok basis
   pub module_is : module_in stored name files ≡ Ok m
   pub factors_are :
       AllZip (λ constituent factor. module_in stored (factor_name name constituent) files ≡ Ok factor)
       (constituents_of factors) factors
+
+-- no witness leaves its factor open, by the words of this seed
+abbrev pub AllDecide : ℕ → List ModuleValue → List WitnessValue → Type 0
+AllDecide seed factors witnesses =
+    (number : ℕ) (factor : ModuleValue) (witness : WitnessValue) → slice_get factors number ≡ Some factor →
+    slice_get witnesses number ≡ Some witness → ¬ (WitnessLeavesOpen factor seed witness)
+
+-- the files under a name hold a certificate of the module m: a composition series of it, and no witness of the report
+-- leaves its factor open
+pub record HoldsCertificate (stored : ModuleFiles) (m : ModuleValue) (name : List ℕ) (files : Files) : Type 0 where
+  pub holds : HoldsSeries stored m name files
+  pub decided : AllDecide holds.header.seed holds.factors holds.witnesses

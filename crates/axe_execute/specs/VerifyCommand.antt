@@ -19,7 +19,7 @@ use Rattle.axe_plan.specs.Plans.{Plan}
 use Rattle.axe_plan.specs.Meanings.{Meaning, Is, ◌>>=◌}
 use Rattle.axe_plan.specs.Inputs.{and_then, matrix_in, module_names, generators_in, checked_module}
 use Rattle.axe_plan.specs.ReportFiles.{ReportIn}
-use Rattle.axe_execute.specs.SeriesFiles.{report_file, basis_file, factor_name, factor_files, HoldsSeries}
+use Rattle.axe_execute.specs.SeriesFiles.{report_file, basis_file, factor_name, factor_files, HoldsCertificate}
 
 -- ---- what is read
 
@@ -89,5 +89,5 @@ AreReadToVerify layout name files read =
 -- that of a yes
 pub record FindsSeries (layout : ModuleLayout) (name : List ℕ) (files : Files) (plan : Plan) : Type 0 where
   pub m : ModuleValue
-  pub holds : HoldsSeries (files_with layout (length m.generators)) m name files
+  pub holds : HoldsCertificate (files_with layout (length m.generators)) m name files
   pub plan_is : plan ≡ verified_plan

@@ -20,7 +20,7 @@ ghost use Rattle.axe_plan.specs.Inputs.{module_in};
 ghost use Rattle.axe_execute.specs.ChopCommand.{ChopPlan, LeavesSeries, WritesSeries, FindsOpenSection, IsSmallModule};
 ghost use Rattle.axe_execute.specs.VerifyCommand.{verified_plan, VerifyPlan, FindsSeries};
 ghost use Rattle.axe_execute.specs.Means.{Means, IsVerify};
-ghost use Rattle.axe_execute.specs.SeriesFiles.{report_file, HoldsSeries};
+ghost use Rattle.axe_execute.specs.SeriesFiles.{report_file, HoldsCertificate};
 ghost use Rattle.axe_execute.specs.AfterChop.{ChopFails, IsLeftByChop, IsBeforeOrAfterChop};
 
 /// A command has exactly one meaning: on the files of a folder it has one plan, or one problem stands against it. Of
@@ -75,7 +75,7 @@ pub fn verify_finds_a_series()
     ensures yes { (layout : ModuleLayout) (name : List ℕ) (files : Files) (plan : Plan) →
         VerifyPlan layout name files (Ok plan) → FindsSeries layout name files plan }
     ensures held { (layout : ModuleLayout) (m : ModuleValue) (name : List ℕ) (files : Files) →
-        HoldsSeries (files_with layout (length m.generators)) m name files →
+        HoldsCertificate (files_with layout (length m.generators)) m name files →
         VerifyPlan layout name files (Ok verified_plan) }
     ensures chopped { (layout : ModuleLayout) (count seed words : ℕ) (name : List ℕ) (files : Files) (plan : Plan) →
         HasFileCount (files_with layout count) → seed < 2 ^ 64 → IsWordCount words →
