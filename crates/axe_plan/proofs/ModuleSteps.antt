@@ -1,5 +1,5 @@
 -- The steps that put a module.
-use Rattle.std.proofs.Common.{◌≡◌, ◌≢◌, sym, subst, ℕ, zero, suc, ◌+◌, List, [], ◌∷◌, ◌++◌, codes, decimal, length, map, inl, inr}
+use Rattle.std.proofs.Common.{◌≢◌, sym, subst, ℕ, zero, suc, ◌+◌, List, [], ◌∷◌, ◌++◌, codes, decimal, length, map, inl, inr}
 use Rattle.std.specs.List.{range_with_len}
 use Rattle.axe_spin.specs.Modules.{ModuleValue}
 use Rattle.axe_arguments.specs.declared.command.ModuleFiles.{ModuleFiles}

@@ -15,7 +15,6 @@ use Rattle.axe_row.specs.Refusals.{unless_refused}
 use Rattle.axe_spin.specs.Limits.{most_generators}
 use Rattle.axe_spin.specs.Modules.{ModuleValue, IsModule, generators_refusal, rows_of_each}
 use Rattle.axe_file.specs.PackedModules.{IsGenerator, first_order, first_columns, AreGenerators}
-use Rattle.axe_arguments.specs.Counts.{IsGeneratorCount}
 use Rattle.axe_arguments.specs.Commands.{HasFileCount}
 use Rattle.axe_arguments.specs.declared.command.ModuleFiles.{ModuleFiles}
 use Rattle.axe_arguments.specs.declared.command.ModuleFiles.TheVariants.{Separate, Whole}

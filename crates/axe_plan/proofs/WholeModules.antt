@@ -1,12 +1,12 @@
 -- The generators of a module, as matrices of which a file of the whole module is made.
-use Rattle.std.proofs.Common.{◌≡◌, sym, ◌∙◌, ap, ℕ, ◌<◌, ◌≤◌, List, [], length, map, get_or, arith}
+use Rattle.std.proofs.Common.{◌≡◌, sym, ◌∙◌, ap, ℕ, ◌<◌, List, [], length, get_or, arith}
 use Rattle.std.specs.List.{All}
 use Rattle.std.proofs.lemmas.List.{length-map, get_or-map}
 use Rattle.std.proofs.lemmas.List.FromFn.{fill_by_all}
 use Rattle.axe_matrix.specs.Matrices.{MatrixValue}
 use Rattle.axe_spin.specs.Generators.{IsGeneratorMatrix}
 use Rattle.axe_spin.specs.Modules.{ModuleValue, IsModule, generator_of, rows_of_each}
-use Rattle.axe_file.specs.PackedModules.{IsGenerator, AreGenerators}
+use Rattle.axe_file.specs.PackedModules.{AreGenerators}
 use Rattle.axe_file.proofs.ModuleSpellings.{generators_over}
 use Rattle.axe_plan.specs.Outputs.{matrices_of}
 

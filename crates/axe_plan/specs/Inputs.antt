@@ -52,12 +52,12 @@ unfoldable pub text_matrix_in : Files → List ℕ → Result MatrixValue Proble
 text_matrix_in files name =
     and_then (bytes_in files name most_text_bytes) (λ bytes. unless_faulty name (text_fault bytes) (text_matrix bytes))
 
--- the matrix that the file of this name spells so
+-- the matrix that the file of this name spells, in the packed form or as a text
 abbrev pub spelled_in : Spelling → Files → List ℕ → Result MatrixValue Problem
 spelled_in Packed files name = matrix_in files name
 spelled_in Text files name = text_matrix_in files name
 
--- the matrices that the files of these names spell so, each fetched and read before the next
+-- the matrices that the files of these names spell, all packed or all as texts, each fetched and read before the next
 abbrev pub all_spelled_in : Spelling → Files → List (List ℕ) → Result (List MatrixValue) Problem
 all_spelled_in spelling files [] = Ok []
 all_spelled_in spelling files (name ∷ names) =

@@ -1,4 +1,4 @@
-use Rattle.std.proofs.Common.{◌≡◌, sym, ◌∙◌, ap, subst, List, ℕ, OnOk, string_bytes}
+use Rattle.std.proofs.Common.{◌≡◌, sym, ◌∙◌, ap, subst, List, OnOk, string_bytes}
 use Rattle.axe_matrix.specs.Matrices.{MatrixValue}
 use Rattle.axe_file.specs.PackedModules.{AreGenerators, packed_module}
 use Rattle.axe_plan.specs.Plans.{Put}
