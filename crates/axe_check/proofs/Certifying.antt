@@ -25,7 +25,7 @@ use Rattle.axe_check.proofs.BlockLaws.{has_blocks, all_blocks}
 use Rattle.axe_check.proofs.WitnessLaws.{witness_over}
 use native.Mathlib.Decide.{dec_lt}
 
-nothing : FactorValue
+pub nothing : FactorValue
 nothing = record { name = []; dim = 0; multiplicity = 0; witness = None }
 
 -- what stands at a number
@@ -69,7 +69,7 @@ module _ (c : Certificate) (is : IsReport c.report) (is_module : IsModule c.m) (
     pub modules_are : modules ≡ factors_of c
     modules_are = shaped.are
 
-    right_shapes : HasRightShapes c
+    pub right_shapes : HasRightShapes c
     right_shapes = record { before = before; shapes = shaped.shapes }
 
     pub modules_count : length modules ≡ length reported

@@ -15,3 +15,8 @@ pub mod ShapeLaws
 pub mod SeenLaws
 pub mod StepsOfCheck
 pub mod FormDecisions
+pub mod SomeNames
+pub mod Deciding
+pub mod SomeWords
+pub mod SomeModules
+pub mod SomeReason

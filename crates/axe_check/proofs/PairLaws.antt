@@ -40,7 +40,7 @@ module _ (m : ModuleValue) (form : FormValue) (is : IsModule m) (of : IsFormOf m
   from : IsFormFrom m form.seed form.word of.poly of.vector form
   from = of.from
 
-  form_field : form.matrices.order ≡ m.order
+  pub form_field : form.matrices.order ≡ m.order
   form_field = from.acts.field
 
   form_dimension : form.matrices.dim ≡ d

@@ -15,6 +15,7 @@ use Rattle.axe_execute.proofs.OneModulePlan.{module_conversion_plan_one, spin_pl
 use Rattle.axe_execute.proofs.SomeModulePlan.{module_conversion_plan_some, spin_plan_some, quotient_plan_some}
 use Rattle.axe_execute.proofs.ChopLaws.{chop_plan_one, chop_plan_some}
 use Rattle.axe_execute.proofs.VerifyMeanings.{verify_plan_one}
+use Rattle.axe_execute.proofs.VerifyAnswers.{verify_plan_some}
 use Rattle.axe_plan.proofs.OneAnswer.{is_one, has_one, has_or_one, unless_refused_one}
 use Rattle.axe_echelon.proofs.OneMatrix.{null_space_is_one, inverse_is_one}
 use Rattle.axe_plan.proofs.SomeAnswer.{unless_refused_some}
@@ -26,7 +27,7 @@ use Rattle.axe_plan.specs.Meanings.{Meaning, Answered, AtMostOne, Is, Has, HasOr
 use Rattle.axe_plan.specs.Inputs.{text_matrix_in}
 use Rattle.axe_plan.specs.Outputs.{put_or_show_text}
 use Rattle.axe_execute.specs.MatrixCommands.{ProductOf, SumOf, TransposeOf, InverseOf, NullSpaceOf, ConversionPlan, PrintingPlan, PlanOfOne, PlanOfTwo}
-use Rattle.axe_execute.specs.Means.{Means, IsVerify}
+use Rattle.axe_execute.specs.Means.{Means}
 
 square_of_test : (test : Bool) (m n : ℕ) → (m == n) ≡ test → (if test then None else Some NotSquare) ≡ None → m ≡ n
 square_of_test true m n is e = eqb-true m n is
@@ -162,16 +163,16 @@ at_most_one_meaning (Zqt generators subspace name out) files counts = quotient_p
 at_most_one_meaning (Chop stored seed words name) files counts = chop_plan_one stored seed words name files counts.0
 at_most_one_meaning (Verify layout name) files counts = verify_plan_one layout name files
 
-pub some_meaning : (command : Command) (files : Files) → HasCounts command → ¬ (IsVerify command) → Answered (Means command files)
-some_meaning (Zcv input out) files counts other = conversion_plan_some input out files
-some_meaning (ZcvModule generators name out) files counts other = module_conversion_plan_some generators name out files
-some_meaning (Zpr input out) files counts other = printing_plan_some input out files
-some_meaning (Zmu left right out) files counts other = two_then_some ProductOf left right out files product_some
-some_meaning (Zad left right out) files counts other = two_then_some SumOf left right out files sum_some
-some_meaning (Ztr input out) files counts other = one_then_some TransposeOf input out files transpose_some
-some_meaning (Ziv input out) files counts other = one_then_some InverseOf input out files inverse_some
-some_meaning (Znu input out) files counts other = one_then_some NullSpaceOf input out files null_space_some
-some_meaning (Zsp generators standard action name seed out) files counts other = spin_plan_some generators standard action name seed out files
-some_meaning (Zqt generators subspace name out) files counts other = quotient_plan_some generators subspace name out files
-some_meaning (Chop stored seed words name) files counts other = chop_plan_some stored seed words name files counts.0
-some_meaning (Verify layout name) files counts other = absurd (other tt)
+pub some_meaning : (command : Command) (files : Files) → HasCounts command → Answered (Means command files)
+some_meaning (Zcv input out) files counts = conversion_plan_some input out files
+some_meaning (ZcvModule generators name out) files counts = module_conversion_plan_some generators name out files
+some_meaning (Zpr input out) files counts = printing_plan_some input out files
+some_meaning (Zmu left right out) files counts = two_then_some ProductOf left right out files product_some
+some_meaning (Zad left right out) files counts = two_then_some SumOf left right out files sum_some
+some_meaning (Ztr input out) files counts = one_then_some TransposeOf input out files transpose_some
+some_meaning (Ziv input out) files counts = one_then_some InverseOf input out files inverse_some
+some_meaning (Znu input out) files counts = one_then_some NullSpaceOf input out files null_space_some
+some_meaning (Zsp generators standard action name seed out) files counts = spin_plan_some generators standard action name seed out files
+some_meaning (Zqt generators subspace name out) files counts = quotient_plan_some generators subspace name out files
+some_meaning (Chop stored seed words name) files counts = chop_plan_some stored seed words name files counts.0
+some_meaning (Verify layout name) files counts = verify_plan_some layout name files

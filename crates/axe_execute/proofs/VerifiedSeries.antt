@@ -78,7 +78,7 @@ pub record IsReadFrom (file : List ℕ) (files : Files) (report : ReportValue) :
   pub is_report : IsReport report
   pub version : report.header.version ≡ Two
 
-read_from : (file : List ℕ) (files : Files) (report : ReportValue) → CurrentReport file files (Ok report) → IsReadFrom file files report
+pub read_from : (file : List ℕ) (files : Files) (report : ReportValue) → CurrentReport file files (Ok report) → IsReadFrom file files report
 unfolding CurrentReport ReportIn
 read_from file files report current =
     let found = both_values (ReportIn file files) (λ report. Is (unless_old file report.header.version report)) report current in
@@ -124,7 +124,7 @@ all_under header (f ∷ factors) two seen =
 -- ---- constituents
 
 -- the matrices of each constituent are those of its files
-read_each : (stored : ModuleFiles) (name : List ℕ) (constituents : List (List ℕ)) (files : Files) (lists : List (List MatrixValue)) →
+pub read_each : (stored : ModuleFiles) (name : List ℕ) (constituents : List (List ℕ)) (files : Files) (lists : List (List MatrixValue)) →
     constituents_in stored name constituents files ≡ Ok lists →
     AllZip (λ constituent list. generators_in stored (factor_name name constituent) files ≡ Ok list) constituents lists
 read_each stored name [] files [] e = tt

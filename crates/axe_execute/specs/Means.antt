@@ -1,5 +1,5 @@
 -- What each command means, and which files it reads.
-use Rattle.std.specs.Prelude.{◌≡◌, ⊤, ℕ, List, [], ◌∷◌, ◌++◌}
+use Rattle.std.specs.Prelude.{◌≡◌, ℕ, List, [], ◌∷◌, ◌++◌}
 use Rattle.axe_folder.specs.Files.{Files}
 use Rattle.axe_arguments.specs.declared.command.Command.{Command}
 use Rattle.axe_arguments.specs.declared.command.Command.TheVariants.{Zcv, ZcvModule, Zpr, Zmu, Zad}
@@ -43,8 +43,3 @@ Means (Zsp generators standard action name seed out) files = SpinPlan generators
 Means (Zqt generators subspace name out) files = QuotientPlan generators subspace name out files
 Means (Chop stored seed words name) files = ChopPlan stored seed words name files
 Means (Verify layout name) files = VerifyPlan layout name files
-
--- the command is `verify`
-abbrev pub IsVerify : Command → Type 0
-IsVerify (Verify layout name) = ⊤
-IsVerify command = ⊥

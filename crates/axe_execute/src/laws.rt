@@ -19,15 +19,13 @@ ghost use Rattle.axe_plan.specs.Meanings.{Answered, AtMostOne};
 ghost use Rattle.axe_plan.specs.Inputs.{module_in};
 ghost use Rattle.axe_execute.specs.ChopCommand.{ChopPlan, LeavesSeries, WritesSeries, FindsOpenSection, IsSmallModule};
 ghost use Rattle.axe_execute.specs.VerifyCommand.{verified_plan, VerifyPlan, FindsSeries};
-ghost use Rattle.axe_execute.specs.Means.{Means, IsVerify};
+ghost use Rattle.axe_execute.specs.Means.{Means};
 ghost use Rattle.axe_execute.specs.SeriesFiles.{report_file, HoldsCertificate};
 ghost use Rattle.axe_execute.specs.AfterChop.{ChopFails, IsLeftByChop, IsBeforeOrAfterChop};
 
-/// A command has exactly one meaning: on the files of a folder it has one plan, or one problem stands against it. Of
-/// `verify` it is said only that it has at most one.
+/// A command has exactly one meaning: on the files of a folder it has one plan, or one problem stands against it.
 pub fn commands_have_one_meaning()
-    ensures some { (command : Command) (files : Files) → HasCounts command → ¬ (IsVerify command) →
-        Answered (Means command files) }
+    ensures some { (command : Command) (files : Files) → HasCounts command → Answered (Means command files) }
     ensures only { (command : Command) (files : Files) → HasCounts command → AtMostOne (Means command files) }
 {}
 
