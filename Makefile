@@ -53,6 +53,7 @@ cases: build
 	tests/run
 	tests/disk
 	tests/changes
+	tests/certificates
 	tests/documents
 	tests/installed
 	tests/packed
