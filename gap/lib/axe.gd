@@ -25,6 +25,10 @@ DeclareGlobalFunction( "AxeWriteModule" );
 #F  AxeReadModule( name[, number] ) . . . . . . .  from as many as there are without a gap, or from this number
 DeclareGlobalFunction( "AxeReadModule" );
 #F  AxeReadReport( file ) . . . . . . . . . . . .  what a report of `axe chop` says, as a record
+##  It has `version`, 1 or 2; `field`, `dimension`, `generators`, `seed` and `words`; `names`, `dimensions`,
+##  `multiplicities` and `witnesses` of the factors; and `series`, the position of each place's factor, from the bottom.
+##  A witness has `word`, the number of the word by which the factor was seen to be irreducible, and `poly`, the digits of
+##  the polynomial that decided at its value, the constant first, or `fail`; in version 1 both are `fail`.
 DeclareGlobalFunction( "AxeReadReport" );
 #F  AxeReadSeries( name ) . . . . . . . . . . . .  all that `axe chop NAME` wrote, as the record that AxeChop answers
 DeclareGlobalFunction( "AxeReadSeries" );
