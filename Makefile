@@ -4,9 +4,9 @@
 # make planted   tries the wrong bodies that the gate leaves out (`tests/planted NAME..`: those of some crates alone)
 # make build     proves and builds crates/axe/out/axe; CPU=x86-64-v3 builds it for processors with AVX2
 # make cases     the runs of the built program alone: cases, disks, transcripts of the documents, what is installed
-# make bench     times the built program, beside GAP, M4RI and FLINT where those are installed: inverses and null spaces
+# make bench     times the built program, beside GAP, M4RI, M4RIE, FLINT and FFLAS where those are installed: inverses and null spaces
 #                (bench/inverses), products (bench/products), texts (bench/texts), submodules and quotients
-#                (bench/modules), composition series (bench/chop); and shows its peak memory (bench/memory)
+#                (bench/modules), composition series (bench/chop, bench/small); and shows its peak memory (bench/memory)
 # make install   puts the program into PREFIX/bin (PREFIX=/usr/local), man page, completions and the GAP package where such
 #                files go
 # make dist      packs the program with all of these, the pages and the examples into out/axe-VERSION-linux-x86-64.tar.gz,
@@ -64,6 +64,7 @@ bench: build
 	-AXE=$(abspath $(AXE)) bench/texts
 	-AXE=$(abspath $(AXE)) bench/modules
 	-AXE=$(abspath $(AXE)) bench/chop
+	-AXE=$(abspath $(AXE)) bench/small
 	-AXE=$(abspath $(AXE)) bench/memory
 
 install: build
