@@ -1,13 +1,12 @@
 -- The laws of codes: there are few lanes, so each law is computed at all of them.
-use Rattle.std.specs.Prelude.{◌≡◌, ℕ, zero, suc, ◌+◌, ◌*◌, ◌-◌, ◌<◌, ◌≤◌, Bool, true, ◌&&◌, ◌||◌, eqb, ltb, ◌⊎◌, refl}
-use Rattle.std.specs.Prelude.{◌/◌, ◌%◌, nat_le, if◌then◌else◌}
+use Rattle.std.specs.Prelude.{◌≡◌, ℕ, suc, ◌+◌, ◌*◌, ◌-◌, ◌<◌, Bool, true, ◌&&◌, ◌||◌, eqb, ltb, ◌⊎◌, refl}
+use Rattle.std.specs.Prelude.{◌/◌, ◌%◌}
 use Rattle.std.proofs.Common.{arith, ap, ◌∙◌, inl, inr}
-use Rattle.std.proofs.lemmas.Bool.{and_parts, or_cases, ltb-true, eqb-true, false≢true}
-use Rattle.axe_field.specs.Order.{Order, Two, Three, Four, Five, Seven, Eight, Nine, order_number, prime_of, degree_of}
+use Rattle.std.proofs.lemmas.Bool.{and_parts, or_cases, ltb-true, eqb-true}
+use Rattle.axe_field.specs.Order.{Order, Two, Three, Four, Five, Seven, Eight, Nine, order_number, prime_of}
 use Rattle.axe_field.specs.Arithmetic.{coefficients, number_of, polynomial_sum, polynomial_of, field_add}
 use Rattle.axe_field.specs.CheckedLaws.{passes_below, passes_below-at}
 use Rattle.axe_poly.specs.Lanes.{part_base, lane_base, code, meaning, weight, IsLane}
-use mathlib.Core.Path.{sym}
 
 sum_law : Order → ℕ → ℕ → Bool
 sum_law o x a =

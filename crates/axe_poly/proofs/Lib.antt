@@ -1,5 +1,4 @@
 pub mod PolyLaws
-pub mod RemainderLaws
 pub mod NumberLaws
 pub mod IrreducibleLists
 pub mod TrialLaws

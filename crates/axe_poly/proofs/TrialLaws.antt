@@ -66,6 +66,16 @@ module _ (K : NumberField) (s : ℕ) (table : List (List ℕ)) (found : AreIrred
       at i within half (yes before) = none i before
       at i within half (no past) = absurd (omega (arith, half, more, degrees_ascend count i (omega arith) within))
 
+  -- by the first so many: by all, or by those before one that has more than half its degree
+  pub irreducible_by_first : (f : List ℕ) (count : ℕ) → IsMonicOver K f → degree_of f ≡ s + 1 → count ≤ length table →
+      (count < length table → let p = get_or table count [] in s + 1 < degree_of p + degree_of p) →
+      ((i : ℕ) → i < count → ¬ (Divides K (get_or table i []) f)) → IsIrreduciblePolynomial K f
+  irreducible_by_first f count over degree few ends none = cases (dec_lt count (length table))
+    where
+      cases : Dec (count < length table) → IsIrreduciblePolynomial K f
+      cases (yes more) = irreducible_of_half f count over degree more (omega (arith, degree, ends more)) none
+      cases (no all) = irreducible_of_table f over degree (λ i within _. none i (omega (arith, few, within, all)))
+
   -- one that a polynomial of the table divides is not irreducible
   pub reducible_of_table : (f : List ℕ) (i : ℕ) → degree_of f ≡ s + 1 → i < length table →
       Divides K (get_or table i []) f → ¬ (IsIrreduciblePolynomial K f)

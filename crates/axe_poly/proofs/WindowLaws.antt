@@ -1,8 +1,7 @@
 -- A window of lanes that goes down over the coefficients of a polynomial.
-use Rattle.std.specs.Prelude.{◌≡◌, ℕ, zero, suc, ◌+◌, ◌*◌, ◌-◌, ◌/◌, ◌%◌, ◌^◌, ◌<◌, ◌≤◌, List, length, get_or, take, ◌++◌, map}
-use Rattle.std.specs.List.{All, range_with_len}
+use Rattle.std.specs.Prelude.{◌≡◌, ℕ, zero, suc, ◌+◌, ◌*◌, ◌-◌, ◌/◌, ◌%◌, ◌^◌, ◌<◌, ◌≤◌, List, length, get_or, take, ◌++◌}
+use Rattle.std.specs.List.{All}
 use Rattle.std.proofs.lemmas.List.{get_or_past, get_or-take, length-take-le, get_or_append_left, get_or-append-add}
-use Rattle.std.proofs.lemmas.List.{length-append}
 use Rattle.std.proofs.lemmas.List.Elements.{All-take, All-append}
 use Rattle.std.proofs.lemmas.List.FromFn.{get_or-map-range_with_len, length-map-range_with_len}
 use Rattle.axe_algebra.specs.Bridge.{field_of, element, vector_of}
@@ -15,9 +14,9 @@ use Rattle.axe_polynomial_algebra.specs.PolynomialsOfLists.{degree_of, IsMonicOv
 use Rattle.axe_polynomial_algebra.proofs.ListCongruences.{congruent_list_itself, congruent_in_place}
 use Rattle.axe_polynomial_algebra.proofs.ListCongruences.{zero_list_divides, divides_zero_list}
 use Rattle.axe_poly.specs.Limits.{greatest_degree}
-use Rattle.axe_poly.specs.Lanes.{part_base, lane_base, code, meaning, weight, packed, term, IsLane, window, IsWindow, AreCodes, AreMeanings, AreMultiples}
+use Rattle.axe_poly.specs.Lanes.{part_base, lane_base, code, meaning, packed, term, IsLane, window, IsWindow, AreCodes, AreMeanings, AreMultiples}
 use Rattle.axe_poly.proofs.CodeLaws.{code_is_lane, sum_is_lane, meaning-below, weight-zero, meaning-zero}
-use Rattle.axe_poly.proofs.PackLaws.{moved, packed_sum, packed_moved, packed_zeros, packed_below, packed_top, lane_at, packed_none, power_of_power}
+use Rattle.axe_poly.proofs.PackLaws.{moved, packed_sum, packed_moved, packed_zeros, packed_below, packed_top, lane_at, power_of_power}
 use mathlib.Core.Path.{refl, sym, ◌∙◌, ap, ap₂, subst, fun_ext}
 use native.Mathlib.Nat.{mul-le-mul_left, mul-le-mul_right, pow-le-pow_right, pow-suc, mod-lt}
 use native.Mathlib.Omega.{arith}

@@ -5,7 +5,7 @@ use Rattle.std.specs.List.{range_with_len}
 use Rattle.axe_field.specs.Arithmetic.{field_mul, field_neg}
 use Rattle.axe_field.specs.NumberFields.{number_field}
 use Rattle.axe_polynomial_algebra.specs.PolynomialsOfLists.{IsCongruent}
-use Rattle.axe_field.specs.Order.{Order, Two, Three, Four, Five, Seven, Eight, Nine, order_number, prime_of, degree_of}
+use Rattle.axe_field.specs.Order.{Order, Two, Three, Four, Five, Seven, Eight, Nine, order_number, prime_of}
 
 -- one more than the greatest number of a part of a lane
 abbrev pub part_base : Order → ℕ

@@ -1,7 +1,6 @@
 pub mod Polys
 pub mod Limits
 pub mod Powers
-pub mod Remainders
 pub mod Numbering
 pub mod Tables
 pub mod Lanes

@@ -7,7 +7,6 @@ ghost use Rattle.axe_poly.specs.Polys.{AreFactors, AreFactorsOf};
 ghost use Rattle.axe_poly.specs.Tables.{AreFactorsAmong};
 
 use crate::irreducibles::Irreducibles;
-use crate::lanes::Lanes;
 use crate::poly::Poly;
 use axe_row::Refusal;
 use std::alloc::Global;
@@ -43,10 +42,9 @@ impl Irreducibles {
         requires found { degree ≤ self.now.degree }
         ensures { Answers None (λ factors. AreFactorsOf poly.now degree factors.items) result }
     {
-        let lanes = Lanes::new(self.field());
         let mut factors = Vec::new(alloc);
         for index in 0..self.count() {
-            self.take_factor(alloc, poly, degree, index, &lanes, &mut factors)?;
+            self.take_factor(alloc, poly, degree, index, &mut factors)?;
         }
         Ok(factors)
     }
@@ -58,12 +56,10 @@ impl Irreducibles {
         poly: &Poly,
         degree: usize,
         index: usize,
-        lanes: &Lanes,
         factors: &mut Vec<Poly>,
     ) -> Result<(), Refusal>
         requires index { index < length self.now.polynomials }
         requires field { poly.now.order ≡ self.now.order }
-        requires lanes_field { lanes.now ≡ self.now.order }
         requires found { degree ≤ self.now.degree }
         requires taken { AreFactorsAmong self.now poly.now degree index factors.old.items }
         ensures { Answers None
@@ -76,7 +72,9 @@ impl Irreducibles {
         if divisor.degree() != degree {
             return Ok(());
         }
-        if lanes.divides(divisor.coefficients(), poly.coefficients()) {
+        let (lanes, coefficients) = (self.lanes(), divisor.coefficients());
+        let multiples = lanes.multiples(coefficients);
+        if lanes.divides(coefficients, &multiples, poly.coefficients()) {
             let factor = divisor.copy(alloc)?;
             factors.push(factor)?;
         }

@@ -7,9 +7,10 @@ ghost use Rattle.axe_row.specs.Refusals.{Answers};
 ghost use Rattle.axe_poly.specs.Limits.{greatest_degree};
 ghost use Rattle.axe_polynomial_algebra.specs.PolynomialsOfLists.{degree_of, IsMonicOver, IsIrreduciblePolynomial};
 ghost use Rattle.axe_poly.specs.Polys.{IsPoly, poly_with};
-ghost use Rattle.axe_poly.specs.Tables.{AreIrreducibles, AreFoundBelow};
+ghost use Rattle.axe_poly.specs.Tables.{AreIrreducibles, AreFoundBelow, AreMultiplesOfSmall};
 
 use crate::digits::Digits;
+use crate::lanes::Lanes;
 use crate::poly::{Poly, list_of};
 use axe_field::Field;
 use axe_row::Refusal;
@@ -20,7 +21,7 @@ use std::marker::Model;
 /// as a number, the highest most significant. They are found once, and serve for every polynomial over the field.
 #[derive(Drop)]
 pub struct Irreducibles {
-    field: Field,
+    lanes: Lanes,
     degree: usize,
     polynomials: Vec<Poly>,
 }
@@ -30,9 +31,9 @@ impl Model for Irreducibles {
 
     ghost Value = { IrreduciblesValue };
 
-    ghost view = { λ a. table_of a.field a.degree a.polynomials.items };
+    ghost view = { λ a. table_of a.lanes a.degree a.polynomials.items };
 
-    ghost invariant = { λ a. AreTabled a.field a.degree a.polynomials.items };
+    ghost invariant = { λ a. AreTabled a.lanes a.degree a.polynomials.items };
 }
 
 impl Irreducibles {
@@ -42,7 +43,7 @@ impl Irreducibles {
         ensures well_formed { AreIrreducibles result }
     {
         Irreducibles {
-            field,
+            lanes: Lanes::new(&field),
             degree: 0,
             polynomials: Vec::new(alloc),
         }
@@ -53,7 +54,15 @@ impl Irreducibles {
         ensures order { result.now ≡ self.now.order }
         ensures well_formed { AreIrreducibles self.now }
     {
-        &self.field
+        self.lanes.field()
+    }
+
+    /// The lanes in which coefficients are added.
+    pub(crate) fn lanes(&self) -> &Lanes
+        ensures order { result.now ≡ self.now.order }
+        ensures well_formed { AreIrreducibles self.now }
+    {
+        &self.lanes
     }
 
     /// Up to which degree they are found.
@@ -103,14 +112,31 @@ impl Irreducibles {
             AreFoundBelow self.now (2 * order_number self.now.order ^ (self.now.degree + 1)) found.items) result }
     {
         let (field, degree) = (*self.field(), self.degree() + 1);
+        let multiples = self.multiples_of_small(alloc)?;
         let mut candidate = Digits::zeros(alloc, field, degree + 1)?;
-        let mut rest = Digits::zeros(alloc, field, degree + 1)?;
         let first = power(&field, degree);
         let mut found = Vec::new(alloc);
         for number in first..2 * first {
-            self.try_number(alloc, number, &mut candidate, &mut rest, &mut found)?;
+            self.try_number(alloc, number, &multiples, &mut candidate, &mut found)?;
         }
         Ok(found)
+    }
+
+    /// For each polynomial of at most half the next degree, the words of its multiples, by which candidates are divided.
+    fn multiples_of_small(&self, alloc: Global) -> Result<Vec<[u64; 9]>, Refusal>
+        requires { self.now.degree < greatest_degree self.now.order }
+        ensures { Answers None (λ multiples. AreMultiplesOfSmall self.now multiples.items) result }
+    {
+        let degree = self.degree() + 1;
+        let mut multiples = Vec::new(alloc);
+        for index in 0..self.count() {
+            let divisor = self.polynomial(index);
+            if 2 * divisor.degree() > degree {
+                return Ok(multiples);
+            }
+            multiples.push(self.lanes().multiples(divisor.coefficients()))?;
+        }
+        Ok(multiples)
     }
 
     /// Appends the polynomial of the next degree that has a number, where it is irreducible.
@@ -118,25 +144,22 @@ impl Irreducibles {
         &self,
         alloc: Global,
         number: usize,
+        multiples: &[[u64; 9]],
         candidate: &mut Digits,
-        rest: &mut Digits,
         found: &mut Vec<Poly>,
     ) -> Result<(), Refusal>
         requires from { order_number self.now.order ^ (self.now.degree + 1) ≤ number }
         requires to { number < 2 * order_number self.now.order ^ (self.now.degree + 1) }
+        requires multiples { AreMultiplesOfSmall self.now multiples.now }
         requires candidate_field { candidate.old.order ≡ self.now.order }
         requires candidate_long { length candidate.old.entries ≡ self.now.degree + 2 }
-        requires rest_field { rest.old.order ≡ self.now.order }
-        requires rest_long { length rest.old.entries ≡ self.now.degree + 2 }
         requires found { AreFoundBelow self.now number found.old.items }
         ensures found { Answers None (λ _. AreFoundBelow self.now (number + 1) found.new.items) result }
         ensures candidate_field { candidate.new.order ≡ self.now.order }
         ensures candidate_long { length candidate.new.entries ≡ self.now.degree + 2 }
-        ensures rest_field { rest.new.order ≡ self.now.order }
-        ensures rest_long { length rest.new.entries ≡ self.now.degree + 2 }
     {
         candidate.set_number(number);
-        if self.is_irreducible(candidate.as_slice(), rest) {
+        if self.is_irreducible(multiples, candidate.as_slice()) {
             let coefficients = list_of(alloc, candidate.as_slice())?;
             found.push(Poly::from_monic(*self.field(), coefficients))?;
         }
@@ -145,21 +168,20 @@ impl Irreducibles {
 
     /// Whether a monic polynomial of the next degree is irreducible: whether none of the polynomials that have at most
     /// half its degree divides it.
-    fn is_irreducible(&self, dividend: &[u8], rest: &mut Digits) -> bool
+    fn is_irreducible(&self, multiples: &[[u64; 9]], dividend: &[u8]) -> bool
+        requires multiples { AreMultiplesOfSmall self.now multiples.now }
         requires monic { IsMonicOver (number_field self.now.order) dividend.now }
         requires degree { degree_of dividend.now ≡ self.now.degree + 1 }
-        requires rest_field { rest.old.order ≡ self.now.order }
-        requires rest_long { length rest.old.entries ≡ self.now.degree + 2 }
-        ensures tells { IsTrue result ↔ IsIrreduciblePolynomial (number_field self.now.order) dividend.now }
-        ensures rest_field { rest.new.order ≡ self.now.order }
-        ensures rest_long { length rest.new.entries ≡ self.now.degree + 2 }
+        ensures { IsTrue result ↔ IsIrreduciblePolynomial (number_field self.now.order) dividend.now }
     {
-        for index in 0..self.count() {
+        // `count` is called for what it ensures beside their number: that they are irreducible, and that their degrees
+        // are no greater than the greatest one.
+        prove!(multiples.len() <= self.count());
+        let lanes = self.lanes();
+        for index in 0..multiples.len() {
             let divisor = self.polynomial(index);
-            if 2 * divisor.degree() >= dividend.len() {
-                return true;
-            }
-            if rest.divides(divisor.coefficients(), dividend) {
+            let coefficients = divisor.coefficients();
+            if lanes.divides(coefficients, &multiples[index], dividend) {
                 return false;
             }
         }

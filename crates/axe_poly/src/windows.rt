@@ -29,21 +29,6 @@ fn multiple(field: &Field, codes: &[u64; 9], divisor: &[u8], constant: u8) -> u6
     word
 }
 
-/// For each element, the word of the codes of its negative times the coefficients of a monic polynomial, but for the
-/// leading one.
-fn multiples(field: &Field, codes: &[u64; 9], divisor: &[u8]) -> [u64; 9]
-    requires codes { AreCodes field.now codes.now }
-    requires monic { IsMonicOver (number_field field.now) divisor.now }
-    requires degree { degree_of divisor.now ≤ greatest_degree field.now }
-    ensures { AreMultiples field.now divisor.now result }
-{
-    let mut multiples = [0; 9];
-    for element in 0..field.order() {
-        multiples[usize::from(element)] = multiple(field, codes, divisor, field.neg(element));
-    }
-    multiples
-}
-
 /// The word whose lanes stand for the remainder of a polynomial by a monic one: by Horner's rule, from the highest
 /// coefficient on. What stands in the top lane is taken away by a multiple of the divisor, and all lanes move up.
 fn remainder(
@@ -51,16 +36,17 @@ fn remainder(
     codes: &[u64; 9],
     meanings: &[u8; 512],
     divisor: &[u8],
+    multiples: &[u64; 9],
     dividend: &[u8],
 ) -> u64
     requires codes { AreCodes field.now codes.now }
     requires meanings { AreMeanings field.now meanings.now }
+    requires multiples { AreMultiples field.now divisor.now multiples.now }
     requires monic { IsMonicOver (number_field field.now) divisor.now }
     requires degree { degree_of divisor.now ≤ greatest_degree field.now }
     requires elements { All (IsElement field.now) dividend.now }
     ensures { IsWindow field.now divisor.now dividend.now (length divisor.now - 1) 0 result }
 {
-    let multiples = multiples(field, codes, divisor);
     let base = lane_base(field);
     let bits = lane_bits(field) * (divisor.len() - 2) as u32;
     let top = base.pow((divisor.len() - 2) as u32);
@@ -93,15 +79,32 @@ fn are_zeros(field: &Field, meanings: &[u8; 512], count: usize, word: u64) -> bo
 }
 
 impl Lanes {
-    /// Whether a monic polynomial of a degree that is no greater than the greatest one divides another polynomial.
-    pub(crate) fn divides(&self, divisor: &[u8], dividend: &[u8]) -> bool
+    /// For each element, the word of the codes of its negative times the coefficients of a monic polynomial, but for the
+    /// leading one.
+    pub(crate) fn multiples(&self, divisor: &[u8]) -> [u64; 9]
+        requires monic { IsMonicOver (number_field self.now) divisor.now }
+        requires degree { degree_of divisor.now ≤ greatest_degree self.now }
+        ensures { AreMultiples self.now divisor.now result }
+    {
+        let (field, codes) = (*self.field(), self.codes());
+        let mut multiples = [0; 9];
+        for element in 0..field.order() {
+            multiples[usize::from(element)] = multiple(&field, codes, divisor, field.neg(element));
+        }
+        multiples
+    }
+
+    /// Whether a monic polynomial of a degree that is no greater than the greatest one divides another polynomial, by
+    /// the words of its multiples.
+    pub(crate) fn divides(&self, divisor: &[u8], multiples: &[u64; 9], dividend: &[u8]) -> bool
+        requires multiples { AreMultiples self.now divisor.now multiples.now }
         requires monic { IsMonicOver (number_field self.now) divisor.now }
         requires degree { degree_of divisor.now ≤ greatest_degree self.now }
         requires elements { All (IsElement self.now) dividend.now }
         ensures { IsTrue result ↔ Divides (number_field self.now) divisor.now dividend.now }
     {
         let (field, codes, meanings) = (*self.field(), self.codes(), self.meanings());
-        let word = remainder(&field, codes, meanings, divisor, dividend);
+        let word = remainder(&field, codes, meanings, divisor, multiples, dividend);
         are_zeros(&field, meanings, divisor.len() - 1, word)
     }
 }

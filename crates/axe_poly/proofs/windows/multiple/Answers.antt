@@ -1,4 +1,4 @@
-use Rattle.std.proofs.Common.{◌∙◌, ◌≡◌, ◌-◌, ◌/◌, ◌*◌, ◌^◌, length, get_or, ap, sym, arith}
+use Rattle.std.proofs.Common.{◌∙◌, sym, arith}
 use Rattle.axe_poly.specs.Lanes.{lane_base, term}
 use Rattle.axe_poly.proofs.PackLaws.{packed_none}
 use Rattle.axe_poly.proofs.WindowLaws.{entry_is_element, term_of_table}

@@ -1,4 +1,4 @@
-use Rattle.std.proofs.Common.{◌∙◌, ◌≡◌, ◌-◌, ◌/◌, ◌*◌, ◌^◌, length, get_or, ap, sym, arith}
+use Rattle.std.proofs.Common.{◌≡◌, ◌-◌, ◌/◌, ◌*◌, ◌^◌, length, get_or, arith}
 use Rattle.axe_poly.specs.Lanes.{IsWindow}
 use Rattle.axe_poly.proofs.PolyLaws.{elements_are_below}
 use Rattle.axe_poly.proofs.WindowLaws.{window_start, top_small, bits_small, step_within, entry_is_element}
@@ -97,9 +97,9 @@ overflow_add-word c =
     c.from.ensures element in
     let lead = lead_element c.args.field.now c.args.meanings.now
     (c.loop-step.word / 2 ^ (c.lane_bits.result * (length c.args.divisor.now - 2))) c.requires.meanings within.lead in
-    let more = multiple_small c.args.field.now c.args.divisor.now c.multiples-multiples.result
+    let more = multiple_small c.args.field.now c.args.divisor.now c.args.multiples.now
     c.from-in-loop-step.result (get_or c.args.meanings.now (c.loop-step.word / 2 ^ (c.lane_bits.result * (length c.args.divisor.now - 2))) 0)
-    c.requires.monic c.requires.degree c.multiples-multiples.ensures c.from-in-loop-step.ensures lead in
+    c.requires.monic c.requires.degree c.requires.multiples c.from-in-loop-step.ensures lead in
     omega (arith, within.others, code, more)
 
 pub loop-step-preserved : goal.loop-step-preserved
@@ -119,6 +119,6 @@ loop-step-preserved c =
     (code_in_table c.args.field.now c.args.codes.now c.from.result
     (get_or c.args.dividend.now (length c.args.dividend.now - 1 - c.loop-step.step) 0) c.requires.codes
     c.from.ensures element)
-    (multiple_of_lead c.args.field.now c.args.divisor.now c.args.meanings.now c.multiples-multiples.result
+    (multiple_of_lead c.args.field.now c.args.divisor.now c.args.meanings.now c.args.multiples.now
     (c.loop-step.word / 2 ^ (c.lane_bits.result * (length c.args.divisor.now - 2))) c.from-in-loop-step.result
-    c.requires.meanings c.multiples-multiples.ensures within.lead c.from-in-loop-step.ensures)
+    c.requires.meanings c.requires.multiples within.lead c.from-in-loop-step.ensures)

@@ -8,7 +8,7 @@ use mathlib.Core.Path.{subst}
 
 pub invariant_of-self-2 : goal.invariant_of-self-2
 invariant_of-self-2 c =
-    tabled_more c.self.inside.field c.self.inside.degree c.self.inside.polynomials.items c.in_ok-found.found.items
+    tabled_more c.self.inside.lanes c.self.inside.degree c.self.inside.polynomials.items c.in_ok-found.found.items
     c.append.new.self.items c.self.invariant
     (subst (λ (t : IrreduciblesValue). AreFoundBelow t
     (2 * order_number t.order ^ (t.degree + 1)) c.in_ok-found.found.items)
@@ -18,7 +18,7 @@ invariant_of-self-2 c =
 
 pub returns-clause-well_formed : goal.returns-clause-well_formed
 returns-clause-well_formed c =
-    (tabled_more c.self.inside.field c.self.inside.degree c.self.inside.polynomials.items c.in_ok-found.found.items
+    (tabled_more c.self.inside.lanes c.self.inside.degree c.self.inside.polynomials.items c.in_ok-found.found.items
     c.append.new.self.items c.self.invariant
     (subst (λ (t : IrreduciblesValue). AreFoundBelow t
     (2 * order_number t.order ^ (t.degree + 1)) c.in_ok-found.found.items)

@@ -12,8 +12,6 @@ loop-number-init c =
     record {
       candidate_field = ap (λ (r : RowValue). r.order) c.in_ok-candidate.ensures ∙ c.field.ensures.order;
       candidate_long = ap (λ (r : RowValue). length r.entries) c.in_ok-candidate.ensures ∙ length-replicate _ _ ∙ long;
-      rest_field = ap (λ (r : RowValue). r.order) c.in_ok-rest.ensures ∙ c.field.ensures.order;
-      rest_long = ap (λ (r : RowValue). length r.entries) c.in_ok-rest.ensures ∙ length-replicate _ _ ∙ long;
       found = found_none c.args.self.now c.power-first.result c.new-found.result.items
           (c.power-first.ensures.value
           ∙ ap₂ (λ q n. q ^ (n + 1))

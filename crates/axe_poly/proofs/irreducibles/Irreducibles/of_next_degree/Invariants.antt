@@ -6,7 +6,5 @@ abbrev pub invariant-loop-number : goal.invariant-loop-number
 invariant-loop-number l = record {
   candidate_field : l.candidate.order ≡ l.self.order;
   candidate_long : length l.candidate.entries ≡ l.self.degree + 2;
-  rest_field : l.rest.order ≡ l.self.order;
-  rest_long : length l.rest.entries ≡ l.self.degree + 2;
   found : AreFoundBelow l.self l.number l.found.items;
 }

@@ -10,6 +10,6 @@ returns-clause-well_formed c =
     let same : length c.args.self.now.polynomials ≡ length c.self.inside.polynomials.items =
     sym (ap (λ (t : IrreduciblesValue). length t.polynomials) c.self.view_is)
     ∙ length-map c.self.inside.polynomials.items (λ (f : PolyValue). f.coefficients) in
-    poly_of_table c.self.inside.field c.self.inside.degree c.self.inside.polynomials.items c.args.index
+    poly_of_table c.self.inside.lanes c.self.inside.degree c.self.inside.polynomials.items c.args.index
     c.index.result.now c.self.invariant
     (omega (arith, c.requires, same)) c.index.ensures

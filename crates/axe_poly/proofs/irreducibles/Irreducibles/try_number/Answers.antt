@@ -26,7 +26,7 @@ returns-in_ok-push-clause-found c =
     c.requires.candidate_field c.requires.candidate_long
     c.set_number.ensures.digits c.as_slice.ensures.list) c.requires.from c.requires.to
     c.args.found.now.items c.from_monic.result c.push.new.self.items
-    (c.is_irreducible.ensures.tells.0 c.if-is_irreducible.true) c.requires.found
+    (c.is_irreducible.ensures.0 c.if-is_irreducible.true) c.requires.found
     (c.from_monic.ensures
     ∙ ap₂ poly_with c.field.ensures.order
     (c.in_ok-coefficients.ensures ∙ c.as_slice-then-is_irreducible.ensures.list
@@ -39,4 +39,4 @@ returns-else-is_irreducible-clause-found c =
     c.requires.candidate_field c.requires.candidate_long
     c.set_number.ensures.digits c.as_slice.ensures.list) c.requires.from c.requires.to
     c.args.found.now.items
-    (λ is. false≢true (sym c.if-is_irreducible.false ∙ c.is_irreducible.ensures.tells.1 is)) c.requires.found
+    (λ is. false≢true (sym c.if-is_irreducible.false ∙ c.is_irreducible.ensures.1 is)) c.requires.found

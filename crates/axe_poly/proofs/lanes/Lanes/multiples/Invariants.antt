@@ -1,7 +1,7 @@
 use Rattle.std.proofs.Common.{◌≡◌, ◌-◌, ◌<◌, ℕ, length, get_or}
 use Rattle.axe_field.specs.Arithmetic.{field_neg}
 use Rattle.axe_poly.specs.Lanes.{lane_base, packed, term}
-use Rattle.axe_poly.proofs.windows.multiples.Given as goal
+use Rattle.axe_poly.proofs.lanes.Lanes.multiples.Given as goal
 
 abbrev pub invariant-loop-element : goal.invariant-loop-element
 invariant-loop-element l = record {
