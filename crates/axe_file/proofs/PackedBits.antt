@@ -1,7 +1,8 @@
 -- Over two elements the marks of bytes are their bits, the most significant first.
-use Rattle.std.proofs.Common.{◌≡◌, ℕ, ◌+◌, ◌-◌, ◌*◌, ◌/◌, ◌%◌, ◌^◌, ◌<◌, ◌≤◌, List, length, get_or, refl, sym, ap, ap₂, ◌∙◌, arith}
+use Rattle.std.proofs.Common.{◌≡◌, ℕ, ◌+◌, ◌-◌, ◌*◌, ◌/◌, ◌%◌, ◌^◌, ◌<◌, ◌≤◌, List, length, get_or, sym, ap, ap₂, ◌∙◌, arith}
 use Rattle.axe_algebra.specs.Lists.{listed}
-use Rattle.axe_field.specs.Order.{Order, Two, Three, Four, Five, Seven, Eight, Nine, order_number}
+use Rattle.axe_field.specs.Order.{Order, Two, order_number}
+use Rattle.axe_field.proofs.Orders.{order_number-injective}
 use Rattle.axe_layer.specs.Packed.{packed_bit}
 use Rattle.axe_row.specs.ByteDigits.{digits_per_byte}
 use Rattle.axe_file.specs.Marks.{byte_limit, byte_with_marks, mark_of, bytes_per_row, row_marks}
@@ -12,13 +13,7 @@ use Rattle.axe_file.proofs.Lists.{listed_is, listed_same}
 use Rattle.axe_file.proofs.MarkTables.{width_is_enough, width_is_least}
 
 order_is_two : (o : Order) → order_number o ≡ 2 → o ≡ Two
-order_is_two Two two = refl
-order_is_two Three two = absurd (omega arith)
-order_is_two Four two = absurd (omega arith)
-order_is_two Five two = absurd (omega arith)
-order_is_two Seven two = absurd (omega arith)
-order_is_two Eight two = absurd (omega arith)
-order_is_two Nine two = absurd (omega arith)
+order_is_two o two = order_number-injective o Two two
 
 eight_marks : (o : Order) → order_number o ≡ 2 → digits_per_byte o ≡ 8
 eight_marks o two = ap digits_per_byte (order_is_two o two)
