@@ -8,9 +8,10 @@ use Rattle.std.proofs.lemmas.List.FromFn.{map-range_with_len_more}
 use Rattle.axe_algebra.specs.Lists.{listed, table}
 use Rattle.axe_algebra.proofs.ListEntries.{listed_length, listed_at}
 use Rattle.axe_field.specs.Order.{Order, order_number}
+use Rattle.axe_row.specs.ByteDigits.{digits_per_byte}
 use Rattle.axe_matrix.specs.Matrices.{MatrixValue}
 use Rattle.axe_matrix.specs.Limits.{most_rows}
-use Rattle.axe_file.specs.Marks.{marks_per_byte, mark_of, bytes_per_row}
+use Rattle.axe_file.specs.Marks.{mark_of, bytes_per_row}
 use Rattle.axe_file.specs.Packed.{packed_row, packed_rows, data_length, mark_at, matrix_at}
 use Rattle.axe_file.specs.PackedModules.{IsGenerator, generator_at}
 use Rattle.axe_file.proofs.Lists.{listed_same}
@@ -94,7 +95,7 @@ module _ (o : Order) (n : ℕ) (bytes : List ℕ) (offset : ℕ) where
   unfolding generator_at matrix_at mark_at data_length
   generator_rows k =
       let w = bytes_per_row o n in
-      let m = marks_per_byte o in
+      let m = digits_per_byte o in
       listed_same n _ _ [] (λ i inside. listed_same n _ _ 0 (λ j lt.
       let place : offset + k * (n * w) + (i * w + j / m) ≡ offset + ((k * n + i) * w + j / m) = omega arith in
       ap (λ (p : ℕ). mark_of o (get_or bytes p 0) (j % m)) place))

@@ -8,7 +8,8 @@ use Rattle.std.proofs.lemmas.Grind.{div_ceil_times}
 use Rattle.std.proofs.lemmas.List.{length-append, length-take, length-drop, get_or-take, get_or-drop, get_or_append_left, get_or-append_right}
 use Rattle.axe_algebra.specs.Lists.{listed}
 use Rattle.axe_field.specs.Order.{Order, Two, Three, Four, Five, Seven, Eight, Nine, order_number}
-use Rattle.axe_file.specs.Marks.{marks_per_byte, mark_of, bytes_per_row, row_marks, marks_of_bytes}
+use Rattle.axe_row.specs.ByteDigits.{digits_per_byte}
+use Rattle.axe_file.specs.Marks.{mark_of, bytes_per_row, row_marks, marks_of_bytes}
 use Rattle.axe_algebra.proofs.ListEntries.{listed_length, listed_at}
 use Rattle.axe_file.proofs.Lists.{listed_is, listed_same}
 use Rattle.axe_file.proofs.Bytes.{two-marks}
@@ -31,16 +32,16 @@ listed_in_parts a n f =
     ])
 
 -- how many bytes a row takes: enough, and no byte without a mark
-pub width_is_enough : (o : Order) (c : ℕ) → c ≤ bytes_per_row o c * marks_per_byte o
+pub width_is_enough : (o : Order) (c : ℕ) → c ≤ bytes_per_row o c * digits_per_byte o
 unfolding bytes_per_row
-width_is_enough o c = (div_ceil_times c (marks_per_byte o) (omega (arith, two-marks o))).0
+width_is_enough o c = (div_ceil_times c (digits_per_byte o) (omega (arith, two-marks o))).0
 
-pub width_is_least : (o : Order) (c : ℕ) → bytes_per_row o c * marks_per_byte o < c + marks_per_byte o
+pub width_is_least : (o : Order) (c : ℕ) → bytes_per_row o c * digits_per_byte o < c + digits_per_byte o
 unfolding bytes_per_row
-width_is_least o c = (div_ceil_times c (marks_per_byte o) (omega (arith, two-marks o))).1
+width_is_least o c = (div_ceil_times c (digits_per_byte o) (omega (arith, two-marks o))).1
 
 -- a byte before the last of its row has no unused mark
-pub marks_before_last : (o : Order) (c k m j : ℕ) → m ≡ marks_per_byte o → k + 1 < bytes_per_row o c → j < m → c ≤ k * m + j → ⊥
+pub marks_before_last : (o : Order) (c k m j : ℕ) → m ≡ digits_per_byte o → k + 1 < bytes_per_row o c → j < m → c ≤ k * m + j → ⊥
 marks_before_last o c k m j em lt small past =
     let least : bytes_per_row o c * m < c + m = rw em (width_is_least o c) in
     let before : (k + 2) * m ≤ bytes_per_row o c * m = mul-le (k + 2) m (bytes_per_row o c) m (omega arith) (omega arith) in
@@ -78,7 +79,7 @@ taken_more m k b n l end table bytes marks piece few so_far inside eb fits ep en
     ∙ ap (λ (a : ℕ). listed a f) (sym en)
 
 -- the entries that a table of the marks of all bytes gives are the marks of the row
-pub taken_marks : (o : Order) (m c n : ℕ) (table bytes : List ℕ) → table ≡ marks_of_bytes o → m ≡ marks_per_byte o → ((i : ℕ) → get_or bytes i 0 < 256) → n ≡ c
+pub taken_marks : (o : Order) (m c n : ℕ) (table bytes : List ℕ) → table ≡ marks_of_bytes o → m ≡ digits_per_byte o → ((i : ℕ) → get_or bytes i 0 < 256) → n ≡ c
     → listed n (taken m table bytes) ≡ row_marks o c bytes
 unfolding marks_of_bytes row_marks
 taken_marks o m c n table bytes et em small en =
@@ -96,7 +97,7 @@ taken_marks o m c n table bytes et em small en =
     ∙ ap (λ (i : ℕ). mark_of o byte i) (mod-mul-add byte m (j % m) below)))
 
 -- over more than two elements a byte has at most five marks
-pub few_marks : (o : Order) → order_number o ≢ 2 → marks_per_byte o ≤ 5
+pub few_marks : (o : Order) → order_number o ≢ 2 → digits_per_byte o ≤ 5
 few_marks Two other = absurd (other refl)
 few_marks Three other = lit≤ tt
 few_marks Four other = lit≤ tt
@@ -106,7 +107,7 @@ few_marks Eight other = lit≤ tt
 few_marks Nine other = lit≤ tt
 
 -- the table of the marks of all bytes has 256 times as many as a byte
-pub long_table : (o : Order) (m : ℕ) (table : List ℕ) → table ≡ marks_of_bytes o → m ≡ marks_per_byte o → 256 * m ≤ length table
+pub long_table : (o : Order) (m : ℕ) (table : List ℕ) → table ≡ marks_of_bytes o → m ≡ digits_per_byte o → 256 * m ≤ length table
 unfolding marks_of_bytes
 long_table o m table et em =
     let table_is : table ≡ listed (256 * m) (λ i. mark_of o (i / m) (i % m)) = rw em et in

@@ -8,9 +8,10 @@ use Rattle.std.proofs.lemmas.List.{get_or_past, ext_get_or, length-drop, get_or-
 use Rattle.std.proofs.lemmas.Nat.{div-mul-add, mod-mul-add}
 use Rattle.axe_algebra.specs.Lists.{listed, table}
 use Rattle.axe_field.specs.Order.{Order, Two, Three, Four, Five, Seven, Eight, Nine, order_number}
+use Rattle.axe_row.specs.ByteDigits.{digits_per_byte}
 use Rattle.axe_matrix.specs.Matrices.{IsMatrix}
 use Rattle.axe_matrix.specs.Limits.{most_rows, most_columns}
-use Rattle.axe_file.specs.Marks.{marks_per_byte, byte_with_marks, mark_of, bytes_per_row}
+use Rattle.axe_file.specs.Marks.{byte_with_marks, mark_of, bytes_per_row}
 use Rattle.axe_file.specs.Packed.{matrix_magic, header_length, order_offset, rows_offset, columns_offset, matrix_reserved, packed, packed_header, packed_row, unpacked, order_with_number, header_order, header_rows, header_columns, data_length, mark_at, matrix_at, packed_fault}
 use Rattle.axe_algebra.proofs.ListEntries.{listed_length, listed_at}
 use Rattle.axe_file.proofs.Lists.{length-pieces, get_or-pieces}
@@ -50,12 +51,12 @@ header_again bytes fits h =
 
 -- marks, bytes and rows over the order o, of c columns, that are read from an offset on
 module _ (o : Order) (c : ℕ) (bytes : List ℕ) (offset : ℕ) where
-  mark_again : (i k j : ℕ) → j < marks_per_byte o → (p : ℕ) → i * bytes_per_row o c + k ≡ p
-      → (c ≤ k * marks_per_byte o + j → mark_of o (get_or bytes (offset + p) 0) j ≡ 0)
-      → get_or (listed c (mark_at o c bytes offset i)) (k * marks_per_byte o + j) 0 ≡ mark_of o (get_or bytes (offset + p) 0) j
+  mark_again : (i k j : ℕ) → j < digits_per_byte o → (p : ℕ) → i * bytes_per_row o c + k ≡ p
+      → (c ≤ k * digits_per_byte o + j → mark_of o (get_or bytes (offset + p) 0) j ≡ 0)
+      → get_or (listed c (mark_at o c bytes offset i)) (k * digits_per_byte o + j) 0 ≡ mark_of o (get_or bytes (offset + p) 0) j
   unfolding mark_at
   mark_again i k j lt p place unused =
-      let m = marks_per_byte o in
+      let m = digits_per_byte o in
       let row : (k * m + j) / m ≡ k = div-mul-add k m j lt in
       let column : (k * m + j) % m ≡ j = mod-mul-add k m j lt in
       elim (cases_lt (k * m + j) c) [
@@ -75,7 +76,7 @@ module _ (o : Order) (c : ℕ) (bytes : List ℕ) (offset : ℕ) where
       let in' : p / w < length rows = omega (arith, place.row) in
       let piece : get_or (flat_map (packed_row o c) rows) (p / w * w + p % w) 0 ≡ get_or (packed_row o c (get_or rows (p / w) [])) (p % w) 0 =
       get_or-pieces (packed_row o c) w (length-packed_row o c) rows (p / w) (p % w) 0 [] in' place.byte in
-      let marks : byte_with_marks o (λ j. get_or (listed c (mark_at o c bytes offset (p / w))) (p % w * marks_per_byte o + j) 0) ≡ byte_with_marks o (mark_of o (get_or bytes (offset + p) 0)) =
+      let marks : byte_with_marks o (λ j. get_or (listed c (mark_at o c bytes offset (p / w))) (p % w * digits_per_byte o + j) 0) ≡ byte_with_marks o (mark_of o (get_or bytes (offset + p) 0)) =
       byte_same o _ _ (λ j below. mark_again (p / w) (p % w) j below p place.is (padding_at o c bytes offset p j sound.padding below)) in
       ap (λ (n : ℕ). get_or (flat_map (packed_row o c) rows) n 0) (sym place.is)
       ∙ piece

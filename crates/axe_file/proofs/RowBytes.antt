@@ -6,8 +6,9 @@ use Rattle.std.proofs.lemmas.List.{get_or-append-add}
 use Rattle.std.proofs.lemmas.Nat.{div-add-mod'}
 use Rattle.axe_algebra.specs.Lists.{listed, table}
 use Rattle.axe_field.specs.Order.{Order, order_number}
+use Rattle.axe_row.specs.ByteDigits.{digits_per_byte}
 use Rattle.axe_matrix.specs.Matrices.{MatrixValue, IsMatrix}
-use Rattle.axe_file.specs.Marks.{marks_per_byte, byte_with_marks, mark_of, bytes_per_row}
+use Rattle.axe_file.specs.Marks.{byte_with_marks, mark_of, bytes_per_row}
 use Rattle.axe_file.specs.Packed.{packed_row, mark_at}
 use Rattle.axe_file.proofs.Lists.{listed_is, get_or-pieces}
 use Rattle.axe_file.proofs.Bytes.{two-marks, mark_of_byte, byte_of_column, length-packed_row, get_or-packed_row, element_at}
@@ -35,7 +36,7 @@ rows_after o c rows header offset count = record {
 module _ (o : Order) (c : ℕ) (rows : List (List ℕ)) (bytes : List ℕ) (offset : ℕ) (there : HasRows o c rows bytes offset) where
   -- byte k of row i
   pub row_byte : (i k : ℕ) → i < length rows → k < bytes_per_row o c
-      → get_or bytes (offset + (i * bytes_per_row o c + k)) 0 ≡ byte_with_marks o (λ j. get_or (get_or rows i []) (k * marks_per_byte o + j) 0)
+      → get_or bytes (offset + (i * bytes_per_row o c + k)) 0 ≡ byte_with_marks o (λ j. get_or (get_or rows i []) (k * digits_per_byte o + j) 0)
   row_byte i k in' lt =
       there.byte (i * bytes_per_row o c + k)
       ∙ get_or-pieces (packed_row o c) (bytes_per_row o c) (length-packed_row o c) rows i k 0 [] in' lt
@@ -45,7 +46,7 @@ module _ (o : Order) (c : ℕ) (rows : List (List ℕ)) (bytes : List ℕ) (offs
   unfolding mark_at
   row_mark i j h in' lt =
       let row = get_or rows i [] in
-      let n = marks_per_byte o in
+      let n = digits_per_byte o in
       let two : 2 ≤ n = two-marks o in
       let inside : j % n < n = mod-lt j (omega arith) in
       let place : j / n * n + j % n ≡ j = div-add-mod' j n in

@@ -6,9 +6,10 @@ use Rattle.std.proofs.lemmas.List.FromFn.{map-range_with_len_more}
 use Rattle.std.proofs.lemmas.List.{get_or-take, get_or-drop}
 use Rattle.axe_algebra.specs.Lists.{listed}
 use Rattle.axe_field.specs.Order.{Order, order_number}
+use Rattle.axe_row.specs.ByteDigits.{digits_per_byte}
 use Rattle.axe_matrix.specs.Matrices.{MatrixValue}
 use Rattle.axe_matrix.specs.Limits.{most_rows, most_columns}
-use Rattle.axe_file.specs.Marks.{marks_per_byte, mark_of, has_unused_mark, bytes_per_row, row_marks}
+use Rattle.axe_file.specs.Marks.{mark_of, has_unused_mark, bytes_per_row, row_marks}
 use Rattle.axe_file.specs.Packed.{data_length, has_padding, mark_at, matrix_at}
 use Rattle.axe_algebra.proofs.ListEntries.{listed_length, listed_at}
 use Rattle.axe_file.proofs.Lists.{listed_same}
@@ -18,7 +19,7 @@ use Rattle.axe_file.specs.declared.layout.Layout.{Layout}
 
 pub some_width : (layout : Layout) → 1 ≤ layout.columns → 0 < layout.width
 some_width layout some =
-    let first : 0 / marks_per_byte layout.field < bytes_per_row layout.field layout.columns = byte_of_column layout.field layout.columns 0 some in
+    let first : 0 / digits_per_byte layout.field < bytes_per_row layout.field layout.columns = byte_of_column layout.field layout.columns 0 some in
     rw layout.width_is (omega arith)
 
 pub padding_by_layout : (layout : Layout) (bytes : List ℕ) (offset p : ℕ)
@@ -49,8 +50,8 @@ rows_before i r w lt = let le = mul-le (i + 1) w r w (omega arith) (omega arith)
 pub marks_are_elements : (o : Order) (columns : ℕ) (bytes : List ℕ) → All (λ a. a < order_number o) (row_marks o columns bytes)
 unfolding row_marks
 marks_are_elements o columns bytes i d lt =
-    let inside : i < columns = omega (arith, listed_length columns (λ j. mark_of o (get_or bytes (j / marks_per_byte o) 0) (j % marks_per_byte o))) in
-    rw (listed_at columns (λ j. mark_of o (get_or bytes (j / marks_per_byte o) 0) (j % marks_per_byte o)) i d inside) (mark_below o _ _)
+    let inside : i < columns = omega (arith, listed_length columns (λ j. mark_of o (get_or bytes (j / digits_per_byte o) 0) (j % digits_per_byte o))) in
+    rw (listed_at columns (λ j. mark_of o (get_or bytes (j / digits_per_byte o) 0) (j % digits_per_byte o)) i d inside) (mark_below o _ _)
 
 pub length-row_marks : (o : Order) (columns : ℕ) (bytes : List ℕ) → length (row_marks o columns bytes) ≡ columns
 unfolding row_marks
@@ -67,7 +68,7 @@ pub marks_at : (layout : Layout) (bytes : List ℕ) (offset i : ℕ)
 unfolding row_marks mark_at
 marks_at layout bytes offset i =
     let o = layout.field in
-    let m = marks_per_byte o in
+    let m = digits_per_byte o in
     let w = layout.width in
     let start = offset + i * w in
     let long : start + w - start ≡ w = omega arith in

@@ -7,9 +7,10 @@ use Rattle.std.proofs.lemmas.Bool.{leb-true, le-leb, eqb-true, not-false}
 use Rattle.std.proofs.lemmas.List.{get_or_past}
 use Rattle.std.proofs.lemmas.Nat.{div-add-mod', div_below}
 use Rattle.axe_field.specs.Order.{Order, order_number}
+use Rattle.axe_row.specs.ByteDigits.{digits_per_byte}
 use Rattle.axe_matrix.specs.Matrices.{MatrixValue, IsMatrix}
 use Rattle.axe_file.specs.Limits.{most_packed_bytes}
-use Rattle.axe_file.specs.Marks.{marks_per_byte, byte_limit, byte_with_marks, mark_of, has_unused_mark, bytes_per_row}
+use Rattle.axe_file.specs.Marks.{byte_limit, byte_with_marks, mark_of, has_unused_mark, bytes_per_row}
 use Rattle.axe_file.specs.Packed.{header_length, order_offset, packed, packed_row, unpacked, order_with_number, data_length, has_padding, packed_fault}
 use Rattle.axe_file.proofs.Bytes.{byte_below, mark_of_byte, element_at}
 use Rattle.axe_file.proofs.Headers.{order_of_number, number_in_header, header_has_magic, header_has_zeros}
@@ -23,21 +24,21 @@ use Rattle.axe_file.proofs.Soundness.{IsHeader, IsSoundAt, no_packed_fault}
 
 -- the rule of unused marks
 pub padding_from : (o : Order) (c : ℕ) (bytes : List ℕ) (offset p : ℕ)
-    → ((j : ℕ) → j < marks_per_byte o → c ≤ p % bytes_per_row o c * marks_per_byte o + j → mark_of o (get_or bytes (offset + p) 0) j ≡ 0)
+    → ((j : ℕ) → j < digits_per_byte o → c ≤ p % bytes_per_row o c * digits_per_byte o + j → mark_of o (get_or bytes (offset + p) 0) j ≡ 0)
     → has_padding o c bytes offset p ≡ false
 unfolding has_padding has_unused_mark
 padding_from o c bytes offset p h =
-    none_found _ 0 (marks_per_byte o) (λ j low high.
-    and_of_false (leb c (p % bytes_per_row o c * marks_per_byte o + j)) _
+    none_found _ 0 (digits_per_byte o) (λ j low high.
+    and_of_false (leb c (p % bytes_per_row o c * digits_per_byte o + j)) _
     (λ past. let mark = h j (omega arith) (leb-true _ _ past) in rw mark refl))
 
-pub padding_at : (o : Order) (c : ℕ) (bytes : List ℕ) (offset p j : ℕ) → has_padding o c bytes offset p ≡ false → j < marks_per_byte o
-    → c ≤ p % bytes_per_row o c * marks_per_byte o + j → mark_of o (get_or bytes (offset + p) 0) j ≡ 0
+pub padding_at : (o : Order) (c : ℕ) (bytes : List ℕ) (offset p j : ℕ) → has_padding o c bytes offset p ≡ false → j < digits_per_byte o
+    → c ≤ p % bytes_per_row o c * digits_per_byte o + j → mark_of o (get_or bytes (offset + p) 0) j ≡ 0
 unfolding has_padding has_unused_mark
 padding_at o c bytes offset p j e lt past =
-    let here = none_found_at _ 0 (marks_per_byte o) e j (omega arith) (omega arith) in
-    let test : leb c (p % bytes_per_row o c * marks_per_byte o + j) ≡ true = le-leb _ _ past in
-    eqb-true _ _ (not-false _ (and_false (leb c (p % bytes_per_row o c * marks_per_byte o + j)) _ test here))
+    let here = none_found_at _ 0 (digits_per_byte o) e j (omega arith) (omega arith) in
+    let test : leb c (p % bytes_per_row o c * digits_per_byte o + j) ≡ true = le-leb _ _ past in
+    eqb-true _ _ (not-false _ (and_false (leb c (p % bytes_per_row o c * digits_per_byte o + j)) _ test here))
 
 -- a place of the data is that of a byte in a row
 pub record Place (p w r : ℕ) : Type 0 where
@@ -62,13 +63,13 @@ rows_sound_at o c rows bytes offset h there p lt =
     let row = get_or rows (p / w) [] in
     let k = p % w in
     let elements : (i : ℕ) → get_or row i 0 < order_number o = λ i. element_at o row i (h.elements (p / w) [] place.row) in
-    let byte : get_or bytes (offset + p) 0 ≡ byte_with_marks o (λ j. get_or row (k * marks_per_byte o + j) 0) =
+    let byte : get_or bytes (offset + p) 0 ≡ byte_with_marks o (λ j. get_or row (k * digits_per_byte o + j) 0) =
     ap (λ (n : ℕ). get_or bytes (offset + n) 0) (sym place.is) ∙ row_byte o c rows bytes offset there (p / w) k place.row place.byte in
-    let below : get_or bytes (offset + p) 0 < byte_limit o = rw byte (byte_below o _ (λ j inside. elements (k * marks_per_byte o + j))) in
+    let below : get_or bytes (offset + p) 0 < byte_limit o = rw byte (byte_below o _ (λ j inside. elements (k * digits_per_byte o + j))) in
     let long : length row ≡ c = h.lengths (p / w) [] place.row in
-    let unused : (j : ℕ) → j < marks_per_byte o → c ≤ k * marks_per_byte o + j → mark_of o (get_or bytes (offset + p) 0) j ≡ 0 =
-    λ j inside past. ap (λ (b : ℕ). mark_of o b j) byte ∙ mark_of_byte o _ j (λ t within. elements (k * marks_per_byte o + t)) inside
-    ∙ get_or_past row (k * marks_per_byte o + j) 0 (omega arith) in
+    let unused : (j : ℕ) → j < digits_per_byte o → c ≤ k * digits_per_byte o + j → mark_of o (get_or bytes (offset + p) 0) j ≡ 0 =
+    λ j inside past. ap (λ (b : ℕ). mark_of o b j) byte ∙ mark_of_byte o _ j (λ t within. elements (k * digits_per_byte o + t)) inside
+    ∙ get_or_past row (k * digits_per_byte o + j) 0 (omega arith) in
     record { below = below; padding = padding_from o c bytes offset p unused }
 
 packed_header_sound : (m : MatrixValue) → IsMatrix m → IsHeader (packed m)

@@ -7,9 +7,10 @@ use Rattle.std.specs.List.{flat_map, find, list_any, range_with_len}
 use Rattle.std.specs.Int.{w32, to_le_bytes, from_le_bytes}
 use Rattle.axe_algebra.specs.Lists.{listed, table}
 use Rattle.axe_field.specs.Order.{Order, Two, Three, Four, Five, Seven, Eight, Nine, order_number}
+use Rattle.axe_row.specs.ByteDigits.{digits_per_byte}
 use Rattle.axe_matrix.specs.Matrices.{MatrixValue}
 use Rattle.axe_matrix.specs.Limits.{most_rows, most_columns}
-use Rattle.axe_file.specs.Marks.{marks_per_byte, byte_limit, byte_with_marks, mark_of, has_unused_mark, bytes_per_row}
+use Rattle.axe_file.specs.Marks.{byte_limit, byte_with_marks, mark_of, has_unused_mark, bytes_per_row}
 use Rattle.axe_file.specs.declared.fault.FileFault.{FileFault}
 use Rattle.axe_file.specs.declared.fault.FileFault.TheVariants.{ShortHeader, BadMagic, BadField, BadReserved, BadRows}
 use Rattle.axe_file.specs.declared.fault.FileFault.TheVariants.{BadCols, Truncated, BadByte, BadPadding, TrailingBytes}
@@ -51,7 +52,7 @@ packed_header o rows columns =
 -- a row: byte k holds its marks from the place k m on, m to a byte, where each mark past the last column is 0
 unfoldable pub packed_row : Order → ℕ → List ℕ → List ℕ
 packed_row o columns row =
-    listed (bytes_per_row o columns) (λ k. byte_with_marks o (λ j. slice_index row (k * marks_per_byte o + j)))
+    listed (bytes_per_row o columns) (λ k. byte_with_marks o (λ j. slice_index row (k * digits_per_byte o + j)))
 
 -- the rows of a matrix one after the other, each from a new byte on
 abbrev pub packed_rows : MatrixValue → List ℕ
@@ -70,7 +71,7 @@ data_length o rows columns = rows * bytes_per_row o columns
 -- the mark in row i, column j
 unfoldable pub mark_at : Order → ℕ → List ℕ → ℕ → ℕ → ℕ → ℕ
 mark_at o columns bytes offset i j =
-    let m = marks_per_byte o in
+    let m = digits_per_byte o in
     mark_of o (slice_index bytes (offset + (i * bytes_per_row o columns + j / m))) (j % m)
 
 -- the matrix of so many rows

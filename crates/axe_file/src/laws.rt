@@ -3,8 +3,8 @@
 ghost use Rattle.std.specs.Prelude.{◌≡◌, ℕ, ◌^◌, ◌<◌, ◌≤◌, None, List, length};
 ghost use Rattle.std.specs.List.{All};
 ghost use Rattle.axe_field.specs.Order.{Order, order_number};
+ghost use Rattle.axe_row.specs.ByteDigits.{digits_per_byte};
 ghost use Rattle.axe_matrix.specs.Matrices.{MatrixValue, IsMatrix};
-ghost use Rattle.axe_file.specs.Marks.{marks_per_byte};
 ghost use Rattle.axe_file.specs.Packed.{packed, packed_fault, unpacked};
 ghost use Rattle.axe_file.specs.Limits.{most_packed_bytes, most_module_bytes, most_generators};
 ghost use Rattle.axe_file.specs.Limits.{most_text_bytes, digits_per_line};
@@ -21,10 +21,10 @@ pub fn limits_are_named()
     ensures line { DIGITS_PER_LINE ≡ digits_per_line }
 {}
 
-/// A byte has room for so many marks, and for no more.
-pub fn marks_per_byte_is_greatest()
-    ensures fit { (o : Order) → order_number o ^ marks_per_byte o ≤ 256 }
-    ensures greatest { (o : Order) (m : ℕ) → order_number o ^ m ≤ 256 → m ≤ marks_per_byte o }
+/// A byte has room for so many digits in base q, where q is the order of a field, and for no more.
+pub fn digits_per_byte_is_greatest()
+    ensures fit { (o : Order) → order_number o ^ digits_per_byte o ≤ 256 }
+    ensures greatest { (o : Order) (m : ℕ) → order_number o ^ m ≤ 256 → m ≤ digits_per_byte o }
 {}
 
 /// The spelling of a matrix keeps the limit of packed files.

@@ -2,11 +2,12 @@
 
 ghost use Rattle.std.specs.Prelude.{◌≡◌, ◌+◌, ◌*◌, ◌<◌, ◌≤◌, length, slice_index, All};
 ghost use Rattle.axe_field.specs.Order.{order_number, IsElement};
+ghost use Rattle.axe_row.specs.ByteDigits.{digits_per_byte};
 ghost use Rattle.axe_matrix.specs.Limits.{most_columns};
-ghost use Rattle.axe_file.specs.Marks.{marks_per_byte, byte_limit, byte_with_marks, mark_of, has_unused_mark};
-ghost use Rattle.axe_file.specs.Marks.{bytes_per_row};
+ghost use Rattle.axe_file.specs.Marks.{byte_limit, byte_with_marks, mark_of, has_unused_mark, bytes_per_row};
 
 use axe_field::Field;
+use axe_row::digits_per_byte;
 
 /// The bytes that the packed file of a matrix begins with.
 pub(crate) const MATRIX_MAGIC: [u8; 4] = *b"AXP1";
@@ -52,7 +53,7 @@ pub(crate) struct Layout {
     /// How many bytes a row takes.
     pub(crate) width: usize,
     ghost columns_fit: { columns ≤ most_columns },
-    ghost marks_is: { marks ≡ marks_per_byte field },
+    ghost marks_is: { marks ≡ digits_per_byte field },
     ghost limit_is: { limit ≡ byte_limit field },
     ghost width_is: { width ≡ bytes_per_row field columns },
 }
@@ -64,7 +65,7 @@ impl Layout {
         ensures field { result.field ≡ field }
         ensures columns { result.columns ≡ columns }
     {
-        let marks = marks_per_byte(&field);
+        let marks = digits_per_byte(&field);
         let limit = u16::from(field.order()).pow(marks as u32);
         Layout {
             field,
@@ -77,7 +78,7 @@ impl Layout {
 
     /// One mark of a byte, counted from the most significant.
     pub(crate) fn mark_of(&self, byte: u8, index: usize) -> u8
-        requires { index < marks_per_byte self.now.field }
+        requires { index < digits_per_byte self.now.field }
         ensures value { result ≡ mark_of self.now.field byte index }
         ensures element { IsElement self.now.field result }
     {
@@ -108,7 +109,7 @@ impl Layout {
         requires columns { length row.now ≡ self.now.columns }
         requires place { place < bytes_per_row self.now.field self.now.columns }
         ensures { result ≡ byte_with_marks self.now.field
-            (λ j. slice_index row.now (place * marks_per_byte self.now.field + j)) }
+            (λ j. slice_index row.now (place * digits_per_byte self.now.field + j)) }
     {
         let order = self.field.order();
         let mut byte = 0;
@@ -125,7 +126,7 @@ impl Layout {
         requires elements { All (IsElement self.now.field) row.now }
         requires whole { (place + 1) * COUNT ≤ length row.now }
         ensures { result ≡ byte_with_marks self.now.field
-            (λ j. slice_index row.now (place * marks_per_byte self.now.field + j)) }
+            (λ j. slice_index row.now (place * digits_per_byte self.now.field + j)) }
     {
         let order = self.field.order();
         let mut byte = 0;
@@ -141,17 +142,4 @@ fn mark_in(row: &[u8], column: usize) -> u8
     ensures { result ≡ slice_index row.now column }
 {
     if column < row.len() { row[column] } else { 0 }
-}
-
-/// How many elements of a field fit a byte: the greatest `m` with `q^m <= 256`, where `q` is the order.
-fn marks_per_byte(field: &Field) -> usize
-    ensures { result ≡ marks_per_byte field.now }
-{
-    match field.order() {
-        2 => 8,
-        3 => 5,
-        4 => 4,
-        5 => 3,
-        _ => 2,
-    }
 }

@@ -17,7 +17,7 @@ mod writing;
 
 pub use fault::FileFault;
 pub use laws::{
-    faultless_bytes_are_spellings, limits_are_named, marks_per_byte_is_greatest,
+    digits_per_byte_is_greatest, faultless_bytes_are_spellings, limits_are_named,
     spellings_are_apart, spellings_are_read, spellings_keep_the_limit,
 };
 pub use module_laws::{

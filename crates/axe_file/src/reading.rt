@@ -155,7 +155,8 @@ fn check_bytes(layout: &Layout, bytes: &[u8], offset: usize, count: usize) -> Re
     ensures faultless { OnOk result
         (flat_map (byte_faults layout.now.field layout.now.columns bytes.now offset) (range_with_len 0 count) ≡ []) }
     ensures fault { IfErr result (λ fault.
-        slice_get (flat_map (byte_faults layout.now.field layout.now.columns bytes.now offset) (range_with_len 0 count)) 0
+        slice_get
+        (flat_map (byte_faults layout.now.field layout.now.columns bytes.now offset) (range_with_len 0 count)) 0
         ≡ Some fault) }
 {
     let fitting = fitting_bytes(layout, bytes, offset, count);
@@ -194,7 +195,8 @@ fn check_last_bytes(
     ensures faultless { OnOk result
         (flat_map (byte_faults layout.now.field layout.now.columns bytes.now offset) (range_with_len 0 count) ≡ []) }
     ensures fault { IfErr result (λ fault.
-        slice_get (flat_map (byte_faults layout.now.field layout.now.columns bytes.now offset) (range_with_len 0 count)) 0
+        slice_get
+        (flat_map (byte_faults layout.now.field layout.now.columns bytes.now offset) (range_with_len 0 count)) 0
         ≡ Some fault) }
 {
     for index in 0..count / layout.width {

@@ -1,5 +1,6 @@
 use Rattle.std.proofs.Common.{ℕ, ◌+◌, ◌*◌, get_or, refl, sym, ◌∙◌, arith}
-use Rattle.axe_file.proofs.Digits.{horner, horner-more}
+use Rattle.axe_algebra.specs.Digits.{number_with_digits}
+use Rattle.axe_file.proofs.Digits.{number_more}
 use Rattle.axe_file.proofs.Bytes.{eight-marks, element_at}
 use Rattle.axe_file.proofs.Layouts.{column_fits, step_fits, byte_by_digits}
 use Rattle.axe_file.proofs.layout.Layout.byte_of.Goals as goal
@@ -13,7 +14,7 @@ overflow_add-place c =
     omega (arith, c.args.self.now.marks_is, eight-marks c.args.self.now.field, column_fits c.args.self.now.field c.args.self.now.columns c.args.place c.args.self.now.marks c.args.self.now.columns_fit c.requires.place c.args.self.now.marks_is)
 
 pub loop-index-init : goal.loop-index-init
-unfolding horner
+unfolding number_with_digits
 loop-index-init c = refl
 
 pub overflow_mul-byte : goal.overflow_mul-byte
@@ -32,7 +33,7 @@ overflow_add-byte c =
 
 pub loop-index-preserved : goal.loop-index-preserved
 loop-index-preserved c =
-    rw (c.loop-index.invariant, c.mark_in.ensures) (sym (horner-more c.order-order.result (λ j. get_or c.args.row.now (c.args.place * c.args.self.now.marks + j) 0) c.loop-index.index))
+    rw (c.loop-index.invariant, c.mark_in.ensures) (sym (number_more c.order-order.result (λ j. get_or c.args.row.now (c.args.place * c.args.self.now.marks + j) 0) c.loop-index.index))
 
 pub returns : goal.returns
 returns c =

@@ -1,6 +1,7 @@
 use Rattle.std.proofs.Common.{◌≡◌, ◌+◌, ◌*◌, get_or}
-use Rattle.axe_file.proofs.Digits.{horner}
+use Rattle.axe_algebra.specs.Digits.{number_with_digits}
+use Rattle.axe_algebra.specs.Lists.{listed}
 use Rattle.axe_file.proofs.layout.Layout.byte_of.Given as goal
 
 abbrev pub invariant-loop-index : goal.invariant-loop-index
-invariant-loop-index l = l.byte ≡ horner l.order (λ j. get_or l.row (l.place * l.self.marks + j) 0) l.index
+invariant-loop-index l = l.byte ≡ number_with_digits l.order (listed l.index (λ j. get_or l.row (l.place * l.self.marks + j) 0))

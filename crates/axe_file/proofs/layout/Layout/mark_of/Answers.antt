@@ -9,4 +9,4 @@ nonzero_div-result c = rw c.pow.ensures (weight_positive c.args.self.now.field _
 
 pub returns-clause-value : goal.returns-clause-value
 returns-clause-value c =
-    rw c.pow.ensures (mark_by_division c.args.self.now.field _ _ c.args.byte c.args.index c.order-order.ensures.value c.args.self.now.marks_is)
+    rw c.pow.ensures (mark_by_division c.args.self.now.field _ _ c.args.byte c.args.index c.order-order.ensures.value c.args.self.now.marks_is c.requires)

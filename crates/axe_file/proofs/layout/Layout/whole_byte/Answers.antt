@@ -1,11 +1,12 @@
 use Rattle.std.proofs.Common.{ℕ, ◌+◌, ◌*◌, get_or, refl, sym, ◌∙◌, arith}
-use Rattle.axe_file.proofs.Digits.{horner, horner-more}
+use Rattle.axe_algebra.specs.Digits.{number_with_digits}
+use Rattle.axe_file.proofs.Digits.{number_more}
 use Rattle.axe_file.proofs.Bytes.{element_at}
 use Rattle.axe_file.proofs.Layouts.{step_fits, byte_by_digits}
 use Rattle.axe_file.proofs.layout.Layout.whole_byte.Goals as goal
 
 pub loop-index-init : goal.loop-index-init
-unfolding horner
+unfolding number_with_digits
 loop-index-init g c = refl
 
 pub overflow_mul-byte : goal.overflow_mul-byte
@@ -24,7 +25,7 @@ overflow_add-byte-in-loop-index g c =
 
 pub loop-index-preserved : goal.loop-index-preserved
 loop-index-preserved g c =
-    rw c.loop-index.invariant (sym (horner-more c.order-order.result (λ j. get_or c.args.row.now (c.args.place * g.row.COUNT + j) 0) c.loop-index.index))
+    rw c.loop-index.invariant (sym (number_more c.order-order.result (λ j. get_or c.args.row.now (c.args.place * g.row.COUNT + j) 0) c.loop-index.index))
 
 pub returns : goal.returns
 returns g c =

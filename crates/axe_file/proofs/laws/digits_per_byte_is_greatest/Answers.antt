@@ -1,5 +1,5 @@
 use Rattle.axe_file.proofs.Bytes.{limit-fits, greatest}
-use Rattle.axe_file.proofs.laws.marks_per_byte_is_greatest.Goals as goal
+use Rattle.axe_file.proofs.laws.digits_per_byte_is_greatest.Goals as goal
 
 pub returns-clause-fit : goal.returns-clause-fit
 returns-clause-fit c = limit-fits
