@@ -6,14 +6,14 @@ use Rattle.axe_field.specs.Order.{Order}
 use Rattle.axe_row.specs.Rows.{RowValue}
 use Rattle.axe_row.specs.Refusals.{Answers}
 use Rattle.axe_row.specs.declared.refusals.Refusal.{Refusal}
-use Rattle.axe_matrix.specs.Matrices.{MatrixValue, IsMatrix}
+use Rattle.axe_matrix.specs.Matrices.{MatrixValue, IsMatrix, columns_at, rows_at}
 use Rattle.axe_matrix.specs.Limits.{most_columns}
 use Rattle.axe_matrix.specs.RowLists.{AreRowsOf}
 use Rattle.axe_echelon.proofs.Exits.{answers_with}
 use Rattle.axe_echelon.proofs.FormLaws.{below_or_at}
-use Rattle.axe_action.specs.Coordinates.{entries_at, matrix_at, rows_chosen}
 use Rattle.axe_action.specs.FreeColumns.{AreComplementary, IsNextPivot}
-use Rattle.axe_action.specs.Blocks.{with_entries, FitsBlocks, AreBlocksWith}
+use Rattle.axe_action.specs.Blocks.{with_entries, IsPivotRowNext, FitsBlocks, AreWithPivotRow, AreWithOtherRow, AreBlocksWith}
+use Rattle.axe_action.specs.declared.blocks.Blocks.{Blocks}
 use Rattle.axe_action.proofs.ColumnLaws.{HasFirstEntries, entries_none, entries_more, entries_all}
 use Rattle.axe_action.proofs.EntryLaws.{chosen_length, chosen_row}
 use mathlib.Core.Logic.{inl, inr}
@@ -109,77 +109,54 @@ module _ (n : ℕ) (pivots columns : List ℕ) (both : AreComplementary n pivots
       at (yes less) = absurd (omega (arith, whole, taken.columns_after l (omega arith) less, both.columns_below l less))
       at (no all) = omega (arith, all, taken.few_columns)
 
--- the blocks of the rows so far
-pub record AreBlocks (g : MatrixValue) (pivots columns : List ℕ) (k l : ℕ) (a b c : MatrixValue) : Type 0 where
-  pub at_pivots : HasFirstEntries pivots (rows_chosen pivots g) k a
-  pub across : HasFirstEntries pivots (rows_chosen columns g) l b
-  pub at_columns : HasFirstEntries columns (rows_chosen columns g) l c
+-- the blocks of the rows so far, of which k are at pivots and l at other columns
+pub record AreBlocks (g : MatrixValue) (pivots columns : List ℕ) (k l : ℕ) (blocks : Blocks) : Type 0 where
+  pub at_pivots : HasFirstEntries pivots (rows_at pivots g) k blocks.at_pivots
+  pub across : HasFirstEntries pivots (rows_at columns g) l blocks.across
+  pub at_columns : HasFirstEntries columns (rows_at columns g) l blocks.at_columns
   pub taken : AreTaken pivots columns k l
 
-pub blocks_none : (g : MatrixValue) (pivots columns : List ℕ) (o : Order) (s m : ℕ) (a b c : MatrixValue) → o ≡ g.order → s ≡ length pivots → m ≡ length columns →
-    a ≡ record { order = o; cols = s; rows = [] } → b ≡ record { order = o; cols = s; rows = [] } → c ≡ record { order = o; cols = m; rows = [] } →
-    AreBlocks g pivots columns (length a.rows) (length b.rows) a b c
-blocks_none g pivots columns o s m a b c field wide other a_is b_is c_is =
-    subst (λ k. AreBlocks g pivots columns k (length b.rows) a b c) (sym (ap (λ (x : MatrixValue). length x.rows) a_is))
-    (subst (λ l. AreBlocks g pivots columns 0 l a b c) (sym (ap (λ (x : MatrixValue). length x.rows) b_is)) (record {
-      at_pivots = entries_none pivots (rows_chosen pivots g) o s a field wide a_is;
-      across = entries_none pivots (rows_chosen columns g) o s b field wide b_is;
-      at_columns = entries_none columns (rows_chosen columns g) o m c field other c_is;
-      taken = none_taken pivots columns;
-    }))
-
-module _ (g : MatrixValue) (pivots columns : List ℕ) (both : AreComplementary g.cols pivots columns) (k l : ℕ) (a b c : MatrixValue)
-    (blocks : AreBlocks g pivots columns k l a b c) where
+module _ (g : MatrixValue) (pivots columns : List ℕ) (both : AreComplementary g.cols pivots columns) (k l : ℕ) (blocks : Blocks)
+    (are : AreBlocks g pivots columns k l blocks) where
   -- a row at a pivot
-  pub blocks_pivot : (next : MatrixValue) (v : List ℕ) → IsNextPivot pivots k l → v ≡ get_or g.rows (k + l) [] → next ≡ with_entries a pivots v →
-      AreBlocks g pivots columns (length next.rows) l next b c
-  blocks_pivot next v is_next row_is is = subst (λ x. AreBlocks g pivots columns x l next b c) (sym more.count) (record {
-    at_pivots = more;
-    across = blocks.across;
-    at_columns = blocks.at_columns;
-    taken = pivot_taken g.cols pivots columns both k l blocks.taken is_next;
-  })
-    where
-      more : HasFirstEntries pivots (rows_chosen pivots g) (k + 1) next
-      more = entries_more pivots (rows_chosen pivots g) k a next v blocks.at_pivots
-          (row_is ∙ ap (λ j. get_or g.rows j []) (sym is_next.1) ∙ sym (chosen_row pivots g.rows k is_next.0)) is
+  pub blocks_pivot : (after : Blocks) (v : List ℕ) → v ≡ get_or g.rows (k + l) [] → IsNextPivot pivots k l → AreWithPivotRow pivots v blocks after →
+      AreBlocks g pivots columns (k + 1) l after
+  blocks_pivot after v row_is is_next more = record {
+    at_pivots = entries_more pivots (rows_at pivots g) k blocks.at_pivots after.at_pivots v are.at_pivots
+        (row_is ∙ ap (λ j. get_or g.rows j []) (sym is_next.1) ∙ sym (chosen_row pivots g.rows k is_next.0)) more.at_pivots more.formed;
+    across = subst (HasFirstEntries pivots (rows_at columns g) l) (sym more.across) are.across;
+    at_columns = subst (HasFirstEntries columns (rows_at columns g) l) (sym more.at_columns) are.at_columns;
+    taken = pivot_taken g.cols pivots columns both k l are.taken is_next;
+  }
 
   -- a row at another column
-  pub blocks_column : (across at_columns : MatrixValue) (v : List ℕ) → k + l < g.cols → ¬ (IsNextPivot pivots k l) → v ≡ get_or g.rows (k + l) [] →
-      across ≡ with_entries b pivots v → at_columns ≡ with_entries c columns v → AreBlocks g pivots columns k (length across.rows) a across at_columns
-  blocks_column across at_columns v below not row_is is also =
-      subst (λ x. AreBlocks g pivots columns k x a across at_columns) (sym more.count) (record {
-        at_pivots = blocks.at_pivots;
-        across = more;
-        at_columns = entries_more columns (rows_chosen columns g) l c at_columns v blocks.at_columns (row_is ∙ place) also;
-        taken = column_taken g.cols pivots columns both k l blocks.taken next.0 next.1;
-      })
+  pub blocks_column : (after : Blocks) (v : List ℕ) → v ≡ get_or g.rows (k + l) [] → k + l < g.cols → ¬ (IsNextPivot pivots k l) →
+      AreWithOtherRow pivots columns v blocks after → AreBlocks g pivots columns k (l + 1) after
+  blocks_column after v row_is below not more = record {
+    at_pivots = subst (HasFirstEntries pivots (rows_at pivots g) k) (sym more.at_pivots) are.at_pivots;
+    across = entries_more pivots (rows_at columns g) l blocks.across after.across v are.across (row_is ∙ place) more.across more.across_formed;
+    at_columns = entries_more columns (rows_at columns g) l blocks.at_columns after.at_columns v are.at_columns (row_is ∙ place) more.at_columns
+        more.columns_formed;
+    taken = column_taken g.cols pivots columns both k l are.taken next.0 next.1;
+  }
     where
       next : (l < length columns) × (get_or columns l 0 ≡ k + l)
-      next = next_column g.cols pivots columns both k l blocks.taken below not
+      next = next_column g.cols pivots columns both k l are.taken below not
 
-      place : get_or g.rows (k + l) [] ≡ get_or (rows_chosen columns g).rows l []
+      place : get_or g.rows (k + l) [] ≡ get_or (rows_at columns g).rows l []
       place = ap (λ j. get_or g.rows j []) (sym next.1) ∙ sym (chosen_row columns g.rows l next.0)
-
-      more : HasFirstEntries pivots (rows_chosen columns g) (l + 1) across
-      more = entries_more pivots (rows_chosen columns g) l b across v blocks.across (row_is ∙ place) is
-
-  -- there is room for it
-  column_room : k + l < g.cols → ¬ (IsNextPivot pivots k l) → (length b.rows < length columns) × (length c.rows < length columns)
-  column_room below not =
-      let next : (l < length columns) × (get_or columns l 0 ≡ k + l) = next_column g.cols pivots columns both k l blocks.taken below not in
-      (omega (arith, blocks.across.count, next.0), omega (arith, blocks.at_columns.count, next.0))
 
   -- all rows
   pub blocks_whole : k + l ≡ g.cols →
-      (a ≡ matrix_at pivots (rows_chosen pivots g)) × (b ≡ matrix_at pivots (rows_chosen columns g)) × (c ≡ matrix_at columns (rows_chosen columns g))
+      (blocks.at_pivots ≡ columns_at pivots (rows_at pivots g)) × (blocks.across ≡ columns_at pivots (rows_at columns g))
+      × (blocks.at_columns ≡ columns_at columns (rows_at columns g))
   blocks_whole whole = (
-    entries_all pivots (rows_chosen pivots g) k a blocks.at_pivots
-        (pivots_whole g.cols pivots columns both k l blocks.taken whole ∙ sym (chosen_length pivots g.rows)),
-    entries_all pivots (rows_chosen columns g) l b blocks.across
-        (columns_whole g.cols pivots columns both k l blocks.taken whole ∙ sym (chosen_length columns g.rows)),
-    entries_all columns (rows_chosen columns g) l c blocks.at_columns
-        (columns_whole g.cols pivots columns both k l blocks.taken whole ∙ sym (chosen_length columns g.rows)),
+    entries_all pivots (rows_at pivots g) k blocks.at_pivots are.at_pivots
+        (pivots_whole g.cols pivots columns both k l are.taken whole ∙ sym (chosen_length pivots g.rows)),
+    entries_all pivots (rows_at columns g) l blocks.across are.across
+        (columns_whole g.cols pivots columns both k l are.taken whole ∙ sym (chosen_length columns g.rows)),
+    entries_all columns (rows_at columns g) l blocks.at_columns are.at_columns
+        (columns_whole g.cols pivots columns both k l are.taken whole ∙ sym (chosen_length columns g.rows)),
   )
 
 -- the next row of a generator
@@ -242,18 +219,22 @@ not_next pivots taken passed k l test first second exactly is = λ next.
     different b first second = cc
 
 -- the entries of a row at a pivot were appended to the first block
-pub pivot_row_added : {T : Type 0} (pivots columns v : List ℕ) (a b c x : MatrixValue) (result : Result T Refusal) → IsNextPivot pivots (length a.rows) (length b.rows) →
-    Answers None (λ _. x ≡ with_entries a pivots v) result → IfOk result (λ _. IsMatrix x) → Answers None (λ _. AreBlocksWith pivots columns v a b c x b c) result
-pivot_row_added pivots columns v a b c x result next appended formed =
-    answers_with result (λ _. x ≡ with_entries a pivots v) (λ _. IsMatrix x) (λ _. AreBlocksWith pivots columns v a b c x b c) appended formed
+pub pivot_row_added : {T : Type 0} (pivots columns v : List ℕ) (before : Blocks) (x : MatrixValue) (result : Result T Refusal) → IsPivotRowNext pivots before →
+    Answers None (λ _. x ≡ with_entries before.at_pivots pivots v) result → IfOk result (λ _. IsMatrix x) →
+    Answers None (λ _. AreBlocksWith pivots columns v before (record before { at_pivots = x })) result
+pivot_row_added pivots columns v before x result next appended formed =
+    answers_with result (λ _. x ≡ with_entries before.at_pivots pivots v) (λ _. IsMatrix x)
+    (λ _. AreBlocksWith pivots columns v before (record before { at_pivots = x })) appended formed
     (λ _ is x_formed. inl (record { is_next = next; at_pivots = is; across = refl; at_columns = refl; formed = x_formed }))
 
 -- those of a row at another column to the other blocks
-pub other_row_added : {T : Type 0} (pivots columns v : List ℕ) (a b c y z : MatrixValue) (result : Result T Refusal) →
-    ¬ (IsNextPivot pivots (length a.rows) (length b.rows)) → y ≡ with_entries b pivots v → IsMatrix y → Answers None (λ _. z ≡ with_entries c columns v) result →
-    IfOk result (λ _. IsMatrix z) → Answers None (λ _. AreBlocksWith pivots columns v a b c a y z) result
-other_row_added pivots columns v a b c y z result other y_is y_formed appended formed =
-    answers_with result (λ _. z ≡ with_entries c columns v) (λ _. IsMatrix z) (λ _. AreBlocksWith pivots columns v a b c a y z) appended formed
+pub other_row_added : {T : Type 0} (pivots columns v : List ℕ) (before : Blocks) (y z : MatrixValue) (result : Result T Refusal) →
+    ¬ (IsPivotRowNext pivots before) → y ≡ with_entries before.across pivots v → IsMatrix y →
+    Answers None (λ _. z ≡ with_entries before.at_columns columns v) result → IfOk result (λ _. IsMatrix z) →
+    Answers None (λ _. AreBlocksWith pivots columns v before (record before { across = y; at_columns = z })) result
+other_row_added pivots columns v before y z result other y_is y_formed appended formed =
+    answers_with result (λ _. z ≡ with_entries before.at_columns columns v) (λ _. IsMatrix z)
+    (λ _. AreBlocksWith pivots columns v before (record before { across = y; at_columns = z })) appended formed
     (λ _ is z_formed. inr (record {
       is_other = other;
       at_pivots = refl;
@@ -263,75 +244,84 @@ other_row_added pivots columns v a b c y z result other y_is y_formed appended f
       columns_formed = z_formed;
     }))
 
--- the blocks of the first rows
-pub record AreBlocksSoFar (g : MatrixValue) (pivots columns : List ℕ) (i : ℕ) (a b c : MatrixValue) : Type 0 where
-  pub blocks : AreBlocks g pivots columns (length a.rows) (length b.rows) a b c
-  pub count : length a.rows + length b.rows ≡ i
-  pub a_formed : IsMatrix a
-  pub b_formed : IsMatrix b
-  pub c_formed : IsMatrix c
+-- the blocks of the first i rows
+pub record AreBlocksSoFar (g : MatrixValue) (pivots columns : List ℕ) (i : ℕ) (blocks : Blocks) : Type 0 where
+  pub pivot_rows : ℕ
+  pub other_rows : ℕ
+  pub are : AreBlocks g pivots columns pivot_rows other_rows blocks
+  pub count : pivot_rows + other_rows ≡ i
+
+-- those of no rows
+pub blocks_none : (g : MatrixValue) (pivots columns : List ℕ) (o : Order) (s m : ℕ) (blocks : Blocks) → o ≡ g.order → s ≡ length pivots → m ≡ length columns →
+    blocks.at_pivots ≡ record { order = o; cols = s; rows = [] } → blocks.across ≡ record { order = o; cols = s; rows = [] } →
+    blocks.at_columns ≡ record { order = o; cols = m; rows = [] } →
+    IsMatrix blocks.at_pivots × IsMatrix blocks.across × IsMatrix blocks.at_columns → AreBlocksSoFar g pivots columns 0 blocks
+blocks_none g pivots columns o s m blocks field wide other a_is b_is c_is formed = record {
+  pivot_rows = 0;
+  other_rows = 0;
+  are = record {
+    at_pivots = entries_none pivots (rows_at pivots g) o s blocks.at_pivots field wide a_is formed.0;
+    across = entries_none pivots (rows_at columns g) o s blocks.across field wide b_is formed.1;
+    at_columns = entries_none columns (rows_at columns g) o m blocks.at_columns field other c_is formed.2;
+    taken = none_taken pivots columns;
+  };
+  count = refl;
+}
 
 module _ (g : MatrixValue) (pivots columns : List ℕ) (both : AreComplementary g.cols pivots columns) (square : length g.rows ≡ g.cols) (done : List RowValue)
-    (row : RowValue) (a b c : MatrixValue) (so_far : AreBlocksSoFar g pivots columns (length done) a b c) (below : length done < length g.rows)
+    (row : RowValue) (blocks : Blocks) (so_far : AreBlocksSoFar g pivots columns (length done) blocks) (below : length done < length g.rows)
     (here : row.entries ≡ get_or g.rows (length done) []) where
-  at_count : get_or g.rows (length done) [] ≡ get_or g.rows (length a.rows + length b.rows) []
-  at_count = ap (λ j. get_or g.rows j []) (sym so_far.count)
+  abbrev k : ℕ
+  k = so_far.pivot_rows
+
+  abbrev l : ℕ
+  l = so_far.other_rows
+
+  at_count : row.entries ≡ get_or g.rows (k + l) []
+  at_count = here ∙ ap (λ j. get_or g.rows j []) (sym so_far.count)
+
+  inside : k + l < g.cols
+  inside = omega (arith, below, so_far.count, square)
 
   grown : length (done ++ row ∷ []) ≡ length done + 1
   grown = length-append done (row ∷ [])
 
-  so_far_pivot : (x : MatrixValue) → IsNextPivot pivots (length a.rows) (length b.rows) → x ≡ with_entries a pivots row.entries → IsMatrix x →
-      AreBlocksSoFar g pivots columns (length (done ++ row ∷ [])) x b c
-  so_far_pivot x is_next is formed = record {
-    blocks = blocks_pivot g pivots columns both (length a.rows) (length b.rows) a b c so_far.blocks x row.entries is_next (here ∙ at_count) is;
-    count = omega (
-      arith,
-      so_far.count,
-      grown,
-      ap (λ (m : MatrixValue). length m.rows) is,
-      length-append a.rows (entries_at pivots row.entries ∷ []),
-    );
-    a_formed = formed;
-    b_formed = so_far.b_formed;
-    c_formed = so_far.c_formed;
-  }
+  -- so many rows stand in the blocks
+  by_numbers : IsPivotRowNext pivots blocks → IsNextPivot pivots k l
+  by_numbers next = coe 0 1 (i. IsNextPivot pivots (so_far.are.at_pivots.count i) (so_far.are.across.count i)) next
 
-  so_far_column : (y z : MatrixValue) → ¬ (IsNextPivot pivots (length a.rows) (length b.rows)) → y ≡ with_entries b pivots row.entries →
-      z ≡ with_entries c columns row.entries → IsMatrix y → IsMatrix z → AreBlocksSoFar g pivots columns (length (done ++ row ∷ [])) a y z
-  so_far_column y z other is also across_formed columns_formed = record {
-    blocks = blocks_column g pivots columns both (length a.rows) (length b.rows) a b c so_far.blocks y z row.entries
-        (omega (arith, below, so_far.count, square)) other (here ∙ at_count) is also;
-    count = omega (
-      arith,
-      so_far.count,
-      grown,
-      ap (λ (m : MatrixValue). length m.rows) is,
-      length-append b.rows (entries_at pivots row.entries ∷ []),
-    );
-    a_formed = so_far.a_formed;
-    b_formed = across_formed;
-    c_formed = columns_formed;
-  }
+  by_blocks : IsNextPivot pivots k l → IsPivotRowNext pivots blocks
+  by_blocks next = coe 1 0 (i. IsNextPivot pivots (so_far.are.at_pivots.count i) (so_far.are.across.count i)) next
 
   -- the blocks with the row
-  pub so_far_more : (x y z : MatrixValue) → AreBlocksWith pivots columns row.entries a b c x y z →
-      AreBlocksSoFar g pivots columns (length (done ++ row ∷ [])) x y z
-  so_far_more x y z (inl more) = rw (more.across, more.at_columns) (so_far_pivot x more.is_next more.at_pivots more.formed)
-  so_far_more x y z (inr more) =
-      rw more.at_pivots (so_far_column y z more.is_other more.across more.at_columns more.across_formed more.columns_formed)
+  pub so_far_more : (after : Blocks) → AreBlocksWith pivots columns row.entries blocks after →
+      AreBlocksSoFar g pivots columns (length (done ++ row ∷ [])) after
+  so_far_more after (inl more) = record {
+    pivot_rows = k + 1;
+    other_rows = l;
+    are = blocks_pivot g pivots columns both k l blocks so_far.are after row.entries at_count (by_numbers more.is_next) more;
+    count = omega (arith, so_far.count, grown);
+  }
+  so_far_more after (inr more) = record {
+    pivot_rows = k;
+    other_rows = l + 1;
+    are = blocks_column g pivots columns both k l blocks so_far.are after row.entries at_count inside
+        (λ next. more.is_other (by_blocks next)) more;
+    count = omega (arith, so_far.count, grown);
+  }
 
   -- its entries can stand in them
   pub row_fits : row.order ≡ g.order → length row.entries ≡ g.cols → length pivots ≤ most_columns → length columns ≤ most_columns →
-      FitsBlocks pivots columns a b c row
+      FitsBlocks pivots columns blocks row
   row_fits field long pivots_fit columns_fit = record {
-    at_pivots = record { field = field ∙ sym so_far.blocks.at_pivots.field; width = sym so_far.blocks.at_pivots.width; within = at_pivots };
-    across = record { field = field ∙ sym so_far.blocks.across.field; width = sym so_far.blocks.across.width; within = at_pivots };
-    at_columns = record { field = field ∙ sym so_far.blocks.at_columns.field; width = sym so_far.blocks.at_columns.width; within = at_columns };
+    at_pivots = record { field = field ∙ sym so_far.are.at_pivots.field; width = sym so_far.are.at_pivots.columns; within = at_pivots };
+    across = record { field = field ∙ sym so_far.are.across.field; width = sym so_far.are.across.columns; within = at_pivots };
+    at_columns = record { field = field ∙ sym so_far.are.at_columns.field; width = sym so_far.are.at_columns.columns; within = at_columns };
     pivots_fit = pivots_fit;
     room = λ other.
-        let room : (length b.rows < length columns) × (length c.rows < length columns) =
-        column_room g pivots columns both (length a.rows) (length b.rows) a b c so_far.blocks (omega (arith, below, so_far.count, square)) other in
-        (omega (arith, room.0, columns_fit), omega (arith, room.1, columns_fit));
+        let next : (l < length columns) × (get_or columns l 0 ≡ k + l) =
+        next_column g.cols pivots columns both k l so_far.are.taken inside (λ is_next. other (by_blocks is_next)) in
+        (omega (arith, next.0, so_far.are.across.count, columns_fit), omega (arith, next.0, so_far.are.at_columns.count, columns_fit));
   }
     where
       at_pivots : All (λ column. column < length row.entries) pivots
@@ -341,8 +331,8 @@ module _ (g : MatrixValue) (pivots columns : List ℕ) (both : AreComplementary 
       at_columns = subst (λ n. All (λ column. column < n) columns) (sym long) (columns_within g.cols pivots columns both)
 
 pub blocks_are : (g : MatrixValue) (pivots columns : List ℕ) → AreComplementary g.cols pivots columns → length g.rows ≡ g.cols → (done left : List RowValue) →
-    AreRowsOf g (done ++ left) → left ≡ [] → (a b c : MatrixValue) → AreBlocksSoFar g pivots columns (length done) a b c →
-    (a ≡ matrix_at pivots (rows_chosen pivots g)) × (b ≡ matrix_at pivots (rows_chosen columns g)) × (c ≡ matrix_at columns (rows_chosen columns g))
-blocks_are g pivots columns both square done left rows none a b c so_far =
-    blocks_whole g pivots columns both (length a.rows) (length b.rows) a b c so_far.blocks
-    (so_far.count ∙ rows_whole g done left rows none ∙ square)
+    AreRowsOf g (done ++ left) → left ≡ [] → (blocks : Blocks) → AreBlocksSoFar g pivots columns (length done) blocks →
+    (blocks.at_pivots ≡ columns_at pivots (rows_at pivots g)) × (blocks.across ≡ columns_at pivots (rows_at columns g))
+    × (blocks.at_columns ≡ columns_at columns (rows_at columns g))
+blocks_are g pivots columns both square done left rows none blocks so_far =
+    blocks_whole g pivots columns both so_far.pivot_rows so_far.other_rows blocks so_far.are (so_far.count ∙ rows_whole g done left rows none ∙ square)

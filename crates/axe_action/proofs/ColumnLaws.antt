@@ -1,12 +1,12 @@
 -- Coordinates of the vectors of a span by their entries at its pivots.
-use Rattle.std.specs.Prelude.{◌≡◌, ℕ, ◌+◌, ◌<◌, ◌≤◌, List, [], ◌∷◌, ◌++◌, length, get_or}
-use Rattle.std.proofs.lemmas.List.{length-map, get_or-map, ext_get_or, length-append, get_or_append_left, get_or-append-add}
+use Rattle.std.specs.Prelude.{◌≡◌, ℕ, ◌+◌, ◌<◌, ◌≤◌, List, [], length, get_or}
+use Rattle.std.proofs.lemmas.List.{length-map, get_or-map, ext_get_or}
 use Rattle.std.proofs.lemmas.List.Elements.{All-from_get_or}
 use Rattle.axe_algebra.specs.NumberField.{NumberField}
 use Rattle.axe_algebra.specs.Field.{Field}
 use Rattle.axe_algebra.specs.Reduced.{IsReducedBasis}
 use Rattle.axe_algebra.specs.Bridge.{vector_of, matrix_of, element}
-use Rattle.axe_algebra.specs.Lists.{IsVectorOver, IsMatrixOver, listed}
+use Rattle.axe_algebra.specs.Lists.{IsVectorOver, IsMatrixOver}
 use Rattle.axe_algebra.specs.ListArithmetic.{combination, product}
 use Rattle.axe_algebra.specs.SpansOfLists.{IsSpanned, IsPivot}
 use Rattle.axe_algebra.proofs.ProductLaws.{times_same}
@@ -17,15 +17,15 @@ use Rattle.axe_algebra.proofs.ListEntries.{rows_length, row_over, same_vector, l
 use Rattle.axe_algebra.proofs.ListProducts.{vector_of_combination, combination_over}
 use Rattle.axe_field.specs.Order.{Order}
 use Rattle.axe_field.specs.NumberFields.{number_field, gf}
-use Rattle.axe_matrix.specs.Matrices.{MatrixValue, IsMatrix, matrix_product}
+use Rattle.axe_matrix.specs.Matrices.{MatrixValue, IsMatrix, matrix_product, entries_at, columns_at}
 use Rattle.axe_matrix.proofs.MatrixLaws.{same_matrix}
+use Rattle.axe_matrix.proofs.PartialMatrices.{IsPartialMatrix, IsPartialMatrix-none, IsPartialMatrix-more, IsPartialMatrix-all}
 use Rattle.axe_matrix.proofs.ProductLaws.{length-product, get_or-product}
 use Rattle.axe_echelon.specs.Echelons.{EchelonValue, IsEchelon, IsReducedMatrix}
 use Rattle.axe_echelon.proofs.InverseLaws.{matrix_over}
-use Rattle.axe_echelon.proofs.FormLaws.{below_or_at}
 use Rattle.axe_echelon.proofs.ReducedLaws.{pivot-below}
 use Rattle.axe_action.specs.Coordinates.{row_times, HasImagesIn, HasActionRows}
-use Rattle.axe_action.specs.Coordinates.{entries_at, matrix_at, ArePivotColumns, AreCoordinateColumns}
+use Rattle.axe_action.specs.Coordinates.{ArePivotColumns, AreCoordinateColumns}
 use Rattle.axe_action.specs.Blocks.{with_entries}
 use Rattle.axe_action.proofs.ColumnLists.{AreColumnsBelow}
 use Rattle.axe_action.proofs.Images.{images_count}
@@ -99,55 +99,31 @@ coordinates_of_reduced e basis columns h reduced basis_h pivots =
         ∙ sym (vector_of_combination K e.cols (entries_at columns v) basis.rows (entries_fit v over_v) over)
 
 -- the matrix of the entries at columns
-pub entries_count : (columns : List ℕ) (m entries : MatrixValue) → entries ≡ matrix_at columns m → length entries.rows ≡ length m.rows
+pub entries_count : (columns : List ℕ) (m entries : MatrixValue) → entries ≡ columns_at columns m → length entries.rows ≡ length m.rows
 entries_count columns m entries is =
     ap (λ (x : MatrixValue). length x.rows) is ∙ listed_length (length m.rows) (λ i. entries_at columns (get_or m.rows i []))
 
-pub entries_row : (columns : List ℕ) (m entries : MatrixValue) (t : ℕ) → entries ≡ matrix_at columns m → t < length m.rows →
+pub entries_row : (columns : List ℕ) (m entries : MatrixValue) (t : ℕ) → entries ≡ columns_at columns m → t < length m.rows →
     get_or entries.rows t [] ≡ entries_at columns (get_or m.rows t [])
 entries_row columns m entries t is below =
     ap (λ (x : MatrixValue). get_or x.rows t []) is ∙ listed_at (length m.rows) (λ i. entries_at columns (get_or m.rows i [])) t [] below
 
 -- the entries at columns of the first i rows
-pub record HasFirstEntries (columns : List ℕ) (m : MatrixValue) (i : ℕ) (entries : MatrixValue) : Type 0 where
-  pub field : entries.order ≡ m.order
-  pub width : entries.cols ≡ length columns
-  pub count : length entries.rows ≡ i
-  pub each : (t : ℕ) → t < i → get_or entries.rows t [] ≡ entries_at columns (get_or m.rows t [])
+abbrev pub HasFirstEntries : List ℕ → MatrixValue → ℕ → MatrixValue → Type 0
+HasFirstEntries columns m i entries = IsPartialMatrix m.order (length columns) (λ t. entries_at columns (get_or m.rows t [])) i entries
 
 pub entries_none : (columns : List ℕ) (m : MatrixValue) (o : Order) (n : ℕ) (entries : MatrixValue) → o ≡ m.order → n ≡ length columns →
-    entries ≡ record { order = o; cols = n; rows = [] } → HasFirstEntries columns m 0 entries
-entries_none columns m o n entries field width is = record {
-  field = ap (λ (x : MatrixValue). x.order) is ∙ field;
-  width = ap (λ (x : MatrixValue). x.cols) is ∙ width;
-  count = ap (λ (x : MatrixValue). length x.rows) is;
-  each = λ t below. absurd (omega arith);
-}
+    entries ≡ record { order = o; cols = n; rows = [] } → IsMatrix entries → HasFirstEntries columns m 0 entries
+entries_none columns m o n entries field width is formed = IsPartialMatrix-none _ _ _ _ _ _ is formed field width
 
 pub entries_more : (columns : List ℕ) (m : MatrixValue) (i : ℕ) (entries next : MatrixValue) (v : List ℕ) → HasFirstEntries columns m i entries →
-    v ≡ get_or m.rows i [] → next ≡ with_entries entries columns v → HasFirstEntries columns m (i + 1) next
-entries_more columns m i entries next v so_far row_is is = record {
-  field = ap (λ (x : MatrixValue). x.order) is ∙ so_far.field;
-  width = ap (λ (x : MatrixValue). x.cols) is ∙ so_far.width;
-  count = ap (λ (x : MatrixValue). length x.rows) is
-      ∙ (let grown : length (entries.rows ++ entries_at columns v ∷ []) ≡ i + 1 = omega (arith, so_far.count, length-append entries.rows (entries_at columns v ∷ [])) in grown);
-  each = λ t inside. below_or_at (λ t. get_or next.rows t [] ≡ entries_at columns (get_or m.rows t [])) i
-      (λ t before. ap (λ (x : MatrixValue). get_or x.rows t []) is
-      ∙ get_or_append_left entries.rows (entries_at columns v ∷ []) [] t (omega (arith, so_far.count)) ∙ so_far.each t before)
-      (ap (λ (x : MatrixValue). get_or x.rows i []) is
-      ∙ ap (λ k. get_or (entries.rows ++ entries_at columns v ∷ []) k []) (let same : i ≡ length entries.rows + 0 = omega (arith, so_far.count) in same)
-      ∙ get_or-append-add entries.rows (entries_at columns v ∷ []) 0 [] ∙ ap (entries_at columns) row_is)
-      t (omega arith);
-}
+    v ≡ get_or m.rows i [] → next ≡ with_entries entries columns v → IsMatrix next → HasFirstEntries columns m (i + 1) next
+entries_more columns m i entries next v so_far row_is is formed =
+    IsPartialMatrix-more _ _ _ _ _ _ _ so_far is formed (ap (entries_at columns) row_is)
 
 pub entries_all : (columns : List ℕ) (m : MatrixValue) (i : ℕ) (entries : MatrixValue) → HasFirstEntries columns m i entries → i ≡ length m.rows →
-    entries ≡ matrix_at columns m
-entries_all columns m i entries so_far whole =
-    same_matrix entries (matrix_at columns m) so_far.field so_far.width
-    (ext_get_or [] entries.rows (listed (length m.rows) (λ i. entries_at columns (get_or m.rows i [])))
-    (so_far.count ∙ whole ∙ sym (listed_length (length m.rows) (λ i. entries_at columns (get_or m.rows i []))))
-    (λ t below. so_far.each t (omega (arith, below, so_far.count))
-    ∙ sym (listed_at (length m.rows) (λ i. entries_at columns (get_or m.rows i [])) t [] (omega (arith, below, so_far.count, whole)))))
+    entries ≡ columns_at columns m
+entries_all columns m i entries so_far whole = IsPartialMatrix-all _ _ _ _ _ _ so_far whole
 
 -- the rows, their images, and the images' entries at the columns of the coordinates
 pub record AreImagesAt (g rows images action : MatrixValue) (columns : List ℕ) : Type 0 where
@@ -156,7 +132,7 @@ pub record AreImagesAt (g rows images action : MatrixValue) (columns : List ℕ)
   pub coordinates : AreCoordinateColumns (number_field rows.order) rows.cols rows.rows columns
   pub made : images ≡ matrix_product rows g
   pub images_well_formed : IsMatrix images
-  pub entries : action ≡ matrix_at columns images
+  pub entries : action ≡ columns_at columns images
   pub well_formed : IsMatrix action
 
 module _ (g rows images action : MatrixValue) (columns : List ℕ) (are : AreImagesAt g rows images action columns) where

@@ -18,13 +18,13 @@ use Rattle.axe_algebra.proofs.ListEntries.{row_over, table_length, table_entry}
 use Rattle.axe_algebra.proofs.ListProducts.{product_entry-below, element_product_entry}
 use Rattle.axe_field.specs.Arithmetic.{field_neg}
 use Rattle.axe_field.specs.NumberFields.{number_field, gf}
-use Rattle.axe_matrix.specs.Matrices.{MatrixValue, IsMatrix}
+use Rattle.axe_matrix.specs.Matrices.{MatrixValue, IsMatrix, entries_at, columns_at}
 use Rattle.axe_matrix.specs.Products.{rows_with_product}
 use Rattle.axe_reduction.proofs.ClearLaws.{minus_one-below}
 use Rattle.axe_reduction.proofs.ReductionLaws.{minus_one-is}
 use Rattle.axe_echelon.specs.Echelons.{EchelonValue, IsReducedMatrix}
 use Rattle.axe_echelon.proofs.InverseLaws.{matrix_over}
-use Rattle.axe_action.specs.Coordinates.{entries_at, matrix_at, ArePivotColumns}
+use Rattle.axe_action.specs.Coordinates.{ArePivotColumns}
 use Rattle.axe_action.specs.FreeColumns.{AreFreeColumns, HasRowsModulo, row_at, matrix_modulo}
 use Rattle.axe_action.proofs.RepresentativeLaws.{row_by_basis}
 use Rattle.axe_action.proofs.EntryLaws.{lists_at, lists_at_length, lists_at_row, lists_at_entry, lists_at_over, chosen, chosen_length, chosen_row, chosen_over}
@@ -38,7 +38,7 @@ pub record AreCosets (e : EchelonValue) (pivots columns : List ℕ) (entries : M
   pub reduced : IsReducedMatrix e basis
   pub are_pivots : ArePivotColumns e pivots
   pub free : AreFreeColumns e columns
-  pub entries_are : entries ≡ matrix_at columns basis
+  pub entries_are : entries ≡ columns_at columns basis
 
 -- there are as many pivots as entries' rows
 pub cosets_count : (e : EchelonValue) (pivots columns : List ℕ) (entries : MatrixValue) → AreCosets e pivots columns entries →

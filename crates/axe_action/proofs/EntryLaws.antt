@@ -7,11 +7,10 @@ use Rattle.axe_algebra.specs.ListArithmetic.{combination, combination_entry, pro
 use Rattle.axe_algebra.proofs.ElementNumbers.{number_sum_same}
 use Rattle.axe_algebra.proofs.ListEntries.{listed_length, listed_at, row_over}
 use Rattle.axe_field.specs.NumberFields.{number_field}
-use Rattle.axe_matrix.specs.Matrices.{MatrixValue, matrix_product}
+use Rattle.axe_matrix.specs.Matrices.{MatrixValue, matrix_product, entries_at, columns_at}
 use Rattle.axe_matrix.proofs.MatrixLaws.{same_matrix}
 use Rattle.axe_row.proofs.CombinationLaws.{length-combination}
 use Rattle.axe_matrix.proofs.ProductLaws.{length-product, get_or-product, get_or-combination}
-use Rattle.axe_action.specs.Coordinates.{entries_at, matrix_at}
 use Rattle.axe_action.proofs.ColumnLaws.{entries_over}
 use mathlib.Core.Path.{refl, sym, ◌∙◌, ap, subst}
 use native.Mathlib.Omega.{arith}
@@ -80,9 +79,9 @@ combination_at_columns K n columns c rows within =
 
 -- the product with the entries at columns is that of the matrices, there
 pub product_at_columns : (a b : MatrixValue) (columns : List ℕ) → All (λ column. column < b.cols) columns →
-    matrix_product a (matrix_at columns b) ≡ matrix_at columns (matrix_product a b)
+    matrix_product a (columns_at columns b) ≡ columns_at columns (matrix_product a b)
 product_at_columns a b columns within =
-    same_matrix (matrix_product a (matrix_at columns b)) (matrix_at columns (matrix_product a b)) refl refl
+    same_matrix (matrix_product a (columns_at columns b)) (columns_at columns (matrix_product a b)) refl refl
     (ext_get_or [] (product K (length columns) a.rows (lists_at columns b.rows)) (lists_at columns (product K b.cols a.rows b.rows))
     (first ∙ sym (lists_at_length columns (product K b.cols a.rows b.rows) ∙ second))
     (λ i below. at i (omega (arith, below, first))))

@@ -1,6 +1,5 @@
 -- The rows of a generator modulo a span, all by one product, and the images of the rows that span it.
-use Rattle.std.specs.Prelude.{◌≡◌, ℕ, ◌+◌, ◌<◌, List, [], ◌∷◌, ◌++◌, length, get_or, Bool, true, false, None, Ok, All}
-use Rattle.std.proofs.lemmas.List.{length-append, get_or_append_left, get_or-append-add}
+use Rattle.std.specs.Prelude.{◌≡◌, ℕ, ◌<◌, List, [], length, get_or, Bool, true, false, None, Ok, All}
 use Rattle.std.proofs.lemmas.List.Elements.{All-from_get_or}
 use Rattle.axe_algebra.specs.NumberField.{NumberField}
 use Rattle.axe_algebra.specs.Field.{Field}
@@ -15,39 +14,18 @@ use Rattle.axe_algebra.proofs.ListProducts.{vector_of_combination}
 use Rattle.axe_algebra.proofs.ListVectors.{vector_of_unit_row}
 use Rattle.axe_field.specs.Order.{Order, order_number}
 use Rattle.axe_field.specs.NumberFields.{number_field, gf}
-use Rattle.axe_row.specs.Rows.{RowValue}
 use Rattle.axe_row.specs.Refusals.{Answers}
-use Rattle.axe_matrix.specs.Matrices.{MatrixValue, IsMatrix, product_refusal, matrix_product}
+use Rattle.axe_matrix.specs.Matrices.{MatrixValue, IsMatrix, product_refusal, matrix_product, rows_at, has_only_zeros}
+use Rattle.axe_matrix.proofs.OnlyZeros.{only_zeros, row_of_zeros}
 use Rattle.axe_matrix.proofs.ProductLaws.{product_refusal-none, length-product, get_or-product}
 use Rattle.axe_echelon.specs.Echelons.{EchelonValue}
-use Rattle.axe_echelon.proofs.FormLaws.{below_or_at}
 use Rattle.axe_echelon.proofs.InverseLaws.{matrix_over}
-use Rattle.axe_spin.specs.Spinning.{has_only_zeros}
-use Rattle.axe_spin.proofs.ZeroRows.{only_zeros, row_of_zeros}
 use Rattle.axe_action.specs.Coordinates.{row_times, HasImagesIn}
-use Rattle.axe_action.specs.FreeColumns.{AreFreeColumns, IsRowModulo, HasRowsModulo, HasUnitsModulo, rows_to_span, row_at, HasRowsAt}
+use Rattle.axe_action.specs.FreeColumns.{AreFreeColumns, IsRowModulo, HasRowsModulo, HasUnitsModulo, rows_to_span, row_at}
+use Rattle.axe_action.proofs.EntryLaws.{chosen_length, chosen_row}
 use Rattle.axe_action.proofs.ModuloLaws.{row_combines, spanned_if_zero, zero_if_spanned}
 use mathlib.Core.Path.{refl, sym, ◌∙◌, ap, subst}
 use native.Mathlib.Omega.{arith}
-
--- one more row with an index
-pub rows_at_more : (m : MatrixValue) (indices : List ℕ) (i : ℕ) (chosen next : MatrixValue) (row : RowValue) → HasRowsAt m indices i chosen →
-    row.entries ≡ row_at m.rows indices i →
-    next ≡ record { order = chosen.order; cols = chosen.cols; rows = chosen.rows ++ row.entries ∷ [] } → IsMatrix next → HasRowsAt m indices (i + 1) next
-rows_at_more m indices i chosen next row so_far row_is is h = record {
-  field = ap (λ (x : MatrixValue). x.order) is ∙ so_far.field;
-  width = ap (λ (x : MatrixValue). x.cols) is ∙ so_far.width;
-  count = ap (λ (x : MatrixValue). length x.rows) is
-      ∙ (let grown : length (chosen.rows ++ row.entries ∷ []) ≡ i + 1 = omega (arith, so_far.count, length-append chosen.rows (row.entries ∷ [])) in grown);
-  well_formed = h;
-  each = λ t inside. below_or_at (λ t. get_or next.rows t [] ≡ row_at m.rows indices t) i
-      (λ t before. ap (λ (x : MatrixValue). get_or x.rows t []) is
-      ∙ get_or_append_left chosen.rows (row.entries ∷ []) [] t (omega (arith, so_far.count)) ∙ so_far.each t before)
-      (ap (λ (x : MatrixValue). get_or x.rows i []) is
-      ∙ ap (λ k. get_or (chosen.rows ++ row.entries ∷ []) k []) (let same : i ≡ length chosen.rows + 0 = omega (arith, so_far.count) in same)
-      ∙ get_or-append-add chosen.rows (row.entries ∷ []) 0 [] ∙ row_is)
-      t (omega arith);
-}
 
 -- nothing refuses the product of a generator with the unit vectors modulo a span
 pub units_accepted : (rows g units : MatrixValue) (columns : List ℕ) → rows.order ≡ g.order → rows.cols ≡ g.cols →
@@ -181,14 +159,15 @@ module _ (rows g units images : MatrixValue) (columns : List ℕ) (are : AreImag
       different b first second = cc
 
   -- the images' rows at the columns are the action
-  pub action_at : (action : MatrixValue) → HasRowsAt images columns (length columns) action →
+  pub action_at : (action : MatrixValue) → action ≡ rows_at columns images → IsMatrix action →
       HasRowsModulo space columns (row_at g.rows columns) (length columns) action
-  action_at action at = record {
-    field = at.field ∙ images_field;
-    width = at.width ∙ images_width;
-    count = at.count;
-    well_formed = at.well_formed;
-    each = λ t below. subst (IsRowModulo space columns (row_at g.rows columns t)) (sym (at.each t below))
+  action_at action at formed = record {
+    field = ap (λ (x : MatrixValue). x.order) at ∙ images_field;
+    width = ap (λ (x : MatrixValue). x.cols) at ∙ images_width;
+    count = ap (λ (x : MatrixValue). length x.rows) at ∙ chosen_length columns images.rows;
+    well_formed = formed;
+    each = λ t below. subst (IsRowModulo space columns (row_at g.rows columns t))
+        (sym (ap (λ (x : MatrixValue). get_or x.rows t []) at ∙ chosen_row columns images.rows t below))
         (image_modulo (get_or columns t 0) (are.free.each t below).below);
   }
 

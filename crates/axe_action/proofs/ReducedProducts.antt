@@ -18,12 +18,11 @@ use Rattle.axe_algebra.proofs.ListEntries.{rows_length, matrix_entry-below}
 use Rattle.axe_algebra.proofs.ListProducts.{product_entry-below, element_product_entry}
 use Rattle.axe_algebra.specs.SpansOfLists.{IsPivot}
 use Rattle.axe_field.specs.NumberFields.{number_field, gf}
-use Rattle.axe_matrix.specs.Matrices.{MatrixValue, IsMatrix, matrix_product}
+use Rattle.axe_matrix.specs.Matrices.{MatrixValue, IsMatrix, matrix_product, entries_at, columns_at}
 use Rattle.axe_matrix.specs.Products.{rows_with_product}
 use Rattle.axe_matrix.proofs.MatrixLaws.{same_matrix}
 use Rattle.axe_matrix.proofs.ProductRows.{same_table}
 use Rattle.axe_echelon.proofs.InverseLaws.{matrix_over}
-use Rattle.axe_action.specs.Coordinates.{entries_at, matrix_at}
 use Rattle.axe_action.specs.FreeColumns.{AreFreeColumns, AreReducedAt, AreComplementary, rows_to_span, matrix_within}
 use Rattle.axe_action.proofs.EntryLaws.{lists_at, lists_at_length, lists_at_row, lists_at_entry, lists_at_over, chosen, chosen_length, chosen_row, chosen_over}
 use mathlib.Core.Logic.{inl, inr}
@@ -95,7 +94,7 @@ complementary rows pivots columns rows_h reduced free = record {
 -- the product of a reduced basis with the entries of a generator at the pivots
 module _ (rows g entries : MatrixValue) (pivots columns : List ℕ) (rows_h : IsMatrix rows) (g_h : IsMatrix g) (field : g.order ≡ rows.order)
     (fits : g.cols ≡ rows.cols) (square : length g.rows ≡ g.cols) (reduced : AreReducedAt rows pivots) (free : AreFreeColumns (rows_to_span rows) columns)
-    (entries_are : entries ≡ matrix_at columns rows) where
+    (entries_are : entries ≡ columns_at columns rows) where
   abbrev K : NumberField
   K = number_field rows.order
 
@@ -245,14 +244,14 @@ module _ (rows g entries : MatrixValue) (pivots columns : List ℕ) (rows_h : Is
           (λ l small. ap (vector_of K) (second_row l small)))
 
   -- it is that of the generator's blocks
-  pub within_is_product : matrix_within pivots columns entries g ≡ matrix_product rows (matrix_at pivots g)
+  pub within_is_product : matrix_within pivots columns entries g ≡ matrix_product rows (columns_at pivots g)
   unfolding rows_with_product product
-  within_is_product = same_matrix (matrix_within pivots columns entries g) (matrix_product rows (matrix_at pivots g)) field refl rows_are
+  within_is_product = same_matrix (matrix_within pivots columns entries g) (matrix_product rows (columns_at pivots g)) field refl rows_are
     where
       long : length first ≡ length rows.rows
       long = lists_at_length pivots (chosen pivots g.rows) ∙ chosen_length pivots g.rows ∙ count
 
-      rows_are : (matrix_within pivots columns entries g).rows ≡ (matrix_product rows (matrix_at pivots g)).rows
+      rows_are : (matrix_within pivots columns entries g).rows ≡ (matrix_product rows (columns_at pivots g)).rows
       rows_are =
           ap (λ o. rows_with_product (number_field o) s first 1 entries.rows second) field
           ∙ ap (λ (x : MatrixValue). rows_with_product K s first 1 x.rows second) entries_are

@@ -18,10 +18,10 @@ use Rattle.axe_algebra.proofs.ListEntries.{rows_length, listed_at}
 use Rattle.axe_field.specs.Order.{Order}
 use Rattle.axe_field.specs.NumberFields.{number_field, gf}
 use Rattle.axe_row.specs.Rows.{RowValue}
-use Rattle.axe_matrix.specs.Matrices.{MatrixValue, IsMatrix}
+use Rattle.axe_matrix.specs.Matrices.{MatrixValue, IsMatrix, entries_at}
 use Rattle.axe_echelon.specs.Echelons.{EchelonValue, IsEchelon, IsReducedMatrix, IsSpanOfRows}
 use Rattle.axe_echelon.proofs.ReducedLaws.{pivot-below}
-use Rattle.axe_action.specs.Coordinates.{entries_at, ArePivotColumns, AreCoordinateColumns, IsIdentityAt}
+use Rattle.axe_action.specs.Coordinates.{ArePivotColumns, AreCoordinateColumns, IsIdentityAt}
 use Rattle.axe_action.proofs.ColumnLaws.{coordinates_of_reduced}
 use mathlib.Core.Path.{refl, sym, ◌∙◌, ap, subst}
 use native.Mathlib.Omega.{arith}

@@ -17,9 +17,9 @@ use Rattle.axe_algebra.proofs.ReducedBases.{same_size, same_places}
 use Rattle.axe_algebra.proofs.ElementNumbers.{same_number, entry-below}
 use Rattle.axe_algebra.proofs.ListEntries.{rows_length, vector_length, vector_of_entries, entries_over}
 use Rattle.axe_field.specs.NumberFields.{number_field, gf}
-use Rattle.axe_matrix.specs.Matrices.{MatrixValue}
+use Rattle.axe_matrix.specs.Matrices.{MatrixValue, entries_at}
 use Rattle.axe_echelon.specs.Echelons.{EchelonValue, IsReducedMatrix}
-use Rattle.axe_action.specs.Coordinates.{entries_at, ArePivotColumns}
+use Rattle.axe_action.specs.Coordinates.{ArePivotColumns}
 use Rattle.axe_action.specs.FreeColumns.{AreFreeColumns, IsRowModulo}
 use mathlib.Core.Path.{refl, sym, ◌∙◌, ap, subst, fun_ext}
 use native.Mathlib.Omega.{arith}

@@ -2,12 +2,12 @@
 use Rattle.std.specs.Prelude.{◌≡◌, ℕ, ◌⊎◌, List, [], ◌∷◌, ◌++◌, length, Result, Ok, Err, None, IfOk, IfErr}
 use Rattle.axe_row.specs.Refusals.{Answers}
 use Rattle.axe_row.specs.declared.refusals.Refusal.{Refusal}
-use Rattle.axe_matrix.specs.Matrices.{MatrixValue, IsMatrix}
+use Rattle.axe_matrix.specs.Matrices.{MatrixValue, IsMatrix, columns_at}
 use Rattle.axe_echelon.proofs.InverseLaws.{matrix_over}
 use Rattle.axe_spin.specs.Modules.{ModuleValue, IsModule, IsInvariantIn, generator_of, module_of_matrices}
 use Rattle.axe_spin.specs.Generators.{IsGeneratorMatrix}
 use Rattle.axe_action.specs.Actions.{IsBasisAction, IsActionModulo}
-use Rattle.axe_action.specs.Coordinates.{matrix_at, HasImagesIn, HasActionRows}
+use Rattle.axe_action.specs.Coordinates.{HasImagesIn, HasActionRows}
 use Rattle.axe_action.specs.FreeColumns.{AreFreeColumns, AreReducedAt, AreComplementary, HasRowsModulo, rows_to_span, row_at}
 use Rattle.axe_action.specs.FreeColumns.{matrix_within, matrix_modulo}
 use Rattle.axe_action.proofs.GeneratorLists.{AreGeneratorsOf, AreNewGenerators, generators_next, next_below, next_generator, next_is}
@@ -22,7 +22,7 @@ use mathlib.Core.Path.{refl, sym, ◌∙◌, subst}
 
 -- the entries of the reduced basis at the columns that are no pivots
 pub cosets_of_reduced : (rows : MatrixValue) (pivots columns : List ℕ) (entries : MatrixValue) → IsMatrix rows → AreReducedAt rows pivots →
-    AreFreeColumns (rows_to_span rows) columns → entries ≡ matrix_at columns rows → AreCosets (rows_to_span rows) pivots columns entries
+    AreFreeColumns (rows_to_span rows) columns → entries ≡ columns_at columns rows → AreCosets (rows_to_span rows) pivots columns entries
 cosets_of_reduced rows pivots columns entries rows_h reduced free is = record {
   basis = rows;
   basis_over = matrix_over rows rows_h;
@@ -56,7 +56,7 @@ module _ (m : ModuleValue) (rows : MatrixValue) (h : IsModule m) (rows_h : IsMat
 
   -- its action on the submodule
   pub sub_next : (pivots columns : List ℕ) (entries : MatrixValue) (subs more : List MatrixValue) → AreReducedAt rows pivots →
-      AreFreeColumns (rows_to_span rows) columns → entries ≡ matrix_at columns rows → IsMatrix (matrix_within pivots columns entries g) →
+      AreFreeColumns (rows_to_span rows) columns → entries ≡ columns_at columns rows → IsMatrix (matrix_within pivots columns entries g) →
       AreNewGenerators m.order (length rows.rows) (IsActionOf m rows.rows) (length done) subs → more ≡ subs ++ matrix_within pivots columns entries g ∷ [] →
       AreNewGenerators m.order (length rows.rows) (IsActionOf m rows.rows) (length (done ++ g ∷ [])) more
   sub_next pivots columns entries subs more reduced free entries_are formed so_far pushed =

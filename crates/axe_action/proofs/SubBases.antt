@@ -15,7 +15,7 @@ use Rattle.axe_algebra.proofs.ListEntries.{rows_length}
 use Rattle.axe_field.specs.NumberFields.{number_field, gf}
 use Rattle.axe_row.specs.declared.refusals.Refusal.{Refusal}
 use Rattle.axe_row.specs.declared.refusals.Refusal.TheVariants.{ZeroSpace}
-use Rattle.axe_matrix.specs.Matrices.{MatrixValue, IsMatrix}
+use Rattle.axe_matrix.specs.Matrices.{MatrixValue, IsMatrix, has_only_zeros}
 use Rattle.axe_echelon.specs.Echelons.{EchelonValue, IsReducedMatrix, IsSpanOfRows}
 use Rattle.axe_echelon.proofs.Exits.{answered_late}
 use Rattle.axe_echelon.proofs.InverseLaws.{matrix_over}
@@ -23,7 +23,6 @@ use Rattle.axe_row.specs.Refusals.{AnswersOr}
 use Rattle.axe_spin.specs.Modules.{ModuleValue, rows_refusal, IsInvariantIn}
 use Rattle.axe_spin.proofs.ZeroRows.{some_basis_row}
 use Rattle.axe_spin.proofs.SeedLaws.{vectors_of, none_of_both, zeros_refusal, some_nonzero_if_accepted}
-use Rattle.axe_spin.specs.Spinning.{has_only_zeros}
 use Rattle.axe_action.specs.Actions.{sub_action_refusal, action_late, IsActionOverRows, IsActionOnSpan}
 use mathlib.Core.Path.{sym, ◌∙◌, subst}
 use native.Mathlib.Omega.{arith}

@@ -6,11 +6,11 @@ use Rattle.axe_algebra.proofs.Spanning.{span_row}
 use Rattle.axe_field.specs.NumberFields.{number_field, gf}
 use Rattle.axe_row.specs.Refusals.{Answers, AnswersOr}
 use Rattle.axe_row.specs.declared.refusals.Refusal.{Refusal}
-use Rattle.axe_matrix.specs.Matrices.{MatrixValue, IsMatrix, matrix_product}
+use Rattle.axe_matrix.specs.Matrices.{MatrixValue, IsMatrix, matrix_product, columns_at}
 use Rattle.axe_matrix.proofs.ProductLaws.{IsMatrix-product}
 use Rattle.axe_spin.specs.Modules.{ModuleValue, IsInvariantIn, SpansModule, rows_refusal}
 use Rattle.axe_action.specs.Actions.{action_late, quotient_late, IsActionModulo, IsProperActionModulo}
-use Rattle.axe_action.specs.Coordinates.{matrix_at, HasImagesIn, HasActionRows, AreCoordinateColumns}
+use Rattle.axe_action.specs.Coordinates.{HasImagesIn, HasActionRows, AreCoordinateColumns}
 use Rattle.axe_action.proofs.ColumnLaws.{AreImagesAt, action_if_combined, combined_if_within}
 use Rattle.axe_action.proofs.EntryLaws.{product_at_columns}
 use Rattle.axe_action.proofs.SubRows.{module_rows_over}
@@ -29,7 +29,7 @@ invariant_answers m rows P (Err refusal) invariant (inr stands) = absurd (stands
 -- rows times the entries of a generator at the columns of their coordinates are its action, where their images are in their span
 pub at_columns_act : (rows g action : MatrixValue) (columns : List ℕ) → rows.order ≡ g.order → rows.cols ≡ g.cols → IsMatrix rows → IsMatrix g →
     AreCoordinateColumns (number_field rows.order) rows.cols rows.rows columns → HasImagesIn g rows.rows rows.rows →
-    action ≡ matrix_product rows (matrix_at columns g) → IsMatrix action → HasActionRows g rows.rows (length rows.rows) action
+    action ≡ matrix_product rows (columns_at columns g) → IsMatrix action → HasActionRows g rows.rows (length rows.rows) action
 at_columns_act rows g action columns field fits rows_h g_h coordinates within is formed =
     action_if_combined g rows (matrix_product rows g) action columns are (combined_if_within g rows (matrix_product rows g) action columns are within)
   where

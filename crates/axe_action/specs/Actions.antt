@@ -11,9 +11,8 @@ use Rattle.axe_row.specs.declared.refusals.Refusal.{Refusal}
 use Rattle.axe_row.specs.declared.refusals.Refusal.TheVariants.{FieldsDiffer, ShapesDiffer}
 use Rattle.axe_row.specs.declared.refusals.Refusal.TheVariants.{NotInvariant, WholeSpace, ZeroSpace}
 use Rattle.axe_row.specs.Refusals.{RefusedAs, first_of}
-use Rattle.axe_matrix.specs.Matrices.{MatrixValue}
+use Rattle.axe_matrix.specs.Matrices.{MatrixValue, has_only_zeros}
 use Rattle.axe_spin.specs.Modules.{ModuleValue, rows_refusal, IsInvariantIn, SpansModule}
-use Rattle.axe_spin.specs.Spinning.{has_only_zeros}
 
 -- why a module has no action on the span of the rows, so far as it needs no elimination to tell: they are no vectors of
 -- it, or else span zero

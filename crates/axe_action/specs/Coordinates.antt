@@ -1,13 +1,13 @@
 -- The rows of the actions on a span: the coefficients, over independent rows, of these rows times the generators.
-use Rattle.std.specs.Prelude.{◌≡◌, ℕ, ◌<◌, List, [], ◌∷◌, ◌++◌, length, get_or, map, All}
+use Rattle.std.specs.Prelude.{◌≡◌, ℕ, ◌<◌, List, [], ◌∷◌, ◌++◌, length, get_or, All}
 use Rattle.axe_algebra.specs.NumberField.{NumberField}
-use Rattle.axe_algebra.specs.Lists.{IsVectorOver, listed, unit_row}
+use Rattle.axe_algebra.specs.Lists.{IsVectorOver, unit_row}
 use Rattle.axe_algebra.specs.Reduced.{IsAscendingListOf}
 use Rattle.axe_algebra.specs.ListArithmetic.{combination}
 use Rattle.axe_algebra.specs.SpansOfLists.{IsSpanned, IsPivot}
 use Rattle.axe_field.specs.NumberFields.{number_field}
 use Rattle.axe_row.specs.Rows.{RowValue}
-use Rattle.axe_matrix.specs.Matrices.{MatrixValue, IsMatrix}
+use Rattle.axe_matrix.specs.Matrices.{MatrixValue, IsMatrix, entries_at}
 use Rattle.axe_echelon.specs.Echelons.{EchelonValue, AreCoordinates}
 
 -- row t times the matrix g: its image
@@ -37,23 +37,6 @@ pub record HasCoefficientsToo (e : EchelonValue) (v : List ℕ) (m next : Matrix
   pub are : AreCoordinates e v coefficients
   pub appended : next ≡ record m { rows = m.rows ++ coefficients.entries ∷ [] }
   pub well_formed : IsMatrix next
-
--- the entries of a vector at these columns, in their order
-abbrev pub entries_at : List ℕ → List ℕ → List ℕ
-entries_at columns v = map (λ column. get_or v column 0) columns
-
--- the matrix of the entries of a matrix's rows at these columns
-abbrev pub matrix_at : List ℕ → MatrixValue → MatrixValue
-matrix_at columns m = record {
-  order = m.order;
-  cols = length columns;
-  rows = listed (length m.rows) (λ i. entries_at columns (get_or m.rows i []));
-}
-
--- the matrix of the rows of a matrix with these indices, in their order
-abbrev pub rows_chosen : List ℕ → MatrixValue → MatrixValue
-rows_chosen indices m =
-    record { order = m.order; cols = m.cols; rows = map (λ index. get_or m.rows index []) indices }
 
 -- each row has the unit vector of its number at these columns: there the rows are the identity
 abbrev pub IsIdentityAt : List ℕ → List (List ℕ) → Type 0

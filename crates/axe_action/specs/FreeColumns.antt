@@ -7,10 +7,10 @@ use Rattle.axe_algebra.specs.Lists.{IsVectorOver, unit_row}
 use Rattle.axe_algebra.specs.SpansOfLists.{IsRepresentative}
 use Rattle.axe_field.specs.Arithmetic.{field_neg}
 use Rattle.axe_field.specs.NumberFields.{number_field, gf}
-use Rattle.axe_matrix.specs.Matrices.{MatrixValue, IsMatrix}
+use Rattle.axe_matrix.specs.Matrices.{MatrixValue, IsMatrix, columns_at, rows_at}
 use Rattle.axe_matrix.specs.Products.{matrix_with_product}
 use Rattle.axe_echelon.specs.Echelons.{EchelonValue, IsReducedMatrix}
-use Rattle.axe_action.specs.Coordinates.{matrix_at, rows_chosen, ArePivotColumns, AreCoordinateColumns}
+use Rattle.axe_action.specs.Coordinates.{ArePivotColumns, AreCoordinateColumns}
 
 -- the column is no pivot of the rows' span
 abbrev pub IsFreeColumn : EchelonValue → ℕ → Type 0
@@ -49,21 +49,13 @@ rows_to_span rows = record { order = rows.order; cols = rows.cols; rows = rows.r
 abbrev pub row_at : List (List ℕ) → List ℕ → ℕ → List ℕ
 row_at g indices t = get_or g (get_or indices t 0) []
 
--- the matrix has as its rows those of m with the first i of these indices
-pub record HasRowsAt (m : MatrixValue) (indices : List ℕ) (i : ℕ) (matrix : MatrixValue) : Type 0 where
-  pub field : matrix.order ≡ m.order
-  pub width : matrix.cols ≡ m.cols
-  pub count : length matrix.rows ≡ i
-  pub well_formed : IsMatrix matrix
-  pub each : (t : ℕ) → t < i → get_or matrix.rows t [] ≡ row_at m.rows indices t
-
 -- the rows of g at these columns, modulo a span with these pivots and no others than them, by the entries of its
 -- reduced basis at the columns: the rows' entries at the columns, minus their entries at the pivots times those (the
 -- reduced row echelon form of any linear algebra text)
 abbrev pub matrix_modulo : List ℕ → List ℕ → MatrixValue → MatrixValue → MatrixValue
 matrix_modulo pivots columns entries g =
-    matrix_with_product (matrix_at columns (rows_chosen columns g)) (field_neg g.order 1)
-    (matrix_at pivots (rows_chosen columns g)) entries
+    matrix_with_product (columns_at columns (rows_at columns g)) (field_neg g.order 1)
+    (columns_at pivots (rows_at columns g)) entries
 
 -- the rows are the reduced basis of their span, with its pivots at these columns, so that there the entries of a vector
 -- of the span are its coordinates (the reduced row echelon form of any linear algebra text)
@@ -94,4 +86,4 @@ IsNextPivot pivots taken passed = (taken < length pivots) × (get_or pivots take
 -- algebra text)
 abbrev pub matrix_within : List ℕ → List ℕ → MatrixValue → MatrixValue → MatrixValue
 matrix_within pivots columns entries g =
-    matrix_with_product (matrix_at pivots (rows_chosen pivots g)) 1 entries (matrix_at pivots (rows_chosen columns g))
+    matrix_with_product (columns_at pivots (rows_at pivots g)) 1 entries (columns_at pivots (rows_at columns g))

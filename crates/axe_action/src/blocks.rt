@@ -1,14 +1,12 @@
 //! The blocks of a generator by the pivots of a submodule and the other columns.
 
-ghost use Rattle.std.specs.Prelude.{◌≡◌, ◌≤◌, ◌+◌, ◌<◌, ◌^◌, ◌↔◌, length, [], IsTrue, None, IfOk};
+ghost use Rattle.std.specs.Prelude.{◌≡◌, ◌≤◌, ◌+◌, ◌<◌, ◌^◌, ◌↔◌, length, [], All, IsTrue, None, IfOk};
 ghost use Rattle.axe_row.specs.Refusals.{Answers};
-ghost use Rattle.axe_matrix.specs.Limits.{most_columns};
-ghost use Rattle.axe_matrix.specs.Matrices.{IsMatrix};
-ghost use Rattle.axe_action.specs.Coordinates.{matrix_at, rows_chosen};
+ghost use Rattle.axe_matrix.specs.Limits.{most_rows, most_columns};
+ghost use Rattle.axe_matrix.specs.Matrices.{IsMatrix, columns_at, rows_at};
 ghost use Rattle.axe_action.specs.FreeColumns.{AreComplementary, IsNextPivot};
-ghost use Rattle.axe_action.specs.Blocks.{FitsBlocks, AreBlocksWith};
+ghost use Rattle.axe_action.specs.Blocks.{with_entries, FitsBlocks, AreBlocksWith};
 
-use super::columns::append_entries;
 use axe_field::Field;
 use axe_matrix::{Matrix, Refusal, Row};
 use std::alloc::Global;
@@ -63,10 +61,9 @@ impl Blocks {
         pivots: &[usize],
         columns: &[usize],
     ) -> Result<(), Refusal>
-        requires { FitsBlocks pivots.now columns.now self.old.at_pivots self.old.across self.old.at_columns row }
-        ensures { Answers None (λ _. AreBlocksWith pivots.now columns.now row.entries
-            self.old.at_pivots self.old.across self.old.at_columns
-            self.new.at_pivots self.new.across self.new.at_columns) result }
+        requires { FitsBlocks pivots.now columns.now self.old row }
+        ensures { Answers None
+            (λ _. AreBlocksWith pivots.now columns.now row.entries self.old self.new) result }
     {
         self.append(alloc, &row, pivots, columns)
     }
@@ -79,10 +76,9 @@ impl Blocks {
         pivots: &[usize],
         columns: &[usize],
     ) -> Result<(), Refusal>
-        requires { FitsBlocks pivots.now columns.now self.old.at_pivots self.old.across self.old.at_columns row.now }
-        ensures { Answers None (λ _. AreBlocksWith pivots.now columns.now row.now.entries
-            self.old.at_pivots self.old.across self.old.at_columns
-            self.new.at_pivots self.new.across self.new.at_columns) result }
+        requires { FitsBlocks pivots.now columns.now self.old row.now }
+        ensures { Answers None
+            (λ _. AreBlocksWith pivots.now columns.now row.now.entries self.old self.new) result }
     {
         if is_next_pivot(pivots, self.at_pivots.rows(), self.across.rows()) {
             append_entries(alloc, &mut self.at_pivots, row, pivots)
@@ -91,6 +87,25 @@ impl Blocks {
             append_entries(alloc, &mut self.at_columns, row, columns)
         }
     }
+}
+
+/// Appends the entries of a row at some columns, as many as the matrix has.
+fn append_entries(
+    alloc: Global,
+    matrix: &mut Matrix,
+    row: &Row,
+    columns: &[usize],
+) -> Result<(), Refusal>
+    requires field { row.now.order ≡ matrix.old.order }
+    requires fits { length columns.now ≡ matrix.old.cols }
+    requires within { All (λ column. column < length row.now.entries) columns.now }
+    requires room { length matrix.old.rows < most_rows }
+    ensures appended { Answers None
+        (λ _. matrix.new ≡ with_entries matrix.old columns.now row.now.entries) result }
+    ensures well_formed { IfOk result (λ _. IsMatrix matrix.new) }
+{
+    let entries = row.select(alloc, columns)?;
+    matrix.append(entries)
 }
 
 /// The blocks of a generator. Each row is dropped when its entries are taken.
@@ -107,11 +122,11 @@ pub(crate) fn blocks_of(
     requires columns_fit { length columns.now ≤ most_columns }
     requires complementary { AreComplementary generator.cols pivots.now columns.now }
     ensures at_pivots { Answers None
-        (λ blocks. blocks.at_pivots ≡ matrix_at pivots.now (rows_chosen pivots.now generator)) result }
+        (λ blocks. blocks.at_pivots ≡ columns_at pivots.now (rows_at pivots.now generator)) result }
     ensures across { Answers None
-        (λ blocks. blocks.across ≡ matrix_at pivots.now (rows_chosen columns.now generator)) result }
+        (λ blocks. blocks.across ≡ columns_at pivots.now (rows_at columns.now generator)) result }
     ensures at_columns { Answers None
-        (λ blocks. blocks.at_columns ≡ matrix_at columns.now (rows_chosen columns.now generator)) result }
+        (λ blocks. blocks.at_columns ≡ columns_at columns.now (rows_at columns.now generator)) result }
     ensures well_formed { IfOk result
         (λ blocks. IsMatrix blocks.at_pivots × IsMatrix blocks.across × IsMatrix blocks.at_columns) }
 {

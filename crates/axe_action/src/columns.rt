@@ -1,16 +1,13 @@
 //! The pivots of a span, and coordinates by the entries there.
 
-ghost use Rattle.std.specs.Prelude.{◌≡◌, ◌<◌, ◌≤◌, ◌↔◌, length, All, IsTrue, None, IfOk, IfSome};
+ghost use Rattle.std.specs.Prelude.{◌≡◌, ◌<◌, ◌↔◌, length, All, IsTrue, None, IfSome};
 ghost use Rattle.axe_algebra.specs.Lists.{unit_row};
 ghost use Rattle.axe_algebra.specs.SpansOfLists.{IsIndependent};
 ghost use Rattle.axe_field.specs.NumberFields.{number_field};
 ghost use Rattle.axe_row.specs.Refusals.{Answers};
-ghost use Rattle.axe_matrix.specs.Limits.{most_rows, most_columns};
-ghost use Rattle.axe_matrix.specs.Matrices.{IsMatrix, matrix_product};
+ghost use Rattle.axe_matrix.specs.Matrices.{IsMatrix, matrix_product, entries_at};
 ghost use Rattle.axe_echelon.specs.Echelons.{IsEchelon, IsSpanOfRows};
 ghost use Rattle.axe_action.specs.Coordinates.{ArePivotColumns, AreCoordinateColumns, IsIdentityAt};
-ghost use Rattle.axe_action.specs.Coordinates.{entries_at, matrix_at};
-ghost use Rattle.axe_action.specs.Blocks.{with_entries};
 
 use axe_echelon::Echelon;
 use axe_matrix::{Matrix, Refusal, Row};
@@ -77,44 +74,6 @@ pub(crate) fn pivot_columns(alloc: Global, span: &Echelon) -> Result<Vec<usize>,
         }
     }
     Ok(columns)
-}
-
-/// The matrix of the entries of a matrix's rows at some columns.
-pub(crate) fn columns_of(
-    alloc: Global,
-    matrix: &Matrix,
-    columns: &[usize],
-) -> Result<Matrix, Refusal>
-    requires some_column { 1 ≤ length columns.now }
-    requires columns_fit { length columns.now ≤ most_columns }
-    requires within { All (λ column. column < matrix.now.cols) columns.now }
-    ensures entries { Answers None (λ entries. entries ≡ matrix_at columns.now matrix.now) result }
-    ensures well_formed { IfOk result IsMatrix }
-{
-    let mut entries = Matrix::with_capacity(alloc, *matrix.field(), columns.len(), matrix.rows())?;
-    for index in 0..matrix.rows() {
-        append_entries(alloc, &mut entries, matrix.row(index), columns)?;
-    }
-    Ok(entries)
-}
-
-/// Appends the entries of a row at some columns, as many as the matrix has.
-pub(crate) fn append_entries(
-    alloc: Global,
-    matrix: &mut Matrix,
-    row: &Row,
-    columns: &[usize],
-) -> Result<(), Refusal>
-    requires field { row.now.order ≡ matrix.old.order }
-    requires fits { length columns.now ≡ matrix.old.cols }
-    requires within { All (λ column. column < length row.now.entries) columns.now }
-    requires room { length matrix.old.rows < most_rows }
-    ensures appended { Answers None
-        (λ _. matrix.new ≡ with_entries matrix.old columns.now row.now.entries) result }
-    ensures well_formed { IfOk result (λ _. IsMatrix matrix.new) }
-{
-    let entries = row.select(alloc, columns)?;
-    matrix.append(entries)
 }
 
 /// Whether the combinations of rows with the rows of a matrix as their coefficients are the rows of another matrix.

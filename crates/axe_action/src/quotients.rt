@@ -5,18 +5,17 @@ ghost use Rattle.axe_algebra.specs.Lists.{unit_row};
 ghost use Rattle.axe_row.specs.Refusals.{Answers, AnswersOr, RefusedAs};
 ghost use Rattle.axe_row.specs.declared.refusals.Refusal.TheVariants.{NotInvariant};
 ghost use Rattle.axe_matrix.specs.Limits.{most_rows};
-ghost use Rattle.axe_matrix.specs.Matrices.{IsMatrix, matrix_product};
+ghost use Rattle.axe_matrix.specs.Matrices.{IsMatrix, matrix_product, has_only_zeros};
 ghost use Rattle.axe_echelon.specs.Echelons.{IsEchelon};
 ghost use Rattle.axe_spin.specs.Modules.{IsModule, rows_refusal, IsInvariantIn};
-ghost use Rattle.axe_spin.specs.Spinning.{has_only_zeros};
 ghost use Rattle.axe_action.specs.Actions.{quotient_late, action_late, IsActionModulo, IsProperActionModulo};
 ghost use Rattle.axe_action.specs.Coordinates.{HasImagesIn};
 ghost use Rattle.axe_action.specs.FreeColumns.{IsFreeColumn, AreFreeColumns, IsRowModulo, HasRowsModulo};
-ghost use Rattle.axe_action.specs.FreeColumns.{HasUnitsModulo, HasRowsAt, rows_to_span, row_at};
+ghost use Rattle.axe_action.specs.FreeColumns.{HasUnitsModulo, rows_to_span, row_at};
 
 use axe_echelon::{Echelon, span_of};
 use axe_matrix::{Matrix, Refusal, Row};
-use axe_spin::{Module, has_only_zeros};
+use axe_spin::Module;
 use std::alloc::Global;
 
 /// The action of a module modulo the span of the rows of a matrix, which may be zero, over the unit vectors of the
@@ -153,7 +152,7 @@ fn generator_modulo(
     if !has_zero_product(alloc, rows, &images)? {
         return Err(Refusal::NotInvariant);
     }
-    rows_at(alloc, &images, columns)
+    images.rows_at(alloc, columns)
 }
 
 /// Whether the product of two matrices is zero.
@@ -164,19 +163,5 @@ fn has_zero_product(alloc: Global, first: &Matrix, second: &Matrix) -> Result<bo
         (λ zero. zero ≡ has_only_zeros (matrix_product first.now second.now).rows) result }
 {
     let product = first.mul(alloc, second)?;
-    Ok(has_only_zeros(&product))
-}
-
-/// The matrix of the rows of a matrix with these indices, in their order.
-fn rows_at(alloc: Global, matrix: &Matrix, indices: &[usize]) -> Result<Matrix, Refusal>
-    requires within { All (λ index. index < length matrix.now.rows) indices.now }
-    requires indices_fit { length indices.now ≤ most_rows }
-    ensures { Answers None (HasRowsAt matrix.now indices.now (length indices.now)) result }
-{
-    let mut chosen = Matrix::with_capacity(alloc, *matrix.field(), matrix.cols(), indices.len())?;
-    for index in indices {
-        let row = matrix.row(*index).copy(alloc)?;
-        chosen.append(row)?;
-    }
-    Ok(chosen)
+    Ok(product.has_only_zeros())
 }

@@ -18,7 +18,6 @@ ghost use Rattle.axe_action.specs.FreeColumns.{rows_to_span};
 ghost use Rattle.axe_action.specs.FreeColumns.{matrix_within, matrix_modulo};
 
 use super::blocks::{Blocks, blocks_of};
-use super::columns::columns_of;
 use super::leading::{other_columns, reduced_pivots};
 use super::quotients::{free_columns, quotient_action};
 use super::subspaces::action_over;
@@ -163,7 +162,7 @@ fn actions_at_pivots(
     ensures quotient { Answers None (λ actions. IsActionModulo «module» rows.now actions.1) result }
     ensures well_formed { IfOk result (λ actions. IsModule actions.0 × IsModule actions.1) }
 {
-    let entries = columns_of(alloc, rows, columns)?;
+    let entries = rows.columns_at(alloc, columns)?;
     let mut actions = Actions::new(alloc);
     for generator in module.into_generators() {
         actions.take(alloc, generator, pivots, columns, &entries)?;
@@ -271,7 +270,7 @@ fn generator_parts(
 /// Adds the product of the entries and the block across to the block at the pivots, and takes that of the block across
 /// and the entries from the block at the other columns. For want of memory some of it may be missing.
 fn add_products(alloc: Global, blocks: &mut Blocks, entries: &Matrix) -> Result<(), Refusal>
-    requires { FitsProducts entries.now blocks.old.at_pivots blocks.old.across blocks.old.at_columns }
+    requires { FitsProducts entries.now blocks.old }
     ensures at_pivots { Answers None (λ _. blocks.new.at_pivots
         ≡ matrix_with_product blocks.old.at_pivots 1 entries.now blocks.old.across) result }
     ensures at_columns { Answers None (λ _. blocks.new.at_columns ≡ matrix_with_product blocks.old.at_columns

@@ -6,18 +6,17 @@ ghost use Rattle.axe_field.specs.NumberFields.{number_field};
 ghost use Rattle.axe_row.specs.Refusals.{Answers, AnswersOr, RefusedAs, unless_refused};
 ghost use Rattle.axe_row.specs.declared.refusals.Refusal.TheVariants.{NotInvariant};
 ghost use Rattle.axe_matrix.specs.Limits.{most_rows, most_columns};
-ghost use Rattle.axe_matrix.specs.Matrices.{IsMatrix, matrix_product};
+ghost use Rattle.axe_matrix.specs.Matrices.{IsMatrix, matrix_product, columns_at};
 ghost use Rattle.axe_echelon.specs.Echelons.{IsSpanOfRows};
 ghost use Rattle.axe_spin.specs.Modules.{IsModule, IsInvariantIn};
 ghost use Rattle.axe_action.specs.Actions.{sub_action_refusal, action_late, IsActionOnSpan, IsActionOverRows};
 ghost use Rattle.axe_action.specs.Coordinates.{HasImagesIn, HasActionRows, AreCoordinateColumns, HasCoefficientsToo};
-ghost use Rattle.axe_action.specs.Coordinates.{matrix_at};
 
-use super::columns::{columns_of, combine_to, coordinate_columns, pivot_columns};
+use super::columns::{combine_to, coordinate_columns, pivot_columns};
 use super::conjugates::conjugate;
 use axe_echelon::{Echelon, span_of};
 use axe_matrix::{Matrix, Refusal, Row};
-use axe_spin::{Module, has_only_zeros};
+use axe_spin::Module;
 use std::alloc::Global;
 
 /// The action of a module on the span of the rows of a matrix, over the reduced basis of that span. Rows over another
@@ -97,7 +96,7 @@ fn check_space(module: &Module, rows: &Matrix) -> Result<(), Refusal>
     ensures rows_well_formed { IsMatrix rows.now }
 {
     module.check_rows(rows)?;
-    if has_only_zeros(rows) {
+    if rows.has_only_zeros() {
         return Err(Refusal::ZeroSpace);
     }
     Ok(())
@@ -168,12 +167,12 @@ fn coordinates_at(
     requires within { All (λ column. column < images.now.cols) columns.now }
     requires as_many { length columns.now ≡ length basis.now.rows }
     ensures { AnswersOr None
-        (λ action. IsMatrix action × (action ≡ matrix_at columns.now images.now)
+        (λ action. IsMatrix action × (action ≡ columns_at columns.now images.now)
         × (matrix_product action basis.now ≡ images.now))
-        (RefusedAs NotInvariant (IsMatrix (matrix_at columns.now images.now)
-        × (¬ (matrix_product (matrix_at columns.now images.now) basis.now ≡ images.now)))) result }
+        (RefusedAs NotInvariant (IsMatrix (columns_at columns.now images.now)
+        × (¬ (matrix_product (columns_at columns.now images.now) basis.now ≡ images.now)))) result }
 {
-    let action = columns_of(alloc, images, columns)?;
+    let action = images.columns_at(alloc, columns)?;
     if !combine_to(alloc, &action, basis, images)? {
         return Err(Refusal::NotInvariant);
     }

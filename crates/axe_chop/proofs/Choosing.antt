@@ -1,8 +1,8 @@
--- Rows that are chosen by numbers, one after the other: unit vectors by their columns, and rows of a matrix by their
--- places.
-use Rattle.std.proofs.Common.{◌≡◌, ℕ, ◌+◌, ◌<◌, ◌≤◌, List, [], ◌∷◌, ◌++◌, length, map, take, get_or, Bool, true, false, cond, eqb, sym, ap, subst, ◌∙◌, arith}
+-- Rows that are chosen by numbers: unit vectors by their columns, and rows of a matrix by their places.
+use Rattle.std.proofs.Common.{◌≡◌, ℕ, ◌<◌, ◌≤◌, List, [], length, map, get_or, Bool, true, false, cond, eqb, refl, sym, ap, subst, ◌∙◌, arith}
 use Rattle.std.specs.List.{All}
-use Rattle.std.proofs.lemmas.List.{take_all, take_more, length-map, length-take-le, get_or-map, ext_get_or}
+use Rattle.std.proofs.lemmas.List.{length-map, get_or-map, ext_get_or}
+use Rattle.std.proofs.lemmas.List.FromFn.{fill_by_all}
 use Rattle.axe_algebra.specs.NumberField.{NumberField}
 use Rattle.axe_algebra.specs.Lists.{IsVectorOver, IsMatrixOver, unit_row}
 use Rattle.axe_algebra.specs.ListArithmetic.{identity, combination, product}
@@ -11,44 +11,29 @@ use Rattle.axe_algebra.proofs.ListProducts.{identity_length, identity_over}
 use Rattle.axe_algebra.proofs.PointSpans.{combination_with_unit}
 use Rattle.axe_field.specs.Order.{Order}
 use Rattle.axe_field.specs.NumberFields.{number_field}
-use Rattle.axe_row.specs.Rows.{RowValue}
 use Rattle.axe_matrix.specs.Limits.{most_rows, most_columns}
-use Rattle.axe_matrix.specs.Matrices.{MatrixValue, IsMatrix, identity_matrix, matrix_product}
+use Rattle.axe_matrix.specs.Matrices.{MatrixValue, IsMatrix, identity_matrix, matrix_product, rows_at}
+use Rattle.axe_matrix.proofs.PartialMatrices.{IsPartialMatrix, IsPartialMatrix-all}
 use Rattle.axe_matrix.proofs.ProductLaws.{length-product, get_or-product}
 use Rattle.axe_echelon.proofs.InverseLaws.{matrix_over}
 use Rattle.axe_echelon.proofs.SomeMatrix.{matrix_of_rows_over}
-use Rattle.axe_action.specs.Coordinates.{rows_chosen}
 use Rattle.axe_chop.specs.Vectors.{matrix_of_unit_vectors}
 
 -- ---- one after the other
 
 -- a matrix has the first i rows of the whole
-pub record AreFirstRows (whole : MatrixValue) (i : ℕ) (m : MatrixValue) : Type 0 where
-  pub are : m ≡ record { order = whole.order; cols = whole.cols; rows = take i whole.rows }
-  pub well_formed : IsMatrix m
+abbrev pub AreFirstRows : MatrixValue → ℕ → MatrixValue → Type 0
+AreFirstRows whole i m = IsPartialMatrix whole.order whole.cols (λ t. get_or whole.rows t []) i m
 
-module _ (whole : MatrixValue) (i : ℕ) (m : MatrixValue) (so_far : AreFirstRows whole i m) where
-  -- they are so many
-  pub first_rows_count : i ≤ length whole.rows → length m.rows ≡ i
-  first_rows_count below = ap (λ (x : MatrixValue). length x.rows) so_far.are ∙ length-take-le i whole.rows below
-
-  -- one more
-  pub first_rows_more : (next : MatrixValue) (row : RowValue) → i < length whole.rows → row.entries ≡ get_or whole.rows i [] →
-      next ≡ record m { rows = m.rows ++ row.entries ∷ [] } → IsMatrix next → AreFirstRows whole (i + 1) next
-  first_rows_more next row below row_is is well_formed = record {
-    are = is
-        ∙ ap (λ (x : MatrixValue). record x { rows = x.rows ++ row.entries ∷ [] }) so_far.are
-        ∙ (λ k. record { order = whole.order; cols = whole.cols; rows = longer k });
-    well_formed = well_formed;
-  }
-    where
-      longer : take i whole.rows ++ row.entries ∷ [] ≡ take (i + 1) whole.rows
-      longer = ap (λ (u : List ℕ). take i whole.rows ++ u ∷ []) row_is ∙ sym (take_more whole.rows i [] below)
-
-  -- all of them
-  pub first_rows_all : length whole.rows ≤ i → m ≡ whole
-  first_rows_all all =
-      so_far.are ∙ (λ k. record { order = whole.order; cols = whole.cols; rows = take_all i whole.rows all k })
+-- all of them
+pub first_rows_all : (whole : MatrixValue) (i : ℕ) (m : MatrixValue) → AreFirstRows whole i m → i ≡ length whole.rows → m ≡ whole
+first_rows_all whole i m so_far all =
+    IsPartialMatrix-all _ _ _ _ _ _ so_far all
+    ∙ (λ k. record {
+      order = whole.order;
+      cols = whole.cols;
+      rows = sym (fill_by_all (λ t. get_or whole.rows t []) whole.rows (length whole.rows) [] refl (λ t below. refl)) k;
+    })
 
 -- among the rows that a list of numbers makes
 pub made_of_number : (f : ℕ → List ℕ) (numbers : List ℕ) (i : ℕ) → i < length numbers →
@@ -99,7 +84,7 @@ same_rows f g numbers same =
 
 -- among all unit vectors
 pub chosen_of_identity : (o : Order) (n : ℕ) (places : List ℕ) → All (λ place. place < n) places →
-    matrix_of_unit_vectors o n places ≡ rows_chosen places (identity_matrix o n)
+    matrix_of_unit_vectors o n places ≡ rows_at places (identity_matrix o n)
 unfolding identity
 chosen_of_identity o n places within = λ k. record { order = o; cols = n; rows = same k }
   where
@@ -121,7 +106,7 @@ within_units o n columns m places is within =
 
 pub chosen_of_units : (o : Order) (n : ℕ) (columns places chosen : List ℕ) → All (λ place. place < length columns) places →
     chosen ≡ map (λ place. get_or columns place 0) places →
-    matrix_of_unit_vectors o n chosen ≡ rows_chosen places (matrix_of_unit_vectors o n columns)
+    matrix_of_unit_vectors o n chosen ≡ rows_at places (matrix_of_unit_vectors o n columns)
 chosen_of_units o n columns places chosen within is = λ k. record { order = o; cols = n; rows = same k }
   where
     same : map (unit_row n) chosen ≡ map (λ place. get_or (map (unit_row n) columns) place []) places
@@ -159,7 +144,7 @@ chosen_count columns places chosen is = ap length is ∙ length-map places (λ p
 -- the rows at some places are what the unit vectors of these lift to
 pub chosen_by_units : (o : Order) (m : MatrixValue) (columns : List ℕ) → m.order ≡ o → IsMatrix m →
     All (λ column. column < length m.rows) columns →
-    rows_chosen columns m ≡ matrix_product (matrix_of_unit_vectors o (length m.rows) columns) m
+    rows_at columns m ≡ matrix_product (matrix_of_unit_vectors o (length m.rows) columns) m
 chosen_by_units o m columns field formed within = λ k. record { order = field k; cols = m.cols; rows = same k }
   where
     K : NumberField

@@ -11,7 +11,7 @@ use Rattle.axe_algebra.proofs.ListProducts.{identity_length}
 use Rattle.axe_field.specs.Order.{Order}
 use Rattle.axe_field.specs.NumberFields.{number_field}
 use Rattle.axe_matrix.specs.Limits.{most_rows}
-use Rattle.axe_matrix.specs.Matrices.{MatrixValue, IsMatrix, AreSplit, identity_matrix, matrix_block, matrix_product}
+use Rattle.axe_matrix.specs.Matrices.{MatrixValue, IsMatrix, AreSplit, identity_matrix, matrix_block, matrix_product, rows_at}
 use Rattle.axe_matrix.proofs.ProductLaws.{IsMatrix-product}
 use Rattle.axe_echelon.proofs.SomeMatrix.{matrix_of_rows_over}
 use Rattle.axe_spin.specs.Modules.{ModuleValue, IsModule}
@@ -24,7 +24,6 @@ use Rattle.axe_series.specs.Sections.{SectionValue, IsCut, whole_section, lifted
 use Rattle.axe_series.proofs.LiftedRows.{AreBlocks, split_in_blocks, parts_are_lifted}
 use Rattle.axe_series.proofs.SomeCut.{dimensions_add_up}
 use Rattle.axe_chop.specs.Stages.{IsSection}
-use Rattle.axe_action.specs.Coordinates.{rows_chosen}
 use Rattle.axe_chop.specs.Vectors.{matrix_of_unit_vectors}
 use Rattle.axe_chop.proofs.Choosing.{identity_is_matrix, units_are_matrix, chosen_by_units}
 use Rattle.axe_chop.proofs.Lifting.{lifted_rows_count}
@@ -216,7 +215,7 @@ module _ (section : SectionValue) (space : MatrixValue) (columns : List ℕ) (at
 
   -- and these rows are the unit vectors, lifted
   module _ (first after : MatrixValue) (first_is : first ≡ lifted_rows section space)
-      (after_is : after ≡ rows_chosen columns section.rows) (first_formed : IsMatrix first) where
+      (after_is : after ≡ rows_at columns section.rows) (first_formed : IsMatrix first) where
     field : section.rows.order ≡ space.order
     field = at.is_section.field ∙ sym at.proper.field
 
@@ -274,7 +273,7 @@ module _ (section self : SectionValue) (space : MatrixValue) (opened : IsOpened 
 
   module _ (sub quotient : ModuleValue) (columns : List ℕ) (split_in : IsSplit section.action space sub quotient columns)
       (first after : MatrixValue) (first_is : first ≡ lifted_rows section space)
-      (after_is : after ≡ rows_chosen columns section.rows) (first_formed : IsMatrix first) where
+      (after_is : after ≡ rows_at columns section.rows) (first_formed : IsMatrix first) where
     lifted_parts : AreLifted section space (matrix_of_unit_vectors space.order space.cols columns) first after
     lifted_parts = are_lifted section space columns (cut_at columns split_in.free) first after first_is after_is first_formed
 

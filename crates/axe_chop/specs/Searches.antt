@@ -90,3 +90,11 @@ pub record IsLeftOpen (m : ModuleValue) (seed words : ℕ) (found : Found.Found)
 abbrev pub AreDecided : ModuleValue → ℕ → ℕ → Found.Found → List SectionValue → Option SectionValue → Type 0
 AreDecided m seed words found after None = IsSearched m seed words (Complete found)
 AreDecided m seed words found after (Some section) = IsLeftOpen m seed words found after section
+
+-- the sections of some module are decided by some words of some seed, but for one that is left
+pub record AreDecidedSomehow (found : Found.Found) (after : List SectionValue) (left : Option SectionValue)
+    : Type 0 where
+  pub whole : ModuleValue
+  pub seed : ℕ
+  pub words : ℕ
+  pub decided : AreDecided whole seed words found after left

@@ -6,8 +6,7 @@ ghost use Rattle.axe_algebra.specs.ListArithmetic.{combination};
 ghost use Rattle.axe_field.specs.NumberFields.{number_field};
 ghost use Rattle.axe_row.specs.Refusals.{Answers};
 ghost use Rattle.axe_matrix.specs.Limits.{most_rows, most_columns};
-ghost use Rattle.axe_matrix.specs.Matrices.{IsMatrix, identity_matrix, matrix_product};
-ghost use Rattle.axe_action.specs.Coordinates.{rows_chosen};
+ghost use Rattle.axe_matrix.specs.Matrices.{IsMatrix, identity_matrix, matrix_product, rows_at};
 ghost use Rattle.axe_chop.specs.Vectors.{matrix_of_unit_vectors};
 
 use axe_field::Field;
@@ -141,7 +140,7 @@ impl LiftedRows {
         requires within { All (λ place. place < length self.rows) places.items }
         requires places_fit { length places.items ≤ most_rows }
         ensures lifted { Answers None (λ parts. parts.0 ≡ matrix_product coordinates self) result }
-        ensures chosen { Answers None (λ parts. parts.1 ≡ rows_chosen places.items self) result }
+        ensures chosen { Answers None (λ parts. parts.1 ≡ rows_at places.items self) result }
         ensures well_formed { IfOk result (λ parts. IsMatrix parts.0) }
     {
         let lifted = self.lift(alloc, coordinates)?;
@@ -153,7 +152,7 @@ impl LiftedRows {
     fn select(self, alloc: Global, places: Vec<usize>) -> Result<LiftedRows, Refusal>
         requires within { All (λ place. place < length self.rows) places.items }
         requires places_fit { length places.items ≤ most_rows }
-        ensures { Answers None (λ chosen. chosen ≡ rows_chosen places.items self) result }
+        ensures { Answers None (λ chosen. chosen ≡ rows_at places.items self) result }
     {
         let LiftedRows { kept } = self;
         match kept {
@@ -182,7 +181,7 @@ impl LiftedRows {
                 })
             }
             KeptRows::Rows(rows) => {
-                let chosen = rows_at(alloc, &rows, &places)?;
+                let chosen = rows.rows_at(alloc, &places)?;
                 Ok(LiftedRows::of_matrix(chosen))
             }
         }
@@ -254,21 +253,6 @@ fn row_with_entries_at(
         placed.set(column, sum);
     }
     Ok(placed)
-}
-
-/// The rows of a matrix at some places, in their order.
-fn rows_at(alloc: Global, rows: &Matrix, places: &[usize]) -> Result<Matrix, Refusal>
-    requires within { All (λ place. place < length rows.now.rows) places.now }
-    requires places_fit { length places.now ≤ most_rows }
-    ensures chosen { Answers None (λ chosen. chosen ≡ rows_chosen places.now rows.now) result }
-    ensures well_formed { IfOk result IsMatrix }
-{
-    let mut chosen = Matrix::with_capacity(alloc, *rows.field(), rows.cols(), places.len())?;
-    for place in places {
-        let row = rows.row(*place).copy(alloc)?;
-        chosen.append(row)?;
-    }
-    Ok(chosen)
 }
 
 /// The columns at some places of a list of them, in the order of the places.

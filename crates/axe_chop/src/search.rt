@@ -10,7 +10,8 @@ ghost use Rattle.axe_norton.specs.Verdicts.{last_word};
 ghost use Rattle.axe_iso.specs.Forms.{FormValue};
 ghost use Rattle.axe_chop.specs.Kept.{acting_module};
 ghost use Rattle.axe_chop.specs.Stages.{IsActionLike, IsRowsLike, sections_dim, with_sections};
-ghost use Rattle.axe_chop.specs.Searches.{ArePartsBefore, AreDecided, IsDecided, IsNothingFound, IsSearched};
+ghost use Rattle.axe_chop.specs.Searches.{ArePartsBefore, AreDecided, AreDecidedSomehow, IsDecided};
+ghost use Rattle.axe_chop.specs.Searches.{IsNothingFound, IsSearched};
 ghost use Rattle.axe_chop.specs.declared.search.Searched.TheVariants.{Open};
 
 use crate::found::Found;
@@ -86,7 +87,7 @@ fn outcome_of(
     left: Option<Section>,
     after: &VecDeque<Section>,
 ) -> Result<Searched, Refusal>
-    requires { (m : ModuleValue) × (seed words : ℕ) × AreDecided m seed words found after.now.items left }
+    requires { AreDecidedSomehow found after.now.items left }
     ensures { (m : ModuleValue) (seed words : ℕ) → AreDecided m seed words found after.now.items left.entry →
         Answers None (IsSearched m seed words) result }
 {

@@ -18,10 +18,10 @@ use Rattle.axe_row.specs.Operations.{IsZeroVector}
 use Rattle.axe_row.specs.Refusals.{AnswersOr, RefusedAs}
 use Rattle.axe_row.specs.declared.refusals.Refusal.{Refusal}
 use Rattle.axe_row.specs.declared.refusals.Refusal.TheVariants.{NotInvariant, Memory}
-use Rattle.axe_matrix.specs.Matrices.{MatrixValue}
+use Rattle.axe_matrix.specs.Matrices.{MatrixValue, has_only_zeros}
+use Rattle.axe_matrix.proofs.OnlyZeros.{some_nonzero}
 use Rattle.axe_spin.specs.Modules.{ModuleValue, IsModule, IsInvariantIn}
-use Rattle.axe_spin.specs.Spinning.{IsStandardMatrix, has_only_zeros}
-use Rattle.axe_spin.proofs.GeneratedLaws.{some_nonzero}
+use Rattle.axe_spin.specs.Spinning.{IsStandardMatrix}
 use Rattle.axe_action.specs.Actions.{sub_action_refusal, action_late, IsBasisAction, IsActionOverRows}
 use mathlib.Core.Logic.{inl, inr}
 

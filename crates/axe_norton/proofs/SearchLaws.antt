@@ -24,15 +24,16 @@ use Rattle.axe_row.specs.Rows.{RowValue}
 use Rattle.axe_row.specs.Refusals.{Answers}
 use Rattle.axe_row.specs.Operations.{IsZeroVector}
 use Rattle.axe_row.specs.declared.refusals.Refusal.{Refusal}
-use Rattle.axe_matrix.specs.Matrices.{MatrixValue, IsMatrix, transposed_matrix}
+use Rattle.axe_matrix.specs.Matrices.{MatrixValue, IsMatrix, transposed_matrix, has_only_zeros}
+use Rattle.axe_matrix.proofs.OnlyZeros.{some_nonzero}
 use Rattle.axe_reduction.specs.Solutions.{IsInvertibleMatrix}
 use Rattle.axe_echelon.specs.Echelons.{EchelonValue, IsReducedMatrix, IsNullSpaceMatrix}
 use Rattle.axe_echelon.specs.OrthogonalPoints.{IsOrthogonalPoint}
 use Rattle.axe_echelon.proofs.InverseLaws.{matrix_over}
 use Rattle.axe_echelon.proofs.EliminationLaws.{vector_of_zero_row}
 use Rattle.axe_spin.specs.Modules.{ModuleValue, IsModule}
-use Rattle.axe_spin.specs.Spinning.{has_only_zeros, seed_refusal, IsGeneratedSpace}
-use Rattle.axe_spin.proofs.GeneratedLaws.{some_nonzero, generated_matrix}
+use Rattle.axe_spin.specs.Spinning.{seed_refusal, IsGeneratedSpace}
+use Rattle.axe_spin.proofs.GeneratedLaws.{generated_matrix}
 use Rattle.axe_spin.proofs.SpaceLaws.{space_over}
 use Rattle.axe_action.specs.Actions.{dual_module, IsAnnihilatorMatrix}
 use Rattle.axe_word.specs.PointsOfMatrix.{points_of}

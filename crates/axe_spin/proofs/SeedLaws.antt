@@ -8,13 +8,14 @@ use Rattle.axe_field.specs.NumberFields.{number_field}
 use Rattle.axe_row.specs.declared.refusals.Refusal.{Refusal}
 use Rattle.axe_row.specs.declared.refusals.Refusal.TheVariants.{FieldsDiffer, ShapesDiffer, ZeroSeed}
 use Rattle.axe_row.specs.Refusals.{Answers, first_of, unless_refused}
-use Rattle.axe_matrix.specs.Matrices.{MatrixValue, IsMatrix}
+use Rattle.axe_matrix.specs.Matrices.{MatrixValue, IsMatrix, has_only_zeros}
+use Rattle.axe_matrix.proofs.OnlyZeros.{row_of_zeros}
 use Rattle.axe_field.proofs.Orders.{order_number-injective}
 use Rattle.axe_echelon.proofs.Exits.{handed_on, no_memory, no_value, same_refusal}
 use Rattle.axe_echelon.proofs.InverseLaws.{matrix_over}
 use Rattle.axe_spin.specs.Modules.{ModuleValue, rows_refusal}
-use Rattle.axe_spin.specs.Spinning.{has_only_zeros, seed_refusal, IsFirstNonzeroRow}
-use Rattle.axe_spin.proofs.ZeroRows.{false_if_absurd, row_of_zeros}
+use Rattle.axe_spin.specs.Spinning.{seed_refusal, IsFirstNonzeroRow}
+use Rattle.axe_spin.proofs.ZeroRows.{false_if_absurd}
 use mathlib.Core.Path.{refl, sym, ◌∙◌, ap, subst}
 
 -- ---- one refusal after another

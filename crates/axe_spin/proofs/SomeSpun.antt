@@ -13,12 +13,12 @@ use Rattle.axe_algebra.proofs.ListExistence.{standard_rows, generated_basis_list
 use Rattle.axe_field.specs.NumberFields.{number_field}
 use Rattle.axe_row.specs.Operations.{IsZeroVector}
 use Rattle.axe_matrix.specs.Limits.{most_columns}
-use Rattle.axe_matrix.specs.Matrices.{MatrixValue, IsMatrix}
+use Rattle.axe_matrix.specs.Matrices.{MatrixValue, IsMatrix, has_only_zeros}
+use Rattle.axe_matrix.proofs.OnlyZeros.{zeros_pass, passed_zeros, only_zeros}
 use Rattle.axe_echelon.proofs.EliminationLaws.{zero_row_of_vector}
 use Rattle.axe_echelon.proofs.SomeMatrix.{matrix_of_rows_over}
 use Rattle.axe_spin.specs.Modules.{ModuleValue}
-use Rattle.axe_spin.specs.Spinning.{has_only_zeros, IsFirstNonzeroRow, HasSpunRows}
-use Rattle.axe_spin.proofs.ZeroRows.{zeros_pass, passed_zeros, only_zeros}
+use Rattle.axe_spin.specs.Spinning.{IsFirstNonzeroRow, HasSpunRows}
 use Rattle.axe_spin.proofs.SeedLaws.{IsSeed, vectors_over}
 use mathlib.Core.Logic.{inl, inr}
 use mathlib.Core.Path.{refl, sym, ◌∙◌, subst}

@@ -30,7 +30,7 @@ use Rattle.axe_spin.specs.Spun.{IsSpanOf, with_row, IsOffered, image_of_row, IsR
 use mathlib.Core.Logic.{inl, inr}
 use mathlib.Core.Path.{refl, sym, ◌∙◌, ap, ap₂, subst}
 use native.Mathlib.Omega.{arith}
-use native.Mathlib.Decide.{ℕ_discrete, dec_lt}
+use native.Mathlib.Decide.{ℕ_discrete}
 
 -- a function changed at one place
 with_value : (ℕ → ℕ) → ℕ → ℕ → ℕ → ℕ

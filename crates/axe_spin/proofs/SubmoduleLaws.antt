@@ -11,11 +11,12 @@ use Rattle.axe_algebra.proofs.ReducedBases.{reduced_independent}
 use Rattle.axe_algebra.proofs.StandardBases.{standard_basis_is_invariant}
 use Rattle.axe_algebra.proofs.ListGenerated.{seed_row_generated, generated_is_invariant_span}
 use Rattle.axe_field.specs.NumberFields.{number_field}
-use Rattle.axe_matrix.specs.Matrices.{MatrixValue, IsMatrix}
+use Rattle.axe_matrix.specs.Matrices.{MatrixValue, IsMatrix, has_only_zeros}
+use Rattle.axe_matrix.proofs.OnlyZeros.{only_zeros, row_of_zeros}
 use Rattle.axe_echelon.proofs.EliminationLaws.{zero_row_of_vector, vector_of_zero_row}
 use Rattle.axe_spin.specs.Modules.{ModuleValue, HasSquareGenerators}
-use Rattle.axe_spin.specs.Spinning.{has_only_zeros, seed_refusal, IsGeneratedMatrix, HasSpunRows, IsSubmoduleBasis}
-use Rattle.axe_spin.proofs.ZeroRows.{only_zeros, row_of_zeros, spanned_by_zeros, false_if_absurd}
+use Rattle.axe_spin.specs.Spinning.{seed_refusal, IsGeneratedMatrix, HasSpunRows, IsSubmoduleBasis}
+use Rattle.axe_spin.proofs.ZeroRows.{spanned_by_zeros, false_if_absurd}
 use Rattle.axe_spin.proofs.SeedLaws.{IsSeed, seed_if_not_refused, vectors_over}
 use mathlib.Core.Path.{sym, ◌∙◌, subst}
 

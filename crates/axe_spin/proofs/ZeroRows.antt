@@ -1,9 +1,5 @@
 -- Rows that are zero.
-use Rattle.std.specs.Prelude.{◌≡◌, ℕ, ◌<◌, ◌≤◌, ◌==◌, List, [], length, get_or, Bool, true, false}
-use Rattle.std.specs.List.{list_all}
-use Rattle.std.proofs.lemmas.Bool.{eq-eqb, eqb-true}
-use Rattle.std.proofs.lemmas.List.Elements.{All-get_or, All-from_get_or}
-use Rattle.std.proofs.lemmas.List.Sums.{AllPass-from_list_all, list_all-from_AllPass}
+use Rattle.std.specs.Prelude.{◌≡◌, ℕ, ◌<◌, ◌≤◌, List, [], length, get_or, Bool, true, false}
 use Rattle.axe_algebra.specs.NumberField.{NumberField}
 use Rattle.axe_algebra.specs.Field.{Field}
 use Rattle.axe_algebra.specs.Spans
@@ -14,26 +10,10 @@ use Rattle.axe_algebra.proofs.ProductLaws.{times_zero_rows, times_none}
 use Rattle.axe_algebra.proofs.ListEntries.{row_over}
 use Rattle.axe_row.specs.Operations.{IsZeroVector}
 use Rattle.axe_echelon.proofs.EliminationLaws.{zero_row_of_vector, vector_of_zero_row}
-use Rattle.axe_spin.specs.Spinning.{has_only_zeros}
+use Rattle.axe_matrix.specs.Matrices.{has_only_zeros}
+use Rattle.axe_matrix.proofs.OnlyZeros.{only_zeros, row_of_zeros}
 use mathlib.Core.Path.{refl, ◌∙◌, subst}
 use native.Mathlib.Omega.{arith}
-
-pub zeros_pass : (entries : List ℕ) → IsZeroVector entries → list_all (λ number. number == 0) entries ≡ true
-zeros_pass entries zeros = list_all-from_AllPass (λ number. number == 0) entries (λ i d below. eq-eqb _ _ (zeros i d below))
-
-pub passed_zeros : (entries : List ℕ) → list_all (λ number. number == 0) entries ≡ true → IsZeroVector entries
-passed_zeros entries pass = λ i d below. eqb-true _ _ (AllPass-from_list_all (λ number. number == 0) entries pass i d below)
-
--- a matrix has only zeros exactly where each of its rows is zero
-pub only_zeros : (rows : List (List ℕ)) → ((i : ℕ) → i < length rows → IsZeroVector (get_or rows i [])) → has_only_zeros rows ≡ true
-only_zeros rows zero =
-    list_all-from_AllPass (list_all (λ number. number == 0)) rows
-    (All-from_get_or (λ row. list_all (λ number. number == 0) row ≡ true) rows [] (λ i below. zeros_pass (get_or rows i []) (zero i below)))
-
-pub row_of_zeros : (rows : List (List ℕ)) (i : ℕ) → has_only_zeros rows ≡ true → i < length rows → IsZeroVector (get_or rows i [])
-row_of_zeros rows i zeros below =
-    passed_zeros (get_or rows i [])
-    (All-get_or (λ row. list_all (λ number. number == 0) row ≡ true) rows i [] below (AllPass-from_list_all (list_all (λ number. number == 0)) rows zeros))
 
 module _ (K : NumberField) where
   abbrev F : Field

@@ -1,7 +1,6 @@
 -- What spinning rows in a module gives: the space that they generate, and standard bases.
-use Rattle.std.specs.Prelude.{◌≡◌, ℕ, ◌<◌, ◌==◌, Bool, true, false, Option, Some, None, if◌then◌else◌}
+use Rattle.std.specs.Prelude.{◌≡◌, ℕ, ◌<◌, Bool, true, false, Option, Some, None, if◌then◌else◌}
 use Rattle.std.specs.Prelude.{List, [], length, slice_index_or}
-use Rattle.std.specs.List.{list_all}
 use Rattle.axe_algebra.specs.SpansOfLists.{IsIndependent}
 use Rattle.axe_algebra.specs.ModulesOfLists.{Generates, IsGeneratedBasis, IsStandardBasis}
 use Rattle.axe_field.specs.NumberFields.{number_field}
@@ -10,13 +9,9 @@ use Rattle.axe_row.specs.declared.refusals.Refusal.{Refusal}
 use Rattle.axe_row.specs.declared.refusals.Refusal.TheVariants.{ZeroSeed}
 use Rattle.axe_row.specs.Refusals.{first_of}
 use Rattle.axe_row.specs.Operations.{IsZeroVector}
-use Rattle.axe_matrix.specs.Matrices.{MatrixValue, row_of}
+use Rattle.axe_matrix.specs.Matrices.{MatrixValue, row_of, has_only_zeros}
 use Rattle.axe_echelon.specs.Echelons.{EchelonValue, IsEchelon}
 use Rattle.axe_spin.specs.Modules.{ModuleValue, rows_refusal, IsInvariantIn}
-
--- each entry of each row is 0
-abbrev pub has_only_zeros : List (List ℕ) → Bool
-has_only_zeros rows = list_all (list_all (λ number. number == 0)) rows
 
 -- why the rows of a matrix are no seed in a module: they are over another field, or else of another length than the
 -- dimension, or else none of them is other than zero

@@ -5,7 +5,7 @@ ghost use Rattle.axe_row.specs.Refusals.{Answers, unless_refused};
 ghost use Rattle.axe_matrix.specs.Matrices.{IsMatrix};
 ghost use Rattle.axe_spin.specs.Modules.{IsModule};
 ghost use Rattle.axe_spin.specs.Spaces.{IsSubspaceOf, IsEnlarged, AreImagesSpanned};
-ghost use Rattle.axe_spin.specs.Spinning.{has_only_zeros, seed_refusal, IsGeneratedSpace, IsGeneratedMatrix};
+ghost use Rattle.axe_spin.specs.Spinning.{seed_refusal, IsGeneratedSpace, IsGeneratedMatrix};
 
 use crate::module::Module;
 use axe_echelon::{Subspace, row_space};
@@ -41,22 +41,10 @@ fn check_seed(module: &Module, seed: &Matrix) -> Result<(), Refusal>
     ensures seed_well_formed { IsMatrix seed.now }
 {
     module.check_rows(seed)?;
-    if has_only_zeros(seed) {
+    if seed.has_only_zeros() {
         return Err(Refusal::ZeroSeed);
     }
     Ok(())
-}
-
-/// Whether every entry of a matrix is 0: whether its rows span the zero space. It takes no memory.
-pub fn has_only_zeros(matrix: &Matrix) -> bool
-    ensures { result ≡ has_only_zeros matrix.now.rows }
-{
-    for index in 0..matrix.rows() {
-        if !matrix.row(index).is_zero() {
-            return false;
-        }
-    }
-    true
 }
 
 /// Enlarges a space of vectors of a module to the least invariant space with it. It takes the rows of the echelon form

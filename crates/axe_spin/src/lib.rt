@@ -8,7 +8,7 @@ mod module;
 mod spinning;
 mod standard;
 
-pub use generated::{generate, generated_space, has_only_zeros};
+pub use generated::{generate, generated_space};
 pub use laws::{isomorphism_carries_standard_basis, multiple_has_the_same_standard_matrices};
 pub use limits::limits_are_named;
 pub use module::Module;

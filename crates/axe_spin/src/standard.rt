@@ -3,9 +3,8 @@
 ghost use Rattle.std.specs.Prelude.{◌≡◌, true, length, None, IfOk, MatchOption, option_copied};
 ghost use Rattle.axe_row.specs.Operations.{IsZeroVector};
 ghost use Rattle.axe_row.specs.Refusals.{Answers};
-ghost use Rattle.axe_matrix.specs.Matrices.{IsMatrix};
-ghost use Rattle.axe_spin.specs.Spinning.{has_only_zeros, seed_refusal, IsStandardMatrix, HasFirstNonzeroRow};
-ghost use Rattle.axe_spin.specs.Spinning.{HasSpunRows};
+ghost use Rattle.axe_matrix.specs.Matrices.{IsMatrix, has_only_zeros};
+ghost use Rattle.axe_spin.specs.Spinning.{seed_refusal, IsStandardMatrix, HasFirstNonzeroRow, HasSpunRows};
 
 use crate::module::Module;
 use crate::spinning::{offer, spin};

@@ -1,7 +1,6 @@
-use Rattle.std.proofs.Common.{length, refl, ap, sym, subst, arith}
+use Rattle.std.proofs.Common.{refl, sym, subst, arith}
 use Rattle.std.specs.Vec.Iter.{into_iter_items}
 use Rattle.std.proofs.lemmas.List.{nil_from_length}
-use Rattle.axe_matrix.specs.Matrices.{MatrixValue}
 use Rattle.axe_matrix.specs.RowLists.{AreRowsOf}
 use Rattle.axe_echelon.proofs.RowSpaces.{rows_more, next_field, next_long}
 use Rattle.axe_action.proofs.BlockLaws.{blocks_none, so_far_more, row_fits, blocks_are, row_below, row_at_next}
@@ -10,19 +9,8 @@ use Rattle.axe_action.proofs.blocks.blocks_of.Goals as goal
 pub loop-row-init : goal.loop-row-init
 loop-row-init c = record {
   rows = subst (AreRowsOf c.args.generator) (sym c.into_iter-row-iterator.ensures.into_iter_gives.0) c.into_rows-row-items.ensures.rows;
-  so_far = record {
-    blocks = blocks_none c.args.generator c.args.pivots.now c.args.columns.now _ _ _ c.in_ok-blocks.blocks.at_pivots c.in_ok-blocks.blocks.across
-        c.in_ok-blocks.blocks.at_columns c.field.ensures.order refl refl c.in_ok-blocks.ensures.at_pivots c.in_ok-blocks.ensures.across
-        c.in_ok-blocks.ensures.at_columns;
-    count = omega (
-      arith,
-      ap (λ (m : MatrixValue). length m.rows) c.in_ok-blocks.ensures.at_pivots,
-      ap (λ (m : MatrixValue). length m.rows) c.in_ok-blocks.ensures.across,
-    );
-    a_formed = c.in_ok-blocks.ensures.well_formed.0;
-    b_formed = c.in_ok-blocks.ensures.well_formed.1;
-    c_formed = c.in_ok-blocks.ensures.well_formed.2;
-  };
+  so_far = blocks_none c.args.generator c.args.pivots.now c.args.columns.now _ _ _ c.in_ok-blocks.blocks c.field.ensures.order refl refl
+      c.in_ok-blocks.ensures.at_pivots c.in_ok-blocks.ensures.across c.in_ok-blocks.ensures.at_columns c.in_ok-blocks.ensures.well_formed;
 }
 
 pub take-requires : goal.take-requires
@@ -30,7 +18,7 @@ take-requires c =
     let left = into_iter_items c.loop-row.row-iterator in
     let next = into_iter_items c.next.new.self in
     row_fits c.args.generator c.args.pivots.now c.args.columns.now c.requires.complementary c.requires.square c.loop-row.yielded c.in-Some.row
-    c.loop-row.blocks.at_pivots c.loop-row.blocks.across c.loop-row.blocks.at_columns c.loop-row.invariant.so_far
+    c.loop-row.blocks c.loop-row.invariant.so_far
     (row_below c.args.generator c.loop-row.yielded left next c.in-Some.row c.loop-row.invariant.rows c.in-Some.ensures.steps.0)
     (row_at_next c.args.generator c.loop-row.yielded left next c.in-Some.row c.loop-row.invariant.rows c.in-Some.ensures.steps.0)
     (next_field c.args.generator c.loop-row.yielded left next c.in-Some.row c.loop-row.invariant.rows c.in-Some.ensures.steps.0)
@@ -44,10 +32,10 @@ loop-row-preserved c =
     record {
       rows = rows_more c.args.generator c.loop-row.yielded left next c.in-Some.row c.loop-row.invariant.rows c.in-Some.ensures.steps.0;
       so_far = so_far_more c.args.generator c.args.pivots.now c.args.columns.now c.requires.complementary c.requires.square c.loop-row.yielded c.in-Some.row
-          c.loop-row.blocks.at_pivots c.loop-row.blocks.across c.loop-row.blocks.at_columns c.loop-row.invariant.so_far
+          c.loop-row.blocks c.loop-row.invariant.so_far
           (row_below c.args.generator c.loop-row.yielded left next c.in-Some.row c.loop-row.invariant.rows c.in-Some.ensures.steps.0)
           (row_at_next c.args.generator c.loop-row.yielded left next c.in-Some.row c.loop-row.invariant.rows c.in-Some.ensures.steps.0)
-          c.take.new.self.at_pivots c.take.new.self.across c.take.new.self.at_columns c.in_ok-take.ensures;
+          c.take.new.self c.in_ok-take.ensures;
     }
 
 pub returns-clause-at_pivots : goal.returns-clause-at_pivots
@@ -55,18 +43,18 @@ returns-clause-at_pivots c =
     (blocks_are c.args.generator c.args.pivots.now c.args.columns.now c.requires.complementary c.requires.square c.loop-row.yielded
     (into_iter_items c.loop-row.row-iterator) c.loop-row.invariant.rows
     (nil_from_length (into_iter_items c.loop-row.row-iterator) (omega (arith, c.in-None.ensures.steps.0, c.loop-row.row-iterator.rest.ok)))
-    c.loop-row.blocks.at_pivots c.loop-row.blocks.across c.loop-row.blocks.at_columns c.loop-row.invariant.so_far).0
+    c.loop-row.blocks c.loop-row.invariant.so_far).0
 
 pub returns-clause-across : goal.returns-clause-across
 returns-clause-across c =
     (blocks_are c.args.generator c.args.pivots.now c.args.columns.now c.requires.complementary c.requires.square c.loop-row.yielded
     (into_iter_items c.loop-row.row-iterator) c.loop-row.invariant.rows
     (nil_from_length (into_iter_items c.loop-row.row-iterator) (omega (arith, c.in-None.ensures.steps.0, c.loop-row.row-iterator.rest.ok)))
-    c.loop-row.blocks.at_pivots c.loop-row.blocks.across c.loop-row.blocks.at_columns c.loop-row.invariant.so_far).1
+    c.loop-row.blocks c.loop-row.invariant.so_far).1
 
 pub returns-clause-at_columns : goal.returns-clause-at_columns
 returns-clause-at_columns c =
     (blocks_are c.args.generator c.args.pivots.now c.args.columns.now c.requires.complementary c.requires.square c.loop-row.yielded
     (into_iter_items c.loop-row.row-iterator) c.loop-row.invariant.rows
     (nil_from_length (into_iter_items c.loop-row.row-iterator) (omega (arith, c.in-None.ensures.steps.0, c.loop-row.row-iterator.rest.ok)))
-    c.loop-row.blocks.at_pivots c.loop-row.blocks.across c.loop-row.blocks.at_columns c.loop-row.invariant.so_far).2
+    c.loop-row.blocks c.loop-row.invariant.so_far).2

@@ -7,5 +7,5 @@ use Rattle.axe_action.proofs.blocks.blocks_of.Given as goal
 abbrev pub invariant-loop-row : goal.invariant-loop-row
 invariant-loop-row l = record {
   rows : AreRowsOf l.fn.generator (l.yielded ++ into_iter_items l.row-iterator);
-  so_far : AreBlocksSoFar l.fn.generator l.pivots l.columns (length l.yielded) l.blocks.at_pivots l.blocks.across l.blocks.at_columns;
+  so_far : AreBlocksSoFar l.fn.generator l.pivots l.columns (length l.yielded) l.blocks;
 }

@@ -2,7 +2,7 @@ use Rattle.std.proofs.Common.{◌≡◌, [], length, get_or, refl, ap, sym, ◌�
 use Rattle.axe_row.specs.Rows.{RowValue}
 use Rattle.axe_algebra.specs.Lists.{unit_row}
 use Rattle.axe_echelon.proofs.FormLaws.{below_or_at}
-use Rattle.axe_action.specs.Coordinates.{entries_at}
+use Rattle.axe_matrix.specs.Matrices.{entries_at}
 use Rattle.axe_action.proofs.QuotientSpans.{test_failed}
 use Rattle.axe_action.proofs.ReducedRows.{no_identity}
 use Rattle.axe_action.proofs.columns.is_identity_at.Goals as goal

@@ -1,10 +1,10 @@
-use Rattle.std.proofs.Common.{None, length, refl, sym, inr, ◌∙◌}
-use Rattle.axe_echelon.proofs.Exits.{memory_if_accepted, no_memory_late, answered_or}
+use Rattle.std.proofs.Common.{◌≡◌, None, length, refl, sym, inr, ◌∙◌}
+use Rattle.axe_echelon.proofs.Exits.{memory_if_accepted, no_memory_late, answered_or, answers_with}
 use Rattle.axe_action.specs.Coordinates.{HasImagesIn}
-use Rattle.axe_action.specs.FreeColumns.{HasRowsModulo, HasRowsAt, rows_to_span, row_at}
+use Rattle.axe_action.specs.FreeColumns.{HasRowsModulo, rows_to_span, row_at}
 use Rattle.axe_row.specs.Refusals.{RefusedAs}
 use Rattle.axe_row.specs.declared.refusals.Refusal.TheVariants.{NotInvariant}
-use Rattle.axe_matrix.specs.Matrices.{MatrixValue}
+use Rattle.axe_matrix.specs.Matrices.{MatrixValue, IsMatrix, rows_at}
 use Rattle.axe_action.proofs.QuotientImages.{AreImagesModulo, units_accepted, units_made, images_field, images_many, images_if_zero, moved_out}
 use Rattle.axe_action.proofs.QuotientImages.{action_at, columns_in_images}
 use Rattle.axe_action.proofs.quotients.generator_modulo.Goals as goal
@@ -91,16 +91,16 @@ returns c =
           c.requires.units c.in_ok-images.ensures.product;
       images_well_formed = c.in_ok-images.ensures.well_formed;
     } in
-    answered_or None (HasRowsAt c.in_ok-images.images c.args.columns.now (length c.args.columns.now))
+    answered_or None (λ (action : MatrixValue). (action ≡ rows_at c.args.columns.now c.in_ok-images.images) × IsMatrix action)
     (λ (action : MatrixValue). HasImagesIn c.args.generator.now c.args.rows.now.rows c.args.rows.now.rows
     × HasRowsModulo (rows_to_span c.args.rows.now) c.args.columns.now (row_at c.args.generator.now.rows c.args.columns.now) (length c.args.columns.now) action)
     (RefusedAs NotInvariant (¬ (HasImagesIn c.args.generator.now c.args.rows.now.rows c.args.rows.now.rows))) c.rows_at.result refl
     (λ action at. (
       images_if_zero c.args.rows.now c.args.generator.now c.args.units.now c.in_ok-images.images c.args.columns.now are
           (sym c.in_ok-has_zero_product.ensures ∙ c.if-not-branch.false),
-      action_at c.args.rows.now c.args.generator.now c.args.units.now c.in_ok-images.images c.args.columns.now are action at,
+      action_at c.args.rows.now c.args.generator.now c.args.units.now c.in_ok-images.images c.args.columns.now are action at.0 at.1,
     ))
-    c.rows_at.ensures
+    (answers_with c.rows_at.result _ IsMatrix _ c.rows_at.ensures.rows c.rows_at.ensures.well_formed (λ action is formed. (is, formed)))
 
 pub returns-in_err-images : goal.returns-in_err-images
 returns-in_err-images c =

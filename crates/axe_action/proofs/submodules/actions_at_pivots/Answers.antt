@@ -27,7 +27,7 @@ pub take-requires-clause-as_many : goal.take-requires-clause-as_many
 take-requires-clause-as_many c =
     cosets_count (rows_to_span c.args.rows.now) c.args.pivots.now c.args.columns.now c.in_ok-entries.entries
     (cosets_of_reduced c.args.rows.now c.args.pivots.now c.args.columns.now c.in_ok-entries.entries c.requires.well_formed c.requires.reduced c.requires.free
-    c.in_ok-entries.ensures.entries)
+    c.in_ok-entries.ensures.columns)
 
 pub loop-generator-preserved : goal.loop-generator-preserved
 loop-generator-preserved c = record {
@@ -37,14 +37,14 @@ loop-generator-preserved c = record {
       c.requires.fits c.requires.invariant c.loop-generator.yielded (into_iter_items c.loop-generator.generator-iterator) c.loop-generator.invariant.left
       c.in-Some.generator (into_iter_items c.next.new.self) c.in-Some.ensures.steps.0
       c.args.pivots.now c.args.columns.now c.in_ok-entries.entries c.loop-generator.actions.subs.items c.take.new.self.subs.items
-      c.requires.reduced c.requires.free c.in_ok-entries.ensures.entries c.in_ok-take.ensures.well_formed.0
+      c.requires.reduced c.requires.free c.in_ok-entries.ensures.columns c.in_ok-take.ensures.well_formed.0
       c.loop-generator.invariant.subs c.in_ok-take.ensures.sub;
   quotients = quotient_next c.args.module c.args.rows.now c.into_generators-generator-items.ensures.well_formed c.requires.well_formed c.requires.field
       c.requires.fits c.requires.invariant c.loop-generator.yielded (into_iter_items c.loop-generator.generator-iterator) c.loop-generator.invariant.left
       c.in-Some.generator (into_iter_items c.next.new.self) c.in-Some.ensures.steps.0
       c.args.pivots.now c.args.columns.now c.in_ok-entries.entries c.loop-generator.actions.quotients.items c.take.new.self.quotients.items
       (cosets_of_reduced c.args.rows.now c.args.pivots.now c.args.columns.now c.in_ok-entries.entries c.requires.well_formed c.requires.reduced c.requires.free
-      c.in_ok-entries.ensures.entries)
+      c.in_ok-entries.ensures.columns)
       c.in_ok-take.ensures.well_formed.1 c.loop-generator.invariant.quotients c.in_ok-take.ensures.quotient;
 }
 

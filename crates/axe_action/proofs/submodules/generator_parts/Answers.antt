@@ -1,9 +1,8 @@
 use Rattle.std.proofs.Common.{length, ap, sym, ◌∙◌}
 use Rattle.axe_echelon.proofs.Exits.{no_memory}
 use Rattle.axe_field.specs.Arithmetic.{field_neg}
-use Rattle.axe_matrix.specs.Matrices.{MatrixValue}
+use Rattle.axe_matrix.specs.Matrices.{MatrixValue, columns_at, rows_at}
 use Rattle.axe_matrix.specs.Products.{matrix_with_product}
-use Rattle.axe_action.specs.Coordinates.{matrix_at, rows_chosen}
 use Rattle.axe_action.proofs.EntryLaws.{lists_at_length, chosen, chosen_length}
 use Rattle.axe_action.proofs.submodules.generator_parts.Goals as goal
 
@@ -41,16 +40,16 @@ pub returns-clause-sub : goal.returns-clause-sub
 returns-clause-sub c =
     c.in_ok-add_products.ensures.at_pivots
     ∙ ap (λ a. matrix_with_product a 1 c.args.entries.now c.in_ok-blocks.blocks.across) c.in_ok-blocks.ensures.at_pivots
-    ∙ ap (λ b. matrix_with_product (matrix_at c.args.pivots.now (rows_chosen c.args.pivots.now c.args.generator)) 1 c.args.entries.now b) c.in_ok-blocks.ensures.across
+    ∙ ap (λ b. matrix_with_product (columns_at c.args.pivots.now (rows_at c.args.pivots.now c.args.generator)) 1 c.args.entries.now b) c.in_ok-blocks.ensures.across
 
 pub returns-clause-quotient : goal.returns-clause-quotient
 returns-clause-quotient c =
     c.in_ok-add_products.ensures.at_columns
     ∙ ap (λ q. matrix_with_product q (field_neg c.args.entries.now.order 1) c.in_ok-blocks.blocks.across c.args.entries.now) c.in_ok-blocks.ensures.at_columns
-    ∙ ap (λ p. matrix_with_product (matrix_at c.args.columns.now (rows_chosen c.args.columns.now c.args.generator)) (field_neg c.args.entries.now.order 1) p c.args.entries.now)
+    ∙ ap (λ p. matrix_with_product (columns_at c.args.columns.now (rows_at c.args.columns.now c.args.generator)) (field_neg c.args.entries.now.order 1) p c.args.entries.now)
     c.in_ok-blocks.ensures.across
-    ∙ ap (λ o. matrix_with_product (matrix_at c.args.columns.now (rows_chosen c.args.columns.now c.args.generator)) (field_neg o 1)
-    (matrix_at c.args.pivots.now (rows_chosen c.args.columns.now c.args.generator)) c.args.entries.now) c.requires.field
+    ∙ ap (λ o. matrix_with_product (columns_at c.args.columns.now (rows_at c.args.columns.now c.args.generator)) (field_neg o 1)
+    (columns_at c.args.pivots.now (rows_at c.args.columns.now c.args.generator)) c.args.entries.now) c.requires.field
 
 pub returns-clause-well_formed : goal.returns-clause-well_formed
 returns-clause-well_formed c = c.in_ok-add_products.ensures.well_formed

@@ -1,8 +1,8 @@
 use Rattle.std.proofs.Common.{sym, ◌∙◌}
 use Rattle.axe_row.specs.declared.refusals.Refusal.TheVariants.{ZeroSpace}
+use Rattle.axe_matrix.specs.Matrices.{has_only_zeros}
 use Rattle.axe_echelon.proofs.Exits.{handed_on, not_refused}
 use Rattle.axe_spin.specs.Modules.{rows_refusal}
-use Rattle.axe_spin.specs.Spinning.{has_only_zeros}
 use Rattle.axe_spin.proofs.SeedLaws.{zeros_refusal, refused_first, then_second, zeros_refused, others_accepted}
 use Rattle.axe_action.proofs.subspaces.check_space.Goals as goal
 

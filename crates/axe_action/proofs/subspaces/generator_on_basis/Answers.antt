@@ -1,9 +1,9 @@
 use Rattle.std.proofs.Common.{◌≡◌, ◌<◌, length, All, None, refl, ap, sym, ◌∙◌, subst, arith}
 use Rattle.axe_row.specs.Refusals.{RefusedAs}
 use Rattle.axe_row.specs.declared.refusals.Refusal.TheVariants.{NotInvariant}
-use Rattle.axe_matrix.specs.Matrices.{MatrixValue, IsMatrix, matrix_product}
+use Rattle.axe_matrix.specs.Matrices.{MatrixValue, IsMatrix, matrix_product, columns_at}
 use Rattle.axe_echelon.proofs.Exits.{no_memory_late, memory_if_accepted, answered_late}
-use Rattle.axe_action.specs.Coordinates.{HasImagesIn, HasActionRows, matrix_at}
+use Rattle.axe_action.specs.Coordinates.{HasImagesIn, HasActionRows}
 use Rattle.axe_action.proofs.Images.{images_accepted, images_made, images_count}
 use Rattle.axe_action.proofs.SubRows.{action_images, rows_over_field}
 use Rattle.axe_action.proofs.ColumnLaws.{AreImagesAt, action_if_combined, combined_if_within}
@@ -39,9 +39,9 @@ returns-in_err-images c =
 pub returns : goal.returns
 returns c =
     answered_late None
-    (λ action. IsMatrix action × (action ≡ matrix_at c.args.columns.now c.in_ok-images.images) × (matrix_product action c.args.basis.now ≡ c.in_ok-images.images))
+    (λ action. IsMatrix action × (action ≡ columns_at c.args.columns.now c.in_ok-images.images) × (matrix_product action c.args.basis.now ≡ c.in_ok-images.images))
     (λ action. HasImagesIn c.args.generator.now c.args.basis.now.rows c.args.basis.now.rows × HasActionRows c.args.generator.now c.args.basis.now.rows (length c.args.basis.now.rows) action)
-    (RefusedAs NotInvariant (IsMatrix (matrix_at c.args.columns.now c.in_ok-images.images) × (¬ (matrix_product (matrix_at c.args.columns.now c.in_ok-images.images) c.args.basis.now ≡ c.in_ok-images.images))))
+    (RefusedAs NotInvariant (IsMatrix (columns_at c.args.columns.now c.in_ok-images.images) × (¬ (matrix_product (columns_at c.args.columns.now c.in_ok-images.images) c.args.basis.now ≡ c.in_ok-images.images))))
     (RefusedAs NotInvariant (¬ (HasImagesIn c.args.generator.now c.args.basis.now.rows c.args.basis.now.rows)))
     c.coordinates_at.result refl
     (λ action combines.
@@ -60,7 +60,7 @@ returns c =
       all,
     ))
     (λ refusal stands.
-    let are : AreImagesAt c.args.generator.now c.args.basis.now c.in_ok-images.images (matrix_at c.args.columns.now c.in_ok-images.images) c.args.columns.now = record {
+    let are : AreImagesAt c.args.generator.now c.args.basis.now c.in_ok-images.images (columns_at c.args.columns.now c.in_ok-images.images) c.args.columns.now = record {
       field = c.requires.field;
       fits = c.requires.fits;
       coordinates = c.requires.coordinates;
@@ -69,5 +69,5 @@ returns c =
       entries = refl;
       well_formed = stands.1.0;
     } in
-    (stands.0, λ within. stands.1.1 (combined_if_within c.args.generator.now c.args.basis.now c.in_ok-images.images (matrix_at c.args.columns.now c.in_ok-images.images) c.args.columns.now are within)))
+    (stands.0, λ within. stands.1.1 (combined_if_within c.args.generator.now c.args.basis.now c.in_ok-images.images (columns_at c.args.columns.now c.in_ok-images.images) c.args.columns.now are within)))
     c.coordinates_at.ensures

@@ -5,15 +5,15 @@ use Rattle.axe_chop.proofs.search.outcome_of.Goals as goal
 
 pub open_at-requires-clause-like : goal.open_at-requires-clause-like
 open_at-requires-clause-like c =
-    (subst (AreDecided c.requires.0 c.requires.1 c.requires.2 c.args.found c.args.after.now.items) c.in-Some.is c.requires.3).like
+    (subst (AreDecided c.requires.whole c.requires.seed c.requires.words c.args.found c.args.after.now.items) c.in-Some.is c.requires.decided).like
 
 pub open_at-requires-clause-after_like : goal.open_at-requires-clause-after_like
 open_at-requires-clause-after_like c =
-    (subst (AreDecided c.requires.0 c.requires.1 c.requires.2 c.args.found c.args.after.now.items) c.in-Some.is c.requires.3).after_like
+    (subst (AreDecided c.requires.whole c.requires.seed c.requires.words c.args.found c.args.after.now.items) c.in-Some.is c.requires.decided).after_like
 
 pub open_at-requires-clause-room : goal.open_at-requires-clause-room
 open_at-requires-clause-room c =
-    (subst (AreDecided c.requires.0 c.requires.1 c.requires.2 c.args.found c.args.after.now.items) c.in-Some.is c.requires.3).room
+    (subst (AreDecided c.requires.whole c.requires.seed c.requires.words c.args.found c.args.after.now.items) c.in-Some.is c.requires.decided).room
 
 pub returns-in-Some : goal.returns-in-Some
 returns-in-Some c =

@@ -18,7 +18,12 @@ pub decide_all-requires-clause-no_section : goal.decide_all-requires-clause-no_s
 decide_all-requires-clause-no_section c = c.new-sections.ensures.items
 
 pub outcome_of-requires : goal.outcome_of-requires
-outcome_of-requires c = (acting_module c.args.action, c.args.seed, c.args.words, c.in_ok-left.ensures)
+outcome_of-requires c = record {
+  whole = acting_module c.args.action;
+  seed = c.args.seed;
+  words = c.args.words;
+  decided = c.in_ok-left.ensures;
+}
 
 pub returns : goal.returns
 returns c = c.outcome_of.ensures (acting_module c.args.action) c.args.seed c.args.words c.in_ok-left.ensures

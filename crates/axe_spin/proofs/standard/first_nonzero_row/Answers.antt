@@ -1,7 +1,7 @@
 use Rattle.std.proofs.Common.{◌≡◌, get_or, [], true≢false, ap, subst, sym, ◌∙◌, arith}
 use Rattle.axe_row.specs.Rows.{RowValue}
 use Rattle.axe_row.specs.Operations.{IsZeroVector}
-use Rattle.axe_spin.proofs.ZeroRows.{only_zeros}
+use Rattle.axe_matrix.proofs.OnlyZeros.{only_zeros}
 use Rattle.axe_spin.proofs.standard.first_nonzero_row.Goals as goal
 
 pub returns-then-not-is_zero : goal.returns-then-not-is_zero

@@ -1,9 +1,10 @@
 use Rattle.std.proofs.Common.{refl, subst}
 use Rattle.axe_row.specs.declared.refusals.Refusal.TheVariants.{ZeroSeed}
+use Rattle.axe_matrix.specs.Matrices.{has_only_zeros}
 use Rattle.axe_echelon.proofs.Exits.{not_refused, refused_at_once, answers_early}
 use Rattle.axe_echelon.proofs.Exits.{answers_more}
 use Rattle.axe_spin.specs.Modules.{rows_refusal}
-use Rattle.axe_spin.specs.Spinning.{has_only_zeros, seed_refusal, IsStandardMatrix}
+use Rattle.axe_spin.specs.Spinning.{seed_refusal, IsStandardMatrix}
 use Rattle.axe_spin.proofs.SeedLaws.{zeros_refusal, refused_first, seed_taken, zero_seed_refused}
 use Rattle.axe_spin.proofs.standard.standard_rows.Goals as goal
 

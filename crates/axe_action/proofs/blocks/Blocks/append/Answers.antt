@@ -15,8 +15,7 @@ append_entries-requires-else-is_next_pivot-2-clause-room c =
 
 pub returns-then-is_next_pivot : goal.returns-then-is_next_pivot
 returns-then-is_next_pivot c =
-    pivot_row_added c.args.pivots.now c.args.columns.now c.args.row.now.entries c.args.self.now.at_pivots c.args.self.now.across c.args.self.now.at_columns
-    c.append_entries.new.matrix c.append_entries.result
+    pivot_row_added c.args.pivots.now c.args.columns.now c.args.row.now.entries c.args.self.now c.append_entries.new.matrix c.append_entries.result
     (next_if c.args.pivots.now c.rows.result c.rows-2.result (length c.args.self.now.at_pivots.rows) (length c.args.self.now.across.rows)
     c.is_next_pivot.result c.rows.ensures.count c.rows-2.ensures.count c.is_next_pivot.ensures c.if-is_next_pivot.true)
     c.append_entries.ensures.appended c.append_entries.ensures.well_formed
@@ -26,7 +25,7 @@ returns-in_err-append_entries c = no_memory _ c.from_residual.result _ c.from_re
 
 pub returns-in_ok-append_entries : goal.returns-in_ok-append_entries
 returns-in_ok-append_entries c =
-    other_row_added c.args.pivots.now c.args.columns.now c.args.row.now.entries c.args.self.now.at_pivots c.args.self.now.across c.args.self.now.at_columns
+    other_row_added c.args.pivots.now c.args.columns.now c.args.row.now.entries c.args.self.now
     c.append_entries-else-is_next_pivot.new.matrix c.append_entries-else-is_next_pivot-2.new.matrix c.append_entries-else-is_next_pivot-2.result
     (not_next c.args.pivots.now c.rows.result c.rows-2.result (length c.args.self.now.at_pivots.rows) (length c.args.self.now.across.rows)
     c.is_next_pivot.result c.rows.ensures.count c.rows-2.ensures.count c.is_next_pivot.ensures c.if-is_next_pivot.false)

@@ -1,6 +1,5 @@
 use Rattle.std.proofs.Common.{◌≡◌, get_or, map, sym, ap, subst, ◌∙◌, arith}
-use Rattle.axe_matrix.specs.Matrices.{identity_matrix}
-use Rattle.axe_action.specs.Coordinates.{rows_chosen}
+use Rattle.axe_matrix.specs.Matrices.{identity_matrix, rows_at}
 use Rattle.axe_chop.specs.Vectors.{matrix_of_unit_vectors}
 use Rattle.axe_chop.specs.Kept.{kept_rows, AreKept}
 use Rattle.axe_chop.specs.declared.lifted.KeptRows.TheVariants.{Identity, Units}
@@ -22,7 +21,7 @@ returns-in-Identity c =
     let whole : c.args.self ≡ identity_matrix c.in-Identity.field c.in-Identity.dim = sym c.self.view_is ∙ ap kept_rows c.in-Identity.is in
     chosen_of_identity c.in-Identity.field c.in-Identity.dim c.args.places.items
     (within_identity c.in-Identity.field c.in-Identity.dim c.args.self c.args.places.items whole c.requires.within)
-    ∙ ap (λ m. rows_chosen c.args.places.items m) (sym whole)
+    ∙ ap (λ m. rows_at c.args.places.items m) (sym whole)
 
 pub invariant_of-result-in-Units : goal.invariant_of-result-in-Units
 invariant_of-result-in-Units c =
@@ -54,4 +53,4 @@ returns-in_ok-columns-in-Units c =
     ∙ (λ k. map (λ place. get_or (c.deref.ensures.value k) place 0) (c.deref-in-Units.ensures.value k)) in
     chosen_of_units c.in-Units.field c.in-Units.dim c.in-Units.columns.items c.args.places.items c.in_ok-columns-in-Units.columns.items
     (within_units c.in-Units.field c.in-Units.dim c.in-Units.columns.items c.args.self c.args.places.items whole c.requires.within) chosen
-    ∙ ap (λ m. rows_chosen c.args.places.items m) (sym whole)
+    ∙ ap (λ m. rows_at c.args.places.items m) (sym whole)

@@ -1,6 +1,5 @@
-use Rattle.std.proofs.Common.{subst, sym, ap, All}
-use Rattle.axe_matrix.specs.Matrices.{MatrixValue}
-use Rattle.axe_spin.specs.Modules.{ModuleValue, IsModule, rows_of_each}
+use Rattle.std.proofs.Common.{subst, ap, All}
+use Rattle.axe_spin.specs.Modules.{ModuleValue, IsModule}
 use Rattle.axe_spin.specs.Generators.{IsGeneratorMatrix}
 use Rattle.axe_spin.proofs.module.Module.into_generators.Goals as goal
 
