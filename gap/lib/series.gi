@@ -61,10 +61,12 @@ InstallGlobalFunction( AxeReadSeries, function( name )
     multiplicities := report.multiplicities, series := report.series, names := report.names, report := report );
 end );
 
-# the files that AxeReadSeries reads, the report last, as pairs of a name and bytes
+# The files that AxeReadSeries reads, the report last, as pairs of a name and bytes. What the record and its report both have
+# is the record's.
 BindGlobal( "AXE_SeriesFiles", function( name, series )
-  local report, factors;
-  report := series.report;
+  local report, part, factors;
+  report := ShallowCopy( series.report );
+  for part in [ "names", "multiplicities", "series" ] do report.( part ) := series.( part ); od;
   factors := List( [ 1 .. Length( series.factors ) ],
     i -> AXE_ModuleFiles( AXE_FactorName( name, report.names[ i ] ), series.factors[ i ] ) );
   return Concatenation(
@@ -140,6 +142,9 @@ BindGlobal( "AXE_VerifyFiles", function( name )
 end );
 
 InstallGlobalFunction( AxeVerify, function( module, series... )
+  if series = [] and not IsString( module ) then
+    ErrorNoReturn( "a module and its series are wanted, or the name of a module in files" );
+  fi;
   if series = [] then return AXE_VerifyFiles( module ); fi;
   return AXE_Run(
     Concatenation( AXE_ModuleFiles( AXE_Module, module ), AXE_SeriesFiles( AXE_Module, series[ 1 ] ) ),

@@ -40,8 +40,8 @@ gap> AxeChop( rec( generators := [] ) );
 Error, this is no module, as GModuleByMats makes them
 gap> AxeChop( GModuleByMats( List( [ 1 .. 17 ], i -> IdentityMat( 2, GF( 2 ) ) ), GF( 2 ) ) );
 Error, axe takes modules of 1 to 16 generators
-gap> AxeChop( GModuleByMats( [], 2, GF( 2 ) ) );
-Error, axe takes modules of 1 to 16 generators
+gap> AxeChop( GModuleByMats( [], 2, GF( 2 ) ) ).multiplicities;
+[ 2 ]
 gap> AxeChop( module : seed := -1 );
 Error, error: unexpected argument '-1' found
 gap> ResetOptionsStack();

@@ -107,6 +107,12 @@ false
 gap> SetInfoLevel( InfoAxe, 0 );
 gap> changed( function( other ) other.report.version := 1; end );
 Error, axe: module.rep: OldReport
+gap> changed( function( other ) other.series := [ 1, 2, 1, 3 ]; end );
+false
+gap> changed( function( other ) other.multiplicities := [ 1, 1, 2 ]; end );
+Error, axe: module.rep: BadReport line 4
+gap> AxeVerify( m24 );
+Error, a module and its series are wanted, or the name of a module in files
 
 # options: they show in the report
 gap> AxeChop( m24 : seed := 2 ^ 64 - 1, words := 1000 ).report.seed = 2 ^ 64 - 1;
