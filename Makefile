@@ -1,4 +1,5 @@
-# make try       a minute: builds axe without a proof, and finds a composition series with it
+# make try       a minute: builds axe without a proof, and finds a composition series with it; no program is left, since the kit
+#                links none that isn't proved
 # make demo      proves and builds axe, some 32 minutes on four processors, and runs its commands on examples/
 # make test      everything that CI runs: proofs from nothing, the wrong bodies, the tests and the runs of the program
 # make planted   tries the wrong bodies that the gate leaves out (`tests/planted NAME..`: those of some crates alone)
@@ -8,7 +9,7 @@
 #                (bench/inverses), products (bench/products), texts (bench/texts), submodules and quotients
 #                (bench/modules), composition series (bench/chop, bench/small); and shows its peak memory (bench/memory)
 # make install   puts the program into PREFIX/bin (PREFIX=/usr/local), man page, completions and the GAP package where such
-#                files go
+#                files go, and what it was built from into PREFIX/share/doc/axe/BUILT
 # make dist      packs the program with all of these, the pages and the examples into out/axe-VERSION-linux-x86-64.tar.gz,
 #                for machines without the kit
 PREFIX ?= /usr/local
@@ -69,6 +70,8 @@ bench: build
 
 install: build
 	install -D -m 755 $(AXE) $(DESTDIR)$(PREFIX)/bin/axe
+	install -d $(DESTDIR)$(PREFIX)/share/doc/axe
+	share/built $(AXE) >$(DESTDIR)$(PREFIX)/share/doc/axe/BUILT
 	install -d $(DESTDIR)$(PREFIX)/share/man/man1
 	share/manual $(AXE) >$(DESTDIR)$(PREFIX)/share/man/man1/axe.1
 	install -D -m 644 share/axe.bash $(DESTDIR)$(PREFIX)/share/bash-completion/completions/axe

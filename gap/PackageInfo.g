@@ -7,7 +7,7 @@ SetPackageInfo( rec(
 PackageName := "axe",
 Subtitle := "Composition series of modules, by the proved MeatAxe axe",
 Version := "0.1.0",
-Date := "27/11/2026",
+Date := "28/11/2026",
 
 Persons := [],
 Status := "dev",

@@ -8,7 +8,7 @@
 ##  text is the line that it printed.
 ##
 
-#V  InfoAxe . . . . . . . . . . . . . . . . . . . at level 1 the commands are shown that are run
+#V  InfoAxe . . . . . at level 1 the commands are shown that are run, and why an answer is `fail`, or `false` by AxeVerify
 DeclareInfoClass( "InfoAxe" );
 
 #F  AxeExecutable( [path] ) . . . . . . . . . . . the program that is run; with an argument that one is, from then on
@@ -20,9 +20,12 @@ DeclareGlobalFunction( "AxeExecutable" );
 DeclareGlobalFunction( "AxeWriteMatrix" );
 #F  AxeReadMatrix( file )
 DeclareGlobalFunction( "AxeReadMatrix" );
-#F  AxeWriteModule( name, module ) . . . . . . . . to the files NAME.1, NAME.2 and so on, one for each generator
+#F  AxeWriteModule( name, module )
+##  A name that ends in `.axm` is that of one file with all generators, as `axe chop -m` reads it; else they go to the files
+##  NAME.1, NAME.2 and so on.
 DeclareGlobalFunction( "AxeWriteModule" );
-#F  AxeReadModule( name[, number] ) . . . . . . .  from as many as there are without a gap, or from this number
+#F  AxeReadModule( name[, number] ) . . . . . . .  all generators, or where each has its file the first of them
+##  Without a number those are as many as there are without a gap.
 DeclareGlobalFunction( "AxeReadModule" );
 #F  AxeReadReport( file ) . . . . . . . . . . . .  what a report of `axe chop` says, as a record
 ##  It has `version`, 1 or 2; `field`, `dimension`, `generators`, `seed` and `words`; `names`, `dimensions`,
@@ -31,7 +34,10 @@ DeclareGlobalFunction( "AxeReadModule" );
 ##  the polynomial that decided at its value, the constant first, or `fail`; in version 1 both are `fail`.
 DeclareGlobalFunction( "AxeReadReport" );
 #F  AxeReadSeries( name ) . . . . . . . . . . . .  all that `axe chop NAME` wrote, as the record that AxeChop answers
+##  For a name that ends in `.axm` it is what `axe chop -m` wrote.
 DeclareGlobalFunction( "AxeReadSeries" );
+#F  AxeWriteSeries( name, series ) . . . . . . . . such a record, to the files that AxeReadSeries reads
+DeclareGlobalFunction( "AxeWriteSeries" );
 
 ##  Matrices. The field is told where matrices lie in a smaller one.
 
@@ -77,3 +83,8 @@ DeclareGlobalFunction( "AxeCollectedFactors" );
 DeclareGlobalFunction( "AxeBasesCompositionSeries" );
 #F  AxeIsIrreducible( module )
 DeclareGlobalFunction( "AxeIsIrreducible" );
+#F  AxeVerify( module, series ), AxeVerify( name )
+##  whether a record as AxeChop answers it is a composition series of the module, by the words and polynomials that its
+##  report names; or what lies in files beside the module of this name, whoever wrote them. Where the answer is `false`,
+##  InfoAxe tells the first reason.
+DeclareGlobalFunction( "AxeVerify" );

@@ -23,25 +23,58 @@ end );
 # The file of a generator of a module
 BindGlobal( "AXE_GeneratorFile", { name, number } -> Concatenation( name, ".", String( number ) ) );
 
+# What the name of a module that is kept in one file ends with
+BindGlobal( "AXE_Ending", ".axm" );
+
+# The name of a module as its parts: that by which the program knows it, and the ending where it is kept in one file, else
+# the empty string. The files beside a module are named after the first part, and its constituents are kept as it is.
+BindGlobal( "AXE_PartsOfName", function( name )
+  if EndsWith( name, AXE_Ending ) then return [ name{ [ 1 .. Length( name ) - Length( AXE_Ending ) ] }, AXE_Ending ]; fi;
+  return [ name, "" ];
+end );
+
+# A file as a pair of its name and its bytes: that of a matrix of so many columns
+BindGlobal( "AXE_MatrixFile", { name, matrix, field, columns } -> [ name, AXE_Packed( matrix, field, columns ) ] );
+
+# and those of a module of this name
+BindGlobal( "AXE_ModuleFiles", function( name, module )
+  if not MTX.IsMTXModule( module ) then ErrorNoReturn( "this is no module, as GModuleByMats makes them" ); fi;
+  if EndsWith( name, AXE_Ending ) then return [ [ name, AXE_PackedModule( module ) ] ]; fi;
+  return List( [ 1 .. Length( module.generators ) ],
+    i -> AXE_MatrixFile( AXE_GeneratorFile( name, i ), module.generators[ i ], module.field, module.dimension ) );
+end );
+
+# writes such files; an error where that can't be
+BindGlobal( "AXE_WriteFiles", function( files )
+  local file;
+  for file in files do
+    if FileString( file[ 1 ], file[ 2 ] ) = fail then ErrorNoReturn( file[ 1 ], " can't be written" ); fi;
+  od;
+end );
+
 InstallGlobalFunction( AxeWriteMatrix, function( file, matrix, field, columns... )
   if Length( matrix ) > 0 then columns := [ Length( matrix[ 1 ] ) ]; fi;
   if columns = [] then ErrorNoReturn( "of a matrix without rows the number of columns has to be told" ); fi;
-  if FileString( file, AXE_Packed( matrix, field, columns[ 1 ] ) ) = fail then
-    ErrorNoReturn( file, " can't be written" );
-  fi;
+  AXE_WriteFiles( [ AXE_MatrixFile( file, matrix, field, columns[ 1 ] ) ] );
 end );
 
 InstallGlobalFunction( AxeReadMatrix, file -> AXE_ReadPair( file )[ 2 ] );
 
 InstallGlobalFunction( AxeWriteModule, function( name, module )
-  local number;
-  for number in [ 1 .. Length( module.generators ) ] do
-    AxeWriteMatrix( AXE_GeneratorFile( name, number ), module.generators[ number ], module.field );
-  od;
+  AXE_WriteFiles( AXE_ModuleFiles( name, module ) );
+end );
+
+# the module of a file that has all its generators
+BindGlobal( "AXE_ReadModuleFile", function( file )
+  local found;
+  found := AXE_UnpackedModule( AXE_BytesOfFile( file ) );
+  if found = fail then ErrorNoReturn( file, " is no packed module of axe: `axe zcv -m` makes one of texts" ); fi;
+  return found;
 end );
 
 InstallGlobalFunction( AxeReadModule, function( name, number... )
   local found;
+  if EndsWith( name, AXE_Ending ) then return AXE_ReadModuleFile( name ); fi;
   if number = [] then
     number := [ 1 ];
     while IsExistingFile( AXE_GeneratorFile( name, number[ 1 ] + 1 ) ) do number[ 1 ] := number[ 1 ] + 1; od;

@@ -22,19 +22,18 @@ BindGlobal( "AXE_Columns", function( matrix, otherwise )
 end );
 
 InstallGlobalFunction( AxeProduct, function( left, right, field... )
-  local files;
-  files := [ [ "left", left, AXE_Columns( left, Maximum( 1, Length( right ) ) ) ],
-    [ "right", right, AXE_Columns( right, 1 ) ] ];
-  return AXE_Run( AXE_FieldOf( [ left, right ], field ), files, [ "axe zmu left right product" ],
-    folder -> AxeReadMatrix( Concatenation( folder, "product" ) ) );
+  field := AXE_FieldOf( [ left, right ], field );
+  return AXE_Run( [ AXE_MatrixFile( "left", left, field, AXE_Columns( left, Maximum( 1, Length( right ) ) ) ),
+    AXE_MatrixFile( "right", right, field, AXE_Columns( right, 1 ) ) ],
+    [ "axe zmu left right product" ], folder -> AxeReadMatrix( Concatenation( folder, "product" ) ) );
 end );
 
-InstallGlobalFunction( AxeInverse, function( matrix, field... )
-  return AXE_Run( AXE_FieldOf( [ matrix ], field ), [ [ "matrix", matrix, AXE_Columns( matrix, 1 ) ] ],
-    [ "axe ziv matrix inverse" ], folder -> AxeReadMatrix( Concatenation( folder, "inverse" ) ) );
+# runs one command line on the file `matrix`, which writes the file `answer`
+BindGlobal( "AXE_OfMatrix", function( matrix, field, line )
+  return AXE_Run( [ AXE_MatrixFile( "matrix", matrix, AXE_FieldOf( [ matrix ], field ), AXE_Columns( matrix, 1 ) ) ],
+    [ line ], folder -> AxeReadMatrix( Concatenation( folder, "answer" ) ) );
 end );
 
-InstallGlobalFunction( AxeNullspaceMat, function( matrix, field... )
-  return AXE_Run( AXE_FieldOf( [ matrix ], field ), [ [ "matrix", matrix, AXE_Columns( matrix, 1 ) ] ],
-    [ "axe znu matrix space" ], folder -> AxeReadMatrix( Concatenation( folder, "space" ) ) );
-end );
+InstallGlobalFunction( AxeInverse, { matrix, field... } -> AXE_OfMatrix( matrix, field, "axe ziv matrix answer" ) );
+
+InstallGlobalFunction( AxeNullspaceMat, { matrix, field... } -> AXE_OfMatrix( matrix, field, "axe znu matrix answer" ) );

@@ -3,15 +3,13 @@
 ##  modules.gi: modules, the spaces that vectors generate in them, submodules, quotients and duals
 ##
 
-# runs command lines, as AXE_Run does, in a folder with the module `module`, and with other matrices of as many columns:
-# pairs of a name and a matrix
+# runs command lines, as AXE_Run does, in a folder with the module `module`, a file for each generator, and with other
+# matrices of as many columns: pairs of a name and a matrix
 BindGlobal( "AXE_RunOn", function( module, others, lines, take )
   local files;
-  if not MTX.IsMTXModule( module ) then ErrorNoReturn( "this is no module, as GModuleByMats makes them" ); fi;
-  files := List( [ 1 .. Length( module.generators ) ],
-    i -> [ AXE_GeneratorFile( "module", i ), module.generators[ i ] ] );
-  files := List( Concatenation( files, others ), pair -> [ pair[ 1 ], pair[ 2 ], module.dimension ] );
-  return AXE_Run( module.field, files, lines, take );
+  files := AXE_ModuleFiles( "module", module );
+  Append( files, List( others, pair -> AXE_MatrixFile( pair[ 1 ], pair[ 2 ], module.field, module.dimension ) ) );
+  return AXE_Run( files, lines, take );
 end );
 
 # the module from what a call was given: a module, or matrices and a field

@@ -1,6 +1,6 @@
 #############################################################################
 ##
-##  packed.gi: matrices as the bytes of packed files, and back
+##  packed.gi: matrices and modules as the bytes of packed files, and back
 ##
 ##  A row is bytes, each of which is a number with some digits in base q, the entries as axe numbers them, the first
 ##  the most significant. The row's last byte is filled up with digits 0. All is done by operations on whole lists,
@@ -10,6 +10,9 @@
 ##  text takes it 0.07 to 0.3 to be written (less than packed over 5 and 7 elements, up to 2.5 times as much over the
 ##  others), and a little less to be read; and then the program has to convert it.
 ##
+
+# the orders of the fields that axe knows
+BindGlobal( "AXE_Orders", [ 2, 3, 4, 5, 7, 8, 9 ] );
 
 # the elements of the field of order q, by the numbers that axe has for them
 BindGlobal( "AXE_Elements", function( q )
@@ -28,7 +31,7 @@ BindGlobal( "AXE_EntriesOfByte", q -> LogInt( 256, q ) );
 BindGlobal( "AXE_Rows", function( matrix, field, columns )
   local q, rows, fits;
   q := Size( field );
-  if not q in [ 2, 3, 4, 5, 7, 8, 9 ] then
+  if not q in AXE_Orders then
     ErrorNoReturn( "axe knows the fields of order 2, 3, 4, 5, 7, 8 and 9, and no others" );
   fi;
   if Length( matrix ) = 0 then return []; fi;
@@ -87,6 +90,20 @@ BindGlobal( "AXE_Packed", function( matrix, field, columns )
   return Concatenation( "AXP1", STRING_SINTLIST( bytes ) );
 end );
 
+# the bytes of a packed file of a whole module, as a string
+BindGlobal( "AXE_PackedModule", function( module )
+  local q, number, bytes, generator, rows;
+  q := Size( module.field );
+  number := Length( module.generators );
+  if not number in [ 1 .. 16 ] then ErrorNoReturn( "axe takes modules of 1 to 16 generators" ); fi;
+  bytes := Concatenation( [ q, number, 0, 0 ], AXE_LowByteFirst( module.dimension ), [ 0, 0, 0, 0 ] );
+  for generator in module.generators do
+    rows := AXE_Rows( generator, module.field, module.dimension );
+    if Length( rows ) > 0 then Append( bytes, AXE_BytesOfRows( rows, q, module.dimension ) ); fi;
+  od;
+  return Concatenation( "AXP2", STRING_SINTLIST( bytes ) );
+end );
+
 # the rows of the bytes after a header, or `fail`
 BindGlobal( "AXE_RowsOfBytes", function( bytes, q, rows, columns )
   local entries, base, width, elements, all, count, place, table, parts;
@@ -108,18 +125,41 @@ BindGlobal( "AXE_RowsOfBytes", function( bytes, q, rows, columns )
   return List( parts, i -> all{ [ i + 1 .. i + columns ] } );
 end );
 
+# What the header of a packed file says, or `fail` where this is none with these four letters: the order of the field, the
+# byte after it, and the two numbers.
+BindGlobal( "AXE_HeaderOf", function( text, letters )
+  local bytes, number;
+  if Length( text ) < 16 or text{ [ 1 .. 4 ] } <> letters then return fail; fi;
+  bytes := INTLIST_STRING( text{ [ 5 .. 16 ] }, 1 );
+  number := at -> Sum( [ 0 .. 3 ], i -> bytes[ at + i ] * 256 ^ i );
+  if not bytes[ 1 ] in AXE_Orders or bytes{ [ 3, 4 ] } <> [ 0, 0 ] then return fail; fi;
+  return [ bytes[ 1 ], bytes[ 2 ], number( 5 ), number( 9 ) ];
+end );
+
 # the matrix of a packed file's bytes as a pair of its field and itself, or `fail` where they are none
 BindGlobal( "AXE_Unpacked", function( text )
-  local bytes, number, q, rows, columns, found;
-  if Length( text ) < 16 or text{ [ 1 .. 4 ] } <> "AXP1" then return fail; fi;
-  bytes := INTLIST_STRING( text, 1 );
-  number := at -> Sum( [ 0 .. 3 ], i -> bytes[ at + i ] * 256 ^ i );
-  q := bytes[ 5 ];
-  rows := number( 9 );
-  columns := number( 13 );
-  if not q in [ 2, 3, 4, 5, 7, 8, 9 ] or bytes{ [ 6 .. 8 ] } <> [ 0, 0, 0 ] or columns = 0 then return fail; fi;
-  found := AXE_RowsOfBytes( bytes{ [ 17 .. Length( bytes ) ] }, q, rows, columns );
+  local header, found;
+  header := AXE_HeaderOf( text, "AXP1" );
+  if header = fail or header[ 2 ] <> 0 or header[ 4 ] = 0 then return fail; fi;
+  found := AXE_RowsOfBytes( INTLIST_STRING( text{ [ 17 .. Length( text ) ] }, 1 ), header[ 1 ], header[ 3 ], header[ 4 ] );
   if found = fail then return fail; fi;
-  if rows > 0 then found := ImmutableMatrix( GF( q ), found ); fi;
-  return [ GF( q ), found ];
+  if header[ 3 ] > 0 then found := ImmutableMatrix( GF( header[ 1 ] ), found ); fi;
+  return [ GF( header[ 1 ] ), found ];
+end );
+
+# the module of the bytes of a packed file of a whole module, or `fail` where they are none
+BindGlobal( "AXE_UnpackedModule", function( text )
+  local header, q, size, length, starts, found;
+  header := AXE_HeaderOf( text, "AXP2" );
+  if header = fail or not header[ 2 ] in [ 1 .. 16 ] or not header[ 3 ] in [ 1 .. 4096 ] or header[ 4 ] <> 0 then
+    return fail;
+  fi;
+  q := header[ 1 ];
+  size := header[ 3 ];
+  length := QuoInt( size + AXE_EntriesOfByte( q ) - 1, AXE_EntriesOfByte( q ) ) * size;
+  if Length( text ) <> 16 + header[ 2 ] * length then return fail; fi;
+  starts := 16 + [ 0 .. header[ 2 ] - 1 ] * length;
+  found := List( starts, i -> AXE_RowsOfBytes( INTLIST_STRING( text{ [ i + 1 .. i + length ] }, 1 ), q, size, size ) );
+  if fail in found then return fail; fi;
+  return GModuleByMats( List( found, rows -> ImmutableMatrix( GF( q ), rows ) ), GF( q ) );
 end );

@@ -43,39 +43,40 @@ BindGlobal( "AXE_Problem", function( status, printed )
   return Concatenation( "axe ended with status ", String( status ) );
 end );
 
-# The beginning of a script that runs in a folder: there `axe` is the program, also where its path is one from here, and
-# what it prints on standard error goes to the file `problem`.
+# The beginning of a script that runs in a folder: there `axe` is the program, also where its path is one from here, `here`
+# is GAP's own folder, and what is printed on standard error goes to the file `problem`.
 BindGlobal( "AXE_Beginning", function( folder )
-  return Concatenation( "set -e\nprogram=", AXE_Quoted( AxeExecutable() ), "\n",
+  return Concatenation( "set -e\nhere=$PWD\nprogram=", AXE_Quoted( AxeExecutable() ), "\n",
     "case $program in /*) ;; *) program=$PWD/$program ;; esac\naxe() { \"$program\" \"$@\"; }\n",
     "cd ", AXE_Quoted( folder ), "\nexec >/dev/null 2>problem\n" );
 end );
 
-# a command line, from its words and numbers
-BindGlobal( "AXE_Line", { words... } -> JoinStringsWithSeparator( List( words, String ), " " ) );
+# a command line, from its words and numbers, of which empty ones are left out
+BindGlobal( "AXE_Line", function( words... )
+  return JoinStringsWithSeparator( Filtered( List( words, String ), word -> word <> "" ), " " );
+end );
 
-# Runs command lines one after another, up to the first that fails, in a fresh folder that holds the files: triples of a
-# name, a matrix and the number of its columns. Then `take` is given the folder's path with a slash, and what it answers
-# is the answer; or it is `fail` where a section stayed undecided. The folder is removed in any case. All lines run in
-# one shell, as GAP takes longer to start a process than most of them take.
-BindGlobal( "AXE_Run", function( field, files, lines, take )
-  local texts, folder, script, status, printed, result, i;
-  texts := List( files, file -> AXE_Packed( file[ 2 ], field, file[ 3 ] ) );
+# Runs command lines one after another, up to the first that fails, in a fresh folder that holds the files: pairs of a name
+# and bytes. Then `take` is given the folder's path with a slash, and what it answers is the answer; or it is `fail` where
+# a section stayed undecided, and `false` where a series was not verified. The folder is removed in any case. All lines run
+# in one shell, as GAP takes longer to start a process than most of them take.
+BindGlobal( "AXE_Run", function( files, lines, take )
+  local folder, script, status, printed, result, file, line;
   AxeExecutable();
   folder := AXE_NewFolder();
   script := Concatenation( AXE_Beginning( folder ), JoinStringsWithSeparator( lines, "\n" ) );
-  for i in [ 1 .. Length( files ) ] do
-    FileString( Concatenation( folder, "/", files[ i ][ 1 ] ), texts[ i ] );
-  od;
-  for i in lines do Info( InfoAxe, 1, i ); od;
+  for file in files do FileString( Concatenation( folder, "/", file[ 1 ] ), file[ 2 ] ); od;
+  for line in lines do Info( InfoAxe, 1, line ); od;
   status := Process( DirectoryCurrent(), "/bin/sh", InputTextNone(), OutputTextNone(), [ "-c", script ] );
   if status = 0 then
     result := take( Concatenation( folder, "/" ) );
   else
     result := fail;
+    if status = 8 then result := false; fi;
     printed := AXE_Problem( status, StringFile( Concatenation( folder, "/problem" ) ) );
+    Info( InfoAxe, 1, printed );
   fi;
   AXE_RemoveFolder( folder );
-  if not status in [ 0, 5 ] then ErrorNoReturn( printed ); fi;
+  if not status in [ 0, 5, 8 ] then ErrorNoReturn( printed ); fi;
   return result;
 end );

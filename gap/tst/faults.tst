@@ -38,6 +38,10 @@ gap> AxeProduct( List( [ 1 .. 4097 ], i -> [ Z( 2 ) ] ), [ [ Z( 2 ) ] ] );
 Error, axe: left: BadRows
 gap> AxeChop( rec( generators := [] ) );
 Error, this is no module, as GModuleByMats makes them
+gap> AxeChop( GModuleByMats( List( [ 1 .. 17 ], i -> IdentityMat( 2, GF( 2 ) ) ), GF( 2 ) ) );
+Error, axe takes modules of 1 to 16 generators
+gap> AxeChop( GModuleByMats( [], 2, GF( 2 ) ) ).multiplicities;
+[ 2 ]
 gap> AxeChop( module : seed := -1 );
 Error, error: unexpected argument '-1' found
 gap> ResetOptionsStack();
@@ -59,7 +63,7 @@ true
 # the commands that are run, and options that are no number, as the shell has them
 gap> SetInfoLevel( InfoAxe, 1 );
 gap> AxeIsIrreducible( module : seed := 5 );
-#I  axe chop -g 2 --seed '5'  module
+#I  axe chop -m --seed '5' module
 false
 gap> AxeDualModule( module );;
 #I  axe ziv module.1 inverse
@@ -73,7 +77,7 @@ gap> Print( AXE_Option( "seed" : seed := "1'; false; '" ), "\n" );
 # each folder is gone after its call, whatever came of it
 gap> kept := ShallowCopy( GAPInfo.DirectoriesTemporary );;
 gap> folder := fail;;
-gap> AXE_Run( GF( 2 ), [ [ "matrix", IdentityMat( 2, GF( 2 ) ), 2 ] ], [ "axe ziv matrix inverse" ],
+gap> AXE_Run( [ AXE_MatrixFile( "matrix", IdentityMat( 2, GF( 2 ) ), GF( 2 ), 2 ) ], [ "axe ziv matrix inverse" ],
 >   function( path ) folder := path; return AsSet( DirectoryContents( path ) ); end );
 [ ".", "..", "inverse", "matrix", "problem" ]
 gap> IsDirectoryPath( folder );

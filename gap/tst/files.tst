@@ -21,6 +21,55 @@ Error, there is no file / to be read
 gap> AxeWriteMatrix( "no_such_folder/matrix", IdentityMat( 2, GF( 2 ) ), GF( 2 ) );
 Error, no_such_folder/matrix can't be written
 
+# all generators in one file, whose bytes are those that FORMATS.md tells
+gap> AxeWriteModule( at( "one.axm" ), GModuleByMats( [ [ [ 0, 1 ], [ 1, 1 ] ] * Z( 2 ) ], GF( 2 ) ) );
+gap> INTLIST_STRING( StringFile( at( "one.axm" ) ), 1 );
+[ 65, 88, 80, 50, 2, 1, 0, 0, 2, 0, 0, 0, 0, 0, 0, 0, 64, 192 ]
+gap> AxeWriteModule( at( "wreath.axm" ), module );
+gap> AxeReadModule( at( "wreath.axm" ) ) = module;
+true
+gap> random := function( q, number, size )
+>   return GModuleByMats( List( [ 1 .. number ], i -> RandomMat( size, size, GF( q ) ) ), GF( q ) );
+> end;;
+gap> there_and_back := function( module )
+>   AxeWriteModule( at( "random.axm" ), module );
+>   return AxeReadModule( at( "random.axm" ) ) = module;
+> end;;
+gap> shapes := [ [ 1, 1 ], [ 1, 17 ], [ 2, 40 ], [ 16, 9 ], [ 3, 81 ] ];;
+gap> ForAll( [ 2, 3, 4, 5, 7, 8, 9 ], q -> ForAll( shapes, shape -> there_and_back( random( q, shape[ 1 ], shape[ 2 ] ) ) ) );
+true
+
+# they are those that the program makes of texts
+gap> AxeWriteModule( at( "three" ), random( 9, 3, 5 ) );
+gap> shell( "for i in 1 2 3; do axe zpr three.$i text.$i; done; axe zcv -m -g 3 text three.axm" );
+0
+gap> AxeReadModule( at( "three.axm" ) ) = AxeReadModule( at( "three" ) );
+true
+
+# what is no module in one file: each beginning of one, a matrix, and changed bytes
+gap> sound := StringFile( at( "one.axm" ) );;
+gap> is_refused := text -> AXE_UnpackedModule( text ) = fail;;
+gap> is_refused( sound );
+false
+gap> ForAll( [ 0 .. Length( sound ) - 1 ], i -> is_refused( sound{ [ 1 .. i ] } ) ) and is_refused( Concatenation( sound, "x" ) );
+true
+gap> is_refused_changed := function( at, byte )
+>   local text;
+>   text := ShallowCopy( sound );
+>   text[ at ] := CHAR_INT( byte );
+>   return is_refused( text );
+> end;;
+gap> changes := [ [ 4, 49 ], [ 5, 6 ], [ 5, 3 ], [ 6, 0 ], [ 6, 2 ], [ 6, 17 ], [ 7, 1 ], [ 9, 0 ], [ 10, 17 ], [ 13, 1 ], [ 17, 1 ] ];;
+gap> Set( changes, change -> CallFuncList( is_refused_changed, change ) );
+[ true ]
+gap> AxeReadModule( "/no_such.axm" );
+Error, there is no file /no_such.axm to be read
+gap> FileString( at( "none.axm" ), StringFile( at( "wreath.1" ) ) );;
+gap> AXE_UnpackedModule( StringFile( at( "none.axm" ) ) );
+fail
+gap> AXE_Unpacked( StringFile( at( "wreath.axm" ) ) );
+fail
+
 # what the program wrote, with all generators of each constituent
 gap> shell( "axe chop -g 4 wreath >shown" );
 0
@@ -31,6 +80,31 @@ gap> series = AxeChop( module );
 true
 gap> AXE_TextOfReport( AxeReadReport( at( "wreath.rep" ) ) ) = StringFile( at( "shown" ) );
 true
+gap> shell( "mkdir whole && cp wreath.axm whole && cd whole && axe chop -m wreath && rm wreath.axm && [ ! -e wreath1a.1 ]" );
+0
+gap> AxeReadSeries( at( "whole/wreath.axm" ) ) = series;
+true
+
+# a series that is written is the one that is read, and the program verifies it
+gap> for name in [ "again", "again.axm" ] do AxeWriteModule( at( name ), module ); AxeWriteSeries( at( name ), series ); od;
+gap> ForAll( [ "again", "again.axm" ], name -> AxeReadSeries( at( name ) ) = series );
+true
+gap> shell( "axe verify again && axe verify -m again && cmp again.rep wreath.rep && cmp again.bas wreath.bas" );
+0
+gap> List( [ "wreath", "again", "again.axm" ], name -> AxeVerify( at( name ) ) );
+[ true, true, true ]
+gap> shell( "cp wreath.bas again.axm && rm again.rep" );
+0
+gap> AxeVerify( at( "again" ) );
+Error, axe: again.rep: Missing
+gap> shell( "cp wreath.rep again.rep && cp wreath.1 again.bas" );
+0
+gap> AxeVerify( at( "again" ) );
+false
+gap> AxeVerify( at( "again.axm" ) );
+Error, axe: again.axm: BadMagic
+gap> AxeVerify( "no_such_folder/again" );
+Error, there is no folder no_such_folder/
 
 # what is no report: each beginning of one, and changed ones
 gap> text := StringFile( at( "shown" ) );;

@@ -74,6 +74,46 @@ gap> natural := GModuleByMats( GeneratorsOfGroup( SL( 3, 4 ) ), GF( 4 ) );;
 gap> AxeIsIrreducible( natural ) and MTX.HasIsIrreducible( natural ) and MTX.IsAbsolutelyIrreducible( natural );
 true
 
+# a series of it, and what is none: the first reason is told
+gap> AxeVerify( m24, chopped );
+true
+gap> SetInfoLevel( InfoAxe, 1 );
+gap> changed := function( change )
+>   local other;
+>   other := StructuralCopy( chopped );
+>   change( other );
+>   return AxeVerify( m24, other );
+> end;;
+gap> changed( function( other ) other.basis := other.basis * 0; end );
+#I  axe verify -m 'module'
+#I  axe: NotVerified basis
+false
+gap> changed( function( other ) other.basis := One( other.basis ); end );
+#I  axe verify -m 'module'
+#I  axe: NotVerified blocks
+false
+gap> changed( function( other ) other.factors[ 3 ] := AxePermutationModule( MathieuGroup( 24 ), GF( 2 ) ); end );
+#I  axe verify -m 'module'
+#I  axe: NotVerified shape 11b
+false
+gap> changed( function( other ) other.report.witnesses[ 2 ] := rec( word := 0, poly := "11" ); end );
+#I  axe verify -m 'module'
+#I  axe: NotVerified open 11a
+false
+gap> AxeVerify( AxePermutationModule( MathieuGroup( 23 ), GF( 2 ), 23 ), chopped );
+#I  axe verify -m 'module'
+#I  axe: NotVerified header
+false
+gap> SetInfoLevel( InfoAxe, 0 );
+gap> changed( function( other ) other.report.version := 1; end );
+Error, axe: module.rep: OldReport
+gap> changed( function( other ) other.series := [ 1, 2, 1, 3 ]; end );
+false
+gap> changed( function( other ) other.multiplicities := [ 1, 1, 2 ]; end );
+Error, axe: module.rep: BadReport line 4
+gap> AxeVerify( m24 );
+Error, a module and its series are wanted, or the name of a module in files
+
 # options: they show in the report
 gap> AxeChop( m24 : seed := 2 ^ 64 - 1, words := 1000 ).report.seed = 2 ^ 64 - 1;
 true
@@ -104,8 +144,11 @@ gap> agrees := function( module )
 > end;;
 gap> List( modules, agrees );
 [ true, true, true, true, true, true, true, true, true, true, true, true ]
-gap> ForAll( modules, module -> has_blocks( module, AxeChop( module ) ) );
+gap> found := List( modules, AxeChop );;
+gap> ForAll( [ 1 .. 12 ], i -> has_blocks( modules[ i ], found[ i ] ) and AxeVerify( modules[ i ], found[ i ] ) );
 true
+gap> AxeVerify( modules[ 7 ], found[ 8 ] );
+false
 
 #
 gap> STOP_TEST( "series.tst" );

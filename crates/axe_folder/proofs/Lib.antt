@@ -4,3 +4,4 @@ pub mod NameLaws
 pub mod SameFiles
 pub mod SourceLaws
 pub mod ShelfLaws
+pub mod SinkLaws

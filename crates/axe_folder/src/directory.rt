@@ -1,6 +1,7 @@
 //! A folder of the file system.
-ghost use Rattle.std.specs.Prelude.{◌≡◌, false, IfOk, IfErr, IfSome, IsOkUnless};
+ghost use Rattle.std.specs.Prelude.{◌≡◌, false, IfOk, OnOk, IfErr, IfSome, IsOkUnless};
 ghost use Rattle.std.specs.List.{list_any};
+ghost use Rattle.std.specs.Io.KnownBytes.{Appends};
 ghost use Rattle.std.specs.Path.{path_buf_bytes};
 ghost use Rattle.axe_folder.specs.FileName.{is_plain_name, is_separator, path_in};
 ghost use Rattle.axe_folder.specs.Outcomes.{IsWriteFault};
@@ -12,10 +13,17 @@ use std::fs::{File, OpenFile, OpenOptions, Permissions};
 use std::io::{ErrorKind, Write};
 use std::path::PathBuf;
 use std::rt::Files;
+use std::time::SystemTime;
 use std::{fs, io};
 
 /// The most new files that may stand beside a file, as interrupted writes leave them.
 const MOST_BESIDE: u8 = 100;
+
+/// More seconds than any process takes to write one file: a day.
+const LONGEST_WRITE: u64 = 86_400;
+
+/// How often a write of a new file may be interrupted before it has taken any byte.
+const MOST_INTERRUPTIONS: u8 = 100;
 
 /// The files of one directory.
 ///
@@ -23,7 +31,8 @@ const MOST_BESIDE: u8 = 100;
 /// directory (it is empty, `.` or `..`, or has a slash or a zero byte) has no file: `get` answers Missing, `put`
 /// Device and `remove` Ok, and none of them asks the file system. So no call names a file outside the directory.
 ///
-/// `put` never leaves a file half replaced: it writes a new file beside it, named `.NAME.NUMBER`, and renames that. The
+/// `put` never leaves a file half replaced: it writes a new file beside it, named `.NAME.NUMBER`, and renames that. What
+/// killed processes left of such files stays, up to a hundred of them; then those go that are older than a day. The
 /// new file has the permissions of the old one. A link to a file is replaced, and what it leads to stays as it is;
 /// `get` follows it. What may not be written to is Device, and so is a directory that takes no new file. A FIFO or a
 /// device takes the bytes as they come.
@@ -75,6 +84,32 @@ enum Place<F: Drop> {
     Stream(F),
 }
 
+/// Whether a file's date, where it has one, is longer ago than any write takes.
+fn is_long_ago(date: io::Result<SystemTime>, now: SystemTime) -> bool {
+    match date {
+        Ok(date) => now
+            .duration_since(date)
+            .is_ok_and(|age| age.as_secs() > LONGEST_WRITE),
+        Err(_) => false,
+    }
+}
+
+/// Writes all bytes to a new file, by one call of the system: a file that takes fewer at once is at the end of its disk, or
+/// at the limit that the process has on the size of files (`ulimit -f`), where a further call would end it by a signal.
+fn write_at_once<F: Write>(file: &mut F, bytes: &[u8]) -> io::Result<()>
+    ensures { OnOk result (Appends (F.contents file.old) (F.contents file.new) bytes.now) }
+{
+    for _ in 0..MOST_INTERRUPTIONS {
+        match file.write(bytes) {
+            Ok(count) if count == bytes.len() => return Ok(()),
+            Ok(_) => return Err(io::Error::from(ErrorKind::StorageFull)),
+            Err(error) if error.kind() == ErrorKind::Interrupted => {}
+            Err(error) => return Err(error),
+        }
+    }
+    Err(io::Error::from(ErrorKind::Interrupted))
+}
+
 /// Writes all bytes of a new file to the device, after it has the permissions of the file that it will replace.
 fn fill<F: Write + OpenFile + Drop>(
     mut file: F,
@@ -84,7 +119,7 @@ fn fill<F: Write + OpenFile + Drop>(
     if let Some(permissions) = permissions {
         file.set_permissions(permissions)?;
     }
-    file.write_all(bytes)?;
+    write_at_once(&mut file, bytes)?;
     // A disk that is full may say so only here.
     file.sync_all()
 }
@@ -136,21 +171,79 @@ impl<R: Files + AllocGlobal + Drop> DirFolder<R> {
         }
     }
 
-    /// An empty new file beside the file of this name, and its path. Its own name begins with a dot.
+    /// The path of the new file of this number beside the file of this name. Its own name begins with a dot.
+    fn path_beside(&self, name: &str, number: u8) -> Result<PathBuf, FolderFault>
+        ensures { IfErr result IsWriteFault }
+    {
+        let beside = format!(in self.runtime.alloc(); ".{name}.{number}")?;
+        self.path_of(beside.as_str())?.ok_or(FolderFault::Device)
+    }
+
+    /// An empty new file beside the file of this name, and its path. Where as many stand there as may be, those go first
+    /// that killed runs left long ago.
     fn new_beside(&self, name: &str) -> Result<(PathBuf, R::File), FolderFault>
         ensures { IfErr result IsWriteFault }
     {
+        if let Some(found) = self.free_beside(name)? {
+            return Ok(found);
+        }
+        self.clear_beside(name)?;
+        self.free_beside(name)?.ok_or(FolderFault::Device)
+    }
+
+    /// As [`DirFolder::new_beside`], of the first number that no file has, or None where all are taken.
+    fn free_beside(&self, name: &str) -> Result<Option<(PathBuf, R::File)>, FolderFault>
+        ensures { IfErr result IsWriteFault }
+    {
         for number in 0..MOST_BESIDE {
-            let beside = format!(in self.runtime.alloc(); ".{name}.{number}")?;
-            let path = self.path_of(beside.as_str())?.ok_or(FolderFault::Device)?;
+            let path = self.path_beside(name, number)?;
             match File::create_new(&self.runtime, path.as_path()) {
-                Ok(file) => return Ok((path, file)),
+                Ok(file) => return Ok(Some((path, file))),
                 // Of a write that was interrupted, or of another process that is writing now.
                 Err(error) if error.kind() == ErrorKind::AlreadyExists => {}
                 Err(_) => return Err(FolderFault::Device),
             }
         }
-        Err(FolderFault::Device)
+        Ok(None)
+    }
+
+    /// Takes away the new files beside the file of this name that were last written to so long ago that no process
+    /// still writes to them.
+    fn clear_beside(&self, name: &str) -> Result<(), FolderFault>
+        ensures { IfErr result IsWriteFault }
+    {
+        let now = self.time_beside(name)?;
+        for number in 0..MOST_BESIDE {
+            let path = self.path_beside(name, number)?;
+            if self.is_left(&path, now) {
+                let _ = fs::remove_file(&self.runtime, path.as_path());
+            }
+        }
+        Ok(())
+    }
+
+    /// The time by the clock that dates the files beside the file of this name, which may be that of another machine:
+    /// the date of a file that is made for that, and taken away.
+    fn time_beside(&self, name: &str) -> Result<SystemTime, FolderFault>
+        ensures { IfErr result IsWriteFault }
+    {
+        let path = self.path_beside(name, MOST_BESIDE)?;
+        // Of a process that was killed here. The new one is no link that leads elsewhere.
+        let _ = fs::remove_file(&self.runtime, path.as_path());
+        let time = match File::create_new(&self.runtime, path.as_path()) {
+            Ok(file) => file.metadata().and_then(|found| found.modified()),
+            Err(error) => Err(error),
+        };
+        let _ = fs::remove_file(&self.runtime, path.as_path());
+        time.map_err(|_| FolderFault::Device)
+    }
+
+    /// Whether a file stands at a path that was last written to longer ago than any write takes.
+    fn is_left(&self, path: &PathBuf, now: SystemTime) -> bool {
+        match fs::symlink_metadata(&self.runtime, path.as_path()) {
+            Ok(found) => found.is_file() && is_long_ago(found.modified(), now),
+            Err(_) => false,
+        }
     }
 
     /// Puts a file with these bytes at the path of a name, or hands them to what stands there.

@@ -6,6 +6,9 @@ use clap::builder::ValueParser;
 use clap::{Arg, ArgAction, Command};
 use std::alloc::{AllocError, Global};
 
+/// The version, and in a line of its own the logic that the proofs are made in, as `rt version` names it.
+const VERSION: &str = "0.1.0\nRattle logic dac8208d650f15bf";
+
 /// The program with all its commands, for words without the program's name.
 pub(crate) fn program<'a>(alloc: Global) -> Result<Command<'a>, AllocError> {
     let mut program = without_commands(alloc)?;
@@ -20,7 +23,7 @@ pub(crate) fn program<'a>(alloc: Global) -> Result<Command<'a>, AllocError> {
 fn without_commands<'a>(alloc: Global) -> Result<Command<'a>, AllocError> {
     with_help(Command::new(alloc, "axe"), help::ABOUT, help::LONG_ABOUT)
         .no_binary_name(true)
-        .version("0.1.0")
+        .version(VERSION)
         .subcommand_required(true)
         .arg_required_else_help(true)
         .bin_name("axe")
