@@ -186,7 +186,7 @@ module _ (c : Certificate) (is : IsReport c.report) (is_module : IsModule c.m) (
         subst (λ (f : ModuleValue). IsWitnessOver f.order (get_or (witnesses reported) i None)) (sym (module_at i d below))
         (subst (λ o. IsWitnessOver o (get_or (witnesses reported) i None)) before.header.field
         (subst (IsWitnessOver c.report.header.field) (sym (witness_at reported i nothing there))
-        (witness_over c.report.header c.report.header.version (get_or reported i nothing).witness two (is.witnessed i nothing there))))
+        (witness_over c.report.header c.report.header.version (get_or reported i nothing).witness two is.header (is.witnessed i nothing there))))
 
     left_open_at : (i : ℕ) (d : ModuleValue) → i < factor_count c → IsLeftOpen c i → LeavesOpenBy (get_or modules i d) c.report.header.seed (get_or (witnesses reported) i None)
     left_open_at i d below left =

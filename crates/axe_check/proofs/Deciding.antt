@@ -1,7 +1,6 @@
 -- Whether a certificate's header, basis, shapes and blocks are right.
-use Rattle.std.proofs.Common.{◌≡◌, ℕ, zero, suc, ◌+◌, ◌<◌, ◌≤◌, ◌⊎◌, inl, inr, List, [], ◌∷◌, length, get_or, All, refl, sym, ap, subst, ◌∙◌, arith}
-use Rattle.std.specs.List.{slice_get}
-use Rattle.std.proofs.Math.Decide.{ℕ_discrete, dec_lt, map_dec}
+use Rattle.std.proofs.Common.{◌≡◌, ℕ, zero, suc, ◌+◌, ◌<◌, ◌≤◌, ◌⊎◌, inl, inr, List, [], ◌∷◌, length, get_or, All, sym, ap, subst, ◌∙◌, arith}
+use Rattle.std.proofs.Math.Decide.{ℕ_discrete, map_dec}
 use Rattle.std.proofs.lemmas.List.Elements.{All-nil, All-cons, All-head, All-tail}
 use Rattle.std.proofs.lemmas.Option.{slice_get-get_or, slice_get_within, get_or_from_slice_get}
 use Rattle.axe_algebra.specs.Blocks.{block_start}
@@ -12,7 +11,7 @@ use Rattle.axe_matrix.specs.Matrices.{MatrixValue, IsMatrix}
 use Rattle.axe_reduction.specs.Solutions.{IsInvertibleMatrix}
 use Rattle.axe_echelon.proofs.SomeMatrix.{inverse_or_none}
 use Rattle.axe_spin.specs.Modules.{ModuleValue, generator_of}
-use Rattle.axe_series.specs.Series.{IsPlaceOf, sizes_of_places}
+use Rattle.axe_series.specs.Series.{sizes_of_places}
 use Rattle.axe_report.proofs.Searching.{dec_both, dec_le}
 use Rattle.axe_report.specs.declared.report.ReportHeader.{ReportHeader}
 use Rattle.axe_check.specs.Certificates.{HasHeader, IsBasisOf, IsSquareOfSize, HasShape}

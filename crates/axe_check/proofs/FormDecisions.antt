@@ -1,21 +1,20 @@
 -- The word and the polynomial of a form do not leave its matrices open.
-use Rattle.std.proofs.Common.{◌≡◌, ℕ, ◌+◌, ◌<◌, ◌≤◌, ◌⊎◌, List, length, Option, Some, None, option_map, inl, inr, refl, sym, ap, subst, ◌∙◌, arith}
+use Rattle.std.proofs.Common.{◌≡◌, ℕ, ◌<◌, ◌⊎◌, length, Option, Some, None, option_map, inl, inr, sym, subst, ◌∙◌, arith}
 use Rattle.axe_algebra.specs.Field.{Field}
 use Rattle.axe_algebra.specs.Vectors.{Matrix, unit_vector, zero_vector}
 use Rattle.axe_algebra.specs.Spans.{InSpan, IsNullVector}
 use Rattle.axe_algebra.specs.Bridge.{matrix_of, vector_of}
 use Rattle.axe_algebra.proofs.ProductLaws.{times_none}
 use Rattle.axe_polynomial_algebra.specs.PolynomialValues
-use Rattle.axe_polynomial_algebra.specs.PolynomialsOfLists.{degree_of, Fits}
+use Rattle.axe_polynomial_algebra.specs.PolynomialsOfLists.{degree_of}
 use Rattle.axe_polynomial_algebra.proofs.VectorFits.{nullity_is_unique}
-use Rattle.axe_field.specs.Order.{Order, order_number}
+use Rattle.axe_field.specs.Order.{order_number}
 use Rattle.axe_field.specs.NumberFields.{number_field, gf}
-use Rattle.axe_matrix.specs.Matrices.{MatrixValue}
 use Rattle.axe_reduction.specs.Solutions.{IsInvertibleMatrix}
 use Rattle.axe_poly.specs.Polys.{PolyValue, poly_with}
 use Rattle.axe_spin.specs.Modules.{ModuleValue}
 use Rattle.axe_word.specs.PointsOfMatrix.{point_count, most_points}
-use Rattle.axe_word.specs.Words.{WordValue, IsValueOf}
+use Rattle.axe_word.specs.Words.{WordValue}
 use Rattle.axe_norton.specs.declared.verdicts.At.TheVariants.{Left}
 use Rattle.axe_norton.specs.OneVector.{FitsWord}
 use Rattle.axe_norton.specs.Verdicts.{Says, IsLeftWithMany, word_of_seed}
@@ -23,7 +22,6 @@ use Rattle.axe_norton.proofs.OpenLaws.{own_square, no_rows_of_invertible}
 use Rattle.axe_norton.proofs.TestedLaws.{value_square}
 use Rattle.axe_iso.specs.Forms.{FormValue, IsForm, HasNullity, FitsMatrix, HasFewNullPoints, IsNullSpaceOf, HasSmallNullSpaceOf, deciding_matrix, drawn_value}
 use Rattle.axe_iso.proofs.FormLaws.{nullity_of_space, deciding_space}
-use Rattle.axe_report.specs.Reports.{WitnessValue}
 use Rattle.axe_check.specs.Certificates.{SaysWith, WitnessLeavesOpen}
 
 -- the first unit vector is not zero

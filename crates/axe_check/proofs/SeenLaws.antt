@@ -1,6 +1,8 @@
 -- Constituents that are seen to be irreducible, one after the other, with their forms.
 use Rattle.std.proofs.Common.{◌≡◌, ℕ, ◌+◌, ◌<◌, List, [], ◌∷◌, ◌++◌, length, get_or, None, sym, ap, subst, ◌∙◌, length-append, arith}
+use Rattle.std.specs.List.{All}
 use Rattle.std.proofs.lemmas.List.{get_or_default, get_or_append_left, get_or-append-add}
+use Rattle.axe_field.specs.Order.{Order}
 use Rattle.axe_spin.specs.Modules.{ModuleValue}
 use Rattle.axe_iso.specs.Forms.{FormValue}
 use Rattle.axe_report.specs.Reports.{FactorValue}
@@ -9,6 +11,11 @@ use Rattle.axe_check.specs.Steps.{IsSeenBy, AreSeenTo, IsFormOf, AreFormsOf, IsU
 use Rattle.axe_report.specs.declared.reasons.Reason.{Reason}
 use Rattle.axe_check.proofs.Certifying.{witness_at}
 use native.Mathlib.Decide.{ℕ_discrete}
+
+-- a factor is over the field of all
+pub field_here : (order : Order) (factors : List ModuleValue) (number : ℕ) (one : ModuleValue) → All (λ (f : ModuleValue). f.order ≡ order) factors →
+    number < length factors → one ≡ get_or factors number one → one.order ≡ order
+field_here order factors number one fields inside one_is = ap (λ (f : ModuleValue). f.order) one_is ∙ fields number one inside
 
 module _ (factors : List ModuleValue) (seed : ℕ) (reported : List FactorValue) (number : ℕ) (one : ModuleValue) (told : FactorValue)
     (inside : number < length factors) (counts : length factors ≡ length reported) (one_is : one ≡ get_or factors number one)

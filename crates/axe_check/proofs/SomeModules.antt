@@ -1,5 +1,5 @@
 -- Modules that are made of matrices: the constituents, and the conjugates of a module.
-use Rattle.std.proofs.Common.{◌≡◌, ℕ, ◌+◌, ◌<◌, ◌≤◌, List, [], length, map, get_or, All, refl, sym, ap, subst, ◌∙◌, arith}
+use Rattle.std.proofs.Common.{◌≡◌, ℕ, ◌<◌, ◌≤◌, List, [], length, get_or, All, refl, sym, ap, subst, ◌∙◌, arith}
 use Rattle.std.proofs.lemmas.List.{length-map, get_or-map}
 use Rattle.std.proofs.lemmas.List.Elements.{All-map, All-get_or}
 use Rattle.axe_algebra.specs.Lists.{listed, IsSquareOver}
@@ -7,7 +7,7 @@ use Rattle.axe_algebra.proofs.ListEntries.{listed_length, listed_at}
 use Rattle.axe_algebra.specs.ListArithmetic.{IsConjugate}
 use Rattle.axe_field.specs.Order.{Order}
 use Rattle.axe_field.specs.NumberFields.{number_field}
-use Rattle.axe_matrix.specs.Limits.{most_columns, most_rows}
+use Rattle.axe_matrix.specs.Limits.{most_columns}
 use Rattle.axe_matrix.specs.Matrices.{MatrixValue, IsMatrix, matrix_product}
 use Rattle.axe_matrix.proofs.ProductLaws.{IsMatrix-product}
 use Rattle.axe_reduction.specs.Solutions.{IsInverseMatrix}

@@ -1,5 +1,5 @@
 -- A certificate is right, or there is a first reason why it is not.
-use Rattle.std.proofs.Common.{◌≡◌, ℕ, ◌+◌, ◌<◌, ◌≤◌, ◌⊎◌, inl, inr, List, [], length, get_or, Option, Some, None, refl, sym, ap, subst, ◌∙◌, string_bytes, String, Global, arith}
+use Rattle.std.proofs.Common.{◌≡◌, ℕ, ◌<◌, ◌≤◌, ◌⊎◌, inl, inr, List, length, get_or, Option, Some, None, refl, sym, ap, subst, ◌∙◌, string_bytes, String, Global, arith}
 use Rattle.std.specs.List.{All}
 use Rattle.std.proofs.Math.Decide.{dec_lt}
 use Rattle.std.proofs.lemmas.List.{length-map, get_or_default}
@@ -13,18 +13,18 @@ use Rattle.axe_iso.specs.Forms.{FormValue}
 use Rattle.axe_iso.specs.Matches.{IsMatch}
 use Rattle.axe_iso.proofs.SomeForm.{some_match}
 use Rattle.axe_series.specs.Series.{IsIsomorphicTo}
-use Rattle.axe_report.specs.Reports.{FactorValue, WitnessValue, names, dims, word_of, poly_of, IsReport}
+use Rattle.axe_report.specs.Reports.{FactorValue, dims, word_of, poly_of, IsReport}
 use Rattle.axe_report.specs.declared.reasons.Reason.{Reason}
 use Rattle.axe_report.specs.declared.reasons.Reason.TheVariants as reason
 use Rattle.axe_report.specs.declared.report.Version.TheVariants.{Two}
 use Rattle.axe_check.specs.Certificates.{Certificate, HasHeader, IsBasisOf, factor_count, dim_of, matrices_of, factor_of, factors_of, IsShaped, witnesses, WitnessSays, IsCertified}
 use Rattle.axe_check.specs.Reasons.{IsNameOf, HasRightBasis, HasRightBlocks, HasRightFactors, IsFirstReason}
-use Rattle.axe_check.specs.Steps.{AreShapedAs, HasAllBlocks, IsWitnessOver, LeavesOpenBy, IsLikeModule, IsSeenBy, IsFormOf, IsUnseenReason, AreSeenTo, IsFirstUnseenReason}
-use Rattle.axe_check.specs.Steps.{AreIsomorphicAt, IsApartTo, AreApartTo, IsSameReason, IsFirstSameReason}
+use Rattle.axe_check.specs.Steps.{AreShapedAs, HasAllBlocks, IsWitnessOver, LeavesOpenBy, IsLikeModule, IsSeenBy, IsFormOf, IsUnseenReason}
+use Rattle.axe_check.specs.Steps.{AreIsomorphicAt, IsApartTo, IsSameReason}
 use Rattle.axe_check.proofs.RightCertificates.{count_of_factors, factor_at}
-use Rattle.axe_check.proofs.WordLaws.{left_open, seen_by, seen_shown, reducible_reason}
+use Rattle.axe_check.proofs.WordLaws.{seen_by, seen_shown, reducible_reason}
 use Rattle.axe_check.proofs.PairLaws.{form_field, matched_pair, unmatched_is_not}
-use Rattle.axe_check.proofs.Certifying.{nothing, name_at, witness_at, right_shapes, like_modules, places_fit, block_first, right_blocks, witnesses_over, right_factors, unseen_first, same_first, certified}
+use Rattle.axe_check.proofs.Certifying.{nothing, name_at, witness_at, like_modules, places_fit, block_first, right_blocks, witnesses_over, right_factors, unseen_first, same_first, certified}
 use Rattle.axe_check.proofs.Deciding.{first_other, either, header_or_not, basis_or_not, shape_or_not, all_blocks_or_not}
 use Rattle.axe_check.proofs.SomeModules.{shaped_is_module, some_conjugates}
 use Rattle.axe_check.proofs.SomeNames.{some_name}

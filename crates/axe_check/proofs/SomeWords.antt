@@ -1,17 +1,14 @@
 -- The words that a report names say something of the constituents.
-use Rattle.std.proofs.Common.{◌≡◌, ℕ, ◌<◌, ◌≤◌, ◌⊎◌, inl, inr, List, length, Option, Some, None, refl, sym, ap, subst, ◌∙◌, arith}
+use Rattle.std.proofs.Common.{◌≡◌, ℕ, inl, inr, length, Option, Some, None, refl, sym, subst, arith}
 use Rattle.std.proofs.Math.Decide.{map_dec}
 use Rattle.axe_algebra.specs.Lists.{IsMatrixOver}
-use Rattle.axe_algebra.specs.Bridge.{matrix_of, vector_of}
-use Rattle.axe_polynomial_algebra.specs.PolynomialValues
 use Rattle.axe_polynomial_algebra.specs.PolynomialsOfLists.{degree_of, Fits}
 use Rattle.axe_polynomial_algebra.proofs.ProperDivisors.{irreducible_or_not}
 use Rattle.axe_polynomial_algebra.proofs.VectorFits.{fits_is_decidable, fits_exactly}
-use Rattle.axe_field.specs.NumberFields.{number_field, gf}
+use Rattle.axe_field.specs.NumberFields.{number_field}
 use Rattle.axe_matrix.specs.Matrices.{MatrixValue, IsMatrix}
-use Rattle.axe_poly.specs.Polys.{PolyValue, poly_with}
+use Rattle.axe_poly.specs.Polys.{PolyValue}
 use Rattle.axe_spin.specs.Modules.{ModuleValue, IsModule}
-use Rattle.axe_word.specs.declared.tested.Tested.{Tested}
 use Rattle.axe_word.specs.Tested.{IsTestedByPoly}
 use Rattle.axe_word.specs.Words.{WordValue, IsWordIn, IsValueOf}
 use Rattle.axe_word.proofs.DrawingLaws.{drawn_word-over}
@@ -19,8 +16,7 @@ use Rattle.axe_word.proofs.TestedLaws.{poly_value}
 use Rattle.axe_word.proofs.ValueLaws.{value-is_unique}
 use Rattle.axe_field.specs.Order.{order_number}
 use Rattle.axe_norton.specs.declared.verdicts.At.{At}
-use Rattle.axe_norton.specs.declared.verdicts.At.TheVariants.{Irreducible, Reducible, Left}
-use Rattle.axe_norton.specs.OneVector.{FitsWord, SaysByPoly, TellsByOne}
+use Rattle.axe_norton.specs.OneVector.{FitsWord, SaysByPoly}
 use Rattle.axe_norton.specs.Searches.{IsSquareIn}
 use Rattle.axe_norton.specs.Verdicts.{Says, IsTrueOf, word_of_seed}
 use Rattle.axe_norton.proofs.OneVectorLaws.{told_is_true, tested_at_value}

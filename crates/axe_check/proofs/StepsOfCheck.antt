@@ -5,6 +5,7 @@ use Rattle.std.specs.Prelude.{⊤}
 use Rattle.std.specs.declared.alloc.Global.{Global}
 use Rattle.std.specs.declared.vec.Vec.{Vec}
 use Rattle.axe_algebra.specs.Blocks.{AreBlockSizes}
+use Rattle.axe_field.specs.Order.{Order}
 use Rattle.axe_matrix.specs.Matrices.{MatrixValue, IsMatrix}
 use Rattle.axe_spin.specs.Modules.{ModuleValue, IsModule}
 use Rattle.axe_action.specs.Actions.{IsConjugateModule}
@@ -58,6 +59,10 @@ module _ (report : ReportValue) (m : ModuleValue) (basis : MatrixValue) (factors
 
     pub like : (x : ModuleValue) × All (IsLikeModule x) read
     like = (m, like_modules c begun.is_report begun.is_module begun.formed lists read shaped before are)
+
+    pub fields_read : (order : Order) → order ≡ m.order → All (λ (f : ModuleValue). f.order ≡ order) read
+    fields_read order order_is i d inside =
+        (like_modules c begun.is_report begun.is_module begun.formed lists read shaped before are i d inside).field ∙ sym order_is
 
     pub count_read : (again : List FactorValue) → again ≡ report.factors → length read ≡ length again
     count_read again again_is =

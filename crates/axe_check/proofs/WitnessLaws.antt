@@ -9,7 +9,7 @@ use Rattle.axe_field.proofs.Orders.{order_number-at_least}
 use Rattle.axe_poly.specs.Limits.{greatest_degree}
 use Rattle.axe_poly.specs.Polys.{poly_with}
 use Rattle.axe_poly.proofs.PolyLaws.{greatest_is_greatest}
-use Rattle.axe_report.specs.Reports.{WitnessValue, AreDigits, IsPolyOver, IsWitnessIn}
+use Rattle.axe_report.specs.Reports.{WitnessValue, IsReportHeader, AreDigits, IsPolyOver, IsWitnessIn}
 use Rattle.axe_report.specs.declared.report.ReportHeader.{ReportHeader}
 use Rattle.axe_report.specs.declared.report.Version.{Version}
 use Rattle.axe_report.specs.declared.report.Version.TheVariants.{One, Two}
@@ -40,8 +40,13 @@ digits_over o None is = tt
 digits_over o (Some digits) is = digits_are_small o digits is
 
 -- in a report of version 2 there is a witness
-pub witness_over : (header : ReportHeader) (version : Version) (witness : Option WitnessValue) → version ≡ Two →
+pub witness_over : (header : ReportHeader) (version : Version) (witness : Option WitnessValue) → version ≡ Two → IsReportHeader header →
     IsWitnessIn version header witness → IsWitnessOver header.field witness
-witness_over header One witness is in_report = absurd cc
-witness_over header Two None is in_report = absurd in_report
-witness_over header Two (Some value) is in_report = record { value = value; is = refl; digits = digits_over header.field value.poly in_report.poly }
+witness_over header One witness is numbers in_report = absurd cc
+witness_over header Two None is numbers in_report = absurd in_report
+witness_over header Two (Some value) is numbers in_report = record {
+  value = value;
+  is = refl;
+  word = omega (arith, in_report.word, numbers.words);
+  digits = digits_over header.field value.poly in_report.poly;
+}

@@ -1,5 +1,5 @@
 -- What the words that are named say of constituents.
-use Rattle.std.proofs.Common.{◌≡◌, ◌≢◌, ℕ, ◌≤◌, inl, inr, List, Option, Some, None, string_bytes, String, refl, sym, ap, subst, ◌∙◌}
+use Rattle.std.proofs.Common.{◌≡◌, ◌≢◌, ℕ, ◌≤◌, inl, inr, List, Option, Some, None, string_bytes, String, refl, sym, ap, subst, ◌∙◌, arith}
 use Rattle.axe_polynomial_algebra.specs.PolynomialsOfLists.{degree_of, IsIrreduciblePolynomial, Fits}
 use Rattle.axe_field.specs.Order.{Order}
 use Rattle.axe_field.specs.NumberFields.{number_field}
@@ -13,7 +13,7 @@ use Rattle.axe_norton.specs.declared.verdicts.At.{At}
 use Rattle.axe_norton.specs.declared.verdicts.At.TheVariants.{Irreducible, Reducible, Left}
 use Rattle.axe_norton.specs.Spaces.{GeneratesModule}
 use Rattle.axe_norton.specs.OneVector.{FitsWord, SaysByPoly, ShowsIrreducibleByOne}
-use Rattle.axe_norton.specs.Verdicts.{IsTrueOf, word_of_seed}
+use Rattle.axe_norton.specs.Verdicts.{last_word, IsTrueOf, word_of_seed}
 use Rattle.axe_norton.proofs.UniqueLaws.{says_one, poly_says_one}
 use Rattle.axe_iso.specs.Forms.{FormValue, IsForm, IsFormFrom, IsNullSpaceOf}
 use Rattle.axe_iso.proofs.PointForms.{fitting_is_small, point_is_null_vector, point_is_vector}
@@ -99,6 +99,13 @@ named_small o (Some digits) are p is =
     subst (λ (q : PolyValue). degree_of q.coefficients ≤ greatest_degree q.order) (same_of_some (poly_with o digits) p is) are.small
 
 -- ---- what the named word says, and what comes of it
+
+-- the number that is named is that of a word that may be tried
+pub word_within : (o : Order) (witness : Option WitnessValue) → IsWitnessOver o witness → (word : Option ℕ) (number : ℕ) → word ≡ word_of witness → word ≡ Some number →
+    number ≤ last_word
+word_within o witness is word number word_is number_is =
+    let same : number ≡ is.value.word = same_of_some number is.value.word (sym number_is ∙ word_is ∙ ap word_of is.is) in
+    omega (arith, same, is.word)
 
 module _ (m : ModuleValue) (seed : ℕ) (witness : Option WitnessValue) (is : IsWitnessOver m.order witness) (word : Option ℕ) (number : ℕ)
     (digits : Option (List ℕ)) (at : At) (word_is : word ≡ word_of witness) (number_is : word ≡ Some number) (digits_is : digits ≡ poly_of witness)

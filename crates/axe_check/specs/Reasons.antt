@@ -1,6 +1,6 @@
 -- Why a certificate is not right: the first reason, in the order of the header, the basis, the shapes, the blocks, what
 -- the words say of the constituents one after the other, and pairs of constituents.
-use Rattle.std.specs.Prelude.{◌≡◌, ℕ, ◌<◌, ◌⊎◌, List, [], ◌++◌, get_or, codes, string_bytes, String}
+use Rattle.std.specs.Prelude.{◌≡◌, ℕ, ◌<◌, ◌⊎◌, [], get_or, string_bytes, String}
 use Rattle.std.specs.declared.alloc.Global.{Global}
 use Rattle.axe_norton.specs.Spaces.{IsIrreducibleModule}
 use Rattle.axe_report.specs.Reports.{names}

@@ -13,6 +13,7 @@ use Rattle.axe_poly.specs.Polys.{PolyValue, IsPoly, poly_with}
 use Rattle.axe_spin.specs.Modules.{ModuleValue, generator_of}
 use Rattle.axe_norton.specs.declared.verdicts.At.TheVariants.{Left}
 use Rattle.axe_norton.specs.Spaces.{IsIrreducibleModule}
+use Rattle.axe_norton.specs.Verdicts.{last_word}
 use Rattle.axe_iso.specs.Forms.{FormValue, IsForm, IsFormFrom}
 use Rattle.axe_series.specs.Series.{IsIsomorphicTo, IsPlaceOf, sizes_of_places}
 use Rattle.axe_report.specs.Reports.{FactorValue, WitnessValue, names, dims}
@@ -128,10 +129,11 @@ abbrev pub AreDigitsOver : Order → Option (List ℕ) → Type 0
 AreDigitsOver order None = ⊤
 AreDigitsOver order (Some digits) = IsSmallPoly (poly_with order digits)
 
--- there is a witness, over the field of this order
+-- there is a witness, over the field of this order, and its word is one that may be tried
 pub record IsWitnessOver (order : Order) (witness : Option WitnessValue) : Type 0 where
   pub value : WitnessValue
   pub is : witness ≡ Some value
+  pub word : value.word ≤ last_word
   pub digits : AreDigitsOver order value.poly
 
 -- the witness leaves the module open

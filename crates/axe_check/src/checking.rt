@@ -32,7 +32,7 @@ use std::alloc::Global;
 ///
 /// A constituent's word is that of the report's seed and of the number that the report names. A polynomial that is
 /// named beside it, is irreducible and fits the word's value tells as [`axe_norton::decide_poly`] does; else the word
-/// tells as [`axe_norton::decide_at`] does. The only fault is Memory.
+/// tells as [`axe_norton::decide_at`] does, by [`axe_norton::test_word_of_seed`]. The only fault is Memory.
 pub fn check(
     alloc: Global,
     report: &Report,
@@ -74,7 +74,7 @@ fn check_steps(
     // Their memory is free again before the constituents are looked at.
     drop(conjugates);
     let seed = report.header().seed;
-    let forms = seen_forms(alloc, report.factors(), seed, &modules)?;
+    let forms = seen_forms(alloc, *module.field(), report.factors(), seed, &modules)?;
     check_pairs(alloc, report.factors(), &modules, &forms)
 }
 

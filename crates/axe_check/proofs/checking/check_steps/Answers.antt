@@ -9,7 +9,7 @@ use Rattle.axe_check.specs.Certificates.{certificate}
 use Rattle.axe_check.specs.Reasons.{IsFirstReason}
 use Rattle.axe_check.specs.Steps.{HasAllBlocks, IsBlockReason, AreSeenAs, IsFirstUnseenReason}
 use Rattle.axe_check.proofs.StepLaws.{stopped}
-use Rattle.axe_check.proofs.StepsOfCheck.{IsBegun, sizes_read, places_read, like_read, blocks_stopped, blocks_passed, count_read, witnesses_read, words_stopped, like, are, pairs_ended}
+use Rattle.axe_check.proofs.StepsOfCheck.{IsBegun, sizes_read, places_read, like_read, blocks_stopped, blocks_passed, count_read, fields_read, witnesses_read, words_stopped, like, are, pairs_ended}
 use Rattle.axe_check.proofs.checking.check_steps.Goals as goal
 
 pub check_blocks-requires-clause-sizes : goal.check_blocks-requires-clause-sizes
@@ -85,6 +85,20 @@ seen_forms-requires-clause-count c =
     count_read c.args.report.now c.args.module.now c.args.basis.now c.args.factors.now begun c.factors.result.now c.in_ok-modules.modules.items c.deref-2.result.now c.factors.ensures.value
     c.deref-2.ensures.value c.in_ok-modules.ensures.shaped c.in_ok-modules.ensures.well_formed
     c.factors-2.result.now c.factors-2.ensures.value
+
+pub seen_forms-requires-clause-fields : goal.seen_forms-requires-clause-fields
+seen_forms-requires-clause-fields c =
+    let begun : IsBegun c.args.report.now c.args.module.now c.args.basis.now c.args.factors.now = record {
+      is_report = c.factors.ensures.relations;
+      is_module = c.in_ok-conjugates.ensures.module_well_formed;
+      formed = c.in_ok-conjugates.ensures.basis_well_formed;
+      count = c.requires.lists;
+      header = c.in_ok-check_header.ensures;
+      basis_is = c.in_ok-conjugates.ensures.conjugates.0;
+    } in
+    fields_read c.args.report.now c.args.module.now c.args.basis.now c.args.factors.now begun c.factors.result.now c.in_ok-modules.modules.items c.deref-2.result.now c.factors.ensures.value
+    c.deref-2.ensures.value c.in_ok-modules.ensures.shaped c.in_ok-modules.ensures.well_formed
+    c.field.result.now c.field.ensures.order
 
 pub seen_forms-requires-clause-witnesses : goal.seen_forms-requires-clause-witnesses
 seen_forms-requires-clause-witnesses c =

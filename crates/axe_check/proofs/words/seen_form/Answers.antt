@@ -1,6 +1,10 @@
 use Rattle.std.proofs.Common.{inl, inr, option_copied, refl}
-use Rattle.axe_check.proofs.WordLaws.{left_open, seen_shown, seen_by, reducible_reason, form_of_itself}
+use Rattle.axe_check.proofs.WordLaws.{word_within, left_open, seen_shown, seen_by, reducible_reason, form_of_itself}
 use Rattle.axe_check.proofs.words.seen_form.Goals as goal
+
+pub said-requires-clause-number : goal.said-requires-clause-number
+said-requires-clause-number c =
+    word_within c.args.factor.now.order c.args.reported.now.witness c.requires.witness c.word.result c.in-Some.number c.word.ensures c.in-Some.is
 
 pub form_of-requires-clause-vector : goal.form_of-requires-clause-vector
 form_of-requires-clause-vector c =
@@ -26,8 +30,8 @@ form_of-requires-clause-small c =
     c.in_ok-poly.field-0 c.word.ensures c.in-Some.is c.poly.ensures c.in_ok-poly.ensures.says c.in-Irreducible.poly (option_copied c.as_ref.result)
     c.in-Irreducible.vector c.in-Irreducible.is c.as_ref.ensures.value).small
 
-pub returns-in-Irreducible : goal.returns-in-Irreducible
-returns-in-Irreducible c = (
+pub returns-in-Irreducible-clause-seen : goal.returns-in-Irreducible-clause-seen
+returns-in-Irreducible-clause-seen c = (
   seen_by c.args.factor.now c.args.seed c.args.reported.now.witness c.requires.witness c.word.result c.in-Some.number (option_copied c.poly.result)
       c.in_ok-poly.field-0 c.word.ensures c.in-Some.is c.poly.ensures c.in_ok-poly.ensures.says c.in-Irreducible.poly c.in-Irreducible.vector c.in-Irreducible.is
       c.in_ok-poly.ensures.holds,
@@ -35,15 +39,15 @@ returns-in-Irreducible c = (
       c.in_ok-form_of-in-Irreducible.field-0 c.in_ok-form_of-in-Irreducible.ensures.well_formed c.in_ok-form_of-in-Irreducible.ensures.form,
 )
 
-pub returns-in-Reducible : goal.returns-in-Reducible
-returns-in-Reducible c =
+pub returns-in-Reducible-clause-seen : goal.returns-in-Reducible-clause-seen
+returns-in-Reducible-clause-seen c =
     inr
     (reducible_reason c.args.factor.now c.args.seed c.args.reported.now.witness c.requires.witness c.word.result c.in-Some.number (option_copied c.poly.result)
     c.in_ok-poly.field-0 c.word.ensures c.in-Some.is c.poly.ensures c.in_ok-poly.ensures.says c.in-Reducible.field-0 c.args.reported.now
     c.in_ok-name_of-in-Reducible.field-0 refl c.in-Reducible.is c.in_ok-poly.ensures.holds c.in_ok-name_of-in-Reducible.ensures)
 
-pub returns : goal.returns
-returns c = inl (record {
+pub returns-clause-seen : goal.returns-clause-seen
+returns-clause-seen c = inl (record {
   name = c.in_ok-name_of-in-Left.field-0;
   is = refl;
   named = c.in_ok-name_of-in-Left.ensures;
