@@ -133,7 +133,8 @@ impl Products {
         }
     }
 
-    /// Adds a multiple of the product of one or more generators, from left to right, to a square matrix.
+    /// Adds a multiple of the product of one or more generators, from left to right, to a square matrix of the module's
+    /// dimension. It goes factor by factor, by products that are kept.
     pub(crate) fn add_multiple(
         &self,
         alloc: Global,
