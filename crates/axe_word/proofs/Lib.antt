@@ -4,6 +4,7 @@ pub mod TermLaws
 pub mod PointPlaces
 pub mod PointSums
 pub mod ValueLaws
+mod KeptLaws
 pub mod MembershipLaws
 pub mod ReducedNullSpaces
 pub mod TestedLaws

@@ -1,28 +1,25 @@
 -- The value of a word, term by term; products of generators, generator by generator.
 use Rattle.std.specs.Prelude.{◌≡◌, ℕ, ◌+◌, ◌<◌, ◌≤◌, List, [], ◌∷◌, ◌++◌, length, take, get_or}
 use Rattle.std.specs.List.{All}
-use Rattle.std.proofs.lemmas.List.{take_all, take_more, length-take-le}
-use Rattle.std.proofs.lemmas.List.Elements.{All-take}
+use Rattle.std.proofs.lemmas.List.{take_more}
 use Rattle.axe_algebra.specs.NumberField.{NumberField}
 use Rattle.axe_algebra.specs.Field.{Field}
 use Rattle.axe_algebra.specs.Modules.{Module, path_product}
 use Rattle.axe_algebra.specs.Bridge.{field_of, matrix_of, module_of}
-use Rattle.axe_algebra.specs.Lists.{entry, table, IsVectorOver, IsSquareOver}
-use Rattle.axe_algebra.specs.ListArithmetic.{product, identity}
+use Rattle.axe_algebra.specs.Lists.{entry, table, IsSquareOver}
+use Rattle.axe_algebra.specs.ListArithmetic.{identity}
 use Rattle.axe_algebra.specs.WordsOfLists.{IsWordOver, IsWordValue}
 use Rattle.axe_algebra.proofs.ProductLaws.{multiply_identity}
 use Rattle.axe_algebra.proofs.ListEntries.{table_length, table_entry, table_over, square_shape, matrix_entry-below}
-use Rattle.axe_algebra.proofs.ListProducts.{product_over, product_length, identity_over, identity_length}
+use Rattle.axe_algebra.proofs.ListProducts.{identity_over, identity_length}
 use Rattle.axe_algebra.proofs.ListModules.{generator_over}
-use Rattle.axe_algebra.proofs.ListWords.{are_generators, empty_product, product_then, empty_sum, term_added, word_value_is_unique}
+use Rattle.axe_algebra.proofs.ListWords.{empty_product, empty_sum, term_added, word_value_is_unique}
 use Rattle.axe_field.specs.Order.{Order, order_number, IsElement}
 use Rattle.axe_field.specs.NumberFields.{number_field}
 use Rattle.axe_field.proofs.NumberFields.{number_field-order}
-use Rattle.axe_matrix.specs.Matrices.{MatrixValue, matrix_product, zero_matrix, identity_matrix}
-use Rattle.axe_matrix.specs.Products.{matrix_with_product}
+use Rattle.axe_matrix.specs.Matrices.{MatrixValue, zero_matrix, identity_matrix}
 use Rattle.axe_matrix.specs.Multiples.{rows_with_multiple, matrix_with_multiple}
 use Rattle.axe_matrix.proofs.MatrixLaws.{same_matrix}
-use Rattle.axe_matrix.proofs.ProductRows.{product_as_multiple}
 use Rattle.axe_spin.specs.Modules.{ModuleValue, IsModule, generator_of}
 use Rattle.axe_word.specs.Words.{WordValue, IsWordIn, IsValueOf}
 use Rattle.axe_word.specs.Products.{IsProductOf}
@@ -149,54 +146,6 @@ product-one m i x numbers is_m each is i_is one = record {
     rows : x.rows ≡ get_or m.generators i []
     rows = ap (λ (y : MatrixValue). y.rows) is
 
--- one more generator
-pub product-more : (m : ModuleValue) (numbers : List ℕ) (i : ℕ) (x next : MatrixValue) → IsModule m →
-    All (λ number. number < length m.generators) numbers → i < length m.generators → IsProductOf m numbers x →
-    next ≡ matrix_product x (generator_of m i) → IsProductOf m (numbers ++ i ∷ []) next
-product-more m numbers i x next is_m each below h is = record {
-  field = ap (λ (y : MatrixValue). y.order) is ∙ h.field;
-  columns = ap (λ (y : MatrixValue). y.cols) is;
-  square = subst (IsSquareOver K m.dim) (sym rows) (record {
-    length_is = product_length K m.dim x.rows g ∙ h.square.length_is;
-    matrix = product_over K m.dim x.rows g (subst (λ k. All (IsVectorOver K k) x.rows) (sym over.length_is) h.square.matrix) over.matrix;
-  });
-  product =
-      ap (matrix_of K) rows
-      ∙ product_then K m.dim m.generators is_m.over.square numbers i x.rows (are_generators K m.dim m.generators numbers each) below h.square h.product;
-}
-  where
-    K : NumberField
-    K = number_field m.order
-
-    g : List (List ℕ)
-    g = get_or m.generators i []
-
-    over : IsSquareOver K m.dim g
-    over = generator_over K m.dim m.generators i is_m.over.square below
-
-    rows : next.rows ≡ product K m.dim x.rows g
-    rows = ap (λ (y : MatrixValue). y.rows) is ∙ ap (λ o. product (number_field o) m.dim x.rows g) h.field
-
--- one more of the generators with these numbers
-pub product-next : (m : ModuleValue) (numbers : List ℕ) (index i : ℕ) (x next : MatrixValue) → IsModule m →
-    All (λ number. number < length m.generators) numbers → index < length numbers → i ≡ get_or numbers index 0 → IsProductOf m (take index numbers) x →
-    next ≡ matrix_product x (generator_of m i) → IsProductOf m (take (index + 1) numbers) next
-product-next m numbers index i x next is_m each inside i_is h is =
-    subst (λ list. IsProductOf m list next) (sym (take_more numbers index 0 inside ∙ ap (λ j. take index numbers ++ j ∷ []) (sym i_is)))
-    (product-more m (take index numbers) i x next is_m (All-take (λ number. number < length m.generators) index numbers each)
-    (subst (λ j. j < length m.generators) (sym i_is) (each index 0 inside)) h is)
-
--- the first of two generators
-pub product-first : (m : ModuleValue) (numbers : List ℕ) (i : ℕ) (x : MatrixValue) → IsModule m → All (λ number. number < length m.generators) numbers →
-    1 ≤ length numbers → i ≡ get_or numbers 0 0 → x ≡ generator_of m i → IsProductOf m (take 1 numbers) x
-product-first m numbers i x is_m each some i_is is =
-    product-one m i x (take 1 numbers) is_m (All-take (λ number. number < length m.generators) 1 numbers each) is (i_is ∙ same numbers some)
-    (length-take-le 1 numbers some)
-  where
-    same : (xs : List ℕ) → 1 ≤ length xs → get_or xs 0 0 ≡ get_or (take 1 xs) 0 0
-    same [] some = absurd (omega arith)
-    same (x ∷ xs) some = refl
-
 -- the coefficient of a term is an element of the field
 pub coefficient-IsElement : (m : ModuleValue) (word : WordValue) (index coefficient : ℕ) (o : Order) → IsWordIn m word → index < length word →
     coefficient ≡ (get_or word index (0, [])).0 → o ≡ m.order → IsElement o coefficient
@@ -210,19 +159,6 @@ pub numbers-below : (m : ModuleValue) (word : WordValue) (index : ℕ) (numbers 
     numbers ≡ (get_or word index (0, [])).1 → All (λ number. number < length m.generators) numbers
 numbers-below m word index numbers over inside is =
     subst (All (λ number. number < length m.generators)) (sym is) (over.over.generators index (0, []) inside)
-
--- one more term, whose last generator is multiplied as the product is added
-pub value-more_by_product : (m : ModuleValue) (word : WordValue) (index k : ℕ) (sum next x g : MatrixValue) (coefficient last : ℕ) (numbers : List ℕ) → IsModule m →
-    IsWordIn m word → index < length word → IsValueOf m (take index word) sum → coefficient ≡ (get_or word index (0, [])).0 →
-    numbers ≡ (get_or word index (0, [])).1 → k + 1 ≡ length numbers → IsProductOf m (take k numbers) x → last ≡ get_or numbers k 0 → g ≡ generator_of m last →
-    next ≡ matrix_with_product sum coefficient x g → IsValueOf m (take (index + 1) word) next
-value-more_by_product m word index k sum next x g coefficient last numbers is_m over inside is_value coefficient_is numbers_is all h last_is g_is is =
-    value-more m word index sum next (matrix_product x (generator_of m last)) coefficient numbers over inside is_value coefficient_is numbers_is
-    (subst (λ list. IsProductOf m list (matrix_product x (generator_of m last))) (take_all (k + 1) numbers (omega (arith, all)))
-    (product-next m numbers k last x (matrix_product x (generator_of m last)) is_m (numbers-below m word index numbers over inside numbers_is) (omega (arith, all)) last_is h refl))
-    (is ∙ ap (matrix_with_product sum coefficient x) g_is
-    ∙ product_as_multiple sum coefficient x (generator_of m last) (h.field ∙ sym is_value.field) (sym is_value.columns)
-    (h.square.length_is ∙ sym is_value.value.square.length_is))
 
 -- the value of a word is square
 pub value-is_square : (m : ModuleValue) (word : WordValue) (sum : MatrixValue) → IsValueOf m word sum → length sum.rows ≡ sum.cols

@@ -7,3 +7,4 @@ pub mod Terms
 pub mod PointsOfMatrix
 pub mod Products
 pub mod Tested
+pub mod KeptProducts

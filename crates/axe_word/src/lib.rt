@@ -5,6 +5,7 @@ mod drawing;
 mod laws;
 mod limits;
 mod points;
+mod products;
 mod stored;
 mod tested;
 mod value;
@@ -14,6 +15,7 @@ pub use drawing::nth_word;
 pub use laws::{drawn_words_are_words, words_have_one_value};
 pub use limits::limits_are_named;
 pub use points::{MAX_POINTS, Points, few_points, first_point};
+pub use products::Products;
 pub use tested::Tested;
 pub use word::{Term, Word};
 
