@@ -32,7 +32,7 @@ fn answers(rt: &impl Abort, alloc: Global, topic: Topic, line: &str) -> Result<b
 }
 
 /// Asserts that the call of a line answers what the line says, or Memory.
-fn assert_right(rt: &impl Abort, line: &str, answer: Result<bool, TableFault>) {
+pub(crate) fn assert_right(rt: &impl Abort, line: &str, answer: Result<bool, TableFault>) {
     match answer {
         Ok(is_right) => assert!(rt; is_right, "{line}"),
         Err(TableFault::Refused(Refusal::Memory)) => {}

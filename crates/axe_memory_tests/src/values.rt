@@ -12,7 +12,7 @@ use std::alloc::Global;
 use std::process::Abort;
 
 /// The matrices that are written so.
-fn matrices_of(alloc: Global, text: &str) -> Result<Vec<Matrix>, TableFault> {
+pub(crate) fn matrices_of(alloc: Global, text: &str) -> Result<Vec<Matrix>, TableFault> {
     let mut matrices = Vec::new(alloc);
     for matrix in text.split(", ") {
         matrices.push(matrix_of(alloc, matrix)?)?;
