@@ -93,9 +93,9 @@ pub fn decide_with(
 /// What a word says of a module, of which it is one as [`Word::is_word_in`] says: the same as [`decide_at`] tells, and
 /// often sooner. Where there are many points to try, a factor of the word's value, and the words after a number of a
 /// seed, are asked first whether the module is irreducible, so that not all of the points need be tried. Which seed and
-/// number these are changes nothing of the answer: they are those of the word, where it comes from a seed. The number is
-/// at most [`crate::MAX_WORDS`]. The table of irreducible polynomials is as [`decide_with`] takes it. The only refusal is
-/// [`Refusal::Memory`].
+/// number these are changes nothing of the answer: they are those of the word, where it comes from a seed. The number
+/// is at most [`crate::MAX_WORDS`]. The table of irreducible polynomials is as [`decide_with`] takes it. The only
+/// refusal is [`Refusal::Memory`].
 pub fn test_word_of_seed(
     alloc: Global,
     module: &Module,

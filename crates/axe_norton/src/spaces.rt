@@ -170,8 +170,8 @@ fn later_proper_of_all(
     first_proper_left(alloc, module, basis, points)
 }
 
-/// What the first point of a space that generates a proper space generates, where these points are left and those before
-/// them generate everything.
+/// What the first point of a space that generates a proper space generates, where these points are left and those
+/// before them generate everything.
 fn first_proper_left(
     alloc: Global,
     module: &Module,
