@@ -102,8 +102,8 @@ fn said(
     test_word_of_seed(alloc, module, table, &word, seed, number)
 }
 
-/// What the polynomial that these digits name says of a module by a word; nothing where it is not irreducible or doesn't
-/// fit the word's value.
+/// What the polynomial that these digits name says of a module by a word; nothing where it is not irreducible or
+/// doesn't fit the word's value.
 fn said_by_digits(
     alloc: Global,
     module: &Module,

@@ -28,7 +28,7 @@ const POINTS_BASIS: &str = "2: 011/110/100";
 
 const POINTS_FACTORS: &[&str] = &["2: 11/10, 2: 11/01", "2: 1, 2: 1"];
 
-/// The companion matrix of x^10 + x^3 + 1, whose word 0 has 1,023 null vectors.
+/// The companion matrix of x^10 + x^3 + 1: the null space of word 0 has 1,023 points, more than are all tried.
 const TEN: &str =
     "2: 0100000000/0010000000/0001000000/0000100000/0000010000/0000001000/0000000100/0000000010/\
     0000000001/1001000000";
@@ -37,8 +37,8 @@ const TEN_VECTORS: &str =
     "2: 1000000000/0100000000/0010000000/0001000000/0000100000/0000010000/0000001000/0000000100/\
     0000000010/0000000001";
 
-/// The companion matrices of x^6 + x + 1, which is irreducible, and of x^6 + 1, which is not: word 0 of either has 63 null
-/// vectors, so other words are asked before all of them are tried.
+/// The companion matrices of x^6 + x + 1, which is irreducible, and of x^6 + 1, which is not: the null space of word 0
+/// has 63 points in either module, so other words are asked before all of them are tried.
 const SIX: &str = "2: 010000/001000/000100/000010/000001/110000";
 
 const SIX_REDUCIBLE: &str = "2: 010000/001000/000100/000010/000001/100000";

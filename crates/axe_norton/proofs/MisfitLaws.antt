@@ -1,5 +1,5 @@
 -- Rows over a field by their number of entries, and null vectors that are more than the degree of a polynomial.
-use Rattle.std.specs.Prelude.{◌≡◌, ℕ, suc, ◌+◌, ◌<◌, ◌≤◌, List, [], ◌∷◌, ◌++◌, length, get_or, All, Bool, true, false, slice_set, IsTrue}
+use Rattle.std.specs.Prelude.{◌≡◌, ℕ, suc, ◌<◌, ◌≤◌, List, [], ◌∷◌, length, All, Bool, true, false, slice_set}
 use Rattle.std.proofs.lemmas.List.{length-set}
 use Rattle.std.proofs.lemmas.List.Elements.{All-get_or, All-append, All-cons, All-nil}
 use Rattle.axe_algebra.specs.NumberField.{NumberField}
@@ -7,7 +7,7 @@ use Rattle.axe_algebra.specs.Bridge.{field_of, vector_of, matrix_of}
 use Rattle.axe_algebra.specs.ListArithmetic.{combination}
 use Rattle.axe_algebra.specs.Lists.{IsMatrixOver, IsSquareOver}
 use Rattle.axe_algebra.specs.Field.{Field}
-use Rattle.axe_algebra.specs.Vectors.{Vector, Matrix, HasLength, times, zero_vector}
+use Rattle.axe_algebra.specs.Vectors.{Matrix, HasLength, times, zero_vector}
 use Rattle.axe_algebra.specs.Spans.{IsNullVector}
 use Rattle.axe_algebra.specs.SpansOfLists.{IsIndependent}
 use Rattle.axe_algebra.proofs.Exchange.{exchange}
@@ -21,7 +21,7 @@ use Rattle.axe_matrix.specs.Matrices.{MatrixValue, vector_product}
 use Rattle.axe_echelon.specs.Echelons.{EchelonValue, IsEchelon, with_row_where}
 use Rattle.axe_poly.specs.Polys.{PolyValue, IsPoly}
 use Rattle.axe_norton.specs.Misfits.{IsRowLike, AreNullRows}
-use mathlib.Core.Path.{refl, sym, ◌∙◌, ap, subst}
+use mathlib.Core.Path.{sym, ◌∙◌, ap, subst}
 use native.Mathlib.Omega.{arith}
 
 -- ---- rows

@@ -6,19 +6,42 @@ use Rattle.axe_matrix.specs.Matrices.{MatrixValue}
 use Rattle.axe_spin.specs.Modules.{ModuleValue}
 use Rattle.axe_word.specs.PointsOfMatrix.{PointsLeft, points_of}
 use Rattle.axe_norton.specs.Spaces.{GeneratesModule, GeneratesProper, point_of}
-use Rattle.axe_norton.specs.Searches.{FindsProper, FindsFirstOf}
+use Rattle.axe_norton.specs.Searches.{PointsTried, FindsProper, FindsFirstOf}
 use mathlib.Core.Path.{sym, ◌∙◌, ap, subst}
 use native.Mathlib.Omega.{arith}
 use native.Mathlib.Decide.{dec_lt}
 
--- the first points generate everything, and the others are left
-pub record PointsTried (m : ModuleValue) (basis : MatrixValue) (rest : PointsLeft) : Type 0 where
-  pub tried : List (List ℕ)
-  pub order : rest.order ≡ basis.order
-  pub split : points_of basis ≡ tried ++ rest.left
-  pub generate : (i : ℕ) → i < length tried → GeneratesModule m (get_or tried i [])
-
 module _ (m : ModuleValue) (basis : MatrixValue) where
+  -- at first all points are left
+  pub none_tried : (all : PointsLeft) → all ≡ record { order = basis.order; left = points_of basis } → PointsTried m basis all
+  none_tried all is = record {
+    tried = [];
+    order = ap (λ (points : PointsLeft). points.order) is;
+    split = sym (ap (λ (points : PointsLeft). points.left) is);
+    generate = λ i below. absurd (omega arith);
+  }
+
+  -- then all but the first, which generates everything
+  pub first_tried : (all : PointsLeft) → all ≡ record { order = basis.order; left = points_of basis } → (v : List ℕ) (others : List (List ℕ)) → all.left ≡ v ∷ others →
+      (later : PointsLeft) → later.left ≡ others → later.order ≡ all.order → GeneratesModule m (point_of basis 0) → PointsTried m basis later
+  first_tried all is v others next later left order generates = record {
+    tried = v ∷ [];
+    order = order ∙ ap (λ (points : PointsLeft). points.order) is;
+    split = points_are ∙ ap (λ (ps : List (List ℕ)). v ∷ ps) (sym left);
+    generate = at;
+  }
+    where
+      points_are : points_of basis ≡ v ∷ others
+      points_are = sym (ap (λ (points : PointsLeft). points.left) is) ∙ next
+
+      first_is : point_of basis 0 ≡ v
+      first_is = ap (λ (ps : List (List ℕ)). get_or ps 0 []) points_are
+
+      at : (i : ℕ) → i < length (v ∷ []) → GeneratesModule m (get_or (v ∷ []) i [])
+      at i below =
+          let first : i ≡ 0 = omega arith in
+          subst (λ k. GeneratesModule m (get_or (v ∷ []) k [])) (sym first) (subst (GeneratesModule m) first_is generates)
+
   module _ (rest : PointsLeft) (so_far : PointsTried m basis rest) where
     -- a tried point generates everything
     pub tried_generates : (i : ℕ) → i < length so_far.tried → GeneratesModule m (point_of basis i)

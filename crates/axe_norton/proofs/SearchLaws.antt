@@ -146,20 +146,28 @@ found_of_all m basis (Some space) few first = record {
   proper = first.proper;
 }
 
--- the first alone, where there are many
-pub found_of_first : (m : ModuleValue) (basis : MatrixValue) (v : List ℕ) (found : Option MatrixValue) → ¬ (HasFewPoints basis) →
-    0 < length (points_of basis) → v ≡ point_of basis 0 → FindsProper m v found → FindsFirst m basis found
-found_of_first m basis v None many some is generates = λ i tried. at i tried tried.first_or_few
-  where
-    at : (i : ℕ) → IsTried basis i → (i ≡ 0) ⊎ HasFewPoints basis → GeneratesModule m (point_of basis i)
-    at i tried (inl first) = subst (GeneratesModule m) (is ∙ ap (point_of basis) (sym first)) generates
-    at i tried (inr few) = absurd (many few)
-found_of_first m basis v (Some space) many some is proper = record {
+-- the first generates a proper space
+pub found_at_first : (m : ModuleValue) (basis space : MatrixValue) → 0 < length (points_of basis) → GeneratesProper m (point_of basis 0) space → FindsFirst m basis (Some space)
+found_at_first m basis space some proper = record {
   number = 0;
   tried = record { below = some; first_or_few = inl refl };
   before = λ i before. absurd (omega arith);
-  proper = subst (λ (x : List ℕ). GeneratesProper m x space) is proper;
+  proper = proper;
 }
+
+-- the first generates everything, and it alone is tried where there are many
+pub none_of_first : (m : ModuleValue) (basis : MatrixValue) → ¬ (HasFewPoints basis) → GeneratesModule m (point_of basis 0) → FindsFirst m basis None
+none_of_first m basis many generates = λ i tried. at i tried tried.first_or_few
+  where
+    at : (i : ℕ) → IsTried basis i → (i ≡ 0) ⊎ HasFewPoints basis → GeneratesModule m (point_of basis i)
+    at i tried (inl first) = subst (GeneratesModule m) (ap (point_of basis) (sym first)) generates
+    at i tried (inr few) = absurd (many few)
+
+-- the first alone, where there are many
+pub found_of_first : (m : ModuleValue) (basis : MatrixValue) (v : List ℕ) (found : Option MatrixValue) → ¬ (HasFewPoints basis) →
+    0 < length (points_of basis) → v ≡ point_of basis 0 → FindsProper m v found → FindsFirst m basis found
+found_of_first m basis v None many some is generates = none_of_first m basis many (subst (GeneratesModule m) is generates)
+found_of_first m basis v (Some space) many some is proper = found_at_first m basis space some (subst (λ (x : List ℕ). GeneratesProper m x space) is proper)
 
 -- ---- the first point of the null space of a transpose
 

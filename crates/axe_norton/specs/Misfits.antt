@@ -1,5 +1,5 @@
 -- By what a polynomial is seen not to fit a square matrix: null vectors of its value there.
-use Rattle.std.specs.Prelude.{◌≡◌, ℕ, List, length, All}
+use Rattle.std.specs.Prelude.{◌≡◌, ℕ, length, All}
 use Rattle.axe_polynomial_algebra.specs.PolynomialsOfLists.{Annihilates}
 use Rattle.axe_field.specs.Order.{Order}
 use Rattle.axe_field.specs.NumberFields.{number_field}

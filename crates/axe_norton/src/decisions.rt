@@ -1,20 +1,19 @@
 //! What a word says of a module, and what words of a seed decide.
 
-ghost use Rattle.std.specs.Prelude.{◌≡◌, ◌<◌, ◌≤◌, length, IsTrue, None};
+ghost use Rattle.std.specs.Prelude.{◌≡◌, ◌<◌, ◌≤◌, length, None};
 ghost use Rattle.axe_row.specs.Refusals.{Answers};
 ghost use Rattle.axe_matrix.specs.Matrices.{IsMatrix};
 ghost use Rattle.axe_echelon.specs.Echelons.{IsNullSpaceMatrix};
 ghost use Rattle.axe_spin.specs.Modules.{IsModule};
 ghost use Rattle.axe_word.specs.Words.{IsWordIn};
 ghost use Rattle.axe_word.specs.Tested.{IsTested};
-ghost use Rattle.axe_norton.specs.Searches.{IsSquareIn};
-ghost use Rattle.axe_norton.specs.Spaces.{IsIrreducibleModule};
+ghost use Rattle.axe_norton.specs.Searches.{IsSquareIn, IsKnown};
 ghost use Rattle.axe_norton.specs.Verdicts.{last_word, TellsByPoints, Tells, Says, IsTrueOf, Decides, IsTrueVerdict};
 
 use crate::MOST_POINTS;
 use crate::one_vector::test_by_factor;
-use crate::others::is_known_irreducible;
-use crate::spaces::{transposed_point, transposed_space, tried_space};
+use crate::others::known_before_points;
+use crate::spaces::{Known, transposed_point, transposed_space, tried_space};
 use crate::verdicts::{At, Verdict};
 use axe_matrix::{Matrix, Refusal};
 use axe_poly::Irreducibles;
@@ -41,7 +40,7 @@ pub fn decide_at(alloc: Global, module: &Module, word: &Word) -> Result<At, Refu
 {
     let mut table = Irreducibles::new(alloc, *module.field());
     let tested = word.tested(alloc, module)?;
-    test_matrix(alloc, module, &mut table, tested, false)
+    test_matrix(alloc, module, &mut table, tested, Known::Nothing)
 }
 
 /// What the words 0 to `words` of a seed decide of a module: what the first of them says that doesn't leave the module
@@ -94,9 +93,9 @@ pub fn decide_with(
 /// What a word says of a module, of which it is one as [`Word::is_word_in`] says: the same as [`decide_at`] tells, and
 /// often sooner. Where there are many points to try, a factor of the word's value, and the words after a number of a
 /// seed, are asked first whether the module is irreducible, so that not all of the points need be tried. Which seed and
-/// number these are changes nothing of the answer: they are those of the word, where it comes from a seed. The number is
-/// at most [`crate::MAX_WORDS`]. The table of irreducible polynomials is as [`decide_with`] takes it. The only refusal is
-/// [`Refusal::Memory`].
+/// number these are changes nothing of the answer: they are those of the word, where it comes from a seed. The number
+/// is at most [`crate::MAX_WORDS`]. The table of irreducible polynomials is as [`decide_with`] takes it. The only
+/// refusal is [`Refusal::Memory`].
 pub fn test_word_of_seed(
     alloc: Global,
     module: &Module,
@@ -113,21 +112,20 @@ pub fn test_word_of_seed(
     ensures same_field { table.new.order ≡ «module».now.order }
 {
     let tested = word.tested(alloc, module)?;
-    let irreducible = is_known_irreducible(alloc, module, table, &tested, seed, number)?;
-    test_matrix(alloc, module, table, tested, irreducible)
+    let known = known_before_points(alloc, module, table, &tested, seed, number)?;
+    test_matrix(alloc, module, table, tested, known)
 }
 
-/// What a square matrix, as the value of a word, and its null space tell of a module, which may be known to be
-/// irreducible: what the points tell, and where these leave the module open, what the first small factor that fits the
-/// matrix tells.
+/// What a square matrix, as the value of a word, and its null space tell of a module, of which something may be known:
+/// what the points tell, and where these leave the module open, what the first small factor that fits the matrix tells.
 pub(crate) fn test_matrix(
     alloc: Global,
     module: &Module,
     table: &mut Irreducibles,
     tested: Tested,
-    irreducible: bool,
+    known: Known,
 ) -> Result<At, Refusal>
-    requires irreducible { IsTrue irreducible → IsIrreducibleModule «module».now }
+    requires known { IsKnown «module».now tested.null_space known }
     requires square { IsSquareIn «module».now tested.matrix }
     requires tested { IsTested tested }
     requires field { table.old.order ≡ «module».now.order }
@@ -136,22 +134,22 @@ pub(crate) fn test_matrix(
     ensures same_field { table.new.order ≡ «module».now.order }
 {
     let Tested { matrix, null_space } = tested;
-    match test_points(alloc, module, &matrix, null_space, irreducible)? {
+    match test_points(alloc, module, &matrix, null_space, known)? {
         At::Left => test_by_factor(alloc, module, table, &matrix),
         told => Ok(told),
     }
 }
 
-/// What the points of the null spaces of a square matrix and of its transpose tell of a module, which may be known to
-/// be irreducible.
+/// What the points of the null spaces of a square matrix and of its transpose tell of a module, of which something may
+/// be known.
 fn test_points(
     alloc: Global,
     module: &Module,
     matrix: &Matrix,
     null_space: Matrix,
-    irreducible: bool,
+    known: Known,
 ) -> Result<At, Refusal>
-    requires irreducible { IsTrue irreducible → IsIrreducibleModule «module».now }
+    requires known { IsKnown «module».now null_space known }
     requires square { IsSquareIn «module».now matrix.now }
     requires null_space { IsNullSpaceMatrix matrix.now null_space }
     requires null_formed { IsMatrix null_space }
@@ -163,7 +161,7 @@ fn test_points(
         return Ok(At::Left);
     }
     let first = first_point(alloc, &null_space)?;
-    if let Some(space) = tried_space(alloc, module, null_space, few, irreducible)? {
+    if let Some(space) = tried_space(alloc, module, null_space, few, known)? {
         return Ok(At::Reducible(space));
     }
     let transposed = transposed_point(alloc, matrix)?;

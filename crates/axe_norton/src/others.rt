@@ -2,14 +2,14 @@
 
 ghost use Rattle.std.specs.Prelude.{◌≡◌, ◌≤◌, IsTrue, None};
 ghost use Rattle.axe_row.specs.Refusals.{Answers};
-ghost use Rattle.axe_norton.specs.Searches.{IsTestedWord};
+ghost use Rattle.axe_norton.specs.Searches.{IsTestedWord, IsKnown};
 ghost use Rattle.axe_norton.specs.Spaces.{IsIrreducibleModule};
 ghost use Rattle.axe_norton.specs.Verdicts.{last_word, IsTrueOf};
 
 use crate::MOST_POINTS;
 use crate::decisions::test_matrix;
 use crate::one_vector::test_by_factor;
-use crate::spaces::proper_space;
+use crate::spaces::{Known, proper_space};
 use crate::verdicts::At;
 use axe_matrix::Refusal;
 use axe_poly::Irreducibles;
@@ -24,10 +24,42 @@ const MANY_POINTS: usize = 32;
 /// How many words are asked.
 const WORDS_ASKED: u32 = 8;
 
+/// What is known of a module before the points of the null space of the value of a word of a seed are tried. It is
+/// looked for only where all of them, and that are many, would have to be tried. Then the first is spun; where it
+/// generates everything, the value of the word and some words after its number are asked whether the module is
+/// irreducible.
+pub(crate) fn known_before_points(
+    alloc: Global,
+    module: &Module,
+    table: &mut Irreducibles,
+    tested: &Tested,
+    seed: u64,
+    number: u32,
+) -> Result<Known, Refusal>
+    requires value { IsTestedWord «module».now tested.now }
+    requires number { number ≤ last_word }
+    requires field { table.old.order ≡ «module».now.order }
+    ensures known { Answers None (IsKnown «module».now tested.now.null_space) result }
+    ensures same_field { table.new.order ≡ «module».now.order }
+{
+    let (order, rows) = (module.field().order(), tested.null_space.rows());
+    if rows == 0 || few_points(order, rows, MANY_POINTS) || !few_points(order, rows, MOST_POINTS) {
+        return Ok(Known::Nothing);
+    }
+    let first = first_point(alloc, &tested.null_space)?;
+    if let Some(space) = proper_space(alloc, module, first)? {
+        return Ok(Known::FirstProper(space));
+    }
+    if is_seen_irreducible(alloc, module, table, tested, seed, number)? {
+        Ok(Known::Irreducible)
+    } else {
+        Ok(Known::FirstGenerates)
+    }
+}
+
 /// Whether the value of a word of a seed, by a small factor, or one of some words after its number show a module to be
-/// irreducible. They are asked only where all points of the null space of that value, of which there are many, would
-/// have to be tried, and where the first of them generates everything.
-pub(crate) fn is_known_irreducible(
+/// irreducible.
+fn is_seen_irreducible(
     alloc: Global,
     module: &Module,
     table: &mut Irreducibles,
@@ -38,22 +70,16 @@ pub(crate) fn is_known_irreducible(
     requires value { IsTestedWord «module».now tested.now }
     requires number { number ≤ last_word }
     requires field { table.old.order ≡ «module».now.order }
-    ensures known { Answers None
-        (λ known. IsTrue known → IsIrreducibleModule «module».now) result }
+    ensures seen { Answers None (λ seen. IsTrue seen → IsIrreducibleModule «module».now) result }
     ensures same_field { table.new.order ≡ «module».now.order }
 {
-    let (order, rows) = (module.field().order(), tested.null_space.rows());
-    if rows == 0 || few_points(order, rows, MANY_POINTS) || !few_points(order, rows, MOST_POINTS) {
-        return Ok(false);
-    }
-    let first = first_point(alloc, &tested.null_space)?;
-    if proper_space(alloc, module, first)?.is_some() {
-        return Ok(false);
-    }
     match test_by_factor(alloc, module, table, &tested.matrix)? {
         At::Irreducible { .. } => Ok(true),
         At::Reducible(_) => Ok(false),
-        At::Left => others_show_irreducible(alloc, module, table, seed, number, rows / 2),
+        At::Left => {
+            let most = tested.null_space.rows() / 2;
+            others_show_irreducible(alloc, module, table, seed, number, most)
+        }
     }
 }
 
@@ -102,5 +128,5 @@ fn test_other(
     if tested.null_space.rows() > most {
         return test_by_factor(alloc, module, table, &tested.matrix);
     }
-    test_matrix(alloc, module, table, tested, false)
+    test_matrix(alloc, module, table, tested, Known::Nothing)
 }

@@ -8,9 +8,9 @@ ghost use Rattle.axe_row.specs.Refusals.{Answers};
 ghost use Rattle.axe_matrix.specs.Matrices.{IsMatrix};
 ghost use Rattle.axe_reduction.specs.Solutions.{IsInvertibleMatrix};
 ghost use Rattle.axe_word.specs.PointsOfMatrix.{points_of};
-ghost use Rattle.axe_norton.specs.Spaces.{HasFewPoints, IsIrreducibleModule};
+ghost use Rattle.axe_norton.specs.Spaces.{GeneratesModule, HasFewPoints, point_of};
 ghost use Rattle.axe_norton.specs.Searches.{IsReducedIn, IsSquareIn, FindsProper, FindsFirstOf, FindsFirst};
-ghost use Rattle.axe_norton.specs.Searches.{FindsProperSpace};
+ghost use Rattle.axe_norton.specs.Searches.{FindsProperSpace, PointsTried, IsKnown};
 ghost use Rattle.axe_norton.specs.Searches.{IsTransposedPointRow, FindsTransposed};
 
 use axe_action::{annihilator, dual};
@@ -19,6 +19,19 @@ use axe_matrix::{Matrix, Refusal, Row};
 use axe_spin::{Module, generated_space};
 use axe_word::{Points, first_point};
 use std::alloc::Global;
+
+/// What is known of a module before the points of a space are tried.
+#[derive(Drop)]
+pub(crate) enum Known {
+    /// Nothing.
+    Nothing,
+    /// The first point generates everything.
+    FirstGenerates,
+    /// The module is irreducible.
+    Irreducible,
+    /// The first point generates a proper space, of which this is the reduced basis.
+    FirstProper(Matrix),
+}
 
 /// The space that a vector other than zero generates in a module, or `None` where that is everything.
 fn proper_subspace(alloc: Global, module: &Module, vector: Row) -> Result<Option<Subspace>, Refusal>
@@ -56,27 +69,29 @@ pub(crate) fn proper_space(
 }
 
 /// What the first tried point of a space that generates a proper space generates, or `None` where each tried point
-/// generates everything, as in a module that is known to be irreducible, where none need be tried.
+/// generates everything. What is known is not looked for again: in an irreducible module no point need be tried.
 pub(crate) fn tried_space(
     alloc: Global,
     module: &Module,
     basis: Matrix,
     few: bool,
-    irreducible: bool,
+    known: Known,
 ) -> Result<Option<Matrix>, Refusal>
     requires basis { IsReducedIn «module».now basis }
     requires well_formed { IsMatrix basis }
     requires some_row { 0 < length basis.rows }
     requires few { IsTrue few ↔ HasFewPoints basis }
-    requires irreducible { IsTrue irreducible → IsIrreducibleModule «module».now }
+    requires known { IsKnown «module».now basis known }
     ensures { Answers None (FindsFirst «module».now basis) result }
 {
     // `dim` is called for what it ensures beside the number: that the module is one.
     prove!(basis.cols() == module.dim());
-    if irreducible {
-        return Ok(None);
+    match known {
+        Known::Nothing => first_proper_space(alloc, module, basis, few),
+        Known::FirstGenerates => later_proper_space(alloc, module, basis, few),
+        Known::Irreducible => Ok(None),
+        Known::FirstProper(space) => Ok(Some(space)),
     }
-    first_proper_space(alloc, module, basis, few)
 }
 
 /// What the first of the points of a space that generates a proper space in a module generates, as its reduced basis,
@@ -102,6 +117,25 @@ fn first_proper_space(
     proper_space(alloc, module, point)
 }
 
+/// The same where the first point generates everything.
+fn later_proper_space(
+    alloc: Global,
+    module: &Module,
+    basis: Matrix,
+    few: bool,
+) -> Result<Option<Matrix>, Refusal>
+    requires basis { IsReducedIn «module».now basis }
+    requires well_formed { IsMatrix basis }
+    requires few { IsTrue few ↔ HasFewPoints basis }
+    requires first { GeneratesModule «module».now (point_of basis 0) }
+    ensures { Answers None (FindsFirst «module».now basis) result }
+{
+    if few {
+        return later_proper_of_all(alloc, module, &basis);
+    }
+    Ok(None)
+}
+
 /// What the first of all points of a space that generates a proper space generates.
 fn first_proper_of_all(
     alloc: Global,
@@ -113,7 +147,43 @@ fn first_proper_of_all(
     requires few { HasFewPoints basis.now }
     ensures { Answers None (FindsFirstOf «module».now (points_of basis.now)) result }
 {
-    for point in Points::new(alloc, basis) {
+    first_proper_left(alloc, module, basis, Points::new(alloc, basis))
+}
+
+/// The same where the first point generates everything, so that it need not be spun.
+fn later_proper_of_all(
+    alloc: Global,
+    module: &Module,
+    basis: &Matrix,
+) -> Result<Option<Matrix>, Refusal>
+    requires basis { IsReducedIn «module».now basis.now }
+    requires well_formed { IsMatrix basis.now }
+    requires few { HasFewPoints basis.now }
+    requires first { GeneratesModule «module».now (point_of basis.now 0) }
+    ensures { Answers None (FindsFirstOf «module».now (points_of basis.now)) result }
+{
+    let mut points = Points::new(alloc, basis);
+    if let Some(first) = points.next() {
+        // Where there is no memory for it no point is left.
+        first?;
+    }
+    first_proper_left(alloc, module, basis, points)
+}
+
+/// What the first point of a space that generates a proper space generates, where these points are left and those
+/// before them generate everything.
+fn first_proper_left(
+    alloc: Global,
+    module: &Module,
+    basis: &Matrix,
+    points: Points<'_>,
+) -> Result<Option<Matrix>, Refusal>
+    requires basis { IsReducedIn «module».now basis.now }
+    requires well_formed { IsMatrix basis.now }
+    requires tried { PointsTried «module».now basis.now points }
+    ensures { Answers None (FindsFirstOf «module».now (points_of basis.now)) result }
+{
+    for point in points {
         let space = proper_space(alloc, module, point?)?;
         if space.is_some() {
             return Ok(space);

@@ -1,4 +1,4 @@
-use Rattle.std.proofs.Common.{◌+◌, length}
+use Rattle.std.proofs.Common.{◌+◌}
 use Rattle.axe_polynomial_algebra.specs.PolynomialsOfLists.{degree_of}
 use Rattle.axe_norton.specs.Misfits.{IsRowLike}
 use Rattle.axe_norton.proofs.misfits.coefficients.Given as goal

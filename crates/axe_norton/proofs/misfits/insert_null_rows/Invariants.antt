@@ -1,4 +1,3 @@
-use Rattle.std.proofs.Common.{◌+◌, length}
 use Rattle.axe_norton.specs.Misfits.{AreNullRows, IsRowLike}
 use Rattle.axe_norton.proofs.misfits.insert_null_rows.Given as goal
 

@@ -1,4 +1,4 @@
-use Rattle.std.proofs.Common.{◌+◌, length}
+use Rattle.std.proofs.Common.{length}
 use Rattle.axe_norton.specs.Misfits.{IsRowLike}
 use Rattle.axe_norton.proofs.misfits.take_multiple.Given as goal
 

@@ -1,4 +1,3 @@
-use Rattle.std.proofs.Common.{◌+◌, length}
 use Rattle.axe_norton.specs.Misfits.{IsRowLike}
 use Rattle.axe_norton.proofs.misfits.unit_times.Given as goal
 

@@ -1,7 +1,6 @@
-use Rattle.std.proofs.Common.{rules, false, refl}
+use Rattle.std.proofs.Common.{rules}
 use Rattle.axe_word.specs.Words.{IsWordIn}
 use Rattle.axe_norton.proofs.DecisionLaws.{said_by, truth_told, first_truth_told}
-use Rattle.axe_norton.proofs.SearchLaws.{not_both}
 use Rattle.axe_norton.proofs.TestedLaws.{value_square}
 use Rattle.axe_norton.proofs.others.test_other.Goals as goal
 
@@ -15,9 +14,6 @@ returns-then-rows-most-clause-holds c =
     let is_word : IsWordIn c.args.module.now word = search rules in
     first_truth_told c.args.module.now c.in_ok-tested.tested c.test_by_factor.result c.test_by_factor.ensures.well_formed
     (record { word = word; is_word = is_word; is_tested = c.in_ok-tested.ensures }) c.test_by_factor.ensures.tells
-
-pub test_matrix-requires-clause-irreducible : goal.test_matrix-requires-clause-irreducible
-test_matrix-requires-clause-irreducible c = λ known. absurd (not_both false known refl)
 
 pub test_matrix-requires-clause-square : goal.test_matrix-requires-clause-square
 test_matrix-requires-clause-square c = value_square c.args.module.now c.nth_word-word.result c.in_ok-tested.tested.matrix c.in_ok-tested.ensures.value

@@ -1,12 +1,11 @@
-use Rattle.std.proofs.Common.{◌<◌, length, ap, arith}
+use Rattle.std.proofs.Common.{◌<◌, List, ℕ, length, ap, subst, arith}
 use Rattle.axe_row.specs.Rows.{RowValue}
 use Rattle.axe_word.proofs.ReducedNullSpaces.{null_is_reduced}
-use Rattle.axe_norton.specs.declared.verdicts.At.TheVariants.{Irreducible}
+use Rattle.axe_norton.specs.Spaces.{GeneratesModule, GeneratesProper}
 use Rattle.axe_norton.specs.Searches.{IsReducedIn}
 use Rattle.axe_norton.proofs.TestedLaws.{value_square, null_in_module}
 use Rattle.axe_norton.proofs.SearchLaws.{some_point_in, point_fits, point_nonzero}
-use Rattle.axe_norton.proofs.DecisionLaws.{first_is_true}
-use Rattle.axe_norton.proofs.others.is_known_irreducible.Goals as goal
+use Rattle.axe_norton.proofs.others.known_before_points.Goals as goal
 
 pub first_point-requires-clause-reduced : goal.first_point-requires-clause-reduced
 first_point-requires-clause-reduced c =
@@ -34,7 +33,12 @@ proper_space-requires-clause-nonzero c =
     (let more : 0 < length c.args.tested.now.null_space.rows = omega (arith, c.rows-rows.ensures.count, c.if-rows-eq0.false) in more))
     (ap (λ (r : RowValue). r.entries) c.in_ok-first.ensures.first)
 
-pub returns-in-Irreducible-clause-known : goal.returns-in-Irreducible-clause-known
-returns-in-Irreducible-clause-known c =
-    λ known. first_is_true c.args.module.now c.args.tested.now (Irreducible c.in-Irreducible.poly c.in-Irreducible.vector) c.test_by_factor.ensures.well_formed c.requires.value
-    (rw c.in-Irreducible.is at c.in_ok-test_by_factor.ensures.tells)
+pub returns-in-Some-clause-known : goal.returns-in-Some-clause-known
+returns-in-Some-clause-known c =
+    subst (λ (v : List ℕ). GeneratesProper c.args.module.now v c.in-Some.space) (ap (λ (r : RowValue). r.entries) c.in_ok-first.ensures.first)
+    (rw c.in-Some.is at c.in_ok-space.ensures)
+
+pub returns-else-branch-clause-known : goal.returns-else-branch-clause-known
+returns-else-branch-clause-known c =
+    subst (GeneratesModule c.args.module.now) (ap (λ (r : RowValue). r.entries) c.in_ok-first.ensures.first)
+    (rw c.in_default.is at c.in_ok-space.ensures)
