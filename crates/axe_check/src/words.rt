@@ -19,7 +19,7 @@ use axe_norton::{At, decide_poly_where_fits, test_word_of_seed};
 use axe_poly::{Irreducibles, Poly};
 use axe_report::{Reason, ReportFactor};
 use axe_spin::Module;
-use axe_word::{Word, nth_word};
+use axe_word::{Products, Word, nth_word};
 use std::alloc::Global;
 
 /// The standard forms of the constituents, which are over one field, where the words that the report names show all of
@@ -99,7 +99,8 @@ fn said(
             return Ok(at);
         }
     }
-    test_word_of_seed(alloc, module, table, &word, seed, number)
+    let mut products = Products::new(alloc);
+    test_word_of_seed(alloc, module, table, &mut products, &word, seed, number)
 }
 
 /// What the polynomial that these digits name says of a module by a word; nothing where it is not irreducible or

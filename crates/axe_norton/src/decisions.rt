@@ -6,6 +6,7 @@ ghost use Rattle.axe_matrix.specs.Matrices.{IsMatrix};
 ghost use Rattle.axe_echelon.specs.Echelons.{IsNullSpaceMatrix};
 ghost use Rattle.axe_spin.specs.Modules.{IsModule};
 ghost use Rattle.axe_word.specs.Words.{IsWordIn};
+ghost use Rattle.axe_word.specs.KeptProducts.{AreProductsOf};
 ghost use Rattle.axe_word.specs.Tested.{IsTested};
 ghost use Rattle.axe_norton.specs.Searches.{IsSquareIn, IsKnown};
 ghost use Rattle.axe_norton.specs.Verdicts.{last_word, TellsByPoints, Tells, Says, IsTrueOf, Decides, IsTrueVerdict};
@@ -18,7 +19,7 @@ use crate::verdicts::{At, Verdict};
 use axe_matrix::{Matrix, Refusal};
 use axe_poly::Irreducibles;
 use axe_spin::Module;
-use axe_word::{Tested, Word, few_points, first_point, nth_word};
+use axe_word::{Products, Tested, Word, few_points, first_point, nth_word};
 use std::alloc::Global;
 
 /// What a word says of a module, of which it is one as [`Word::is_word_in`] says, by its value x (Norton's test: Parker
@@ -73,9 +74,11 @@ pub fn decide_with(
 {
     let order = module.field().order();
     let gens = module.gens() as u8;
+    // Words share products of generators.
+    let mut products = Products::new(alloc);
     for number in 0..words + 1 {
         let word = nth_word(seed, number, order, gens);
-        match test_word_of_seed(alloc, module, table, &word, seed, number)? {
+        match test_word_of_seed(alloc, module, table, &mut products, &word, seed, number)? {
             At::Irreducible { poly, vector } => {
                 return Ok(Verdict::Irreducible {
                     word: number,
@@ -94,25 +97,29 @@ pub fn decide_with(
 /// often sooner. Where there are many points to try, a factor of the word's value, and the words after a number of a
 /// seed, are asked first whether the module is irreducible, so that not all of the points need be tried. Which seed and
 /// number these are changes nothing of the answer: they are those of the word, where it comes from a seed. The number
-/// is at most [`crate::MAX_WORDS`]. The table of irreducible polynomials is as [`decide_with`] takes it. The only
+/// is at most [`crate::MAX_WORDS`]. The table of irreducible polynomials is as [`decide_with`] takes it. The products of
+/// generators are those that were kept for other words of this module; those that are made are kept, too. The only
 /// refusal is [`Refusal::Memory`].
 pub fn test_word_of_seed(
     alloc: Global,
     module: &Module,
     table: &mut Irreducibles,
+    products: &mut Products,
     word: &Word,
     seed: u64,
     number: u32,
 ) -> Result<At, Refusal>
     requires word { IsWordIn «module».now word.now }
     requires number { number ≤ last_word }
+    requires products { AreProductsOf «module».now products.old }
     requires field { table.old.order ≡ «module».now.order }
     ensures says { Answers None (Says «module».now word.now) result }
     ensures holds { Answers None (IsTrueOf «module».now) result }
     ensures same_field { table.new.order ≡ «module».now.order }
+    ensures products { AreProductsOf «module».now products.new }
 {
-    let tested = word.tested(alloc, module)?;
-    let known = known_before_points(alloc, module, table, &tested, seed, number)?;
+    let tested = word.tested_with(alloc, module, products)?;
+    let known = known_before_points(alloc, module, table, products, &tested, seed, number)?;
     test_matrix(alloc, module, table, tested, known)
 }
 

@@ -2,6 +2,7 @@
 
 ghost use Rattle.std.specs.Prelude.{◌≡◌, ◌≤◌, IsTrue, None};
 ghost use Rattle.axe_row.specs.Refusals.{Answers};
+ghost use Rattle.axe_word.specs.KeptProducts.{AreProductsOf};
 ghost use Rattle.axe_norton.specs.Searches.{IsTestedWord, IsKnown};
 ghost use Rattle.axe_norton.specs.Spaces.{IsIrreducibleModule};
 ghost use Rattle.axe_norton.specs.Verdicts.{last_word, IsTrueOf};
@@ -14,7 +15,7 @@ use crate::verdicts::At;
 use axe_matrix::Refusal;
 use axe_poly::Irreducibles;
 use axe_spin::Module;
-use axe_word::{Tested, few_points, first_point, nth_word};
+use axe_word::{Products, Tested, few_points, first_point, nth_word};
 use std::alloc::Global;
 
 /// Where more points than these would have to be tried, other words are asked first: what these words take is less,
@@ -32,15 +33,18 @@ pub(crate) fn known_before_points(
     alloc: Global,
     module: &Module,
     table: &mut Irreducibles,
+    products: &mut Products,
     tested: &Tested,
     seed: u64,
     number: u32,
 ) -> Result<Known, Refusal>
     requires value { IsTestedWord «module».now tested.now }
     requires number { number ≤ last_word }
+    requires products { AreProductsOf «module».now products.old }
     requires field { table.old.order ≡ «module».now.order }
     ensures known { Answers None (IsKnown «module».now tested.now.null_space) result }
     ensures same_field { table.new.order ≡ «module».now.order }
+    ensures products { AreProductsOf «module».now products.new }
 {
     let (order, rows) = (module.field().order(), tested.null_space.rows());
     if rows == 0 || few_points(order, rows, MANY_POINTS) || !few_points(order, rows, MOST_POINTS) {
@@ -50,7 +54,7 @@ pub(crate) fn known_before_points(
     if let Some(space) = proper_space(alloc, module, first)? {
         return Ok(Known::FirstProper(space));
     }
-    if is_seen_irreducible(alloc, module, table, tested, seed, number)? {
+    if is_seen_irreducible(alloc, module, table, products, tested, seed, number)? {
         Ok(Known::Irreducible)
     } else {
         Ok(Known::FirstGenerates)
@@ -63,22 +67,25 @@ fn is_seen_irreducible(
     alloc: Global,
     module: &Module,
     table: &mut Irreducibles,
+    products: &mut Products,
     tested: &Tested,
     seed: u64,
     number: u32,
 ) -> Result<bool, Refusal>
     requires value { IsTestedWord «module».now tested.now }
     requires number { number ≤ last_word }
+    requires products { AreProductsOf «module».now products.old }
     requires field { table.old.order ≡ «module».now.order }
     ensures seen { Answers None (λ seen. IsTrue seen → IsIrreducibleModule «module».now) result }
     ensures same_field { table.new.order ≡ «module».now.order }
+    ensures products { AreProductsOf «module».now products.new }
 {
     match test_by_factor(alloc, module, table, &tested.matrix)? {
         At::Irreducible { .. } => Ok(true),
         At::Reducible(_) => Ok(false),
         At::Left => {
             let most = tested.null_space.rows() / 2;
-            others_show_irreducible(alloc, module, table, seed, number, most)
+            others_show_irreducible(alloc, module, table, products, seed, number, most)
         }
     }
 }
@@ -89,18 +96,21 @@ fn others_show_irreducible(
     alloc: Global,
     module: &Module,
     table: &mut Irreducibles,
+    products: &mut Products,
     seed: u64,
     number: u32,
     most: usize,
 ) -> Result<bool, Refusal>
     requires number { number ≤ last_word }
+    requires products { AreProductsOf «module».now products.old }
     requires field { table.old.order ≡ «module».now.order }
     ensures known { Answers None
         (λ known. IsTrue known → IsIrreducibleModule «module».now) result }
     ensures same_field { table.new.order ≡ «module».now.order }
+    ensures products { AreProductsOf «module».now products.new }
 {
     for other in number + 1..number + 1 + WORDS_ASKED {
-        match test_other(alloc, module, table, seed, other, most)? {
+        match test_other(alloc, module, table, products, seed, other, most)? {
             At::Irreducible { .. } => return Ok(true),
             At::Reducible(_) => return Ok(false),
             At::Left => {}
@@ -115,16 +125,19 @@ fn test_other(
     alloc: Global,
     module: &Module,
     table: &mut Irreducibles,
+    products: &mut Products,
     seed: u64,
     number: u32,
     most: usize,
 ) -> Result<At, Refusal>
+    requires products { AreProductsOf «module».now products.old }
     requires field { table.old.order ≡ «module».now.order }
     ensures holds { Answers None (IsTrueOf «module».now) result }
     ensures same_field { table.new.order ≡ «module».now.order }
+    ensures products { AreProductsOf «module».now products.new }
 {
     let word = nth_word(seed, number, module.field().order(), module.gens() as u8);
-    let tested = word.tested(alloc, module)?;
+    let tested = word.tested_with(alloc, module, products)?;
     if tested.null_space.rows() > most {
         return test_by_factor(alloc, module, table, &tested.matrix);
     }

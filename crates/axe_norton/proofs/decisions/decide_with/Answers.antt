@@ -1,4 +1,4 @@
-use Rattle.std.proofs.Common.{◌≡◌, suc, ◌+◌, arith}
+use Rattle.std.proofs.Common.{◌≡◌, suc, ◌+◌, arith, rules}
 use Rattle.axe_norton.proofs.OpenLaws.{many_where_undecided}
 use Rattle.axe_norton.proofs.DecisionLaws.{none_before, open_more, decided_here, word_drawn, undecided}
 use Rattle.axe_norton.proofs.decisions.decide_with.Goals as goal
@@ -6,6 +6,7 @@ use Rattle.axe_norton.proofs.decisions.decide_with.Goals as goal
 pub loop-number-init : goal.loop-number-init
 loop-number-init c = record {
   field = c.requires.field;
+  products = search rules;
   before = none_before c.args.module.now c.args.seed;
 }
 
@@ -15,6 +16,7 @@ test_word_of_seed-requires-clause-field c = c.loop-number.invariant.field
 pub loop-number-preserved : goal.loop-number-preserved
 loop-number-preserved c = record {
   field = c.test_word_of_seed.ensures.same_field;
+  products = c.test_word_of_seed.ensures.products;
   before = open_more c.args.module.now c.args.seed c.loop-number.number _ c.nth_word-word.result
       (let e : c.loop-number.number + 1 ≡ suc c.loop-number.number = omega arith in e) c.loop-number.invariant.before
       (word_drawn c.args.module.now c.args.seed c.loop-number.number _ _ c.nth_word-word.result c.nth_word-word.ensures.drawn (cc) (cc))

@@ -1,9 +1,11 @@
 use Rattle.std.proofs.Common.{◌≡◌}
+use Rattle.axe_word.specs.KeptProducts.{AreProductsOf}
 use Rattle.axe_norton.specs.Verdicts.{LeaveOpenBefore}
 use Rattle.axe_norton.proofs.decisions.decide_with.Given as goal
 
 abbrev pub invariant-loop-number : goal.invariant-loop-number
 invariant-loop-number l = record {
   field : l.table.order ≡ l.module.order;
+  products : AreProductsOf l.module l.products;
   before : LeaveOpenBefore l.module l.seed l.number;
 }
