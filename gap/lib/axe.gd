@@ -8,7 +8,7 @@
 ##  text is the line that it printed.
 ##
 
-#V  InfoAxe . . . . . at level 1 the commands are shown that are run, and why an answer is `fail`, or `false` by AxeVerify
+#V  InfoAxe . . . . . . . at level 1 the commands are shown that are run, and why an answer is `fail`, or `false`
 DeclareInfoClass( "InfoAxe" );
 
 #F  AxeExecutable( [path] ) . . . . . . . . . . . the program that is run; with an argument that one is, from then on
@@ -21,8 +21,8 @@ DeclareGlobalFunction( "AxeWriteMatrix" );
 #F  AxeReadMatrix( file )
 DeclareGlobalFunction( "AxeReadMatrix" );
 #F  AxeWriteModule( name, module )
-##  A name that ends in `.axm` is that of one file with all generators, as `axe chop -m` reads it; else they go to the files
-##  NAME.1, NAME.2 and so on.
+##  A name that ends in `.axm` is that of one file with all generators, as `axe chop -m` reads it; else they go to the
+##  files NAME.1, NAME.2 and so on.
 DeclareGlobalFunction( "AxeWriteModule" );
 #F  AxeReadModule( name[, number] ) . . . . . . .  all generators, or where each has its file the first of them
 ##  Without a number those are as many as there are without a gap.
@@ -30,8 +30,8 @@ DeclareGlobalFunction( "AxeReadModule" );
 #F  AxeReadReport( file ) . . . . . . . . . . . .  what a report of `axe chop` says, as a record
 ##  It has `version`, 1 or 2; `field`, `dimension`, `generators`, `seed` and `words`; `names`, `dimensions`,
 ##  `multiplicities` and `witnesses` of the factors; and `series`, the position of each place's factor, from the bottom.
-##  A witness has `word`, the number of the word by which the factor was seen to be irreducible, and `poly`, the digits of
-##  the polynomial that decided at its value, the constant first, or `fail`; in version 1 both are `fail`.
+##  A witness has `word`, the number of the word by which the factor was seen to be irreducible, and `poly`, the digits
+##  of the polynomial that decided at its value, the constant first, or `fail`; in version 1 both are `fail`.
 DeclareGlobalFunction( "AxeReadReport" );
 #F  AxeReadSeries( name ) . . . . . . . . . . . .  all that `axe chop NAME` wrote, as the record that AxeChop answers
 ##  For a name that ends in `.axm` it is what `axe chop -m` wrote.

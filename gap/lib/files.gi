@@ -26,10 +26,12 @@ BindGlobal( "AXE_GeneratorFile", { name, number } -> Concatenation( name, ".", S
 # What the name of a module that is kept in one file ends with
 BindGlobal( "AXE_Ending", ".axm" );
 
-# The name of a module as its parts: that by which the program knows it, and the ending where it is kept in one file, else
-# the empty string. The files beside a module are named after the first part, and its constituents are kept as it is.
+# The name of a module as its parts: that by which the program knows it, and the ending where it is kept in one file,
+# else the empty string. Files beside a module are named after the first part, and its constituents are kept as it is.
 BindGlobal( "AXE_PartsOfName", function( name )
-  if EndsWith( name, AXE_Ending ) then return [ name{ [ 1 .. Length( name ) - Length( AXE_Ending ) ] }, AXE_Ending ]; fi;
+  local length;
+  length := Length( name ) - Length( AXE_Ending );
+  if EndsWith( name, AXE_Ending ) then return [ name{ [ 1 .. length ] }, AXE_Ending ]; fi;
   return [ name, "" ];
 end );
 
@@ -122,7 +124,9 @@ end );
 BindGlobal( "AXE_Witness", function( words )
   local poly;
   poly := fail;
-  if Length( words ) = 6 and StartsWith( words[ 6 ], "poly=" ) then poly := words[ 6 ]{ [ 6 .. Length( words[ 6 ] ) ] }; fi;
+  if Length( words ) = 6 and StartsWith( words[ 6 ], "poly=" ) then
+    poly := words[ 6 ]{ [ 6 .. Length( words[ 6 ] ) ] };
+  fi;
   if Length( words ) < 5 then return rec( word := fail, poly := poly ); fi;
   return rec( word := AXE_NumberAfter( "word=", words[ 5 ] ), poly := poly );
 end );

@@ -34,6 +34,8 @@ BindGlobal( "AXE_OfMatrix", function( matrix, field, line )
     [ line ], folder -> AxeReadMatrix( Concatenation( folder, "answer" ) ) );
 end );
 
-InstallGlobalFunction( AxeInverse, { matrix, field... } -> AXE_OfMatrix( matrix, field, "axe ziv matrix answer" ) );
+InstallGlobalFunction( AxeInverse,
+  { matrix, field... } -> AXE_OfMatrix( matrix, field, "axe ziv matrix answer" ) );
 
-InstallGlobalFunction( AxeNullspaceMat, { matrix, field... } -> AXE_OfMatrix( matrix, field, "axe znu matrix answer" ) );
+InstallGlobalFunction( AxeNullspaceMat,
+  { matrix, field... } -> AXE_OfMatrix( matrix, field, "axe znu matrix answer" ) );

@@ -125,8 +125,8 @@ BindGlobal( "AXE_RowsOfBytes", function( bytes, q, rows, columns )
   return List( parts, i -> all{ [ i + 1 .. i + columns ] } );
 end );
 
-# What the header of a packed file says, or `fail` where this is none with these four letters: the order of the field, the
-# byte after it, and the two numbers.
+# What the header of a packed file says, or `fail` where this is none with these four letters: the order of the field,
+# the byte after it, and the two numbers.
 BindGlobal( "AXE_HeaderOf", function( text, letters )
   local bytes, number;
   if Length( text ) < 16 or text{ [ 1 .. 4 ] } <> letters then return fail; fi;
@@ -141,7 +141,8 @@ BindGlobal( "AXE_Unpacked", function( text )
   local header, found;
   header := AXE_HeaderOf( text, "AXP1" );
   if header = fail or header[ 2 ] <> 0 or header[ 4 ] = 0 then return fail; fi;
-  found := AXE_RowsOfBytes( INTLIST_STRING( text{ [ 17 .. Length( text ) ] }, 1 ), header[ 1 ], header[ 3 ], header[ 4 ] );
+  found := INTLIST_STRING( text{ [ 17 .. Length( text ) ] }, 1 );
+  found := AXE_RowsOfBytes( found, header[ 1 ], header[ 3 ], header[ 4 ] );
   if found = fail then return fail; fi;
   if header[ 3 ] > 0 then found := ImmutableMatrix( GF( header[ 1 ] ), found ); fi;
   return [ GF( header[ 1 ] ), found ];

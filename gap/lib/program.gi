@@ -43,8 +43,8 @@ BindGlobal( "AXE_Problem", function( status, printed )
   return Concatenation( "axe ended with status ", String( status ) );
 end );
 
-# The beginning of a script that runs in a folder: there `axe` is the program, also where its path is one from here, `here`
-# is GAP's own folder, and what is printed on standard error goes to the file `problem`.
+# The beginning of a script that runs in a folder: there `axe` is the program, also where its path is one from here,
+# `here` is GAP's own folder, and what is printed on standard error goes to the file `problem`.
 BindGlobal( "AXE_Beginning", function( folder )
   return Concatenation( "set -e\nhere=$PWD\nprogram=", AXE_Quoted( AxeExecutable() ), "\n",
     "case $program in /*) ;; *) program=$PWD/$program ;; esac\naxe() { \"$program\" \"$@\"; }\n",
@@ -56,10 +56,10 @@ BindGlobal( "AXE_Line", function( words... )
   return JoinStringsWithSeparator( Filtered( List( words, String ), word -> word <> "" ), " " );
 end );
 
-# Runs command lines one after another, up to the first that fails, in a fresh folder that holds the files: pairs of a name
-# and bytes. Then `take` is given the folder's path with a slash, and what it answers is the answer; or it is `fail` where
-# a section stayed undecided, and `false` where a series was not verified. The folder is removed in any case. All lines run
-# in one shell, as GAP takes longer to start a process than most of them take.
+# Runs command lines one after another, up to the first that fails, in a fresh folder that holds the files: pairs of a
+# name and bytes. Then `take` is given the folder's path with a slash, and what it answers is the answer; or it is
+# `fail` where a section stayed undecided, and `false` where a series was not verified. The folder is removed in any case. All
+# lines run in one shell, as GAP takes longer to start a process than most of them take.
 BindGlobal( "AXE_Run", function( files, lines, take )
   local folder, script, status, printed, result, file, line;
   AxeExecutable();

@@ -23,9 +23,9 @@ BindGlobal( "AXE_Option", function( name )
   return AXE_Line( Concatenation( "--", name ), AXE_Quoted( String( ValueOption( name ) ) ) );
 end );
 
-# The name of the module of a call, which is kept in one file, as each constituent is. The program has the disk take each file
-# that it writes: so a chop of M24 on 24 points took 0.13 to 0.17 seconds, and 0.20 to 0.23 where each generator has a file; one
-# of 16 generators of dimension 12, with 16 files for each constituent, 0.17 and 0.45 to 0.57.
+# The name of the module of a call, which is kept in one file, as each constituent is. The program has the disk take
+# each file that it writes: so a chop of M24 on 24 points took 0.13 to 0.17 seconds, and 0.20 to 0.23 where each generator
+# had a file; one of 16 generators of dimension 12 took 0.16 to 0.17, and 0.45 to 0.57.
 BindGlobal( "AXE_Module", Concatenation( "module", AXE_Ending ) );
 
 # chops a module; `take` is given its name
@@ -63,8 +63,8 @@ InstallGlobalFunction( AxeReadSeries, function( name )
     multiplicities := report.multiplicities, series := report.series, names := report.names, report := report );
 end );
 
-# The files that AxeReadSeries reads, the report last, as pairs of a name and bytes. What the record and its report both have
-# is the record's.
+# The files that AxeReadSeries reads, the report last, as pairs of a name and bytes. What the record and its report both
+# have is the record's.
 BindGlobal( "AXE_SeriesFiles", function( name, series )
   local report, part, factors;
   report := ShallowCopy( series.report );
@@ -140,7 +140,8 @@ BindGlobal( "AXE_VerifyFiles", function( name )
     file := name{ [ Last( slashes ) + 1 .. Length( name ) ] };
   fi;
   if not IsDirectoryPath( folder ) = true then ErrorNoReturn( "there is no folder ", folder ); fi;
-  return AXE_Run( [], [ "cd \"$here\"", AXE_Line( "cd", AXE_Quoted( folder ) ), AXE_LineToVerify( file ) ], ReturnTrue );
+  return AXE_Run( [], [ "cd \"$here\"", AXE_Line( "cd", AXE_Quoted( folder ) ), AXE_LineToVerify( file ) ],
+    ReturnTrue );
 end );
 
 InstallGlobalFunction( AxeVerify, function( module, series... )

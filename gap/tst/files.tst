@@ -36,7 +36,8 @@ gap> there_and_back := function( module )
 >   return AxeReadModule( at( "random.axm" ) ) = module;
 > end;;
 gap> shapes := [ [ 1, 1 ], [ 1, 17 ], [ 2, 40 ], [ 16, 9 ], [ 3, 81 ] ];;
-gap> ForAll( [ 2, 3, 4, 5, 7, 8, 9 ], q -> ForAll( shapes, shape -> there_and_back( random( q, shape[ 1 ], shape[ 2 ] ) ) ) );
+gap> ForAll( [ 2, 3, 4, 5, 7, 8, 9 ],
+>   q -> ForAll( shapes, shape -> there_and_back( random( q, shape[ 1 ], shape[ 2 ] ) ) ) );
 true
 
 # they are those that the program makes of texts
@@ -51,7 +52,9 @@ gap> sound := StringFile( at( "one.axm" ) );;
 gap> is_refused := text -> AXE_UnpackedModule( text ) = fail;;
 gap> is_refused( sound );
 false
-gap> ForAll( [ 0 .. Length( sound ) - 1 ], i -> is_refused( sound{ [ 1 .. i ] } ) ) and is_refused( Concatenation( sound, "x" ) );
+gap> ForAll( [ 0 .. Length( sound ) - 1 ], i -> is_refused( sound{ [ 1 .. i ] } ) );
+true
+gap> is_refused( Concatenation( sound, "x" ) );
 true
 gap> is_refused_changed := function( at, byte )
 >   local text;
@@ -59,7 +62,8 @@ gap> is_refused_changed := function( at, byte )
 >   text[ at ] := CHAR_INT( byte );
 >   return is_refused( text );
 > end;;
-gap> changes := [ [ 4, 49 ], [ 5, 6 ], [ 5, 3 ], [ 6, 0 ], [ 6, 2 ], [ 6, 17 ], [ 7, 1 ], [ 9, 0 ], [ 10, 17 ], [ 13, 1 ], [ 17, 1 ] ];;
+gap> changes := [ [ 4, 49 ], [ 5, 6 ], [ 5, 3 ], [ 6, 0 ], [ 6, 2 ], [ 6, 17 ], [ 7, 1 ], [ 9, 0 ], [ 10, 17 ],
+>   [ 13, 1 ], [ 17, 1 ] ];;
 gap> Set( changes, change -> CallFuncList( is_refused_changed, change ) );
 [ true ]
 gap> AxeReadModule( "/no_such.axm" );
@@ -80,13 +84,16 @@ gap> series = AxeChop( module );
 true
 gap> AXE_TextOfReport( AxeReadReport( at( "wreath.rep" ) ) ) = StringFile( at( "shown" ) );
 true
-gap> shell( "mkdir whole && cp wreath.axm whole && cd whole && axe chop -m wreath && rm wreath.axm && [ ! -e wreath1a.1 ]" );
+gap> shell( "mkdir whole && cp wreath.axm whole && cd whole && axe chop -m wreath && [ ! -e wreath1a.1 ]" );
 0
 gap> AxeReadSeries( at( "whole/wreath.axm" ) ) = series;
 true
 
 # a series that is written is the one that is read, and the program verifies it
-gap> for name in [ "again", "again.axm" ] do AxeWriteModule( at( name ), module ); AxeWriteSeries( at( name ), series ); od;
+gap> for name in [ "again", "again.axm" ] do
+>   AxeWriteModule( at( name ), module );
+>   AxeWriteSeries( at( name ), series );
+> od;
 gap> ForAll( [ "again", "again.axm" ], name -> AxeReadSeries( at( name ) ) = series );
 true
 gap> shell( "axe verify again && axe verify -m again && cmp again.rep wreath.rep && cmp again.bas wreath.bas" );
