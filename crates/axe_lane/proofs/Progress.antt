@@ -61,6 +61,30 @@ module _ (f : ℕ → ℕ → ℕ) where
   combined_to_block k (suc n) (suc m) (x ∷ xs) (y ∷ ys) s h e =
       ap (λ rest. f x y ∷ rest) (combined_to_block k n m xs ys (omega arith) (omega arith) (omega arith))
 
+  all_entries : (k n : ℕ) (xs ys : List ℕ) → length xs ≡ k → length ys ≡ length xs
+      → put_chunk zero (combined_to n xs ys) (zip2 f (take k xs) (take k ys)) ≡ zip2 f xs ys
+  all_entries zero zero [] [] h e = refl
+  all_entries zero (suc n) [] [] h e = refl
+  all_entries (suc k) n [] ys h e = absurd (omega arith)
+  all_entries zero n (x ∷ xs) ys h e = absurd (omega arith)
+  all_entries k n [] (y ∷ ys) h e = absurd (omega arith)
+  all_entries k n (x ∷ xs) [] h e = absurd (omega arith)
+  all_entries (suc k) zero (x ∷ xs) (y ∷ ys) h e = ap (λ rest. f x y ∷ rest) (all_entries k zero xs ys (omega arith) (omega arith))
+  all_entries (suc k) (suc n) (x ∷ xs) (y ∷ ys) h e = ap (λ rest. f x y ∷ rest) (all_entries k n xs ys (omega arith) (omega arith))
+
+  -- the last block, of k entries, which may overlap with what is combined before it
+  pub last_block : (k m n : ℕ) (xs ys now : List ℕ) → now ≡ combined_to n xs ys → m ≤ n → length xs ≡ m + k → length ys ≡ length xs
+      → put_chunk m now (zip2 f (chunk m k xs) (chunk m k ys)) ≡ zip2 f xs ys
+  last_block k m n xs ys now so_far from room e = ap (λ zs. put_chunk m zs (zip2 f (chunk m k xs) (chunk m k ys))) so_far ∙ at m n xs ys from room e
+    where
+      at : (m n : ℕ) (xs ys : List ℕ) → m ≤ n → length xs ≡ m + k → length ys ≡ length xs
+          → put_chunk m (combined_to n xs ys) (zip2 f (chunk m k xs) (chunk m k ys)) ≡ zip2 f xs ys
+      at zero n xs ys from room e = all_entries k n xs ys (omega arith) e
+      at (suc m) zero xs ys from room e = absurd (omega arith)
+      at (suc m) (suc n) [] ys from room e = absurd (omega arith)
+      at (suc m) (suc n) (x ∷ xs) [] from room e = absurd (omega arith)
+      at (suc m) (suc n) (x ∷ xs) (y ∷ ys) from room e = ap (λ rest. f x y ∷ rest) (at m n xs ys (omega arith) (omega arith) (omega arith))
+
   -- the last entry, the last two and the last three, of which two are taken as a block
   module _ (n : ℕ) (xs ys now : List ℕ) (so_far : now ≡ combined_to n xs ys) (e : length ys ≡ length xs) where
     pub last_one : length xs ≡ n + 1 → set now n (f (get_or now n 0) (get_or ys n 0)) ≡ zip2 f xs ys

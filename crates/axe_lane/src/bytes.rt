@@ -48,13 +48,18 @@ pub fn add4_bytes(dst: &mut [u8], a: &[u8], b: &[u8], c: &[u8], d: &[u8], p: u8)
     ensures sum { dst.new ≡ sum_modulo p (sum_modulo p (sum_modulo p (sum_modulo p dst.old a.now) b.now) c.now) d.now }
     ensures below { AreDigits p dst.new }
 {
-    let whole = dst.len() / BLOCK;
+    if dst.len() < BLOCK {
+        add4_one_by_one(dst, a, b, c, d, p);
+        return;
+    }
+    let end = dst.len() - BLOCK;
+    // The last block may overlap with the one before it: it is summed first and put last.
+    let last = sum4_of(dst, a, b, c, d, p, end);
+    let whole = (dst.len() - 1) / BLOCK;
     for block in 0..whole {
         add4_block(dst, a, b, c, d, p, block * BLOCK);
     }
-    for at in whole * BLOCK..dst.len() {
-        dst[at] = reduced_byte(dst[at] + a[at] + b[at] + c[at] + d[at], p);
-    }
+    last.copy_to_slice(&mut dst[end..]);
 }
 
 /// Multiplies a row by a number over the field of a prime order p: each byte d becomes m d modulo p.
@@ -142,8 +147,8 @@ fn scale_over<const P: u8>(dst: &mut [u8], m: u8)
     }
 }
 
-/// Adds M times another row over the field of order `P`: whole blocks by vectors, and then the bytes that are left one
-/// by one.
+/// Adds M times another row over the field of order `P`: block by block, where there is one. The last block ends with
+/// the row, so that it may overlap with the one before it: it is summed first and put last.
 fn add_multiple<const M: u8, const P: u8>(dst: &mut [u8], src: &[u8])
     requires prime { IsSmallPrime P }
     requires factor { (0 < M) × (M < P) }
@@ -152,11 +157,32 @@ fn add_multiple<const M: u8, const P: u8>(dst: &mut [u8], src: &[u8])
     requires src_below { AreDigits P src.now }
     ensures { dst.new ≡ sum_with_multiple_modulo P dst.old M src.now }
 {
-    let whole = dst.len() / BLOCK;
+    if dst.len() < BLOCK {
+        add_multiple_one_by_one::<M, P>(dst, src);
+        return;
+    }
+    let end = dst.len() - BLOCK;
+    let last = sum_of::<M, P>(
+        u8x32::from_slice(&dst[end..]),
+        u8x32::from_slice(&src[end..]),
+    );
+    let whole = (dst.len() - 1) / BLOCK;
     for block in 0..whole {
         add_block::<M, P>(dst, src, block * BLOCK);
     }
-    for at in whole * BLOCK..dst.len() {
+    last.copy_to_slice(&mut dst[end..]);
+}
+
+/// Adds M times another row over the field of order `P`, byte by byte.
+fn add_multiple_one_by_one<const M: u8, const P: u8>(dst: &mut [u8], src: &[u8])
+    requires prime { IsSmallPrime P }
+    requires factor { (0 < M) × (M < P) }
+    requires fits { length src.now ≡ length dst.old }
+    requires dst_below { AreDigits P dst.old }
+    requires src_below { AreDigits P src.now }
+    ensures { dst.new ≡ sum_with_multiple_modulo P dst.old M src.now }
+{
+    for at in 0..dst.len() {
         dst[at] = (dst[at] + M * src[at]) % P;
     }
 }
@@ -194,6 +220,26 @@ fn add_block<const M: u8, const P: u8>(dst: &mut [u8], src: &[u8], at: usize)
     sum.copy_to_slice(&mut dst[at..]);
 }
 
+/// Adds four rows over the field of a prime order p to a fifth, as [`add4_bytes`] does, byte by byte.
+fn add4_one_by_one(dst: &mut [u8], a: &[u8], b: &[u8], c: &[u8], d: &[u8], p: u8)
+    requires prime { IsSmallPrime p }
+    requires a_fits { length a.now ≡ length dst.old }
+    requires b_fits { length b.now ≡ length dst.old }
+    requires c_fits { length c.now ≡ length dst.old }
+    requires d_fits { length d.now ≡ length dst.old }
+    requires dst_below { AreDigits p dst.old }
+    requires a_below { AreDigits p a.now }
+    requires b_below { AreDigits p b.now }
+    requires c_below { AreDigits p c.now }
+    requires d_below { AreDigits p d.now }
+    ensures sum { dst.new ≡ sum_modulo p (sum_modulo p (sum_modulo p (sum_modulo p dst.old a.now) b.now) c.now) d.now }
+    ensures below { AreDigits p dst.new }
+{
+    for at in 0..dst.len() {
+        dst[at] = reduced_byte(dst[at] + a[at] + b[at] + c[at] + d[at], p);
+    }
+}
+
 /// The block of a sum of five rows from an index on.
 #[inline(always)]
 fn add4_block(dst: &mut [u8], a: &[u8], b: &[u8], c: &[u8], d: &[u8], p: u8, at: usize)
@@ -212,11 +258,32 @@ fn add4_block(dst: &mut [u8], a: &[u8], b: &[u8], c: &[u8], d: &[u8], p: u8, at:
         (sum_modulo p (sum_modulo p (sum_modulo p (chunk at BLOCK a.now) (chunk at BLOCK b.now))
         (chunk at BLOCK c.now)) (chunk at BLOCK d.now))) }
 {
+    let sum = sum4_of(dst, a, b, c, d, p, at);
+    sum.copy_to_slice(&mut dst[at..]);
+}
+
+/// The sum of the blocks of five rows from an index on.
+#[inline(always)]
+fn sum4_of(dst: &[u8], a: &[u8], b: &[u8], c: &[u8], d: &[u8], p: u8, at: usize) -> u8x32
+    requires prime { IsSmallPrime p }
+    requires dst_has_block { at + BLOCK ≤ length dst.now }
+    requires a_has_block { at + BLOCK ≤ length a.now }
+    requires b_has_block { at + BLOCK ≤ length b.now }
+    requires c_has_block { at + BLOCK ≤ length c.now }
+    requires d_has_block { at + BLOCK ≤ length d.now }
+    requires dst_below { AreDigits p dst.now }
+    requires a_below { AreDigits p a.now }
+    requires b_below { AreDigits p b.now }
+    requires c_below { AreDigits p c.now }
+    requires d_below { AreDigits p d.now }
+    ensures { result ≡ sum_modulo p (chunk at BLOCK dst.now)
+        (sum_modulo p (sum_modulo p (sum_modulo p (chunk at BLOCK a.now) (chunk at BLOCK b.now))
+        (chunk at BLOCK c.now)) (chunk at BLOCK d.now)) }
+{
     let two = u8x32::from_slice(&a[at..]) + u8x32::from_slice(&b[at..]);
     let four = two + u8x32::from_slice(&c[at..]) + u8x32::from_slice(&d[at..]);
     let sum = u8x32::from_slice(&dst[at..]) + four;
-    let reduced = reduced(reduced(reduced(sum, 4 * p), 2 * p), p);
-    reduced.copy_to_slice(&mut dst[at..]);
+    reduced(reduced(reduced(sum, 4 * p), 2 * p), p)
 }
 
 /// A sum of five bytes below a prime p modulo p: it is below 8 p.

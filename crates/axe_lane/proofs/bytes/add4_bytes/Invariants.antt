@@ -5,6 +5,3 @@ use Rattle.axe_lane.proofs.bytes.add4_bytes.Given as goal
 
 abbrev pub invariant-loop-block : goal.invariant-loop-block
 invariant-loop-block l = l.dst ≡ combined_to (plus l.p) (l.block * 32) l.fn.dst (four (plus l.p) l.a l.b l.c l.d)
-
-abbrev pub invariant-loop-at : goal.invariant-loop-at
-invariant-loop-at l = l.dst ≡ combined_to (plus l.p) l.at l.fn.dst (four (plus l.p) l.a l.b l.c l.d)

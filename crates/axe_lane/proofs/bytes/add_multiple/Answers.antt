@@ -1,9 +1,8 @@
-use Rattle.std.proofs.Common.{◌≡◌, ℕ, ◌+◌, ◌*◌, ◌/◌, ◌%◌, ◌<◌, length, get_or, set, refl, ap, sym, subst, ◌∙◌, arith}
+use Rattle.std.proofs.Common.{ℕ, ◌+◌, ◌-◌, ◌*◌, ◌%◌, ◌<◌, length, refl, ap, sym, subst, ◌∙◌, arith}
 use Rattle.std.specs.Simd.Lanes.{chunk, put_chunk, zip2}
 use Rattle.std.specs.List.{All}
-use Rattle.std.proofs.lemmas.List.Elements.{All-get_or}
-use Rattle.axe_lane.proofs.Progress.{combined_to, combined_to_block, combined_to_more, combined_to_end, All-combined_to}
-use Rattle.axe_lane.proofs.ResidueLaws.{small_primes, sum_is_byte, below_mod}
+use Rattle.axe_lane.proofs.Progress.{combined_to_block, last_block, All-combined_to}
+use Rattle.axe_lane.proofs.ResidueLaws.{small_primes, below_mod}
 use Rattle.axe_lane.proofs.bytes.add_multiple.Goals as goal
 
 pub loop-block-init : goal.loop-block-init
@@ -24,31 +23,9 @@ loop-block-preserved g c =
     ∙ ap (λ xs. put_chunk n xs (zip2 f (chunk n 32 xs) (chunk n 32 c.args.src.now))) c.loop-block.invariant
     ∙ combined_to_block f 32 n ((c.loop-block.block + 1) * 32) c.args.dst.now c.args.src.now (omega arith) (omega arith) c.requires.fits
 
-pub loop-at-init : goal.loop-at-init
-loop-at-init g c =
-    let f : ℕ → ℕ → ℕ = λ x y. (x + g.row.M * y) % g.row.P in
-    let e : c.loop-block.block ≡ length c.args.dst.now / 32 = omega arith in
-    c.loop-block.invariant ∙ ap (λ b. combined_to f (b * 32) c.args.dst.now c.args.src.now) e
-
-pub overflow_add-dst : goal.overflow_add-dst
-overflow_add-dst g c =
-    let p = g.row.P in
-    let m = g.row.M in
-    let n = c.loop-at.at in
-    let few = small_primes p c.requires.prime in
-    let combined = subst (All (λ x. x < p)) (sym c.loop-at.invariant) (All-combined_to (λ x y. (x + m * y) % p) (λ x. x < p) (λ x y. below_mod p (x + m * y) few.0) n c.args.dst.now c.args.src.now c.requires.dst_below) in
-    let x_below : get_or c.loop-at.dst n 0 < p = All-get_or (λ x. x < p) c.loop-at.dst n 0 (omega arith) combined in
-    let y_below : get_or c.args.src.now n 0 < p = All-get_or (λ x. x < p) c.args.src.now n 0 (omega arith) c.requires.src_below in
-    record { fits = sum_is_byte p m (get_or c.loop-at.dst n 0) (get_or c.args.src.now n 0) few.1 c.requires.factor.1 x_below y_below }
-
-pub loop-at-preserved : goal.loop-at-preserved
-loop-at-preserved g c =
-    let f : ℕ → ℕ → ℕ = λ x y. (x + g.row.M * y) % g.row.P in
-    let n = c.loop-at.at in
-    ap (λ xs. set xs n (f (get_or xs n 0) (get_or c.args.src.now n 0))) c.loop-at.invariant
-    ∙ combined_to_more f n c.args.dst.now c.args.src.now (omega arith) c.requires.fits
-
 pub returns : goal.returns
 returns g c =
-    c.loop-at.invariant
-    ∙ combined_to_end (λ x y. (x + g.row.M * y) % g.row.P) c.loop-at.at c.args.dst.now c.args.src.now (omega arith) c.requires.fits
+    let f : ℕ → ℕ → ℕ = λ x y. (x + g.row.M * y) % g.row.P in
+    let m = length c.args.dst.now - 32 in
+    ap (put_chunk m c.loop-block.dst) c.sum_of-last.ensures
+    ∙ last_block f 32 m (c.loop-block.block * 32) c.args.dst.now c.args.src.now c.loop-block.dst c.loop-block.invariant (omega arith) (omega arith) c.requires.fits

@@ -4,6 +4,3 @@ use Rattle.axe_lane.proofs.bytes.add_multiple.Given as goal
 
 abbrev pub invariant-loop-block : goal.invariant-loop-block
 invariant-loop-block g l = l.dst ≡ combined_to (λ x y. (x + g.row.M * y) % g.row.P) (l.block * 32) l.fn.dst l.src
-
-abbrev pub invariant-loop-at : goal.invariant-loop-at
-invariant-loop-at g l = l.dst ≡ combined_to (λ x y. (x + g.row.M * y) % g.row.P) l.at l.fn.dst l.src
