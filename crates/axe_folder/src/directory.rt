@@ -31,9 +31,9 @@ const MOST_INTERRUPTIONS: u8 = 100;
 /// directory (it is empty, `.` or `..`, or has a slash or a zero byte) has no file: `get` answers Missing, `put`
 /// Device and `remove` Ok, and none of them asks the file system. So no call names a file outside the directory.
 ///
-/// `put` never leaves a file half replaced: it writes a new file beside it, named `.NAME.NUMBER`, and renames that. What
-/// killed processes left of such files stays, up to a hundred of them; then those go that are older than a day. The
-/// new file has the permissions of the old one. A link to a file is replaced, and what it leads to stays as it is;
+/// `put` never leaves a file half replaced: it writes a new file beside it, named `.NAME.NUMBER`, and renames that.
+/// What killed processes left of such files stays, up to a hundred of them; then those go that are older than a day.
+/// The new file has the permissions of the old one. A link to a file is replaced, and what it leads to stays as it is;
 /// `get` follows it. What may not be written to is Device, and so is a directory that takes no new file. A FIFO or a
 /// device takes the bytes as they come.
 #[derive(Drop)]
@@ -94,8 +94,9 @@ fn is_long_ago(date: io::Result<SystemTime>, now: SystemTime) -> bool {
     }
 }
 
-/// Writes all bytes to a new file, by one call of the system: a file that takes fewer at once is at the end of its disk, or
-/// at the limit that the process has on the size of files (`ulimit -f`), where a further call would end it by a signal.
+/// Writes all bytes to a new file, by one call of the system: a file that takes fewer at once is at the end of its disk,
+/// or at the limit that the process has on the size of files (`ulimit -f`), where a further call would end it by a
+/// signal.
 fn write_at_once<F: Write>(file: &mut F, bytes: &[u8]) -> io::Result<()>
     ensures { OnOk result (Appends (F.contents file.old) (F.contents file.new) bytes.now) }
 {
@@ -179,8 +180,8 @@ impl<R: Files + AllocGlobal + Drop> DirFolder<R> {
         self.path_of(beside.as_str())?.ok_or(FolderFault::Device)
     }
 
-    /// An empty new file beside the file of this name, and its path. Where as many stand there as may be, those go first
-    /// that killed runs left long ago.
+    /// An empty new file beside the file of this name, and its path. Where as many stand there as may be, those go
+    /// first that killed runs left long ago.
     fn new_beside(&self, name: &str) -> Result<(PathBuf, R::File), FolderFault>
         ensures { IfErr result IsWriteFault }
     {
