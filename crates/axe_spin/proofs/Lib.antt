@@ -2,6 +2,7 @@ pub mod ModuleLaws
 pub mod ZeroRows
 pub mod SeedLaws
 pub mod SpunLaws
+pub mod OriginLaws
 pub mod SpaceLaws
 pub mod GeneratedLaws
 pub mod StandardLaws

@@ -46,7 +46,7 @@ with_value_before f n x t below = ap (λ b. cond b x (f t)) (ne_eqb t n (λ e. o
 
 module _ (m : ModuleValue) where
   -- the rows are as many more, and the images of the old ones stay
-  image_of_old : (rows : List (List ℕ)) (row : List ℕ) (r i : ℕ) → r < length rows → image_of_row m (rows ++ row ∷ []) r i ≡ image_of_row m rows r i
+  pub image_of_old : (rows : List (List ℕ)) (row : List ℕ) (r i : ℕ) → r < length rows → image_of_row m (rows ++ row ∷ []) r i ≡ image_of_row m rows r i
   image_of_old rows row r i below =
       ap (λ (x : List ℕ). combination (number_field m.order) m.dim x (get_or m.generators i [])) (get_or_append_left rows (row ∷ []) [] r below)
 

@@ -3,5 +3,6 @@ pub mod Modules
 pub mod Generators
 pub mod Spinning
 pub mod Spun
+pub mod Origins
 pub mod Spaces
 pub mod SpinLaws

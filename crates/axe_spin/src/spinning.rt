@@ -1,80 +1,100 @@
 //! Spinning: rows and the images of rows under the generators of a module, taken in order, until their span is
 //! invariant.
 
-ghost use Rattle.std.specs.Prelude.{◌≡◌, ◌+◌, ◌<◌, length, None};
+ghost use Rattle.std.specs.Prelude.{◌≡◌, ◌+◌, ◌<◌, length, None, if◌then◌else◌};
 ghost use Rattle.axe_row.specs.Refusals.{Answers};
 ghost use Rattle.axe_matrix.specs.Matrices.{IsMatrix};
-ghost use Rattle.axe_spin.specs.Spun.{IsSpanOf, IsOffered, IsSpunMatrix, SpinsOn};
+ghost use Rattle.axe_spin.specs.Origins.{HaveOrigins};
+ghost use Rattle.axe_spin.specs.Spun.{IsSpanOf, IsOffered, IsSpunMatrix, SpinsOn, with_row};
 
 use crate::module::Module;
 use axe_echelon::Subspace;
 use axe_matrix::{Matrix, Refusal, Row};
 use std::alloc::Global;
 
-/// Appends a row to independent rows, and enlarges their span by it, where it is not in that span.
+/// Where a row of a standard basis after the first comes from: it is the image of an earlier row under a generator.
+#[derive(Clone, Copy)]
+pub struct Origin {
+    /// The number of the earlier row, counted from 0.
+    pub source: usize,
+    /// The number of the generator, counted from 0.
+    pub generator: usize,
+}
+
+/// Appends a row to independent rows, and enlarges their span by it, where it is not in that span. Tells whether it was
+/// appended.
 pub(crate) fn offer(
     alloc: Global,
     span: &mut Subspace,
     rows: &mut Matrix,
     row: Row,
-) -> Result<(), Refusal>
+) -> Result<bool, Refusal>
     requires well_formed { IsMatrix rows.old }
     requires span { IsSpanOf span.old rows.old }
     requires field { row.order ≡ rows.old.order }
     requires fits { length row.entries ≡ rows.old.cols }
     ensures offered { Answers None (λ _. IsOffered rows.old row.entries rows.new) result }
+    ensures told { Answers None
+        (λ appended. rows.new ≡ (if appended then with_row rows.old row.entries else rows.old)) result }
     ensures span { Answers None (λ _. IsSpanOf span.new rows.new) result }
     ensures well_formed { Answers None (λ _. IsMatrix rows.new) result }
 {
     let copy = row.copy(alloc)?;
-    if span.insert(copy)? {
+    let outside = span.insert(copy)?;
+    if outside {
         rows.append(row)?;
     }
-    Ok(())
+    Ok(outside)
 }
 
 /// Spins independent rows in a module: takes the rows in turn, and for each the generators in order; an image that is
-/// not in the span so far is appended.
+/// not in the span so far is appended, and its origin to the origins.
 pub(crate) fn spin(
     alloc: Global,
     module: &Module,
     span: &mut Subspace,
     rows: &mut Matrix,
+    origins: &mut Vec<Origin>,
 ) -> Result<(), Refusal>
     requires well_formed { IsMatrix rows.old }
     requires span { IsSpanOf span.old rows.old }
     requires field { rows.old.order ≡ «module».now.order }
     requires fits { rows.old.cols ≡ «module».now.dim }
+    requires origins { HaveOrigins «module».now rows.old.rows origins.old.items }
     ensures spun { Answers None (λ _. IsSpunMatrix «module».now rows.old rows.new) result }
     ensures span { Answers None (λ _. IsSpanOf span.new rows.new) result }
     ensures well_formed { Answers None (λ _. IsMatrix rows.new) result }
+    ensures origins { Answers None (λ _. HaveOrigins «module».now rows.new.rows origins.new.items) result }
 {
     // There are no more independent rows than columns.
     for source in 0..span.cols() {
         if source == rows.rows() {
             break;
         }
-        take_images(alloc, module, span, rows, source)?;
+        take_images(alloc, module, span, rows, origins, source)?;
     }
     Ok(())
 }
 
-/// Offers the images of one row under the generators, in order.
+/// Offers the images of one row under the generators, in order, and keeps the origins of those that are appended.
 fn take_images(
     alloc: Global,
     module: &Module,
     span: &mut Subspace,
     rows: &mut Matrix,
+    origins: &mut Vec<Origin>,
     source: usize,
 ) -> Result<(), Refusal>
     requires well_formed { IsMatrix rows.old }
     requires span { IsSpanOf span.old rows.old }
     requires field { rows.old.order ≡ «module».now.order }
     requires fits { rows.old.cols ≡ «module».now.dim }
+    requires origins { HaveOrigins «module».now rows.old.rows origins.old.items }
     requires within { source < length rows.old.rows }
     ensures taken { Answers None (λ _. SpinsOn «module».now rows.old rows.new source 0 (source + 1) 0) result }
     ensures span { Answers None (λ _. IsSpanOf span.new rows.new) result }
     ensures well_formed { Answers None (λ _. IsMatrix rows.new) result }
+    ensures origins { Answers None (λ _. HaveOrigins «module».now rows.new.rows origins.new.items) result }
 {
     for number in 0..module.gens() {
         // Once the rows span everything, no image is new.
@@ -82,7 +102,12 @@ fn take_images(
             break;
         }
         let image = module.generator(number).vec_mul(alloc, rows.row(source))?;
-        offer(alloc, span, rows, image)?;
+        if offer(alloc, span, rows, image)? {
+            origins.push(Origin {
+                source,
+                generator: number,
+            })?;
+        }
     }
     Ok(())
 }

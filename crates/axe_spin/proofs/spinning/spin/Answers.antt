@@ -8,6 +8,7 @@ loop-source-init c = record {
   span = c.requires.span;
   well_formed = c.requires.well_formed;
   within = omega arith;
+  origins = c.requires.origins;
 }
 
 pub loop-source-preserved : goal.loop-source-preserved
@@ -21,6 +22,7 @@ loop-source-preserved c =
       span = c.in_ok-take_images.ensures.span;
       well_formed = c.in_ok-take_images.ensures.well_formed;
       within = more;
+      origins = c.in_ok-take_images.ensures.origins;
     }
 
 pub returns-after-loop-source-clause-spun : goal.returns-after-loop-source-clause-spun

@@ -1,4 +1,4 @@
-use Rattle.std.proofs.Common.{◌≡◌, ◌<◌, ◌≤◌, ◌+◌, length, ap, sym, ◌∙◌, arith}
+use Rattle.std.proofs.Common.{◌≡◌, ◌<◌, ◌≤◌, ◌+◌, [], ◌∷◌, ◌++◌, length, ap, sym, ◌∙◌, arith, rules}
 use Rattle.axe_algebra.specs.ListArithmetic.{combination}
 use Rattle.axe_field.specs.NumberFields.{number_field}
 use Rattle.axe_row.specs.Rows.{RowValue}
@@ -6,6 +6,8 @@ use Rattle.axe_matrix.specs.Matrices.{MatrixValue}
 use Rattle.axe_row.proofs.CombinationLaws.{length-combination}
 use Rattle.axe_spin.specs.Spun.{image_of_row}
 use Rattle.axe_spin.proofs.SpunLaws.{spins_nowhere, spins_on, spins_to_next, spins_to_row, spins_to_row_of_full}
+use Rattle.axe_spin.proofs.OriginLaws.{origins_of_new, origins_of_old}
+use Rattle.axe_spin.proofs.spinning.take_images.Goals.{then-branch+in_ok-push, else-branch}
 use Rattle.axe_spin.proofs.spinning.take_images.Goals as goal
 use mathlib.Core.Path.{ap₂}
 
@@ -14,6 +16,7 @@ loop-number-init c = record {
   spins = spins_nowhere c.args.module.now c.args.rows.now c.args.source 0;
   span = c.requires.span;
   well_formed = c.requires.well_formed;
+  origins = c.requires.origins;
 }
 
 pub offer-requires-clause-fits : goal.offer-requires-clause-fits
@@ -37,6 +40,17 @@ loop-number-preserved c =
           c.in_ok-offer.ensures.offered);
       span = c.in_ok-offer.ensures.span;
       well_formed = c.in_ok-offer.ensures.well_formed;
+      origins = elim c.if-branch.branch [
+        | then-branch+in_ok-push w ↦
+            let pushed : w.push.new.self.items ≡ c.loop-number.origins.items ++ record { source = c.args.source; generator = c.loop-number.number } ∷ [] =
+            search rules in
+            rw w.origins-is (origins_of_new c.args.module.now c.loop-number.rows c.offer.new.rows c.in_ok-image.image.entries c.in_ok-offer.field-0
+            c.loop-number.origins.items w.push.new.self.items (record { source = c.args.source; generator = c.loop-number.number })
+            c.loop-number.invariant.origins below inside image c.in_ok-offer.ensures.told w.if-branch.true pushed)
+        | else-branch w ↦
+            rw w.origins-is (origins_of_old c.args.module.now c.loop-number.rows c.offer.new.rows c.in_ok-image.image.entries c.in_ok-offer.field-0
+            c.loop-number.origins.items c.loop-number.invariant.origins c.in_ok-offer.ensures.told w.if-branch.false)
+      ];
     }
 
 pub returns-then-dim-clause-taken : goal.returns-then-dim-clause-taken

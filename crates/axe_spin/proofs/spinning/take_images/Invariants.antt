@@ -1,4 +1,5 @@
 use Rattle.axe_matrix.specs.Matrices.{IsMatrix}
+use Rattle.axe_spin.specs.Origins.{HaveOrigins}
 use Rattle.axe_spin.specs.Spun.{IsSpanOf, SpinsOn}
 use Rattle.axe_spin.proofs.spinning.take_images.Given as goal
 
@@ -7,4 +8,5 @@ invariant-loop-number l = record {
   spins : SpinsOn l.module l.fn.rows l.rows l.source 0 l.source l.number;
   span : IsSpanOf l.span l.rows;
   well_formed : IsMatrix l.rows;
+  origins : HaveOrigins l.module l.rows.rows l.origins.items;
 }
