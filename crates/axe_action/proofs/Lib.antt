@@ -26,3 +26,4 @@ pub mod ChangedBases
 pub mod OneAction
 pub mod SomeAction
 pub mod SubmoduleActions
+pub mod KnownRowLaws

@@ -3,3 +3,4 @@ pub mod Coordinates
 pub mod LeadingColumns
 pub mod FreeColumns
 pub mod Blocks
+pub mod KnownRows

@@ -6,8 +6,10 @@ mod blocks;
 mod columns;
 mod conjugates;
 mod duals;
+mod known_rows;
 mod leading;
 mod quotients;
+mod standard;
 mod submodules;
 mod subspaces;
 
@@ -15,5 +17,6 @@ pub use bases::extend_basis;
 pub use conjugates::{change_basis, conjugate};
 pub use duals::{annihilator, dual};
 pub use quotients::quotient_action;
+pub use standard::change_standard_basis;
 pub use submodules::{Split, split_by_submodule};
 pub use subspaces::{basis_action, sub_action};
