@@ -9,10 +9,10 @@ ghost use Rattle.axe_spin.specs.Spinning.{IsStandardMatrix};
 ghost use Rattle.axe_spin.specs.SpinLaws.{IsVectorOf};
 ghost use Rattle.axe_iso.specs.Forms.{IsForm, IsFormFrom, IsNullVectorOf, HasSmallNullSpaceOf};
 
-use axe_action::{basis_action, change_basis};
+use axe_action::{basis_action, change_standard_basis};
 use axe_matrix::{Matrix, Refusal, Row};
 use axe_poly::Poly;
-use axe_spin::{Module, standard_basis};
+use axe_spin::{Module, standard_basis, standard_basis_with_origins};
 use std::alloc::Global;
 use std::marker::Model;
 
@@ -168,8 +168,8 @@ pub fn form_of_owned(
 {
     prove!(vector.len() == module.dim());
     let poly = copy_of(alloc, poly)?;
-    let basis = standard_basis(alloc, &module, vector)?;
-    let matrices = change_basis(alloc, module, &basis)?;
+    let (basis, origins) = standard_basis_with_origins(alloc, &module, vector)?;
+    let matrices = change_standard_basis(alloc, module, &basis, &origins)?;
     Ok(Form::of_parts(matrices, basis, word, poly, seed))
 }
 
