@@ -3,13 +3,14 @@
 use crate::tables::{Topic, each_call};
 use crate::values::{assert_independent, is_module, module_of};
 use axe_action::{
-    Split, annihilator, basis_action, change_basis, conjugate, dual, extend_basis, quotient_action,
-    split_by_submodule, sub_action,
+    Split, annihilator, basis_action, change_basis, change_standard_basis, conjugate, dual,
+    extend_basis, quotient_action, split_by_submodule, sub_action,
 };
 use axe_matrix::{Matrix, Refusal};
-use axe_spin::Module;
+use axe_spin::{Module, standard_basis_with_origins};
 use axe_test_values::{
-    TableFault, first_field, four_fields, is_matrix, matrix_of, number_of, one_field, two_fields,
+    TableFault, first_field, four_fields, is_matrix, matrix_of, number_of, one_field, row_of_shape,
+    two_fields,
 };
 use std::alloc::Global;
 use std::process::Abort;
@@ -73,7 +74,8 @@ extend_basis | 2: 011 | 2: 011/100/001
 
 /// - `conjugate`: a module, a basis, and the module over that basis;
 /// - `conjugate_copy`: the same call with a copy of the module;
-/// - `change_basis`: a copy of the module, which is given away, over that basis.
+/// - `change_basis`: a copy of the module, which is given away, over that basis;
+/// - `change_standard_basis`: such a copy, over the standard basis of a vector.
 ///
 /// The symmetric group on three points exchanges the first two coordinates, and moves all three round.
 const CONJUGATES: &str = "\
@@ -81,6 +83,10 @@ conjugate | 2: 010/100/001, 2: 010/001/100 | 2: 011/101/001 | 2: 010/100/001, 2:
 conjugate_copy | 2: 010/100/001, 2: 010/001/100 | 2: 011/101/001 | 2: 010/100/001, 2: 010/110/011
 change_basis | 2: 010/100/001, 2: 010/001/100 | 2: 011/101/001 | 2: 010/100/001, 2: 010/110/011
 change_basis | 2: 11/10 | 2: 01/10 | 2: 01/11
+# The standard basis is 01/10, by the first generator.
+change_standard_basis | 2: 01/10, 2: 01/11 | 2: 01 | 2: 01/10, 2: 11/10
+# The exchange takes 010 to 100, and the other generator takes it to 001.
+change_standard_basis | 2: 010/100/001, 2: 010/001/100 | 2: 010 | 2: 010/100/001, 2: 001/100/010
 conjugate | 2: 010/100/001, 2: 010/001/100 | 2: 100/010/110 | the matrix has no inverse
 conjugate | 2: 010/100/001, 2: 010/001/100 | 2: 10/01 | the shapes of the operands do not fit
 conjugate | 2: 010/100/001, 2: 010/001/100 | 2: 100/010 | the shapes of the operands do not fit
@@ -99,6 +105,23 @@ fn changed(
     assert!(rt; rows.field().order() == module.field().order());
     assert!(rt; rows.rows() == module.dim() && rows.cols() == module.dim());
     change_basis(alloc, module.copy(alloc)?, rows)
+}
+
+/// A copy of the module, over the standard basis of a vector, which spans everything.
+fn acts_on_standard_basis(
+    rt: &impl Abort,
+    alloc: Global,
+    module: &Module,
+    line: &str,
+) -> Result<bool, TableFault> {
+    let (vector, wanted) = two_fields(line)?;
+    let vector = row_of_shape(alloc, vector, module.field(), module.dim())?;
+    assert!(rt; !vector.is_zero());
+    let (basis, origins) = standard_basis_with_origins(alloc, module, &vector)?;
+    assert_independent(rt, alloc, &basis)?;
+    assert!(rt; basis.rows() == module.dim());
+    let copy = module.copy(alloc)?;
+    is_module(alloc, change_standard_basis(alloc, copy, &basis, &origins), wanted)
 }
 
 /// What a call answers that is given a module and rows.
@@ -183,6 +206,7 @@ fn answers_of_module(
     match call {
         "sub_action" | "quotient_action" | "basis_action" => acts(rt, alloc, call, &module, line),
         "conjugate" | "conjugate_copy" | "change_basis" => acts(rt, alloc, call, &module, line),
+        "change_standard_basis" => acts_on_standard_basis(rt, alloc, &module, line),
         "split_by_submodule" => splits(rt, alloc, &module, line),
         "dual" => is_module(alloc, dual(alloc, &module), one_field(line)?),
         _ => Err(TableFault::NotWritten),

@@ -2,10 +2,13 @@
 use crate::tables::{Topic, each_call};
 use crate::values::module_of;
 use axe_matrix::Matrix;
-use axe_spin::{Module, first_nonzero_row, generate, standard_basis, standard_rows};
+use axe_spin::{
+    Module, Origin, first_nonzero_row, generate, standard_basis, standard_basis_with_origins,
+    standard_rows,
+};
 use axe_test_values::{
-    TableFault, first_field, is_fault, is_matrix, is_row, is_same_matrix, matrix_of, row_of_shape,
-    two_fields,
+    TableFault, first_field, is_fault, is_matrix, is_row, is_same_matrix, matrix_of, number_of,
+    row_of_shape, three_fields, two_fields,
 };
 use std::alloc::Global;
 use std::process::Abort;
@@ -39,6 +42,15 @@ standard_basis | 2: 010/100/001, 2: 010/001/100 | 2: 011 | 2: 011/101
 standard_basis | 2: 010/100/001, 2: 010/001/100 | 2: 010 | 2: 010/100/001
 # 111 is fixed by both.
 standard_basis | 2: 010/100/001, 2: 010/001/100 | 2: 111 | 2: 111
+";
+
+/// `standard_basis_with_origins`: the same, and for each row after the first the row and the generator that it comes from.
+const ORIGINS: &str = "\
+standard_basis_with_origins | 2: 11/10 | 2: 01 | 2: 01/10 | 0.0
+standard_basis_with_origins | 2: 010/100/001, 2: 010/001/100 | 2: 010 | 2: 010/100/001 | 0.0 0.1
+# One generator moves the unit vectors round: the last comes from the one before.
+standard_basis_with_origins | 2: 010/001/100 | 2: 100 | 2: 100/010/001 | 0.0 1.0
+standard_basis_with_origins | 2: 010/100/001, 2: 010/001/100 | 2: 111 | 2: 111 |
 ";
 
 /// Which row of a matrix is the first that is not zero, which rows are vectors of a module, and the standard basis of
@@ -79,6 +91,36 @@ fn finds_standard_basis(
     let vector = row_of_shape(alloc, vector, module.field(), module.dim())?;
     assert!(rt; !vector.is_zero());
     is_matrix(alloc, standard_basis(alloc, module, &vector), wanted)
+}
+
+/// Whether origins are those that are written so, with a space between two of them.
+fn are_origins(origins: &[Origin], text: &str) -> Result<bool, TableFault> {
+    let mut count = 0;
+    for word in text.split_whitespace() {
+        let (source, generator) = word.split_once('.').ok_or(TableFault::NotWritten)?;
+        let (source, generator) = (number_of(source)?, number_of(generator)?);
+        if count >= origins.len()
+            || origins[count].source != source
+            || origins[count].generator != generator
+        {
+            return Ok(false);
+        }
+        count += 1;
+    }
+    Ok(count == origins.len())
+}
+
+fn finds_origins(
+    rt: &impl Abort,
+    alloc: Global,
+    module: &Module,
+    line: &str,
+) -> Result<bool, TableFault> {
+    let (vector, wanted, wanted_origins) = three_fields(line)?;
+    let vector = row_of_shape(alloc, vector, module.field(), module.dim())?;
+    assert!(rt; !vector.is_zero());
+    let (basis, origins) = standard_basis_with_origins(alloc, module, &vector)?;
+    Ok(is_same_matrix(alloc, &basis, wanted)? && are_origins(&origins, wanted_origins)?)
 }
 
 fn finds_first_nonzero_row(alloc: Global, line: &str) -> Result<bool, TableFault> {
@@ -129,6 +171,7 @@ fn answers_of_module(
     let module = module_of(alloc, module)?;
     match call {
         "standard_basis" => finds_standard_basis(rt, alloc, &module, line),
+        "standard_basis_with_origins" => finds_origins(rt, alloc, &module, line),
         _ => answers_of_rows(alloc, call, &module, line),
     }
 }
@@ -159,6 +202,11 @@ fn seeds_are_refused(rt: HostRuntime) -> Result<(), TableFault> {
 #[test]
 fn vectors_have_standard_bases(rt: HostRuntime) -> Result<(), TableFault> {
     each_call(&rt, rt.alloc(), Topic::Spinning, STANDARD_BASES)
+}
+
+#[test]
+fn standard_bases_have_origins(rt: HostRuntime) -> Result<(), TableFault> {
+    each_call(&rt, rt.alloc(), Topic::Spinning, ORIGINS)
 }
 
 #[test]
