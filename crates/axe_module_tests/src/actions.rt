@@ -121,7 +121,11 @@ fn acts_on_standard_basis(
     assert_independent(rt, alloc, &basis)?;
     assert!(rt; basis.rows() == module.dim());
     let copy = module.copy(alloc)?;
-    is_module(alloc, change_standard_basis(alloc, copy, &basis, &origins), wanted)
+    is_module(
+        alloc,
+        change_standard_basis(alloc, copy, &basis, &origins),
+        wanted,
+    )
 }
 
 /// What a call answers that is given a module and rows.
