@@ -9,3 +9,5 @@ pub mod HornerLaws
 pub mod CodeLaws
 pub mod PackLaws
 pub mod WindowLaws
+pub mod BitPolynomials
+pub mod SieveLaws

@@ -9,6 +9,8 @@ mod lanes;
 mod limits;
 mod minimal;
 mod poly;
+mod sieve;
+mod trial;
 mod value;
 mod windows;
 
