@@ -1,16 +1,16 @@
 -- Polynomials over two elements as numbers whose bits are the coefficients: products, and what divides.
-use Rattle.std.specs.Prelude.{◌≡◌, ◌≢◌, ℕ, zero, suc, ◌+◌, ◌-◌, ◌*◌, ◌/◌, ◌%◌, ◌^◌, ◌<◌, ◌≤◌, List, [], length, get_or, take}
+use Rattle.std.specs.Prelude.{◌≡◌, ℕ, zero, suc, ◌+◌, ◌-◌, ◌*◌, ◌/◌, ◌%◌, ◌^◌, ◌<◌, ◌≤◌, List, [], length, get_or, take}
 use Rattle.std.specs.Int.{bit_at}
 use Rattle.std.specs.Int.Bits.{bit_xor}
 use Rattle.std.proofs.Math.Nat.{pow-le-pow_right}
 use Rattle.std.proofs.Math.Pow.{pow-lt}
-use Rattle.std.proofs.lemmas.List.{get_or-take, get_or_past, take_all, length-take-le}
+use Rattle.std.proofs.lemmas.List.{get_or-take, take_all, length-take-le}
 use Rattle.std.proofs.lemmas.Nat.Bits.{bit_at_xor, bit_at-lt, bit_at-zero, bit_at_above, bit_at_cat_low, bit_at_cat_high}
 use Rattle.std.proofs.lemmas.Nat.Bits.{same_from_bits}
-use Rattle.axe_algebra.specs.Bridge.{ElementOf, element, vector_of}
+use Rattle.axe_algebra.specs.Bridge.{element, vector_of}
 use Rattle.axe_algebra.specs.Field.{Field}
 use Rattle.axe_algebra.specs.NumberField.{NumberField}
-use Rattle.axe_algebra.specs.Vectors.{Vector, HasLength, zero_vector, unit_vector, add_vectors}
+use Rattle.axe_algebra.specs.Vectors.{Vector, zero_vector, unit_vector, add_vectors}
 use Rattle.axe_algebra.proofs.Digits.{pow-positive}
 use Rattle.axe_algebra.proofs.ElementNumbers.{element_zero, element_one, element_add, same_number}
 use Rattle.axe_algebra.proofs.FieldLaws.{zero-add}
@@ -20,7 +20,6 @@ use Rattle.axe_field.specs.Arithmetic.{field_add, number_of, polynomial_sum, pol
 use Rattle.axe_field.specs.NumberFields.{number_field, gf}
 use Rattle.axe_field.specs.Order.{Two}
 use Rattle.axe_field.proofs.NumberFields.{number_field-order, number_field-add}
-use Rattle.axe_polynomial_algebra.specs.Polynomials
 use Rattle.axe_polynomial_algebra.specs.Polynomials.{convolution, IsMonic}
 use Rattle.axe_polynomial_algebra.specs.PolynomialTheorems.{MonicCofactor}
 use Rattle.axe_polynomial_algebra.specs.PolynomialsOfLists.{degree_of, IsMonicOver, polynomial_number, Divides}

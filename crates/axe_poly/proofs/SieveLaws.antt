@@ -1,5 +1,5 @@
 -- What a sieve marks: the multiples of one polynomial, of the first ones of a table, and so the reducible polynomials.
-use Rattle.std.specs.Prelude.{◌≡◌, ◌≢◌, ℕ, suc, ◌+◌, ◌-◌, ◌*◌, ◌/◌, ◌^◌, ◌<◌, ◌≤◌, ◌↔◌, ◌⊎◌, List, [], Bool, true, false, not, IsTrue}
+use Rattle.std.specs.Prelude.{◌≡◌, ℕ, ◌+◌, ◌-◌, ◌*◌, ◌/◌, ◌^◌, ◌<◌, ◌≤◌, ◌↔◌, ◌⊎◌, List, [], Bool, true, false, not, IsTrue}
 use Rattle.std.specs.Prelude.{length, get_or, set, replicate}
 use Rattle.std.proofs.Common.{inl, inr, get_or-set_same, get_or-set_other}
 use Rattle.std.proofs.lemmas.Bool.{false≢true}

@@ -1,4 +1,4 @@
-use Rattle.std.proofs.Common.{◌≡◌, ◌<◌, ◌≤◌, ◌+◌, ◌*◌, ◌^◌, length, get_or, refl, sym, subst, ◌∙◌, ap, arith}
+use Rattle.std.proofs.Common.{◌^◌, length, refl, sym, ◌∙◌, ap, arith}
 use Rattle.axe_field.specs.Order.{Two}
 use Rattle.axe_poly.proofs.PolyLaws.{below_are_elements}
 use Rattle.axe_poly.proofs.BitPolynomials.{two_elements}

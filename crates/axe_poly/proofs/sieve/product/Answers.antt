@@ -1,4 +1,4 @@
-use Rattle.std.proofs.Common.{◌≡◌, ◌<◌, ◌≤◌, ◌+◌, ◌*◌, ◌^◌, length, get_or, refl, sym, ◌∙◌, ap, arith}
+use Rattle.std.proofs.Common.{◌<◌, ◌*◌, ◌^◌, refl, arith}
 use Rattle.std.proofs.lemmas.Nat.{mul-lt}
 use Rattle.axe_poly.proofs.BitPolynomials.{product_none, product_more, product_same, product_all, moved_next}
 use Rattle.axe_poly.proofs.BitPolynomials.{below_power}

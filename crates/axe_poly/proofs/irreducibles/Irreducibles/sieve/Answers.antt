@@ -1,4 +1,4 @@
-use Rattle.std.proofs.Common.{◌≡◌, ◌<◌, ◌+◌, ◌^◌, false, [], replicate, length, get_or, sym, ◌∙◌, ap, arith}
+use Rattle.std.proofs.Common.{◌≡◌, ◌+◌, ◌^◌, false, [], replicate, get_or, sym, ◌∙◌, ap, arith}
 use Rattle.axe_field.specs.Order.{Two}
 use Rattle.axe_polynomial_algebra.specs.PolynomialsOfLists.{degree_of}
 use Rattle.axe_poly.specs.Polys.{PolyValue}
