@@ -9,5 +9,7 @@ pub mod HornerLaws
 pub mod CodeLaws
 pub mod PackLaws
 pub mod WindowLaws
-pub mod BitPolynomials
+pub mod NumberPolynomials
+pub mod BitProducts
+pub mod ProductWords
 pub mod SieveLaws

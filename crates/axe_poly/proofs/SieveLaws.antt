@@ -1,12 +1,10 @@
 -- What a sieve marks: the multiples of one polynomial, of the first ones of a table, and so the reducible polynomials.
-use Rattle.std.specs.Prelude.{◌≡◌, ℕ, ◌+◌, ◌-◌, ◌*◌, ◌/◌, ◌^◌, ◌<◌, ◌≤◌, ◌↔◌, ◌⊎◌, List, [], Bool, true, false, not, IsTrue}
-use Rattle.std.specs.Prelude.{length, get_or, set, replicate}
+use Rattle.std.specs.Prelude.{◌≡◌, ℕ, suc, ◌+◌, ◌-◌, ◌*◌, ◌^◌, ◌<◌, ◌≤◌, ◌↔◌, ◌⊎◌, List, [], length, get_or, set}
+use Rattle.std.specs.Prelude.{Bool, true, false, IsTrue, replicate}
 use Rattle.std.proofs.Common.{inl, inr, get_or-set_same, get_or-set_other}
 use Rattle.std.proofs.lemmas.Bool.{false≢true}
 use Rattle.std.proofs.lemmas.List.{length-set, length-replicate, get_or-replicate}
-use Rattle.std.proofs.lemmas.Nat.{pow-add, div-mul-add}
 use Rattle.axe_algebra.specs.NumberField.{NumberField}
-use Rattle.axe_algebra.proofs.Digits.{pow-positive}
 use Rattle.axe_field.specs.NumberFields.{number_field}
 use Rattle.axe_field.specs.Order.{Order, Two, Three, Four, Five, Seven, Eight, Nine, order_number}
 use Rattle.axe_field.proofs.NumberFields.{number_field-order}
@@ -14,13 +12,14 @@ use Rattle.axe_polynomial_algebra.specs.PolynomialsOfLists.{degree_of, IsMonicOv
 use Rattle.axe_polynomial_algebra.proofs.ProperDivisors.{irreducible_or_not}
 use Rattle.axe_poly.specs.Numbering.{polynomial_with_number}
 use Rattle.axe_poly.specs.Sieve.{IsProductNumber, IsProductNumberBelow, MarksProducts, MarksMultiples, monic_at}
-use Rattle.axe_poly.specs.Sieve.{AreMarkedByFirst, AreReducibleBelow, AreReducibleMarks}
+use Rattle.axe_poly.specs.Sieve.{AreMarkedByFirst, AreReducibleMarks}
 use Rattle.axe_poly.specs.Tables.{IrreduciblesValue, AreIrreducibles}
-use Rattle.axe_poly.proofs.BitPolynomials.{at_most_power, two_elements, product_is_one, IsMonicNumber, Cofactor}
-use Rattle.axe_poly.proofs.BitPolynomials.{product_is_monic, product_is_multiple, multiple_is_product}
+use Rattle.axe_poly.proofs.NumberPolynomials.{same_order, product_is_one, IsMonicNumber, Cofactor}
+use Rattle.axe_poly.proofs.NumberPolynomials.{product_is_monic, product_is_multiple, multiple_is_product}
 use Rattle.axe_poly.proofs.NumberLaws.{polynomial_is_monic, polynomial_degree}
 use Rattle.axe_poly.proofs.TrialLaws.{irreducible_by_first, reducible_of_table}
 use mathlib.Core.Path.{refl, sym, ◌∙◌, ap, subst}
+use native.Mathlib.Nat.{pow-suc, mul-le-mul_left}
 use native.Mathlib.Omega.{arith}
 use native.Mathlib.Decide.{ℕ_discrete, dec_lt}
 
@@ -34,22 +33,19 @@ order_is_two Seven e = absurd (omega arith)
 order_is_two Eight e = absurd (omega arith)
 order_is_two Nine e = absurd (omega arith)
 
-pub order_of_two : (o : Order) → o ≡ Two → (number_field o).order ≡ 2
-order_of_two o two = ap (λ r. (number_field r).order) two ∙ two_elements
-
 -- ---- the products of one polynomial
-pub products_none : (p : List ℕ) (start first : ℕ) (marks : List Bool) → MarksProducts p start first first marks marks
-products_none p start first marks = record { long = refl; each = λ index inside. (inl, before index) }
+pub products_none : (o : Order) (p : List ℕ) (start first : ℕ) (marks : List Bool) → MarksProducts o p start first first marks marks
+products_none o p start first marks = record { long = refl; each = λ index inside. (inl, before index) }
   where
-    before : (index : ℕ) → IsTrue (get_or marks index false) ⊎ IsProductNumberBelow p first first (start + index) →
+    before : (index : ℕ) → IsTrue (get_or marks index false) ⊎ IsProductNumberBelow o p first first (start + index) →
         IsTrue (get_or marks index false)
     before index (inl was) = was
     before index (inr (c, from, to, product)) = absurd (omega arith)
 
-pub products_more : (p : List ℕ) (start first c x place : ℕ) (before now after : List Bool) → first ≤ c →
-    IsProductNumber p c x → x ≡ start + place → place < length now → after ≡ set now place true →
-    MarksProducts p start first c before now → MarksProducts p start first (c + 1) before after
-products_more p start first c x place before now after from product x_is inside after_is h = record {
+pub products_more : (o : Order) (p : List ℕ) (start first c x place : ℕ) (before now after : List Bool) → first ≤ c →
+    IsProductNumber o p c x → x ≡ start + place → place < length now → after ≡ set now place true →
+    MarksProducts o p start first c before now → MarksProducts o p start first (c + 1) before after
+products_more o p start first c x place before now after from product x_is inside after_is h = record {
   long = ap length after_is ∙ length-set now place true ∙ h.long;
   each = λ index within. each index within (ℕ_discrete index place);
 }
@@ -57,13 +53,13 @@ products_more p start first c x place before now after from product x_is inside 
     Told : ℕ → ℕ → List Bool → Type 0
     Told bound index marks =
         IsTrue (get_or marks index false)
-        ↔ (IsTrue (get_or before index false) ⊎ IsProductNumberBelow p first bound (start + index))
+        ↔ (IsTrue (get_or before index false) ⊎ IsProductNumberBelow o p first bound (start + index))
 
     each : (index : ℕ) → index < length before → Dec (index ≡ place) → Told (c + 1) index after
     each index within (yes same) = (λ _. inr (c, from, omega arith, found), λ _. marked)
       where
-        found : IsProductNumber p c (start + index)
-        found = subst (IsProductNumber p c) (x_is ∙ ap (λ k. start + k) (sym same)) product
+        found : IsProductNumber o p c (start + index)
+        found = subst (IsProductNumber o p c) (x_is ∙ ap (λ k. start + k) (sym same)) product
 
         marked : get_or after index false ≡ true
         marked = ap (λ (marks : List Bool). get_or marks index false) after_is
@@ -78,16 +74,16 @@ products_more p start first c x place before now after from product x_is inside 
             ∙ get_or-set_other now place index true false other
 
         Known : ℕ → Type 0
-        Known bound = IsTrue (get_or before index false) ⊎ IsProductNumberBelow p first bound (start + index)
+        Known bound = IsTrue (get_or before index false) ⊎ IsProductNumberBelow o p first bound (start + index)
 
         more : Known c → Known (c + 1)
         more (inl was) = inl was
         more (inr (k, low, high, is)) = inr (k, low, omega arith, is)
 
-        less_at : (k : ℕ) → first ≤ k → k < c + 1 → IsProductNumber p k (start + index) → Dec (k ≡ c) → Known c
+        less_at : (k : ℕ) → first ≤ k → k < c + 1 → IsProductNumber o p k (start + index) → Dec (k ≡ c) → Known c
         less_at k low high is (yes last) =
-            let one : start + index ≡ x = product_is_one p c (start + index) x
-            (subst (λ n. IsProductNumber p n (start + index)) last is) product in
+            let one : start + index ≡ x = product_is_one o p c (start + index) x
+            (subst (λ n. IsProductNumber o p n (start + index)) last is) product in
             absurd (other (omega (arith, one, x_is)))
         less_at k low high is (no earlier) = inr (k, low, omega arith, is)
 
@@ -96,50 +92,56 @@ products_more p start first c x place before now after from product x_is inside 
         less (inr (k, low, high, is)) = less_at k low high is (ℕ_discrete k c)
 
 -- ---- the cofactors of one polynomial, by their numbers
-module _ (p : List ℕ) (d count : ℕ) (over : IsMonicOver (number_field Two) p) (smaller : degree_of p < d)
-    (count_is : count ≡ 2 ^ d) where
-  power_of_order : (k : ℕ) → (number_field Two).order ^ k ≡ 2 ^ k
-  power_of_order k = ap (λ q. q ^ k) two_elements
+pub first_of_power : (field o : Order) (p : List ℕ) (d first : ℕ) → IsMonicOver (number_field o) p →
+    degree_of p < d → field ≡ o → first ≡ order_number field ^ (d + 1 - length p) →
+    first ≡ order_number o ^ (d - degree_of p)
+first_of_power field o p d first over smaller same is =
+    is ∙ ap (λ r. order_number r ^ (d + 1 - length p)) same
+    ∙ (let e : d + 1 - length p ≡ d - degree_of p = omega (arith, smaller, over.positive) in
+    ap (λ k. order_number o ^ k) e)
 
-  first_is_power : count / 2 ^ degree_of p ≡ 2 ^ (d - degree_of p)
-  first_is_power =
-      ap (λ n. n / 2 ^ degree_of p)
-      (count_is ∙ (let e : d ≡ d - degree_of p + degree_of p = omega (arith, smaller) in ap (λ n. 2 ^ n) e)
-      ∙ pow-add 2 (d - degree_of p) (degree_of p)
-      ∙ (let e : 2 ^ (d - degree_of p) * 2 ^ degree_of p ≡ 2 ^ (d - degree_of p) * 2 ^ degree_of p + 0 = omega arith in e))
-      ∙ div-mul-add (2 ^ (d - degree_of p)) (2 ^ degree_of p) 0 (pow-positive 2 (degree_of p) (omega arith))
+module _ (o : Order) (p : List ℕ) (d count first : ℕ) (over : IsMonicOver (number_field o) p)
+    (smaller : degree_of p < d) (count_is : count ≡ order_number o ^ d)
+    (first_is : first ≡ order_number o ^ (d - degree_of p)) where
+  power_of_order : (k : ℕ) → (number_field o).order ^ k ≡ order_number o ^ k
+  power_of_order k = ap (λ q. q ^ k) (same_order o)
 
-  pub first_cofactor : count / 2 ^ degree_of p ≡ (number_field Two).order ^ (d - degree_of p)
-  first_cofactor = first_is_power ∙ sym (power_of_order (d - degree_of p))
-
-  pub first_small : d ≤ 12 → count / 2 ^ degree_of p ≤ 2048
-  first_small fits = omega (arith, first_is_power, at_most_power (d - degree_of p) 11 (omega (arith, fits, over.positive)))
-
-  pub cofactor_is_monic : (c : ℕ) → count / 2 ^ degree_of p ≤ c → c < 2 * (count / 2 ^ degree_of p) →
-      IsMonicNumber (d - degree_of p) c
+  pub cofactor_is_monic : (c : ℕ) → first ≤ c → c < 2 * first → IsMonicNumber o (d - degree_of p) c
   cofactor_is_monic c from to = record {
-    from = omega (arith, first_cofactor, from);
-    to = omega (arith, first_cofactor, to);
+    from = omega (arith, first_is, power_of_order (d - degree_of p), from);
+    to = omega (arith, first_is, power_of_order (d - degree_of p), to);
   }
 
   -- the number of a product has a mark
-  pub product_has_mark : (c x : ℕ) → count / 2 ^ degree_of p ≤ c → c < 2 * (count / 2 ^ degree_of p) →
-      IsProductNumber p c x → (count ≤ x) × (x < count + count)
+  pub product_has_mark : (c x : ℕ) → first ≤ c → c < 2 * first → IsProductNumber o p c x →
+      (count ≤ x) × (x < count + count)
   product_has_mark c x from to product = (
     omega (arith, count_is, power_of_order d, monic.from),
     omega (arith, count_is, power_of_order d, monic.to),
   )
     where
-      monic : IsMonicNumber d x
-      monic = product_is_monic p d over smaller c x (cofactor_is_monic c from to) product
+      monic : IsMonicNumber o d x
+      monic = product_is_monic o p d over smaller c x (cofactor_is_monic c from to) product
+
+  -- its cofactor has one digit more than its degree
+  pub cofactor_has_digits : (c : ℕ) → c < 2 * first → c < order_number o ^ (d - degree_of p + 1)
+  cofactor_has_digits c to = omega (
+    arith,
+    to,
+    first_is,
+    pow-suc (order_number o) (d - degree_of p),
+    mul-le-mul_left (order_number o ^ (d - degree_of p))
+        (let e : 2 ≤ order_number o = omega (arith, (number_field o).one-below, same_order o) in e),
+    (let e : suc (d - degree_of p) ≡ d - degree_of p + 1 = omega arith in ap (λ k. order_number o ^ k) e),
+  )
 
 -- the products with all monic polynomials of the degree that is left are the monic multiples
-pub products_all : (p : List ℕ) (d first bound : ℕ) (before after : List Bool) →
-    IsMonicOver (number_field Two) p → degree_of p < d →
-    first ≡ (number_field Two).order ^ (d - degree_of p) → bound ≡ 2 * first →
-    length before ≡ (number_field Two).order ^ d →
-    MarksProducts p (length before) first bound before after → MarksMultiples (number_field Two) p d before after
-products_all p d first bound before after over smaller first_is bound_is long h = record {
+pub products_all : (o : Order) (p : List ℕ) (d first bound : ℕ) (before after : List Bool) →
+    IsMonicOver (number_field o) p → degree_of p < d →
+    first ≡ (number_field o).order ^ (d - degree_of p) → bound ≡ 2 * first →
+    length before ≡ (number_field o).order ^ d →
+    MarksProducts o p (length before) first bound before after → MarksMultiples (number_field o) p d before after
+products_all o p d first bound before after over smaller first_is bound_is long h = record {
   long = h.long;
   each = λ index within. (
     λ marked. forth index (h.each index within).0 marked,
@@ -148,7 +150,7 @@ products_all p d first bound before after over smaller first_is bound_is long h 
 }
   where
     K : NumberField
-    K = number_field Two
+    K = number_field o
 
     place : (index : ℕ) → length before + index ≡ K.order ^ d + index
     place index = ap (λ n. n + index) long
@@ -157,14 +159,14 @@ products_all p d first bound before after over smaller first_is bound_is long h 
     Divided index = IsTrue (get_or before index false) ⊎ Divides K p (monic_at K d index)
 
     Known : ℕ → Type 0
-    Known index = IsTrue (get_or before index false) ⊎ IsProductNumberBelow p first bound (length before + index)
+    Known index = IsTrue (get_or before index false) ⊎ IsProductNumberBelow o p first bound (length before + index)
 
     from_product : (index : ℕ) → Known index → Divided index
     from_product index (inl was) = inl was
     from_product index (inr (c, low, high, product)) =
-        inr (product_is_multiple p d over smaller c (K.order ^ d + index)
+        inr (product_is_multiple o p d over smaller c (K.order ^ d + index)
         (record { from = omega (arith, first_is, low); to = omega (arith, first_is, bound_is, high) })
-        (subst (IsProductNumber p c) (place index) product))
+        (subst (IsProductNumber o p c) (place index) product))
 
     forth : (index : ℕ) → (IsTrue (get_or after index false) → Known index) → IsTrue (get_or after index false) →
         Divided index
@@ -176,11 +178,11 @@ products_all p d first bound before after over smaller first_is bound_is long h 
           found.cofactor,
           omega (arith, first_is, found.monic.from),
           omega (arith, first_is, bound_is, found.monic.to),
-          subst (IsProductNumber p found.cofactor) (sym (place index)) found.product,
+          subst (IsProductNumber o p found.cofactor) (sym (place index)) found.product,
         )
       where
-        found : Cofactor p d over smaller (K.order ^ d + index)
-        found = multiple_is_product p d over smaller (K.order ^ d + index)
+        found : Cofactor o p d over smaller (K.order ^ d + index)
+        found = multiple_is_product o p d over smaller (K.order ^ d + index)
             (record { from = omega arith; to = omega (arith, long, within) }) divides
 
     back : (index : ℕ) → index < length before → Divided index → Known index
@@ -266,11 +268,12 @@ module _ (t : IrreduciblesValue) where
   -- the reducible ones are the multiples of the first ones of the table: of all, or of those before one that has more
   -- than half the next degree
   pub first_all : (count : ℕ) (marks : List Bool) → AreIrreducibles t → count ≤ length t.polynomials →
-      (count < length t.polynomials → let p = get_or t.polynomials count [] in t.degree + 1 < degree_of p + degree_of p) →
+      (count < length t.polynomials → let p = get_or t.polynomials count [] in
+      t.degree + 1 < degree_of p + degree_of p) →
       AreMarkedByFirst t count marks → AreReducibleMarks K (t.degree + 1) marks
   first_all count marks table few ends h = record {
     long = h.long;
-    each = λ index below. each index below (omega (arith, h.long, below));
+    each = λ index within. each index (omega (arith, h.long, within)) within;
   }
     where
       f : ℕ → List ℕ
@@ -281,7 +284,10 @@ module _ (t : IrreduciblesValue) where
 
       each : (index : ℕ) → index < K.order ^ (t.degree + 1) → index < length marks →
           IsTrue (get_or marks index false) ↔ ¬ (IsIrreduciblePolynomial K (f index))
-      each index below within = (λ marked. forth (told.0 marked), λ reducible. back reducible (get_or marks index false) refl)
+      each index below within = (
+        λ marked. forth (told.0 marked),
+        λ reducible. back reducible (get_or marks index false) refl,
+      )
         where
           told : IsTrue (get_or marks index false) ↔ HasDivisor count index
           told = h.each index within
@@ -318,7 +324,7 @@ module _ (t : IrreduciblesValue) where
         (λ n. IsTrue (get_or marks (number - length marks) false)
         ↔ ¬ (IsIrreduciblePolynomial K (polynomial_with_number K.order (t.degree + 1) n)))
         (let e : K.order ^ (t.degree + 1) + (number - length marks) ≡ number = omega (arith, h.long, has_mark.0) in e)
-        (h.each (number - length marks) (omega (arith, h.long, has_mark.1)))
+        (h.each (number - length marks) has_mark.1)
 
     pub marked_is_reducible : get_or marks (number - length marks) false ≡ true →
         ¬ (IsIrreduciblePolynomial K (polynomial_with_number K.order (t.degree + 1) number))
@@ -333,37 +339,3 @@ module _ (t : IrreduciblesValue) where
             IsIrreduciblePolynomial K (polynomial_with_number K.order (t.degree + 1) number)
         cases (yes is) = is
         cases (no reducible) = absurd (false≢true (sym unmarked ∙ told.1 reducible))
-
--- ---- by trial
-pub tried_none : (K : NumberField) (d : ℕ) (marks : List Bool) → length marks ≡ K.order ^ d →
-    AreReducibleBelow K d 0 marks
-tried_none K d marks long = record { long = long; each = λ index below. absurd (omega (arith, below)) }
-
-pub tried_more : (K : NumberField) (d index : ℕ) (f : List ℕ) (r mark : Bool) (before after : List Bool) →
-    index < length before → f ≡ monic_at K d index → IsTrue r ↔ IsIrreduciblePolynomial K f → mark ≡ not r →
-    after ≡ set before index mark → AreReducibleBelow K d index before → AreReducibleBelow K d (index + 1) after
-tried_more K d index f r mark before after inside f_is tells mark_is after_is h = record {
-  long = ap (length {A = Bool}) after_is ∙ length-set before index mark ∙ h.long;
-  each = λ k below. each k below (ℕ_discrete k index);
-}
-  where
-    Told : ℕ → List Bool → Type 0
-    Told k marks = IsTrue (get_or marks k false) ↔ ¬ (IsIrreduciblePolynomial K (monic_at K d k))
-
-    decided : (b : Bool) → r ≡ b → IsTrue (not b) ↔ ¬ (IsIrreduciblePolynomial K f)
-    decided true yes_is = (λ e. absurd (false≢true e), λ reducible. absurd (reducible (tells.0 yes_is)))
-    decided false no_is = (λ _ is. false≢true (sym no_is ∙ tells.1 is), λ _. refl)
-
-    here : Told index after
-    here = subst (λ (b : Bool). IsTrue b ↔ ¬ (IsIrreduciblePolynomial K (monic_at K d index)))
-        (sym (ap (λ (marks : List Bool). get_or marks index false) after_is
-        ∙ get_or-set_same before index mark false inside ∙ mark_is))
-        (subst (λ (g : List ℕ). IsTrue (not r) ↔ ¬ (IsIrreduciblePolynomial K g)) f_is (decided r refl))
-
-    each : (k : ℕ) → k < index + 1 → Dec (k ≡ index) → Told k after
-    each k below (yes same) = subst (λ n. Told n after) (sym same) here
-    each k below (no other) =
-        subst (λ (b : Bool). IsTrue b ↔ ¬ (IsIrreduciblePolynomial K (monic_at K d k)))
-        (sym (ap (λ (marks : List Bool). get_or marks k false) after_is
-        ∙ get_or-set_other before index k mark false other))
-        (h.each k (omega arith))

@@ -130,11 +130,7 @@ impl Irreducibles {
     {
         let count = power(self.field(), self.degree() + 1);
         let mut marks = vec![in alloc; false; count]?;
-        if self.field().order() == 2 {
-            self.sieve(&mut marks);
-        } else {
-            self.try_all(alloc, &mut marks)?;
-        }
+        self.sieve(&mut marks);
         Ok(marks)
     }
 
@@ -168,7 +164,7 @@ impl Irreducibles {
 }
 
 /// A power of how many elements the field has, with an exponent that is no greater than the greatest degree.
-fn power(field: &Field, exponent: usize) -> usize
+pub(crate) fn power(field: &Field, exponent: usize) -> usize
     requires { exponent ≤ greatest_degree field.now }
     ensures value { result ≡ order_number field.now ^ exponent }
     ensures fits { result ≤ 4096 }

@@ -9,8 +9,8 @@ mod lanes;
 mod limits;
 mod minimal;
 mod poly;
+mod products;
 mod sieve;
-mod trial;
 mod value;
 mod windows;
 

@@ -1,20 +1,22 @@
-//! The reducible polynomials over two elements, by a sieve.
+//! The reducible polynomials of a degree, by a sieve.
 
-ghost use Rattle.std.specs.Prelude.{◌≡◌, ◌+◌, ◌^◌, ◌<◌, ◌≤◌, length, replicate, false, All};
+ghost use Rattle.std.specs.Prelude.{◌≡◌, ◌+◌, ◌^◌, ◌<◌, ◌≤◌, length, replicate, false};
 ghost use Rattle.axe_field.specs.NumberFields.{number_field};
-ghost use Rattle.axe_field.specs.Order.{Two, IsElement};
+ghost use Rattle.axe_field.specs.Order.{order_number};
 ghost use Rattle.axe_polynomial_algebra.specs.PolynomialsOfLists.{degree_of, IsMonicOver};
 ghost use Rattle.axe_poly.specs.Limits.{greatest_degree};
-ghost use Rattle.axe_poly.specs.Sieve.{IsProductNumber, MarksMultiples, AreReducibleMarks};
+ghost use Rattle.axe_poly.specs.Sieve.{MarksMultiples, AreReducibleMarks};
 
-use crate::irreducibles::Irreducibles;
+use crate::irreducibles::{Irreducibles, power};
+use crate::lanes::Lanes;
+use crate::products::number_of_product;
 
 impl Irreducibles {
-    /// Marks the reducible polynomials over two elements: the multiples of those that have at most half the next degree.
+    /// Marks the reducible polynomials of the next degree, by their numbers: the multiples of those that have at most
+    /// half of it.
     pub(crate) fn sieve(&self, marks: &mut [bool])
-        requires two { self.now.order ≡ Two }
         requires fits { self.now.degree < greatest_degree self.now.order }
-        requires none { marks.old ≡ replicate (2 ^ (self.now.degree + 1)) false }
+        requires none { marks.old ≡ replicate (order_number self.now.order ^ (self.now.degree + 1)) false }
         ensures { AreReducibleMarks (number_field self.now.order) (self.now.degree + 1) marks.new }
     {
         let degree = self.degree() + 1;
@@ -23,40 +25,25 @@ impl Irreducibles {
             if 2 * divisor.degree() > degree {
                 return;
             }
-            mark_multiples(divisor.coefficients(), degree, marks);
+            mark_multiples(self.lanes(), divisor.coefficients(), degree, marks);
         }
     }
 }
 
-/// Marks the multiples of a monic polynomial among the monic ones of a greater degree over two elements, by their
-/// numbers.
-fn mark_multiples(divisor: &[u8], degree: usize, marks: &mut [bool])
-    requires monic { IsMonicOver (number_field Two) divisor.now }
+/// Marks the multiples of a monic polynomial among the monic ones of a greater degree, by their numbers.
+fn mark_multiples(lanes: &Lanes, divisor: &[u8], degree: usize, marks: &mut [bool])
+    requires monic { IsMonicOver (number_field lanes.now) divisor.now }
     requires smaller { degree_of divisor.now < degree }
-    requires fits { degree ≤ 12 }
-    requires long { length marks.old ≡ 2 ^ degree }
-    ensures { MarksMultiples (number_field Two) divisor.now degree marks.old marks.new }
+    requires fits { degree ≤ greatest_degree lanes.now }
+    requires long { length marks.old ≡ order_number lanes.now ^ degree }
+    ensures { MarksMultiples (number_field lanes.now) divisor.now degree marks.old marks.new }
 {
-    let (start, first) = (marks.len(), marks.len() >> (divisor.len() - 1));
+    let scalings = lanes.scalings(divisor);
+    // The cofactors are the monic polynomials of the degree that is left.
+    let rest = degree + 1 - divisor.len();
+    let (start, first) = (marks.len(), power(lanes.field(), rest));
     for cofactor in first..2 * first {
-        marks[product(divisor, cofactor) - start] = true;
+        let product = number_of_product(lanes, divisor, &scalings, rest + 1, cofactor);
+        marks[product - start] = true;
     }
-}
-
-/// The number of a polynomial over two elements times the one that has a number: the exclusive or of that number,
-/// moved up by the exponents of the first.
-fn product(coefficients: &[u8], cofactor: usize) -> usize
-    requires elements { All (IsElement Two) coefficients.now }
-    requires short { length coefficients.now ≤ 12 }
-    requires small { cofactor < 4096 }
-    ensures { IsProductNumber coefficients.now cofactor result }
-{
-    let (mut product, mut moved) = (0, cofactor);
-    for &coefficient in coefficients {
-        if coefficient == 1 {
-            product ^= moved;
-        }
-        moved *= 2;
-    }
-    product
 }

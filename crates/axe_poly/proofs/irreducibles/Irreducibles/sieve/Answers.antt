@@ -1,21 +1,22 @@
 use Rattle.std.proofs.Common.{◌≡◌, ◌+◌, ◌^◌, false, [], replicate, get_or, sym, ◌∙◌, ap, arith}
-use Rattle.axe_field.specs.Order.{Two}
+use Rattle.axe_field.proofs.NumberFields.{number_field-order}
 use Rattle.axe_polynomial_algebra.specs.PolynomialsOfLists.{degree_of}
 use Rattle.axe_poly.specs.Polys.{PolyValue}
-use Rattle.axe_poly.proofs.SieveLaws.{order_of_two, first_none, first_more, first_all}
+use Rattle.axe_poly.proofs.SieveLaws.{first_none, first_more, first_all}
 use Rattle.axe_poly.proofs.irreducibles.Irreducibles.sieve.Goals as goal
 
 pub loop-index-init : goal.loop-index-init
 loop-index-init c =
     let t = c.args.self.now in
     first_none t c.args.marks.now
-    (c.requires.none ∙ ap (λ q. replicate (q ^ (t.degree + 1)) false) (sym (order_of_two t.order c.requires.two)))
+    (c.requires.none
+    ∙ ap (λ q. replicate (q ^ (t.degree + 1)) false) (sym (number_field-order t.order)))
 
 pub loop-index-preserved : goal.loop-index-preserved
 loop-index-preserved c =
     let t = c.args.self.now in
-    first_more t c.loop-index.index (c.degree-degree.result + 1) Two c.coefficients.result.now c.loop-index.marks
-    c.mark_multiples.new.marks (sym c.requires.two) (ap (λ n. n + 1) c.degree-degree.ensures.value)
+    first_more t c.loop-index.index (c.degree-degree.result + 1) c.lanes.result.now c.coefficients.result.now
+    c.loop-index.marks c.mark_multiples.new.marks c.lanes.ensures.order (ap (λ n. n + 1) c.degree-degree.ensures.value)
     (c.coefficients.ensures.list ∙ ap (λ (p : PolyValue). p.coefficients) c.polynomial-divisor.ensures.value)
     c.mark_multiples.ensures c.loop-index.invariant
 

@@ -1,16 +1,16 @@
 use Rattle.std.proofs.Common.{◌<◌, ◌*◌, ◌^◌, refl, arith}
 use Rattle.std.proofs.lemmas.Nat.{mul-lt}
-use Rattle.axe_poly.proofs.BitPolynomials.{product_none, product_more, product_same, product_all, moved_next}
-use Rattle.axe_poly.proofs.BitPolynomials.{below_power}
-use Rattle.axe_poly.proofs.sieve.product.Goals as goal
-use Rattle.axe_poly.proofs.sieve.product.Goals.{then-coefficient-eq1, else-coefficient-eq1}
+use Rattle.axe_poly.proofs.BitProducts.{product_none, product_more, product_same, product_all, moved_next}
+use Rattle.axe_poly.proofs.BitProducts.{below_power}
+use Rattle.axe_poly.proofs.products.product_of_bits.Goals as goal
+use Rattle.axe_poly.proofs.products.product_of_bits.Goals.{then-coefficient-eq1, else-coefficient-eq1}
 
 pub overflow_mul-moved : goal.overflow_mul-moved
 overflow_mul-moved c =
-    let power : 2 ^ c.loop-coefficient.coefficient-index < 4096 =
-    below_power c.loop-coefficient.coefficient-index 12 (omega arith) in
-    let small : c.args.cofactor * 2 ^ c.loop-coefficient.coefficient-index < 4096 * 4096 =
-    mul-lt c.args.cofactor (2 ^ c.loop-coefficient.coefficient-index) 4096 4096 c.requires.small power in
+    let power : 2 ^ c.loop-coefficient.coefficient-index < 32768 =
+    below_power c.loop-coefficient.coefficient-index 15 (omega arith) in
+    let small : c.args.cofactor * 2 ^ c.loop-coefficient.coefficient-index < 65536 * 32768 =
+    mul-lt c.args.cofactor (2 ^ c.loop-coefficient.coefficient-index) 65536 32768 c.requires.small power in
     omega (arith, small, c.loop-coefficient.invariant.moved)
 
 pub loop-coefficient-init : goal.loop-coefficient-init
