@@ -135,3 +135,13 @@ weight-zero Five = refl
 weight-zero Seven = refl
 weight-zero Eight = refl
 weight-zero Nine = refl
+
+pub code-zero : (o : Order) → code o 0 ≡ 0
+unfolding code
+code-zero Two = refl
+code-zero Three = refl
+code-zero Four = refl
+code-zero Five = refl
+code-zero Seven = refl
+code-zero Eight = refl
+code-zero Nine = refl

@@ -9,3 +9,7 @@ pub mod HornerLaws
 pub mod CodeLaws
 pub mod PackLaws
 pub mod WindowLaws
+pub mod NumberPolynomials
+pub mod BitProducts
+pub mod ProductWords
+pub mod SieveLaws

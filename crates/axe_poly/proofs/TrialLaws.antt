@@ -1,4 +1,4 @@
--- Trial division by the irreducible polynomials of a table.
+-- What the irreducible polynomials of a table tell of a polynomial of the next degree.
 use Rattle.std.specs.Prelude.{◌≡◌, ℕ, ◌+◌, ◌<◌, ◌≤◌, List, [], length, get_or}
 use Rattle.std.specs.List.{Contains}
 use Rattle.std.proofs.lemmas.List.{get_or_default}
@@ -82,15 +82,3 @@ module _ (K : NumberField) (s : ℕ) (table : List (List ℕ)) (found : AreIrred
   reducible_of_table f i degree inside divides =
       reducible_by_divisor K f (get_or table i []) (irreducible_at i inside).irreducible.over
       (omega (arith, degree, (irreducible_at i inside).bound)) divides
-
--- one more polynomial of the table does not divide
-pub none_more : (K : NumberField) (table : List (List ℕ)) (f : List ℕ) (index : ℕ) →
-    ((i : ℕ) → i < index → ¬ (Divides K (get_or table i []) f)) →
-    ¬ (Divides K (get_or table index []) f) → (i : ℕ) → i < index + 1 → ¬ (Divides K (get_or table i []) f)
-none_more K table f index before here i below = cases (dec_lt i index)
-  where
-    cases : Dec (i < index) → ¬ (Divides K (get_or table i []) f)
-    cases (yes inside) = before i inside
-    cases (no last) =
-        let e : i ≡ index = omega (arith, below, last) in
-        λ divides. here (subst (λ k. Divides K (get_or table k []) f) e divides)

@@ -59,7 +59,7 @@ times_one u = grind arith
 times_next : (u j : ℕ) → u * (j + 1) + u ≡ u * (j + 2)
 times_next u j = grind arith
 
-next_word : (w n a : ℕ) (lanes terms : ℕ → ℕ) →
+pub next_word : (w n a : ℕ) (lanes terms : ℕ → ℕ) →
     packed w (suc n) (λ j. moved a lanes j + terms j) ≡ packed w n lanes * w + a + packed w (suc n) terms
 next_word w n a lanes terms =
     packed_sum w (suc n) (moved a lanes) terms
@@ -270,7 +270,7 @@ word-greatest Seven = omega arith
 word-greatest Eight = omega arith
 word-greatest Nine = omega arith
 
-base-positive : (o : Order) → 0 < lane_base o
+pub base-positive : (o : Order) → 0 < lane_base o
 base-positive Two = omega arith
 base-positive Three = omega arith
 base-positive Four = omega arith
@@ -375,7 +375,7 @@ pub record IsTermAdded (o : Order) (p : List ℕ) (c i word place x base : ℕ) 
   pub word_small : word + x * place < 2 ^ 53
   pub place_small : place * base < 2 ^ 53
 
-terms_small : (o : Order) (p : List ℕ) (c n : ℕ) → AreElements (number_field o) p → c < order_number o →
+pub terms_small : (o : Order) (p : List ℕ) (c n : ℕ) → AreElements (number_field o) p → c < order_number o →
     n ≤ length p → n ≤ greatest_degree o + 1 → packed (lane_base o) n (term o p c) < 2 ^ 53
 unfolding term
 terms_small o p c n over element short small =
@@ -566,7 +566,7 @@ bits_small o p bits small bits_is = cases (dec_lt (bits * (length p - 2)) 64)
         let e : 2 ^ 64 ≤ 2 ^ (bits * (length p - 2)) = pow-le-pow_right two long in
         absurd (omega (arith, e, power, word_fits o (length p - 2) (omega (arith, small))))
 
-order-small : (o : Order) → order_number o ≤ 9
+pub order-small : (o : Order) → order_number o ≤ 9
 order-small Two = omega arith
 order-small Three = omega arith
 order-small Four = omega arith

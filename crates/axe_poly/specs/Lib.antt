@@ -4,3 +4,4 @@ pub mod Powers
 pub mod Numbering
 pub mod Tables
 pub mod Lanes
+pub mod Sieve

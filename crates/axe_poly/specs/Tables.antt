@@ -1,11 +1,10 @@
 -- Irreducible polynomials in a table, degree by degree.
-use Rattle.std.specs.Prelude.{◌≡◌, ℕ, ◌+◌, ◌<◌, ◌≤◌, List, [], All, length, get_or, take}
+use Rattle.std.specs.Prelude.{◌≡◌, ℕ, ◌+◌, ◌≤◌, List, All, take}
 use Rattle.std.specs.List.{Contains}
 use Rattle.axe_algebra.specs.NumberField.{NumberField}
 use Rattle.axe_field.specs.NumberFields.{number_field}
 use Rattle.axe_field.specs.Order.{Order}
-use Rattle.axe_polynomial_algebra.specs.PolynomialsOfLists.{degree_of, IsFactorOfDegree, ListsByNumber}
-use Rattle.axe_poly.specs.Lanes.{AreMultiples}
+use Rattle.axe_polynomial_algebra.specs.PolynomialsOfLists.{IsFactorOfDegree, ListsByNumber}
 use Rattle.axe_poly.specs.Limits.{greatest_degree}
 use Rattle.axe_poly.specs.Numbering.{AreIrreduciblesBelow, AreIrreduciblesUpTo}
 use Rattle.axe_poly.specs.Polys.{PolyValue, coefficients_of}
@@ -36,15 +35,6 @@ pub record AreTabled (order : Order) (degree : ℕ) (polynomials : List PolyValu
 pub record AreFoundBelow (t : IrreduciblesValue) (bound : ℕ) (found : List PolyValue) : Type 0 where
   pub fields : All (λ p. p.order ≡ t.order) found
   pub irreducibles : AreIrreduciblesBelow (number_field t.order) (t.degree + 1) bound (coefficients_of found)
-
--- the words of the multiples of the first polynomials of a table: of all, or of those before one that has more than half
--- the next degree
-pub record AreMultiplesOfSmall (t : IrreduciblesValue) (multiples : List (List ℕ)) : Type 0 where
-  pub few : length multiples ≤ length t.polynomials
-  pub each : (i : ℕ) → i < length multiples →
-      AreMultiples t.order (get_or t.polynomials i []) (get_or multiples i [])
-  pub ends : length multiples < length t.polynomials → let p = get_or t.polynomials (length multiples) [] in
-      t.degree + 1 < degree_of p + degree_of p
 
 -- p is an irreducible divisor of f, of degree d, among the first so many polynomials of a table
 abbrev pub IsFactorAmong : NumberField → List ℕ → ℕ → List (List ℕ) → ℕ → List ℕ → Type 0

@@ -1,13 +1,13 @@
 //! Irreducible polynomials of a field, found degree by degree.
 
-ghost use Rattle.std.specs.Prelude.{◌≡◌, ◌+◌, ◌<◌, ◌≤◌, ◌↔◌, ◌^◌, ◌*◌, length, get_or, [], IsTrue, None, OnErr};
+ghost use Rattle.std.specs.Prelude.{◌≡◌, ◌+◌, ◌<◌, ◌≤◌, ◌^◌, ◌*◌, length, get_or, [], None, OnErr};
 ghost use Rattle.axe_field.specs.NumberFields.{number_field};
 ghost use Rattle.axe_field.specs.Order.{order_number};
 ghost use Rattle.axe_row.specs.Refusals.{Answers};
 ghost use Rattle.axe_poly.specs.Limits.{greatest_degree};
-ghost use Rattle.axe_polynomial_algebra.specs.PolynomialsOfLists.{degree_of, IsMonicOver, IsIrreduciblePolynomial};
 ghost use Rattle.axe_poly.specs.Polys.{IsPoly, poly_with};
-ghost use Rattle.axe_poly.specs.Tables.{AreIrreducibles, AreFoundBelow, AreMultiplesOfSmall};
+ghost use Rattle.axe_poly.specs.Sieve.{AreReducibleMarks};
+ghost use Rattle.axe_poly.specs.Tables.{AreIrreducibles, AreFoundBelow};
 
 use crate::digits::Digits;
 use crate::lanes::Lanes;
@@ -73,7 +73,7 @@ impl Irreducibles {
         self.degree
     }
 
-    /// Finds those of the next degree, by trial division by those found before. For want of memory nothing changes.
+    /// Finds those of the next degree, by those found before. For want of memory nothing changes.
     pub fn add_degree(&mut self, alloc: Global) -> Result<(), Refusal>
         requires { self.old.degree < greatest_degree self.old.order }
         ensures added { Answers None (λ _. self.new.degree ≡ self.old.degree + 1) result }
@@ -112,45 +112,40 @@ impl Irreducibles {
             AreFoundBelow self.now (2 * order_number self.now.order ^ (self.now.degree + 1)) found.items) result }
     {
         let (field, degree) = (*self.field(), self.degree() + 1);
-        let multiples = self.multiples_of_small(alloc)?;
+        let reducible = self.reducible(alloc)?;
         let mut candidate = Digits::zeros(alloc, field, degree + 1)?;
         let first = power(&field, degree);
         let mut found = Vec::new(alloc);
         for number in first..2 * first {
-            self.try_number(alloc, number, &multiples, &mut candidate, &mut found)?;
+            self.try_number(alloc, number, &reducible, &mut candidate, &mut found)?;
         }
         Ok(found)
     }
 
-    /// For each polynomial of at most half the next degree, the words of its multiples, by which candidates are divided.
-    fn multiples_of_small(&self, alloc: Global) -> Result<Vec<[u64; 9]>, Refusal>
+    /// A mark for each monic polynomial of the next degree, by its number: whether it is reducible.
+    fn reducible(&self, alloc: Global) -> Result<Vec<bool>, Refusal>
         requires { self.now.degree < greatest_degree self.now.order }
-        ensures { Answers None (λ multiples. AreMultiplesOfSmall self.now multiples.items) result }
+        ensures { Answers None (λ marks.
+            AreReducibleMarks (number_field self.now.order) (self.now.degree + 1) marks.items) result }
     {
-        let degree = self.degree() + 1;
-        let mut multiples = Vec::new(alloc);
-        for index in 0..self.count() {
-            let divisor = self.polynomial(index);
-            if 2 * divisor.degree() > degree {
-                return Ok(multiples);
-            }
-            multiples.push(self.lanes().multiples(divisor.coefficients()))?;
-        }
-        Ok(multiples)
+        let count = power(self.field(), self.degree() + 1);
+        let mut marks = vec![in alloc; false; count]?;
+        self.sieve(&mut marks);
+        Ok(marks)
     }
 
-    /// Appends the polynomial of the next degree that has a number, where it is irreducible.
+    /// Appends the polynomial of the next degree that has a number, where it is not marked as reducible.
     fn try_number(
         &self,
         alloc: Global,
         number: usize,
-        multiples: &[[u64; 9]],
+        reducible: &[bool],
         candidate: &mut Digits,
         found: &mut Vec<Poly>,
     ) -> Result<(), Refusal>
         requires from { order_number self.now.order ^ (self.now.degree + 1) ≤ number }
         requires to { number < 2 * order_number self.now.order ^ (self.now.degree + 1) }
-        requires multiples { AreMultiplesOfSmall self.now multiples.now }
+        requires marks { AreReducibleMarks (number_field self.now.order) (self.now.degree + 1) reducible.now }
         requires candidate_field { candidate.old.order ≡ self.now.order }
         requires candidate_long { length candidate.old.entries ≡ self.now.degree + 2 }
         requires found { AreFoundBelow self.now number found.old.items }
@@ -158,39 +153,18 @@ impl Irreducibles {
         ensures candidate_field { candidate.new.order ≡ self.now.order }
         ensures candidate_long { length candidate.new.entries ≡ self.now.degree + 2 }
     {
+        if reducible[number - reducible.len()] {
+            return Ok(());
+        }
         candidate.set_number(number);
-        if self.is_irreducible(multiples, candidate.as_slice()) {
-            let coefficients = list_of(alloc, candidate.as_slice())?;
-            found.push(Poly::from_monic(*self.field(), coefficients))?;
-        }
+        let coefficients = list_of(alloc, candidate.as_slice())?;
+        found.push(Poly::from_monic(*self.field(), coefficients))?;
         Ok(())
-    }
-
-    /// Whether a monic polynomial of the next degree is irreducible: whether none of the polynomials that have at most
-    /// half its degree divides it.
-    fn is_irreducible(&self, multiples: &[[u64; 9]], dividend: &[u8]) -> bool
-        requires multiples { AreMultiplesOfSmall self.now multiples.now }
-        requires monic { IsMonicOver (number_field self.now.order) dividend.now }
-        requires degree { degree_of dividend.now ≡ self.now.degree + 1 }
-        ensures { IsTrue result ↔ IsIrreduciblePolynomial (number_field self.now.order) dividend.now }
-    {
-        // `count` is called for what it ensures beside their number: that they are irreducible, and that their degrees
-        // are no greater than the greatest one.
-        prove!(multiples.len() <= self.count());
-        let lanes = self.lanes();
-        for index in 0..multiples.len() {
-            let divisor = self.polynomial(index);
-            let coefficients = divisor.coefficients();
-            if lanes.divides(coefficients, &multiples[index], dividend) {
-                return false;
-            }
-        }
-        true
     }
 }
 
 /// A power of how many elements the field has, with an exponent that is no greater than the greatest degree.
-fn power(field: &Field, exponent: usize) -> usize
+pub(crate) fn power(field: &Field, exponent: usize) -> usize
     requires { exponent ≤ greatest_degree field.now }
     ensures value { result ≡ order_number field.now ^ exponent }
     ensures fits { result ≤ 4096 }

@@ -9,6 +9,8 @@ mod lanes;
 mod limits;
 mod minimal;
 mod poly;
+mod products;
+mod sieve;
 mod value;
 mod windows;
 

@@ -11,7 +11,7 @@ use crate::lanes::{Lanes, lane_base, lane_bits};
 use axe_field::Field;
 
 /// The word of the codes of a constant times the coefficients of a monic polynomial, but for the leading one.
-fn multiple(field: &Field, codes: &[u64; 9], divisor: &[u8], constant: u8) -> u64
+pub(crate) fn multiple(field: &Field, codes: &[u64; 9], divisor: &[u8], constant: u8) -> u64
     requires codes { AreCodes field.now codes.now }
     requires monic { IsMonicOver (number_field field.now) divisor.now }
     requires degree { degree_of divisor.now ≤ greatest_degree field.now }

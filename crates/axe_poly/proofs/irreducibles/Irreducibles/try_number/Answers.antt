@@ -1,42 +1,45 @@
-use Rattle.std.proofs.Common.{◌∙◌, sym}
-use Rattle.std.proofs.lemmas.Bool.{false≢true}
+use Rattle.std.proofs.Common.{List, ℕ, refl, sym, subst, ◌∙◌}
+use Rattle.axe_field.specs.NumberFields.{number_field}
+use Rattle.axe_polynomial_algebra.specs.PolynomialsOfLists.{IsMonicOver, IsIrreduciblePolynomial}
 use Rattle.axe_poly.specs.Polys.{poly_with}
-use Rattle.axe_poly.proofs.FoundLaws.{candidate_is, candidate_monic, candidate_degree, found_more, found_same}
+use Rattle.axe_poly.proofs.FoundLaws.{candidate_is, candidate_monic, found_more, found_same}
+use Rattle.axe_poly.proofs.SieveLaws.{has_mark, marked_is_reducible, unmarked_is_irreducible}
 use Rattle.axe_poly.proofs.irreducibles.Irreducibles.try_number.Goals as goal
 use mathlib.Core.Path.{ap₂}
 
-pub is_irreducible-requires-clause-monic : goal.is_irreducible-requires-clause-monic
-is_irreducible-requires-clause-monic c =
-    candidate_monic c.args.self.now c.args.number c.as_slice.result.now
-    (candidate_is c.args.self.now c.args.number c.args.candidate.now c.set_number.new.self c.as_slice.result.now
-    c.requires.candidate_field c.requires.candidate_long
-    c.set_number.ensures.digits c.as_slice.ensures.list) c.requires.from c.requires.to
+pub overflow_sub-number : goal.overflow_sub-number
+overflow_sub-number c =
+    (has_mark c.args.self.now c.args.number c.args.reducible.now c.requires.marks c.requires.from c.requires.to).0
 
-pub is_irreducible-requires-clause-degree : goal.is_irreducible-requires-clause-degree
-is_irreducible-requires-clause-degree c =
-    candidate_degree c.args.self.now c.args.number c.as_slice.result.now
-    (candidate_is c.args.self.now c.args.number c.args.candidate.now c.set_number.new.self c.as_slice.result.now
-    c.requires.candidate_field c.requires.candidate_long
-    c.set_number.ensures.digits c.as_slice.ensures.list) c.requires.from c.requires.to
+pub bounds-reducible-number : goal.bounds-reducible-number
+bounds-reducible-number c =
+    (has_mark c.args.self.now c.args.number c.args.reducible.now c.requires.marks c.requires.from c.requires.to).1
 
-pub returns-in_ok-push-clause-found : goal.returns-in_ok-push-clause-found
-returns-in_ok-push-clause-found c =
-    found_more c.args.self.now c.args.number c.as_slice.result.now
+pub from_monic-requires : goal.from_monic-requires
+from_monic-requires c =
+    subst (λ o. IsMonicOver (number_field o) c.in_ok-coefficients.coefficients.items) (sym c.field.ensures.order)
+    (subst (λ (f : List ℕ). IsMonicOver (number_field c.args.self.now.order) f) (sym c.in_ok-coefficients.ensures)
+    (candidate_monic c.args.self.now c.args.number c.as_slice.result.now
     (candidate_is c.args.self.now c.args.number c.args.candidate.now c.set_number.new.self c.as_slice.result.now
     c.requires.candidate_field c.requires.candidate_long
-    c.set_number.ensures.digits c.as_slice.ensures.list) c.requires.from c.requires.to
+    c.set_number.ensures.digits c.as_slice.ensures.list) c.requires.from c.requires.to))
+
+pub returns-then-reducible-number-clause-found : goal.returns-then-reducible-number-clause-found
+returns-then-reducible-number-clause-found c =
+    found_same c.args.self.now c.args.number _ refl c.requires.from c.requires.to c.args.found.now.items
+    (marked_is_reducible c.args.self.now c.args.number c.args.reducible.now c.requires.marks c.requires.from
+    c.requires.to c.if-reducible-number.true) c.requires.found
+
+pub returns-clause-found : goal.returns-clause-found
+returns-clause-found c =
+    let is = candidate_is c.args.self.now c.args.number c.args.candidate.now c.set_number.new.self
+    c.as_slice.result.now c.requires.candidate_field c.requires.candidate_long
+    c.set_number.ensures.digits c.as_slice.ensures.list in
+    found_more c.args.self.now c.args.number c.as_slice.result.now is c.requires.from c.requires.to
     c.args.found.now.items c.from_monic.result c.push.new.self.items
-    (c.is_irreducible.ensures.0 c.if-is_irreducible.true) c.requires.found
-    (c.from_monic.ensures
-    ∙ ap₂ poly_with c.field.ensures.order
-    (c.in_ok-coefficients.ensures ∙ c.as_slice-then-is_irreducible.ensures.list
-    ∙ sym c.as_slice.ensures.list)) c.in_ok-push.ensures.items
-
-pub returns-else-is_irreducible-clause-found : goal.returns-else-is_irreducible-clause-found
-returns-else-is_irreducible-clause-found c =
-    found_same c.args.self.now c.args.number c.as_slice.result.now
-    (candidate_is c.args.self.now c.args.number c.args.candidate.now c.set_number.new.self c.as_slice.result.now
-    c.requires.candidate_field c.requires.candidate_long
-    c.set_number.ensures.digits c.as_slice.ensures.list) c.requires.from c.requires.to
-    c.args.found.now.items
-    (λ is. false≢true (sym c.if-is_irreducible.false ∙ c.is_irreducible.ensures.1 is)) c.requires.found
+    (subst (λ (f : List ℕ). IsIrreduciblePolynomial (number_field c.args.self.now.order) f) (sym is)
+    (unmarked_is_irreducible c.args.self.now c.args.number c.args.reducible.now c.requires.marks c.requires.from
+    c.requires.to c.if-reducible-number.false))
+    c.requires.found
+    (c.from_monic.ensures ∙ ap₂ poly_with c.field.ensures.order c.in_ok-coefficients.ensures)
+    c.in_ok-push.ensures.items
