@@ -5,12 +5,12 @@ use Rattle.std.proofs.lemmas.List.{get_or_past, get_or-drop, get_or-take, length
 use Rattle.std.proofs.Math.Seq.{drop-append_seam, take-append_seam}
 use native.Mathlib.Decide.{dec_lt}
 use Rattle.axe_lane.specs.Entries.{HasNonzero}
-use Rattle.axe_lane.specs.Trits.{IsTritSum}
+use Rattle.axe_lane.specs.Trits.{IsTritSum, IsTritSumOfFive}
 use Rattle.axe_layer.specs.Bits.{bits, HoldsBits}
-use Rattle.axe_layer.specs.Digits.{digits_with_multiple}
+use Rattle.axe_layer.specs.Digits.{digits_with_four, digits_with_multiple}
 use Rattle.axe_bits.specs.Trits.{trits, first_half, second_half, HoldLayers, HoldTrits}
 use Rattle.axe_layer.proofs.BitLaws.{bit_of-zeros, bits-zeros, bits-injective, HoldsBits-zeros, written, zeros}
-use Rattle.axe_bits.proofs.TritWords.{digits_of_sum, layers, layers_of_planes, layers_of_sum, length-layers}
+use Rattle.axe_bits.proofs.TritWords.{digits_of_five, digits_of_sum, layers, layers_of_five, layers_of_planes, layers_of_sum, length-layers}
 use Rattle.axe_bits.proofs.TritZeros.{same_ones, same_twos, trits-zeros, zero_ones, zero_trits, zero_twos}
 use Rattle.axe_layer.proofs.ZeroDigits.{no_bit, zero_word, zero_words}
 
@@ -135,6 +135,35 @@ module _ (n k : ℕ) (words whole new a b x : List ℕ) (held : HalvesHold n wor
   half_trits-sum =
       ap (half_trits n) new_written ∙ digits_of_sum n _ _ a b _ _ held other total
       ∙ ap₂ (λ (v : List ℕ) m. digits_with_multiple 3 v 1 (trits (bits m a) (bits m b))) is (sym (halves_long n words x is))
+
+-- the layers of four planes are
+module _ (n k : ℕ) (words whole new a a' b b' c c' d d' x : List ℕ) (held : HalvesHold n words) (is : half_trits n words ≡ x) (same : whole ≡ words)
+    (all : k ≡ length words) (wide : length new ≡ length whole) (ha : HoldLayers (length x) a a') (hb : HoldLayers (length x) b b')
+    (hc : HoldLayers (length x) c c') (hd : HoldLayers (length x) d d')
+    (sum : IsTritSumOfFive (first_half whole) (second_half whole) a a' b b' c c' d d' (first_half new) (second_half new)) where
+  total_of_five : IsTritSumOfFive (first_half words) (second_half words) a a' b b' c c' d d' (first_half new) (second_half new)
+  total_of_five =
+      subst (λ (v : List ℕ). IsTritSumOfFive (first_half v) (second_half v) a a' b b' c c' d d' (first_half new) (second_half new)) same sum
+
+  mine : (v w : List ℕ) → HoldLayers (length x) v w → HoldLayers n v w
+  mine v w more = HoldLayers-len n words v w x is more
+
+  five_written : take k (new ++ drop (length new) words) ≡ new
+  five_written = written k new words all (wide ∙ ap length same)
+
+  pub HalvesHold-five : HalvesHold n (take k (new ++ drop (length new) words))
+  HalvesHold-five =
+      subst (HalvesHold n) (sym five_written)
+      (layers_of_five n _ _ a a' b b' c c' d d' _ _ held (mine a a' ha) (mine b b' hb) (mine c c' hc) (mine d d' hd) total_of_five)
+
+  pub half_trits-five : half_trits n (take k (new ++ drop (length new) words))
+      ≡ digits_with_four 3 x (trits (bits (length x) a) (bits (length x) a')) (trits (bits (length x) b) (bits (length x) b'))
+      (trits (bits (length x) c) (bits (length x) c')) (trits (bits (length x) d) (bits (length x) d'))
+  half_trits-five =
+      ap (half_trits n) five_written
+      ∙ digits_of_five n _ _ a a' b b' c c' d d' _ _ held (mine a a' ha) (mine b b' hb) (mine c c' hc) (mine d d' hd) total_of_five
+      ∙ ap₂ (λ (v : List ℕ) m. digits_with_four 3 v (trits (bits m a) (bits m a')) (trits (bits m b) (bits m b'))
+      (trits (bits m c) (bits m c')) (trits (bits m d) (bits m d'))) is (sym (halves_long n words x is))
 
 -- ---- zeros
 

@@ -1,12 +1,12 @@
 -- Two layers of words as digits modulo 3: what a sum of such rows is, and their dot products.
-use Rattle.std.proofs.Common.{◌≡◌, ℕ, ◌+◌, ◌*◌, ◌%◌, ◌<◌, ◌≤◌, List, length, get_or, refl, sym, ap, ap₂, subst, ◌∙◌, arith, inl, inr}
+use Rattle.std.proofs.Common.{◌≡◌, ℕ, ◌+◌, ◌*◌, ◌%◌, ◌<◌, ◌≤◌, List, length, get_or, sym, ap, ap₂, subst, ◌∙◌, arith, inl, inr}
 use Rattle.std.proofs.lemmas.Bool.{cases_lt}
 use Rattle.std.proofs.lemmas.List.{ext_get_or, get_or_past}
 use Rattle.axe_algebra.proofs.ListEntries.{listed_length, listed_at}
 use Rattle.axe_lane.specs.Words.{bit_of}
-use Rattle.axe_lane.specs.Trits.{AreTrits, FitAt, IsTritSum}
+use Rattle.axe_lane.specs.Trits.{AreTrits, FitAt, IsTritSum, IsTritSumOfFive}
 use Rattle.axe_layer.specs.Bits.{bits, HoldsBits}
-use Rattle.axe_layer.specs.Digits.{digits_with_multiple}
+use Rattle.axe_layer.specs.Digits.{digits_with_four, digits_with_multiple}
 use Rattle.axe_bits.specs.Trits.{trits, HoldLayers, HoldTrits}
 use Rattle.axe_layer.proofs.BitLaws.{length-bits, get_or-bits, plane_long, AreDigits-bits}
 use Rattle.axe_layer.proofs.DigitLaws.{length-digits_with_multiple, get_or-digits_with_multiple}
@@ -96,6 +96,32 @@ module _ (n : ℕ) (o t a b p q : List ℕ) (row : HoldLayers n o t) (more : Hol
       let one : 1 * get_or (trits (bits n a) (bits n b)) e 0 ≡ bit_of a e + 2 * bit_of b e = omega (arith, get_or-layers n a b e below) in
       get_or-layers n p q e below ∙ digit e
       ∙ sym (get_or-digits_with_multiple 3 _ 1 _ e here ∙ ap₂ (λ x y. (x + y) % 3) (get_or-layers n o t e below) one))
+
+-- four rows are added, one after another
+module _ (n : ℕ) (o t a a' b b' c c' d d' p q : List ℕ) (row : HoldLayers n o t) (ha : HoldLayers n a a') (hb : HoldLayers n b b')
+    (hc : HoldLayers n c c') (hd : HoldLayers n d d') (sum : IsTritSumOfFive o t a a' b b' c c' d d' p q) where
+  two_held : HoldLayers n sum.ones_of_two sum.twos_of_two
+  two_held = layers_of_sum n o t a a' sum.ones_of_two sum.twos_of_two row ha sum.first
+
+  three_held : HoldLayers n sum.ones_of_three sum.twos_of_three
+  three_held = layers_of_sum n sum.ones_of_two sum.twos_of_two b b' sum.ones_of_three sum.twos_of_three two_held hb sum.second
+
+  four_held : HoldLayers n sum.ones_of_four sum.twos_of_four
+  four_held = layers_of_sum n sum.ones_of_three sum.twos_of_three c c' sum.ones_of_four sum.twos_of_four three_held hc sum.third
+
+  pub layers_of_five : HoldLayers n p q
+  layers_of_five = layers_of_sum n sum.ones_of_four sum.twos_of_four d d' p q four_held hd sum.fourth
+
+  pub digits_of_five : trits (bits n p) (bits n q) ≡ digits_with_four 3 (trits (bits n o) (bits n t)) (trits (bits n a) (bits n a'))
+      (trits (bits n b) (bits n b')) (trits (bits n c) (bits n c')) (trits (bits n d) (bits n d'))
+  digits_of_five =
+      digits_of_sum n sum.ones_of_four sum.twos_of_four d d' p q four_held hd sum.fourth
+      ∙ ap (λ (x : List ℕ). digits_with_multiple 3 x 1 (trits (bits n d) (bits n d')))
+      (digits_of_sum n sum.ones_of_three sum.twos_of_three c c' sum.ones_of_four sum.twos_of_four three_held hc sum.third
+      ∙ ap (λ (x : List ℕ). digits_with_multiple 3 x 1 (trits (bits n c) (bits n c')))
+      (digits_of_sum n sum.ones_of_two sum.twos_of_two b b' sum.ones_of_three sum.twos_of_three two_held hb sum.second
+      ∙ ap (λ (x : List ℕ). digits_with_multiple 3 x 1 (trits (bits n b) (bits n b')))
+      (digits_of_sum n o t a a' sum.ones_of_two sum.twos_of_two row ha sum.first)))
 
 -- ---- the layers of two planes that go together
 

@@ -1,5 +1,7 @@
 //! Tables of planes of digits modulo 3.
 ghost use Rattle.std.specs.Prelude.{◌≡◌, ◌<◌, IfOk, [], length, replicate, slice_index_or, slice_set};
+ghost use Rattle.axe_bits.specs.Trits.{trits, HoldLayers};
+ghost use Rattle.axe_layer.specs.Bits.{bits};
 ghost use Rattle.axe_layer.specs.Digits.{digits_with_multiple};
 
 use crate::bit_table::add_layers_to_entry;
@@ -70,6 +72,18 @@ impl TritTable {
         requires fits { length (slice_index_or self.now index []) ≡ length plane.old }
         ensures { plane.new ≡ digits_with_multiple 3 plane.old factor (slice_index_or self.now index []) }
     {
-        plane.add_layers(0, factor, self.ones.entry(index), self.twos.entry(index));
+        let (ones, twos) = self.entry(index);
+        plane.add_layers(0, factor, ones, twos);
+    }
+
+    /// The words of the two layers of an entry, those of the ones first.
+    #[inline]
+    pub fn entry(&self, index: usize) -> (&[u64], &[u64])
+        requires { index < length self.now }
+        ensures holds { HoldLayers (length (slice_index_or self.now index [])) result.0.now result.1.now }
+        ensures digits { trits (bits (length (slice_index_or self.now index [])) result.0.now)
+            (bits (length (slice_index_or self.now index [])) result.1.now) ≡ slice_index_or self.now index [] }
+    {
+        (self.ones.entry(index), self.twos.entry(index))
     }
 }

@@ -1,16 +1,16 @@
 //! Planes of digits modulo 3, in two layers of bits.
-ghost use Rattle.std.specs.Prelude.{ℕ, ◌≡◌, ◌+◌, ◌*◌, ◌%◌, ◌^◌, ◌<◌, ◌≤◌, ◌↔◌, IsTrue, IfOk, length, map};
+ghost use Rattle.std.specs.Prelude.{ℕ, ◌≡◌, ◌+◌, ◌*◌, ◌/◌, ◌%◌, ◌^◌, ◌<◌, ◌≤◌, ◌↔◌, IsTrue, IfOk, length, map};
 ghost use Rattle.std.specs.Prelude.{replicate, slice_index, slice_set, All, MatchOption};
 ghost use Rattle.axe_algebra.specs.Lists.{listed};
 ghost use Rattle.axe_lane.specs.Bytes.{multiple_modulo, sum_of_products, AreDigits};
 ghost use Rattle.axe_lane.specs.Entries.{IsFirstNonzero, AreZerosBefore, AreZerosFrom, IsNextNonzero};
 ghost use Rattle.axe_layer.specs.Bits.{bits};
-ghost use Rattle.axe_lane.specs.Trits.{AreTrits, IsTritSum};
+ghost use Rattle.axe_lane.specs.Trits.{AreTrits, AreTritsOf, IsTritSum, IsTritSumOfFive};
 ghost use Rattle.axe_bits.specs.Trits.{trits, first_half, second_half, HoldLayers};
-ghost use Rattle.axe_layer.specs.Digits.{digits_with_multiple};
+ghost use Rattle.axe_layer.specs.Digits.{digits_with_four, digits_with_multiple};
 ghost use Rattle.axe_layer.specs.Digits.{AreSmallSums, numbers_with_multiple, numbers_from, number_bound};
 
-use axe_lane::{WORD, add_trits, any_nonzero, dot_trits};
+use axe_lane::{WORD, add_trits, add4_trits, any_nonzero, dot_trits};
 use axe_layer::{
     add_digits, bit_in, copy_digits, fill_with_bits, fill_with_part, fill_with_selected,
     next_in_word, numbers_by_digits, set_bit,
@@ -225,9 +225,31 @@ impl TritPlane {
         }
     }
 
-    /// The words of the two layers, that of the ones first.
+    /// Adds the digits that the layers of each of four planes of the same length hold, in one pass.
     #[inline]
-    pub(crate) fn layers(&self) -> (&[u64], &[u64])
+    pub fn add_four(
+        &mut self,
+        a: (&[u64], &[u64]),
+        b: (&[u64], &[u64]),
+        c: (&[u64], &[u64]),
+        d: (&[u64], &[u64]),
+    )
+        requires a { HoldLayers (length self.old) a.0.now a.1.now }
+        requires b { HoldLayers (length self.old) b.0.now b.1.now }
+        requires c { HoldLayers (length self.old) c.0.now c.1.now }
+        requires d { HoldLayers (length self.old) d.0.now d.1.now }
+        ensures { self.new ≡ digits_with_four 3 self.old
+            (trits (bits (length self.old) a.entry.0.now) (bits (length self.old) a.entry.1.now))
+            (trits (bits (length self.old) b.entry.0.now) (bits (length self.old) b.entry.1.now))
+            (trits (bits (length self.old) c.entry.0.now) (bits (length self.old) c.entry.1.now))
+            (trits (bits (length self.old) d.entry.0.now) (bits (length self.old) d.entry.1.now)) }
+    {
+        add_four_to_halves(&mut self.words, a, b, c, d);
+    }
+
+    /// The words of the two layers, those of the ones first.
+    #[inline]
+    pub fn layers(&self) -> (&[u64], &[u64])
         ensures holds { HoldLayers (length self.now) result.0.now result.1.now }
         ensures digits { trits (bits (length self.now) result.0.now) (bits (length self.now) result.1.now) ≡ self.now }
     {
@@ -319,4 +341,29 @@ fn add_to_halves(words: &mut [u64], first: usize, ones: &[u64], twos: &[u64])
         &ones[first..],
         &twos[first..],
     );
+}
+
+/// Adds four rows over the field of order 3 to the one of which the two halves of a list of words are the ones and the
+/// twos.
+#[inline]
+fn add_four_to_halves(
+    words: &mut [u64],
+    a: (&[u64], &[u64]),
+    b: (&[u64], &[u64]),
+    c: (&[u64], &[u64]),
+    d: (&[u64], &[u64]),
+)
+    requires row { AreTrits (first_half words.old) (second_half words.old) }
+    requires a { AreTritsOf (length words.old / 2) a.0.now a.1.now }
+    requires b { AreTritsOf (length words.old / 2) b.0.now b.1.now }
+    requires c { AreTritsOf (length words.old / 2) c.0.now c.1.now }
+    requires d { AreTritsOf (length words.old / 2) d.0.now d.1.now }
+    ensures long { length words.new ≡ length words.old }
+    ensures sum { IsTritSumOfFive (first_half words.old) (second_half words.old) a.entry.0.now a.entry.1.now
+        b.entry.0.now b.entry.1.now c.entry.0.now c.entry.1.now d.entry.0.now d.entry.1.now
+        (first_half words.new) (second_half words.new) }
+{
+    let width = words.len() / 2;
+    let (own_ones, own_twos) = words.split_at_mut(width);
+    add4_trits(own_ones, own_twos, a, b, c, d);
 }

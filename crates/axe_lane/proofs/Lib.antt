@@ -6,6 +6,7 @@ pub mod ZeroLaws
 pub mod SumLaws
 pub mod FiveRows
 pub mod TritSums
+pub mod FiveTrits
 pub mod TritDots
 pub mod MaskLaws
 pub mod RunLaws

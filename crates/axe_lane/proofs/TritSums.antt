@@ -81,11 +81,11 @@ apart_bits o t a b ho ht ha hb apart more = omega arith
 -- ---- the block of a sum
 
 -- a list of so many words, each by its index
-record AreWords (w : ℕ) (f : ℕ → ℕ) (xs : List ℕ) : Type 0 where
+pub record AreWords (w : ℕ) (f : ℕ → ℕ) (xs : List ℕ) : Type 0 where
   pub long : length xs ≡ w
   pub entry : (j : ℕ) → j < w → get_or xs j 0 ≡ f j
 
-both_words : (w : ℕ) (h : ℕ → ℕ → ℕ) (f g : ℕ → ℕ) (xs ys : List ℕ) → AreWords w f xs → AreWords w g ys → AreWords w (λ j. h (f j) (g j)) (zip2 h xs ys)
+pub both_words : (w : ℕ) (h : ℕ → ℕ → ℕ) (f g : ℕ → ℕ) (xs ys : List ℕ) → AreWords w f xs → AreWords w g ys → AreWords w (λ j. h (f j) (g j)) (zip2 h xs ys)
 both_words w h f g xs ys left right = record {
   long = length-zip2_of h xs ys w left.long right.long;
   entry = λ j below.
@@ -93,7 +93,7 @@ both_words w h f g xs ys left right = record {
       ∙ ap₂ h (left.entry j below) (right.entry j below);
 }
 
-chunk_words : (w n : ℕ) (xs : List ℕ) → n + w ≤ length xs → AreWords w (λ j. get_or xs (n + j) 0) (chunk n w xs)
+pub chunk_words : (w n : ℕ) (xs : List ℕ) → n + w ≤ length xs → AreWords w (λ j. get_or xs (n + j) 0) (chunk n w xs)
 chunk_words w n xs room = record { long = length-chunk n w xs room; entry = λ j below. get_or-chunk n w xs j 0 below }
 
 module _ (w n : ℕ) (o t a b : List ℕ) (o_room : n + w ≤ length o) (t_room : n + w ≤ length t) (a_room : n + w ≤ length a) (b_room : n + w ≤ length b) where

@@ -1,6 +1,7 @@
 -- Pairs of lists of 64-bit words as rows over the field of order 3: an entry is 1 where its bit is set in the list of
 -- ones, 2 where it is set in the list of twos, and else 0. Bit i of a list is bit i mod 64 of its word i / 64.
 use Rattle.std.specs.Prelude.{◌≡◌, ◌⊎◌, ℕ, ◌+◌, ◌*◌, ◌%◌, ◌^◌, ◌<◌, ◌≤◌, List, length, slice_index, bit_or, bit_xor}
+use Rattle.std.specs.Simd.Lanes.{zip2}
 use Rattle.axe_lane.specs.Words.{bit_of, common_bits}
 
 -- entry i of a row
@@ -47,6 +48,16 @@ ones_of_sum o t a b = bit_xor (turned_bits o t a b) (bit_or t b)
 abbrev pub twos_of_sum : ℕ → ℕ → ℕ → ℕ → ℕ
 twos_of_sum o t a b = bit_xor (turned_bits o t a b) (bit_or o a)
 
+-- the lists of those words, index by index
+abbrev pub turned_lists : List ℕ → List ℕ → List ℕ → List ℕ → List ℕ
+turned_lists o t a b = zip2 bit_xor (zip2 bit_or o b) (zip2 bit_or t a)
+
+abbrev pub ones_of_sums : List ℕ → List ℕ → List ℕ → List ℕ → List ℕ
+ones_of_sums o t a b = zip2 bit_xor (turned_lists o t a b) (zip2 bit_or t b)
+
+abbrev pub twos_of_sums : List ℕ → List ℕ → List ℕ → List ℕ → List ℕ
+twos_of_sums o t a b = zip2 bit_xor (turned_lists o t a b) (zip2 bit_or o a)
+
 -- the words from one index to another are those of the sum, and all others are as they were
 pub record HasSumBetween (from to : ℕ) (ones twos more_ones more_twos new_ones new_twos : List ℕ) : Type 0 where
   pub ones_long : length new_ones ≡ length ones
@@ -57,3 +68,52 @@ pub record HasSumBetween (from to : ℕ) (ones twos more_ones more_twos new_ones
       ≡ twos_of_sum (slice_index ones k) (slice_index twos k) (slice_index more_ones k) (slice_index more_twos k)
   pub ones_kept : (k : ℕ) → (k < from) ⊎ (to ≤ k) → slice_index new_ones k ≡ slice_index ones k
   pub twos_kept : (k : ℕ) → (k < from) ⊎ (to ≤ k) → slice_index new_twos k ≡ slice_index twos k
+
+-- the words at one index of a row
+pub record TritWord : Type 0 where
+  pub ones : ℕ
+  pub twos : ℕ
+
+abbrev pub word_at : List ℕ → List ℕ → ℕ → TritWord
+word_at ones twos k = record { ones = slice_index ones k; twos = slice_index twos k }
+
+-- the words of a sum
+unfoldable pub sum_of_words : TritWord → TritWord → TritWord
+sum_of_words x y = record {
+  ones = ones_of_sum x.ones x.twos y.ones y.twos;
+  twos = twos_of_sum x.ones x.twos y.ones y.twos;
+}
+
+-- those of the sum of five, one after another
+abbrev pub sum_of_five : TritWord → TritWord → TritWord → TritWord → TritWord → TritWord
+sum_of_five x a b c d = sum_of_words (sum_of_words (sum_of_words (sum_of_words x a) b) c) d
+
+-- the words of a row from one index to another were made the values of a function, and all others are as they were
+pub record AreMadeBetween (from to : ℕ) (made : ℕ → TritWord) (ones twos new_ones new_twos : List ℕ) : Type 0 where
+  pub ones_long : length new_ones ≡ length ones
+  pub twos_long : length new_twos ≡ length twos
+  pub made_between : (k : ℕ) → from ≤ k → k < to → word_at new_ones new_twos k ≡ made k
+  pub kept : (k : ℕ) → (k < from) ⊎ (to ≤ k) → word_at new_ones new_twos k ≡ word_at ones twos k
+
+-- two lists with a word at each index below a bound
+pub record HaveWords (bound : ℕ) (ones twos : List ℕ) : Type 0 where
+  pub ones_have : bound ≤ length ones
+  pub twos_have : bound ≤ length twos
+
+-- a row of so many words
+pub record AreTritsOf (count : ℕ) (ones twos : List ℕ) : Type 0 where
+  pub long : length ones ≡ count
+  pub are_trits : AreTrits ones twos
+
+-- a row is the sum of five, which were added one after another
+pub record IsTritSumOfFive (ones twos a_ones a_twos b_ones b_twos c_ones c_twos d_ones d_twos sum_ones sum_twos : List ℕ) : Type 0 where
+  pub ones_of_two : List ℕ
+  pub twos_of_two : List ℕ
+  pub ones_of_three : List ℕ
+  pub twos_of_three : List ℕ
+  pub ones_of_four : List ℕ
+  pub twos_of_four : List ℕ
+  pub first : IsTritSum ones twos a_ones a_twos ones_of_two twos_of_two
+  pub second : IsTritSum ones_of_two twos_of_two b_ones b_twos ones_of_three twos_of_three
+  pub third : IsTritSum ones_of_three twos_of_three c_ones c_twos ones_of_four twos_of_four
+  pub fourth : IsTritSum ones_of_four twos_of_four d_ones d_twos sum_ones sum_twos

@@ -2,6 +2,9 @@
 //! is set in the first, 2 where it is set in the second, and else 0.
 ghost use Rattle.std.specs.Prelude.{◌≡◌, ◌+◌, ◌*◌, ◌%◌, ◌<◌, ◌≤◌, length};
 ghost use Rattle.axe_lane.specs.Trits.{common_trits, AreTrits, HasSumBetween, IsTritSum};
+ghost use Rattle.axe_lane.specs.Trits.{sum_of_five, sum_of_words, word_at, AreMadeBetween, AreTritsOf, HaveWords};
+ghost use Rattle.axe_lane.specs.Trits.{ones_of_sums, twos_of_sums, IsTritSumOfFive};
+ghost use Rattle.std.specs.Simd.Lanes.{chunk};
 
 use std::simd::prelude::*;
 
@@ -29,6 +32,34 @@ pub fn add_trits(ones: &mut [u64], twos: &mut [u64], more_ones: &[u64], more_two
             add_pair(ones, twos, more_ones, more_twos, rest);
             add_word(ones, twos, more_ones, more_twos, rest + 2);
         }
+    }
+}
+
+/// Adds four rows over the field of order 3 to a fifth of their length, in one pass: each word is read and written
+/// once. A row that is added is its ones and its twos.
+pub fn add4_trits(
+    ones: &mut [u64],
+    twos: &mut [u64],
+    a: (&[u64], &[u64]),
+    b: (&[u64], &[u64]),
+    c: (&[u64], &[u64]),
+    d: (&[u64], &[u64]),
+)
+    requires row { AreTrits ones.old twos.old }
+    requires a { AreTritsOf (length ones.old) a.0.now a.1.now }
+    requires b { AreTritsOf (length ones.old) b.0.now b.1.now }
+    requires c { AreTritsOf (length ones.old) c.0.now c.1.now }
+    requires d { AreTritsOf (length ones.old) d.0.now d.1.now }
+    ensures { IsTritSumOfFive ones.old twos.old a.entry.0.now a.entry.1.now b.entry.0.now b.entry.1.now
+        c.entry.0.now c.entry.1.now d.entry.0.now d.entry.1.now
+        ones.new twos.new }
+{
+    let whole = ones.len() / BLOCK;
+    for block in 0..whole {
+        add4_block(ones, twos, a, b, c, d, block * BLOCK);
+    }
+    for at in whole * BLOCK..ones.len() {
+        add4_word(ones, twos, a, b, c, d, at);
     }
 }
 
@@ -100,4 +131,97 @@ fn add_word(ones: &mut [u64], twos: &mut [u64], more_ones: &[u64], more_twos: &[
     let turned = (one | more_twos[at]) ^ (two | more_ones[at]);
     ones[at] = turned ^ (two | more_twos[at]);
     twos[at] = turned ^ (one | more_ones[at]);
+}
+
+/// Adds the blocks of four rows from an index on to that of a fifth.
+#[inline(always)]
+fn add4_block(
+    ones: &mut [u64],
+    twos: &mut [u64],
+    a: (&[u64], &[u64]),
+    b: (&[u64], &[u64]),
+    c: (&[u64], &[u64]),
+    d: (&[u64], &[u64]),
+    at: usize,
+)
+    requires row { HaveWords (at + BLOCK) ones.old twos.old }
+    requires a { HaveWords (at + BLOCK) a.0.now a.1.now }
+    requires b { HaveWords (at + BLOCK) b.0.now b.1.now }
+    requires c { HaveWords (at + BLOCK) c.0.now c.1.now }
+    requires d { HaveWords (at + BLOCK) d.0.now d.1.now }
+    ensures { AreMadeBetween at (at + BLOCK) (λ k.
+        sum_of_five (word_at ones.old twos.old k) (word_at a.entry.0.now a.entry.1.now k)
+        (word_at b.entry.0.now b.entry.1.now k)
+        (word_at c.entry.0.now c.entry.1.now k) (word_at d.entry.0.now d.entry.1.now k))
+        ones.old twos.old ones.new twos.new }
+{
+    let row = (
+        u64x4::from_slice(&ones[at..]),
+        u64x4::from_slice(&twos[at..]),
+    );
+    let two = with_block(row, a, at);
+    let three = with_block(two, b, at);
+    let four = with_block(three, c, at);
+    let five = with_block(four, d, at);
+    five.0.copy_to_slice(&mut ones[at..]);
+    five.1.copy_to_slice(&mut twos[at..]);
+}
+
+/// The sum of a block and that of a row from an index on.
+#[inline(always)]
+fn with_block(block: (u64x4, u64x4), more: (&[u64], &[u64]), at: usize) -> (u64x4, u64x4)
+    requires more { HaveWords (at + BLOCK) more.0.now more.1.now }
+    ensures ones { result.0
+        ≡ ones_of_sums block.0 block.1 (chunk at BLOCK more.entry.0.now) (chunk at BLOCK more.entry.1.now) }
+    ensures twos { result.1
+        ≡ twos_of_sums block.0 block.1 (chunk at BLOCK more.entry.0.now) (chunk at BLOCK more.entry.1.now) }
+{
+    let (one, two) = block;
+    let more_one = u64x4::from_slice(&more.0[at..]);
+    let more_two = u64x4::from_slice(&more.1[at..]);
+    let turned = (one | more_two) ^ (two | more_one);
+    (turned ^ (two | more_two), turned ^ (one | more_one))
+}
+
+/// Adds the words of four rows at an index to that of a fifth.
+#[inline(always)]
+fn add4_word(
+    ones: &mut [u64],
+    twos: &mut [u64],
+    a: (&[u64], &[u64]),
+    b: (&[u64], &[u64]),
+    c: (&[u64], &[u64]),
+    d: (&[u64], &[u64]),
+    at: usize,
+)
+    requires row { HaveWords (at + 1) ones.old twos.old }
+    requires a { HaveWords (at + 1) a.0.now a.1.now }
+    requires b { HaveWords (at + 1) b.0.now b.1.now }
+    requires c { HaveWords (at + 1) c.0.now c.1.now }
+    requires d { HaveWords (at + 1) d.0.now d.1.now }
+    ensures { AreMadeBetween at (at + 1) (λ k.
+        sum_of_five (word_at ones.old twos.old k) (word_at a.entry.0.now a.entry.1.now k)
+        (word_at b.entry.0.now b.entry.1.now k)
+        (word_at c.entry.0.now c.entry.1.now k) (word_at d.entry.0.now d.entry.1.now k))
+        ones.old twos.old ones.new twos.new }
+{
+    let two = with_word((ones[at], twos[at]), a, at);
+    let three = with_word(two, b, at);
+    let four = with_word(three, c, at);
+    let five = with_word(four, d, at);
+    ones[at] = five.0;
+    twos[at] = five.1;
+}
+
+/// The sum of a word and that of a row at an index.
+#[inline(always)]
+fn with_word(word: (u64, u64), more: (&[u64], &[u64]), at: usize) -> (u64, u64)
+    requires more { HaveWords (at + 1) more.0.now more.1.now }
+    ensures { record { ones = result.0; twos = result.1 }
+        ≡ sum_of_words (record { ones = word.0; twos = word.1 }) (word_at more.entry.0.now more.entry.1.now at) }
+{
+    let (one, two) = word;
+    let (more_one, more_two) = (more.0[at], more.1[at]);
+    let turned = (one | more_two) ^ (two | more_one);
+    (turned ^ (two | more_two), turned ^ (one | more_one))
 }

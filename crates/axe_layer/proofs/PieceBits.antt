@@ -1,5 +1,5 @@
 -- The number that has some bits of a word as its digits.
-use Rattle.std.proofs.Common.{◌≡◌, ℕ, suc, ◌+◌, ◌-◌, ◌*◌, ◌/◌, ◌^◌, ◌<◌, ◌≤◌, List, length, get_or, min, bit_and, sym, ap, ap₂, ◌∙◌, arith}
+use Rattle.std.proofs.Common.{◌≡◌, ℕ, suc, ◌+◌, ◌-◌, ◌*◌, ◌/◌, ◌^◌, ◌<◌, ◌≤◌, List, length, get_or, min, bit_and, refl, sym, ap, ap₂, ◌∙◌, arith}
 use Rattle.std.specs.Int.{bit_at}
 use Rattle.std.proofs.lemmas.List.{take_all}
 use Rattle.std.proofs.lemmas.Nat.Bits.{shr_and_one, bit_at-lt}
@@ -9,9 +9,10 @@ use Rattle.axe_algebra.specs.Lists.{listed}
 use Rattle.axe_algebra.proofs.ListEntries.{listed_length, listed_at}
 use Rattle.axe_lane.specs.Words.{bit_of}
 use Rattle.axe_layer.specs.Bits.{bits}
-use Rattle.axe_layer.specs.Digits.{number_bound, number_from}
+use Rattle.axe_layer.specs.Digits.{number_bound, number_from, numbers_from}
+use Rattle.axe_layer.specs.Packed.{piece_in_base, pieces_in_base}
 use Rattle.axe_layer.proofs.BitLaws.{plane_long, get_or-bits, bit_at-shifted}
-use Rattle.axe_layer.proofs.PieceDigits.{with_values, with_values-same, with_values-small, number_of_first, count_from, number_from-values}
+use Rattle.axe_layer.proofs.PieceDigits.{with_values, with_values-same, with_values-small, number_of_first, count_from, number_from-values, same_four}
 
 -- the digits of a listed function
 pub number_of_listed : (b : ℕ) (f : ℕ → ℕ) (n : ℕ) → number_with_digits b (listed n f) ≡ with_values b f n
@@ -102,3 +103,26 @@ number_of_part b q size at p e n word number words self base is place inside low
     (part ∙ number_of_listed q (λ j. bit_at word (p + j)) size ∙ with_values-same q _ _ size (λ j _. sym (bit_at-shifted word p j))
     ∙ sym (number_of_listed q (bit_at (word / 2 ^ p)) size))
     ∙ ap₂ (λ r a. number_from r size a self) (sym base) (sym place)
+
+-- the bits of a word from one of them on are the lowest of the word that is shifted
+pub piece_of_shifted : (b size p word number : ℕ) → number ≡ number_with_digits b (listed size (bit_at (word / 2 ^ p))) →
+    number ≡ piece_in_base b word p size
+piece_of_shifted b size p word number is =
+    is ∙ number_of_listed b (bit_at (word / 2 ^ p)) size ∙ with_values-same b _ _ size (λ j _. bit_at-shifted word p j)
+    ∙ sym (number_of_listed b (λ j. bit_at word (p + j)) size)
+
+pub piece_of_word : (b size word number : ℕ) → number ≡ number_with_digits b (listed size (bit_at word)) → number ≡ piece_in_base b word 0 size
+piece_of_word b size word number is =
+    is ∙ number_of_listed b (bit_at word) size ∙ with_values-same b _ _ size (λ j _. ap (bit_at word) (omega arith))
+    ∙ sym (number_of_listed b (λ j. bit_at word (0 + j)) size)
+
+-- the four pieces of a word are the plane's, where the base and the size are known by what they equal
+pub four_pieces : (b q size k at n word : ℕ) (words result : List ℕ) → b ≡ q → size ≡ k → at + 4 * size ≤ n → size ≤ 8 →
+    ((i : ℕ) → i < 64 → bit_at word i ≡ bit_of words (at + i)) → result ≡ pieces_in_base q word k → result ≡ numbers_from b size at (bits n words)
+four_pieces b q size k at n word words result base size_is inside few same is =
+    is ∙ ap₂ (λ r s. pieces_in_base r word s) (sym base) (sym size_is)
+    ∙ same_four _ _ _ _ _ _ _ _
+    (number_of_part b b size at 0 at n word _ words (bits n words) refl refl (omega arith) (omega arith) (omega arith) same refl)
+    (number_of_part b b size at size (at + size) n word _ words (bits n words) refl refl refl (omega arith) (omega arith) same refl)
+    (number_of_part b b size at (2 * size) (at + 2 * size) n word _ words (bits n words) refl refl refl (omega arith) (omega arith) same refl)
+    (number_of_part b b size at (3 * size) (at + 3 * size) n word _ words (bits n words) refl refl refl (omega arith) (omega arith) same refl)

@@ -10,6 +10,7 @@ ghost use Rattle.axe_lane.specs.Words.{bit_of};
 ghost use Rattle.axe_layer.specs.Bits.{bits, HoldsBits};
 ghost use Rattle.axe_layer.specs.Digits.{AreSmallSums, digits_at, numbers_with_multiple};
 ghost use Rattle.axe_layer.specs.Digits.{number_from, numbers_from, number_bound};
+ghost use Rattle.axe_layer.specs.Packed.{pieces_in_base};
 
 use crate::base_three::in_base_three;
 use crate::packed::numbers_of_pieces;
@@ -139,8 +140,9 @@ pub fn numbers_in(words: &[u64], len: usize, base: usize, size: usize, at: usize
     numbers_by_digits(words, len, base, size, at)
 }
 
-/// The numbers that [`numbers_in`] gives, digit by digit, but in base 3 by those in base 2. It stands apart so that
-/// they are read in few steps in base 2.
+/// The numbers that [`numbers_in`] gives, digit by digit, but in base 3 by those in base 2 where there are more than
+/// two digits. The size is a constant wherever it is up to four, as it is most, so that no digit is counted. It stands
+/// apart so that they are read in few steps in base 2.
 #[inline(never)]
 pub fn numbers_by_digits(
     words: &[u64],
@@ -157,23 +159,65 @@ pub fn numbers_by_digits(
     ensures small { (i : ℕ) → slice_index result i < number_bound }
 {
     if at >= len || len - at < 4 * size {
-        return [
-            number_in(words, len, base, size, at),
-            number_in(words, len, base, size, at + size),
-            number_in(words, len, base, size, at + 2 * size),
-            number_in(words, len, base, size, at + 3 * size),
-        ];
+        return numbers_one_by_one(words, len, base, size, at);
     }
     let word = word_from(words, at);
-    if base == 3 {
-        let pieces = numbers_of_pieces(word, size);
-        return [
-            in_base_three(pieces[0]),
-            in_base_three(pieces[1]),
-            in_base_three(pieces[2]),
-            in_base_three(pieces[3]),
-        ];
+    if base == 3 && size > 2 {
+        return numbers_in_base_three(word, size);
     }
+    match size {
+        1 => numbers_of_word(word, base, 1),
+        2 => numbers_of_word(word, base, 2),
+        3 => numbers_of_word(word, base, 3),
+        4 => numbers_of_word(word, base, 4),
+        _ => numbers_one_by_one(words, len, base, size, at),
+    }
+}
+
+/// The numbers that [`numbers_in`] gives, each of which is read alone: where the layer ends, and of many digits.
+#[inline(never)]
+fn numbers_one_by_one(words: &[u64], len: usize, base: usize, size: usize, at: usize) -> [usize; 4]
+    requires long { length words.now ≡ (len + 63) / 64 }
+    requires base { base ≤ 9 }
+    requires short { size ≤ 8 }
+    requires counted { at + 4 * size < 2 ^ 64 }
+    ensures value { result ≡ numbers_from base size at (bits len words.now) }
+    ensures small { (i : ℕ) → slice_index result i < number_bound }
+{
+    [
+        number_in(words, len, base, size, at),
+        number_in(words, len, base, size, at + size),
+        number_in(words, len, base, size, at + 2 * size),
+        number_in(words, len, base, size, at + 3 * size),
+    ]
+}
+
+/// Four numbers in base 3 of the pieces of up to eight bits of a word, by those in base 2. It stands apart so that
+/// smaller pieces are read in few steps.
+#[inline(never)]
+fn numbers_in_base_three(word: u64, size: usize) -> [usize; 4]
+    requires { size ≤ 8 }
+    ensures value { result ≡ pieces_in_base 3 word size }
+    ensures small { (i : ℕ) → slice_index result i < number_bound }
+{
+    let pieces = numbers_of_pieces(word, size);
+    [
+        in_base_three(pieces[0]),
+        in_base_three(pieces[1]),
+        in_base_three(pieces[2]),
+        in_base_three(pieces[3]),
+    ]
+}
+
+/// Four numbers in a base up to 9 of the pieces of up to eight bits of a word, one after another from the lowest bit
+/// on.
+#[inline(always)]
+fn numbers_of_word(word: u64, base: usize, size: usize) -> [usize; 4]
+    requires base { base ≤ 9 }
+    requires short { size ≤ 8 }
+    ensures value { result ≡ pieces_in_base base word size }
+    ensures small { (i : ℕ) → slice_index result i < number_bound }
+{
     [
         number_of_bits(word, base, size),
         number_of_bits(word >> size, base, size),
@@ -209,7 +253,7 @@ pub fn next_in(words: &[u64], start: usize, end: usize) -> Option<usize>
 
 /// The number whose digits in a base up to 9, most significant first, are up to eight of the bits of a word, from the
 /// lowest on. The first four are read without a loop, since most numbers have no more.
-#[inline]
+#[inline(always)]
 fn number_of_bits(word: u64, base: usize, count: usize) -> usize
     requires base { base ≤ 9 }
     requires short { count ≤ 8 }

@@ -1,6 +1,7 @@
 -- Planes as their primes and digits.
 use Rattle.std.proofs.Common.{◌≡◌, ℕ, ◌<◌, List, length, set, replicate, refl, sym, ap, subst, ◌∙◌, arith, lit<}
 use Rattle.axe_lane.specs.Bytes.{AreDigits}
+use Rattle.axe_bits.specs.Trits.{trits, HoldLayers}
 use Rattle.axe_layer.specs.Bits.{bits}
 use Rattle.axe_layer.specs.Digits.{digits_with_four, digits_with_multiple}
 use Rattle.axe_plane.specs.Primes.{byte_prime}
@@ -63,13 +64,25 @@ plane_of_set p n i d before after below h e = record {
 
 -- ---- planes modulo 3
 
--- what is as long as a list of digits is so after others were added to it
-pub still_fits : (p n m : ℕ) (before more after : List ℕ) → n ≡ length before → after ≡ digits_with_multiple p before m more → n ≡ length after
-still_fits p n m before more after long e = long ∙ sym (length-digits_with_multiple p before m more) ∙ sym (ap length e)
+-- the layers of a plane as long as another are of its length
+pub layers_fit : (n : ℕ) (plane : Plane) (digits ones twos : List ℕ) → plane ≡ Trits digits → n ≡ length (digits_of plane) → HoldLayers n ones twos →
+    HoldLayers (length digits) ones twos
+layers_fit n plane digits ones twos is long held =
+    subst (λ m. HoldLayers m ones twos) (long ∙ ap (λ (p : Plane). length (digits_of p)) is) held
 
--- a list as long as a plane modulo 3 is as long as its digits
-pub fits_trits : (n : ℕ) (plane : Plane) (digits : List ℕ) → plane ≡ Trits digits → n ≡ length (digits_of plane) → n ≡ length digits
-fits_trits n plane digits is long = long ∙ ap (λ (p : Plane). length (digits_of p)) is
+-- the sum with four planes, by the layers that hold their digits
+pub four_layers : (x oa ta ob tb oc tc od td a b c d new : List ℕ) → length a ≡ length x → length b ≡ length x → length c ≡ length x →
+    length d ≡ length x → trits (bits (length a) oa) (bits (length a) ta) ≡ a → trits (bits (length b) ob) (bits (length b) tb) ≡ b →
+    trits (bits (length c) oc) (bits (length c) tc) ≡ c → trits (bits (length d) od) (bits (length d) td) ≡ d →
+    new ≡ digits_with_four 3 x (trits (bits (length x) oa) (bits (length x) ta)) (trits (bits (length x) ob) (bits (length x) tb))
+    (trits (bits (length x) oc) (bits (length x) tc)) (trits (bits (length x) od) (bits (length x) td)) → new ≡ digits_with_four 3 x a b c d
+four_layers x oa ta ob tb oc tc od td a b c d new la lb lc ld ea eb ec ed e =
+    let held : (o t l : List ℕ) → length l ≡ length x → trits (bits (length l) o) (bits (length l) t) ≡ l → trits (bits (length x) o) (bits (length x) t) ≡ l =
+    λ o t l long is. ap (λ n. trits (bits n o) (bits n t)) (sym long) ∙ is in
+    let same : digits_with_four 3 x (trits (bits (length x) oa) (bits (length x) ta)) (trits (bits (length x) ob) (bits (length x) tb))
+    (trits (bits (length x) oc) (bits (length x) tc)) (trits (bits (length x) od) (bits (length x) td)) ≡ digits_with_four 3 x a b c d =
+    λ i. digits_with_four 3 x (held oa ta a la ea i) (held ob tb b lb eb i) (held oc tc c lc ec i) (held od td d ld ed i) in
+    e ∙ same
 
 -- ---- planes modulo 2
 

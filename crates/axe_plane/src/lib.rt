@@ -43,6 +43,7 @@ pub enum Plane {
 
 impl Plane {
     ghost use Rattle.axe_plane.specs.Addends.{IsAddend};
+    ghost use Rattle.axe_bits.specs.Trits.{trits, HoldLayers};
     ghost use Rattle.axe_layer.specs.Bits.{bits, HoldsBits};
     ghost use Rattle.axe_plane.specs.Planes.{prime_of_plane, digits_of, IsPlane};
 
@@ -271,8 +272,8 @@ impl Plane {
         }
     }
 
-    /// Adds an entry of each of four tables modulo the same prime, whose entries have this plane's length: in one pass,
-    /// except modulo 3. The numbers of the entries stand in the tables' order.
+    /// Adds an entry of each of four tables modulo the same prime, whose entries have this plane's length, in one pass.
+    /// The numbers of the entries stand in the tables' order.
     #[inline]
     pub fn add_four_entries(
         &mut self,
@@ -298,10 +299,9 @@ impl Plane {
                 plane.add_four(a, b, c, d);
             }
             Plane::Trits(plane) => {
-                a.add_to_trits(entries[0], plane);
-                b.add_to_trits(entries[1], plane);
-                c.add_to_trits(entries[2], plane);
-                d.add_to_trits(entries[3], plane);
+                let (a, b) = (a.layers_of(entries[0]), b.layers_of(entries[1]));
+                let (c, d) = (c.layers_of(entries[2]), d.layers_of(entries[3]));
+                plane.add_four(a, b, c, d);
             }
             Plane::Bytes(plane) => {
                 let (a, b) = (a.bytes_of(entries[0]), b.bytes_of(entries[1]));
@@ -311,7 +311,7 @@ impl Plane {
         }
     }
 
-    /// Adds four other planes modulo the same prime and of the same length: in one pass, except modulo 3.
+    /// Adds four other planes modulo the same prime and of the same length, in one pass.
     #[inline]
     pub fn add_four(&mut self, a: &Plane, b: &Plane, c: &Plane, d: &Plane)
         requires a { IsAddend self.old a.now }
@@ -323,12 +323,7 @@ impl Plane {
     {
         match self {
             Plane::Bits(plane) => plane.add_four(a.words(), b.words(), c.words(), d.words()),
-            Plane::Trits(plane) => {
-                a.add_to_trits(plane);
-                b.add_to_trits(plane);
-                c.add_to_trits(plane);
-                d.add_to_trits(plane);
-            }
+            Plane::Trits(plane) => plane.add_four(a.layers(), b.layers(), c.layers(), d.layers()),
             Plane::Bytes(plane) => plane.add_four(a.bytes(), b.bytes(), c.bytes(), d.bytes()),
         }
     }
@@ -346,15 +341,16 @@ impl Plane {
         }
     }
 
-    /// Adds this plane, which is modulo 3, to another one of its length.
+    /// The words of the two layers of a plane modulo 3, those of the ones first.
     #[inline]
-    fn add_to_trits(&self, plane: &mut TritPlane)
+    fn layers(&self) -> (&[u64], &[u64])
         requires three { prime_of_plane self.now ≡ 3 }
-        requires fits { length (digits_of self.now) ≡ length plane.old }
-        ensures { plane.new ≡ digits_with_multiple 3 plane.old 1 (digits_of self.now) }
+        ensures holds { HoldLayers (length (digits_of self.now)) result.0.now result.1.now }
+        ensures digits { trits (bits (length (digits_of self.now)) result.0.now)
+            (bits (length (digits_of self.now)) result.1.now) ≡ digits_of self.now }
     {
         match self {
-            Plane::Trits(other) => plane.add_scaled(1, other),
+            Plane::Trits(plane) => plane.layers(),
             Plane::Bits(_) | Plane::Bytes(_) => unreachable!(),
         }
     }

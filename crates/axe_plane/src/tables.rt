@@ -1,12 +1,13 @@
 //! Tables of planes: flat lists of many planes of one prime and one length.
 ghost use Rattle.std.specs.Prelude.{◌≡◌, ◌≢◌, ◌⊎◌, ◌<◌, IfOk, length, replicate, slice_index_or, slice_set, []};
 ghost use Rattle.axe_layer.specs.Bits.{bits, HoldsBits};
+ghost use Rattle.axe_bits.specs.Trits.{trits, HoldLayers};
 ghost use Rattle.axe_lane.specs.Bytes.{AreDigits};
 ghost use Rattle.axe_layer.specs.Digits.{digits_with_multiple};
 ghost use Rattle.axe_plane.specs.Planes.{prime_of_plane, digits_of, IsPlane};
 
 use crate::{BytePrime, ByteTable, Plane};
-use axe_bits::{BitTable, TritPlane, TritTable};
+use axe_bits::{BitTable, TritTable};
 use std::alloc::{AllocError, Global};
 
 /// A list of planes modulo 2, 3, 5 or 7, its entries, kept in one piece of memory.
@@ -158,16 +159,17 @@ impl PlaneTable {
         }
     }
 
-    /// Adds an entry of a table modulo 3 to a plane of its length.
+    /// The words of the two layers of an entry of a table modulo 3, those of the ones first.
     #[inline]
-    pub(crate) fn add_to_trits(&self, index: usize, plane: &mut TritPlane)
+    pub(crate) fn layers_of(&self, index: usize) -> (&[u64], &[u64])
         requires index { index < length (entries_of_table self.now) }
         requires three { prime_of_table self.now ≡ 3 }
-        requires fits { length (digits_of (plane_at self.now index)) ≡ length plane.old }
-        ensures { plane.new ≡ digits_with_multiple 3 plane.old 1 (digits_of (plane_at self.now index)) }
+        ensures holds { HoldLayers (length (digits_of (plane_at self.now index))) result.0.now result.1.now }
+        ensures digits { trits (bits (length (digits_of (plane_at self.now index))) result.0.now)
+            (bits (length (digits_of (plane_at self.now index))) result.1.now) ≡ digits_of (plane_at self.now index) }
     {
         match self {
-            PlaneTable::Trits(table) => table.add_entry(index, 1, plane),
+            PlaneTable::Trits(table) => table.entry(index),
             PlaneTable::Bits(_) | PlaneTable::Bytes(_) => unreachable!(),
         }
     }

@@ -228,8 +228,8 @@ impl Combos {
 }
 
 impl Row {
-    /// Adds a row of each of four tables over this row's field, whose rows are as long as it: in one pass, except over
-    /// the fields of order 3 and 9. The numbers of the rows stand in the tables' order.
+    /// Adds a row of each of four tables over this row's field, whose rows are as long as it, in one pass. The numbers of
+    /// the rows stand in the tables' order.
     pub fn add_four(&mut self, indices: [usize; 4], a: &Combos, b: &Combos, c: &Combos, d: &Combos)
         requires a { IsRowFor self.old a.now (slice_index indices 0) }
         requires b { IsRowFor self.old b.now (slice_index indices 1) }

@@ -8,8 +8,7 @@ ghost use Rattle.axe_row.specs.Rows.{IsRow};
 use crate::Row;
 
 impl Row {
-    /// Adds four other rows over the same field and of the same length: in one pass, except over the fields of order 3
-    /// and 9.
+    /// Adds four other rows over the same field and of the same length, in one pass.
     pub fn add_four_rows(&mut self, a: &Row, b: &Row, c: &Row, d: &Row)
         requires a { IsRowAddend self.old a.now }
         requires b { IsRowAddend self.old b.now }

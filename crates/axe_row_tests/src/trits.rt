@@ -1,10 +1,10 @@
 //! Kernels on rows over the field of order 3, at lengths around those of whole vectors, beside sums that are made entry
 //! by entry.
 ghost use Rattle.std.specs.Prelude.{◌<◌};
-ghost use Rattle.axe_lane.specs.Trits.{AreTrits};
+ghost use Rattle.axe_lane.specs.Trits.{AreTrits, AreTritsOf};
 
 use crate::lanes::{LENGTHS, MOST};
-use axe_lane::{add_trits, dot_trits};
+use axe_lane::{add_trits, add4_trits, dot_trits};
 use std::process::Abort;
 
 /// A row of words whose entries follow no simple pattern: the words of its ones, and those of its twos.
@@ -38,6 +38,31 @@ fn adds(rt: &impl Abort, ones: &mut [u64], twos: &mut [u64], more_ones: &[u64], 
     add_trits(ones, twos, more_ones, more_twos);
 }
 
+/// Asserts that a row has so many words of ones, and as many of twos.
+fn assert_trits_of(rt: &impl Abort, count: usize, row: (&[u64], &[u64]))
+    ensures { AreTritsOf count row.entry.0.now row.entry.1.now }
+{
+    assert!(rt; row.0.len() == count);
+    assert_trits(rt, row.0, row.1);
+}
+
+fn adds_four(
+    rt: &impl Abort,
+    ones: &mut [u64],
+    twos: &mut [u64],
+    a: (&[u64], &[u64]),
+    b: (&[u64], &[u64]),
+    c: (&[u64], &[u64]),
+    d: (&[u64], &[u64]),
+) {
+    assert_trits(rt, ones, twos);
+    assert_trits_of(rt, ones.len(), a);
+    assert_trits_of(rt, ones.len(), b);
+    assert_trits_of(rt, ones.len(), c);
+    assert_trits_of(rt, ones.len(), d);
+    add4_trits(ones, twos, a, b, c, d);
+}
+
 fn multiplies(
     rt: &impl Abort,
     ones: &[u64],
@@ -64,6 +89,19 @@ fn are_sums(words: (u64, u64), left: (u64, u64), right: (u64, u64)) -> bool {
     let mut is_right = true;
     for place in 0..64 {
         let sum = entry_at(left, place).wrapping_add(entry_at(right, place));
+        is_right = is_right && entry_at(words, place) == sum % 3;
+    }
+    is_right
+}
+
+/// Whether the entries of words are the sums of those of five others.
+fn are_sums_of_five(words: (u64, u64), rows: [(u64, u64); 5]) -> bool {
+    let mut is_right = true;
+    for place in 0..64 {
+        let mut sum = 0u64;
+        for row in rows {
+            sum = sum.wrapping_add(entry_at(row, place));
+        }
         is_right = is_right && entry_at(words, place) == sum % 3;
     }
     is_right
@@ -106,6 +144,43 @@ fn rows_are_combined(rt: &impl Abort, len: usize) -> bool {
         total = total.wrapping_add(sum_of_products(left, right));
     }
     is_right && u64::from(product) == total % 3
+}
+
+/// Whether sums of five rows of so many words are made entry by entry.
+fn five_rows_are_summed(rt: &impl Abort, len: usize) -> bool {
+    assert!(rt; len <= MOST);
+    let (ones, twos) = row_of_words(3);
+    let (a, b) = (row_of_words(11), row_of_words(13));
+    let (c, d) = (row_of_words(29), row_of_words(31));
+    let (mut sum_ones, mut sum_twos) = (ones, twos);
+    adds_four(
+        rt,
+        &mut sum_ones[..len],
+        &mut sum_twos[..len],
+        (&a.0[..len], &a.1[..len]),
+        (&b.0[..len], &b.1[..len]),
+        (&c.0[..len], &c.1[..len]),
+        (&d.0[..len], &d.1[..len]),
+    );
+    let mut is_right = true;
+    for at in 0..len {
+        let rows = [
+            (ones[at], twos[at]),
+            (a.0[at], a.1[at]),
+            (b.0[at], b.1[at]),
+            (c.0[at], c.1[at]),
+            (d.0[at], d.1[at]),
+        ];
+        is_right = is_right && are_sums_of_five((sum_ones[at], sum_twos[at]), rows);
+    }
+    is_right
+}
+
+#[test]
+fn five_rows_are_summed_at_each_length(rt: HostRuntime) {
+    for len in LENGTHS {
+        assert!(rt; five_rows_are_summed(&rt, len), "{len}");
+    }
 }
 
 #[test]

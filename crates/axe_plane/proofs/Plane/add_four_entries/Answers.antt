@@ -1,27 +1,21 @@
-use Rattle.std.proofs.Common.{rules, length, refl, ap, ◌∙◌}
-use Rattle.axe_plane.proofs.PlaneLaws.{still_fits, fits_trits, four_words, four_bytes}
+use Rattle.std.proofs.Common.{length, refl, ap, ◌∙◌}
+use Rattle.axe_plane.proofs.PlaneLaws.{layers_fit, four_layers, four_words, four_bytes}
 use Rattle.axe_plane.specs.Planes.{digits_of}
 use Rattle.axe_plane.specs.Primes.{byte_prime, ByteDigits}
 use Rattle.axe_plane.specs.declared.Plane.{Plane}
 use Rattle.axe_plane.proofs.Plane.add_four_entries.Goals as goal
 
-pub add_to_trits-requires-in-Trits-clause-fits : goal.add_to_trits-requires-in-Trits-clause-fits
-add_to_trits-requires-in-Trits-clause-fits c =
-    let before = fits_trits _ _ _ c.in-Trits.is c.requires.b.fits in
-    still_fits _ _ _ _ _ _ before c.add_to_trits.ensures
+pub add_four-requires-in-Trits-clause-a : goal.add_four-requires-in-Trits-clause-a
+add_four-requires-in-Trits-clause-a c = layers_fit _ _ _ _ _ c.in-Trits.is c.requires.a.fits c.layers_of-a.ensures.holds
 
-pub add_to_trits-requires-in-Trits-2-clause-fits : goal.add_to_trits-requires-in-Trits-2-clause-fits
-add_to_trits-requires-in-Trits-2-clause-fits c =
-    let before = fits_trits _ _ _ c.in-Trits.is c.requires.c.fits in
-    let first = still_fits _ _ _ _ _ _ before c.add_to_trits.ensures in
-    still_fits _ _ _ _ _ _ first c.add_to_trits-in-Trits.ensures
+pub add_four-requires-in-Trits-clause-b : goal.add_four-requires-in-Trits-clause-b
+add_four-requires-in-Trits-clause-b c = layers_fit _ _ _ _ _ c.in-Trits.is c.requires.b.fits c.layers_of-b.ensures.holds
 
-pub add_to_trits-requires-in-Trits-3-clause-fits : goal.add_to_trits-requires-in-Trits-3-clause-fits
-add_to_trits-requires-in-Trits-3-clause-fits c =
-    let before = fits_trits _ _ _ c.in-Trits.is c.requires.d.fits in
-    let first = still_fits _ _ _ _ _ _ before c.add_to_trits.ensures in
-    let second = still_fits _ _ _ _ _ _ first c.add_to_trits-in-Trits.ensures in
-    still_fits _ _ _ _ _ _ second c.add_to_trits-in-Trits-2.ensures
+pub add_four-requires-in-Trits-clause-c : goal.add_four-requires-in-Trits-clause-c
+add_four-requires-in-Trits-clause-c c = layers_fit _ _ _ _ _ c.in-Trits.is c.requires.c.fits c.layers_of-c.ensures.holds
+
+pub add_four-requires-in-Trits-clause-d : goal.add_four-requires-in-Trits-clause-d
+add_four-requires-in-Trits-clause-d c = layers_fit _ _ _ _ _ c.in-Trits.is c.requires.d.fits c.layers_of-d.ensures.holds
 
 pub returns-in-Bits : goal.returns-in-Bits
 returns-in-Bits c =
@@ -34,7 +28,14 @@ returns-in-Bits c =
     })
 
 pub returns-in-Trits : goal.returns-in-Trits
-returns-in-Trits c = search rules
+returns-in-Trits c =
+    let own = ap (λ (plane : Plane). length (digits_of plane)) c.in-Trits.is in
+    rw c.in-Trits.is (record {
+      prime = refl;
+      digits_are =
+          four_layers _ _ _ _ _ _ _ _ _ _ _ _ _ _ (c.requires.a.fits ∙ own) (c.requires.b.fits ∙ own) (c.requires.c.fits ∙ own) (c.requires.d.fits ∙ own)
+          c.layers_of-a.ensures.digits c.layers_of-b.ensures.digits c.layers_of-c.ensures.digits c.layers_of-d.ensures.digits c.add_four-in-Trits.ensures;
+    })
 
 pub returns-in-Bytes : goal.returns-in-Bytes
 returns-in-Bytes c =
