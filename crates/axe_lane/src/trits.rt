@@ -35,8 +35,8 @@ pub fn add_trits(ones: &mut [u64], twos: &mut [u64], more_ones: &[u64], more_two
     }
 }
 
-/// Adds four rows over the field of order 3 to a fifth of their length, in one pass: each word is read and written
-/// once. A row that is added is its ones and its twos.
+/// Adds four rows over the field of order 3 to a fifth of their length, in one pass: each word is read and written once.
+/// A row that is added is its ones and its twos.
 pub fn add4_trits(
     ones: &mut [u64],
     twos: &mut [u64],
@@ -50,8 +50,7 @@ pub fn add4_trits(
     requires b { AreTritsOf (length ones.old) b.0.now b.1.now }
     requires c { AreTritsOf (length ones.old) c.0.now c.1.now }
     requires d { AreTritsOf (length ones.old) d.0.now d.1.now }
-    ensures { IsTritSumOfFive ones.old twos.old a.entry.0.now a.entry.1.now b.entry.0.now b.entry.1.now
-        c.entry.0.now c.entry.1.now d.entry.0.now d.entry.1.now
+    ensures { IsTritSumOfFive ones.old twos.old a.entry.0.now a.entry.1.now b.entry.0.now b.entry.1.now c.entry.0.now c.entry.1.now d.entry.0.now d.entry.1.now
         ones.new twos.new }
 {
     let whole = ones.len() / BLOCK;
@@ -149,10 +148,8 @@ fn add4_block(
     requires b { HaveWords (at + BLOCK) b.0.now b.1.now }
     requires c { HaveWords (at + BLOCK) c.0.now c.1.now }
     requires d { HaveWords (at + BLOCK) d.0.now d.1.now }
-    ensures { AreMadeBetween at (at + BLOCK) (λ k.
-        sum_of_five (word_at ones.old twos.old k) (word_at a.entry.0.now a.entry.1.now k)
-        (word_at b.entry.0.now b.entry.1.now k)
-        (word_at c.entry.0.now c.entry.1.now k) (word_at d.entry.0.now d.entry.1.now k))
+    ensures { AreMadeBetween at (at + BLOCK) (λ k. sum_of_five (word_at ones.old twos.old k) (word_at a.entry.0.now a.entry.1.now k)
+        (word_at b.entry.0.now b.entry.1.now k) (word_at c.entry.0.now c.entry.1.now k) (word_at d.entry.0.now d.entry.1.now k))
         ones.old twos.old ones.new twos.new }
 {
     let row = (
@@ -171,10 +168,8 @@ fn add4_block(
 #[inline(always)]
 fn with_block(block: (u64x4, u64x4), more: (&[u64], &[u64]), at: usize) -> (u64x4, u64x4)
     requires more { HaveWords (at + BLOCK) more.0.now more.1.now }
-    ensures ones { result.0
-        ≡ ones_of_sums block.0 block.1 (chunk at BLOCK more.entry.0.now) (chunk at BLOCK more.entry.1.now) }
-    ensures twos { result.1
-        ≡ twos_of_sums block.0 block.1 (chunk at BLOCK more.entry.0.now) (chunk at BLOCK more.entry.1.now) }
+    ensures ones { result.0 ≡ ones_of_sums block.0 block.1 (chunk at BLOCK more.entry.0.now) (chunk at BLOCK more.entry.1.now) }
+    ensures twos { result.1 ≡ twos_of_sums block.0 block.1 (chunk at BLOCK more.entry.0.now) (chunk at BLOCK more.entry.1.now) }
 {
     let (one, two) = block;
     let more_one = u64x4::from_slice(&more.0[at..]);
@@ -199,10 +194,8 @@ fn add4_word(
     requires b { HaveWords (at + 1) b.0.now b.1.now }
     requires c { HaveWords (at + 1) c.0.now c.1.now }
     requires d { HaveWords (at + 1) d.0.now d.1.now }
-    ensures { AreMadeBetween at (at + 1) (λ k.
-        sum_of_five (word_at ones.old twos.old k) (word_at a.entry.0.now a.entry.1.now k)
-        (word_at b.entry.0.now b.entry.1.now k)
-        (word_at c.entry.0.now c.entry.1.now k) (word_at d.entry.0.now d.entry.1.now k))
+    ensures { AreMadeBetween at (at + 1) (λ k. sum_of_five (word_at ones.old twos.old k) (word_at a.entry.0.now a.entry.1.now k)
+        (word_at b.entry.0.now b.entry.1.now k) (word_at c.entry.0.now c.entry.1.now k) (word_at d.entry.0.now d.entry.1.now k))
         ones.old twos.old ones.new twos.new }
 {
     let two = with_word((ones[at], twos[at]), a, at);

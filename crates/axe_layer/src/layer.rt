@@ -140,9 +140,9 @@ pub fn numbers_in(words: &[u64], len: usize, base: usize, size: usize, at: usize
     numbers_by_digits(words, len, base, size, at)
 }
 
-/// The numbers that [`numbers_in`] gives, digit by digit, but in base 3 by those in base 2 where there are more than
-/// two digits. The size is a constant wherever it is up to four, as it is most, so that no digit is counted. It stands
-/// apart so that they are read in few steps in base 2.
+/// The numbers that [`numbers_in`] gives, digit by digit, but in base 3 by those in base 2 where there are more than two
+/// digits. The size is a constant wherever it is up to four, as it is most, so that no digit is counted. It stands apart
+/// so that they are read in few steps in base 2.
 #[inline(never)]
 pub fn numbers_by_digits(
     words: &[u64],
