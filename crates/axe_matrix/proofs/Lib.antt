@@ -25,3 +25,4 @@ pub mod ReversedRows
 mod EntryWrites
 mod CoefficientWrites
 mod TransposedBlocks
+mod StripLaws

@@ -2,13 +2,11 @@
 
 ghost use Rattle.std.specs.Prelude.{◌≡◌, ◌<◌, None, IfOk, length, slice_set};
 ghost use Rattle.axe_field.specs.Order.{IsElement};
-ghost use Rattle.axe_row.specs.Operations.{IsZeroVector};
 ghost use Rattle.axe_row.specs.Refusals.{Answers};
-ghost use Rattle.axe_matrix.specs.Columns.{matrix_with_column};
-ghost use Rattle.axe_matrix.specs.Matrices.{IsMatrix, row_of, column_of, zero_matrix};
+ghost use Rattle.axe_matrix.specs.Matrices.{IsMatrix, row_of};
 ghost use Rattle.axe_matrix.specs.Matrices.{sum_refusal, sum_of_matrices, transpose_refusal, transposed_matrix};
 
-use super::{Matrix, Refusal, Row};
+use super::{Matrix, Refusal};
 use std::alloc::Global;
 
 impl Matrix {
@@ -53,47 +51,13 @@ impl Matrix {
         if self.rows() == 0 {
             return Err(Refusal::NoRows);
         }
-        let mut transpose = Matrix::zero(alloc, *self.field(), self.cols(), self.rows())?;
         // The coefficients of entries stand in layers of bits there, which go by blocks.
         if self.field().prime() <= 3 {
+            let mut transpose = Matrix::zero(alloc, *self.field(), self.cols(), self.rows())?;
             transpose.put_transpose(self);
             return Ok(transpose);
         }
-        transpose.put_columns(self);
-        Ok(transpose)
-    }
-
-    /// Makes a matrix of zeros the transpose of another, column by column. It takes no memory.
-    fn put_columns(&mut self, matrix: &Matrix)
-        requires zeros { self.old ≡ zero_matrix matrix.now.order matrix.now.cols (length matrix.now.rows) }
-        ensures transpose { self.new ≡ transposed_matrix matrix.now }
-        ensures well_formed { IsMatrix self.new }
-    {
-        // Called for what it ensures beside the number: that the matrix is one.
-        prove!(self.cols() == matrix.rows());
-        for index in 0..matrix.rows() {
-            self.put_column(index, matrix.row(index));
-        }
-    }
-
-    /// Makes a row vector the column at an index, which holds zeros so far; all other entries stay. The vector is over
-    /// the matrix's field, and has as many entries as the matrix has rows. Its entries that are 0 are passed over. It
-    /// takes no memory.
-    fn put_column(&mut self, column: usize, entries: &Row)
-        requires column { column < self.old.cols }
-        requires field { entries.now.order ≡ self.old.order }
-        requires fits { length entries.now.entries ≡ length self.old.rows }
-        requires zeros { IsZeroVector (column_of self.old column).entries }
-        ensures column { self.new ≡ matrix_with_column self.old column entries.now.entries }
-        ensures well_formed { IsMatrix self.new }
-    {
-        // `rows` is called for what it ensures beside their number: that there are so few that no sum below wraps.
-        prove!(entries.len() == self.rows());
-        let mut at = 0;
-        while let Some(index) = entries.next_nonzero(at) {
-            self.put_entry(index, column, entries.get(index));
-            at = index + 1;
-        }
+        self.transpose_by_strips(alloc)
     }
 
     /// Makes an element the entry at a row and a column; all other entries stay.

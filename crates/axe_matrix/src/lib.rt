@@ -13,6 +13,7 @@ mod arithmetic;
 mod multiples;
 mod parts;
 mod products;
+mod strips;
 mod transposes;
 mod vectors;
 

@@ -11,4 +11,4 @@ put_transpose-requires-clause-prime c = search rules
 pub returns-clause-transpose : goal.returns-clause-transpose
 returns-clause-transpose c =
     let some : length c.args.self.now.rows ≢ 0 = omega (arith, c.rows.ensures.count, c.if-rows-eq0.false) in
-    rw (transpose_refusal-none c.args.self.now some) c.put_columns.ensures.transpose
+    rw (transpose_refusal-none c.args.self.now some) c.transpose_by_strips.ensures.transpose
