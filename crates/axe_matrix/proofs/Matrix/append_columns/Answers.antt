@@ -1,4 +1,4 @@
-use Rattle.std.proofs.Common.{ℕ, List, ap, sym, ◌∙◌, length, ◌≡◌, ◌<◌, ◌+◌, arith}
+use Rattle.std.proofs.Common.{ℕ, List, ap, sym, ◌∙◌, length, ◌<◌, ◌+◌, arith}
 use Rattle.axe_algebra.proofs.ListEntries.{listed_length}
 use Rattle.axe_row.specs.Rows.{RowValue}
 use Rattle.axe_matrix.proofs.StripLaws.{IsStrip-column, column-elements, IsColumnsMatrix-from, IsColumnsMatrix-more, IsColumnsMatrix-all}

@@ -1,5 +1,4 @@
-use Rattle.std.proofs.Common.{◌≡◌, ap, sym, ◌∙◌, refl, arith}
-use Rattle.axe_matrix.specs.Matrices.{MatrixValue}
+use Rattle.std.proofs.Common.{arith}
 use Rattle.axe_matrix.proofs.StripLaws.{first_columns-none}
 use Rattle.axe_matrix.proofs.Matrix.transpose_by_strips.Goals as goal
 
