@@ -1,4 +1,6 @@
 pub mod PieceLaws
+pub mod EndSums
+pub mod MaskedBits
 pub mod TableLaws
 pub mod TritLaws
 pub mod TritPlaneLaws

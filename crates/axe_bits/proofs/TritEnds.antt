@@ -2,13 +2,14 @@
 use Rattle.std.proofs.Common.{◌≡◌, ℕ, ◌+◌, ◌-◌, ◌*◌, ◌/◌, ◌%◌, ◌^◌, ◌<◌, ◌≤◌, List, ◌++◌, length, get_or, take, drop, sym, ap, ap₂, subst, ◌∙◌, arith, inl, inr}
 use Rattle.std.specs.Int.{bit_at}
 use Rattle.std.proofs.lemmas.Bool.{cases_lt}
-use Rattle.std.proofs.lemmas.List.{get_or-drop, length-drop}
+use Rattle.std.proofs.lemmas.List.{get_or-drop, length-drop, length-take}
 use Rattle.std.proofs.lemmas.Nat.Bits.{bit_at-zero}
+use Rattle.std.proofs.Math.Seq.{drop-append_seam, take-append_seam}
 use Rattle.axe_lane.specs.Entries.{AreZerosBefore}
-use Rattle.axe_lane.specs.Trits.{AreTrits, FitAt, IsTritSum}
+use Rattle.axe_lane.specs.Trits.{AreTrits, AreTritsOf, FitAt, IsTritSum, IsTritSumOfThree}
 use Rattle.axe_lane.specs.Words.{bit_of}
 use Rattle.axe_layer.specs.Bits.{bits}
-use Rattle.axe_bits.specs.Trits.{trits, HoldLayers}
+use Rattle.axe_bits.specs.Trits.{trits, AreZeroLayersBefore, HoldLayers}
 use Rattle.axe_layer.proofs.EndLaws.{end-before, end-after, end_is, end_written, length-end, zero_words_before}
 use Rattle.axe_bits.proofs.TritLaws.{get_or-trits}
 
@@ -112,12 +113,61 @@ module _ (a : ℕ) (o t x y p q : List ℕ) (room : a ≤ length o) (row : AreTr
     ];
   }
 
+-- two rows are added one after another, to the words from one on
+module _ (a : ℕ) (o t x x' y y' p q : List ℕ) (room : a ≤ length o) (row : AreTrits o t) (zero_x : AreZeroLayersBefore x x' a)
+    (zero_y : AreZeroLayersBefore y y' a) (sum : IsTritSumOfThree (drop a o) (drop a t) (drop a x) (drop a x') (drop a y) (drop a y') p q) where
+  -- the list before the second sum
+  module _ (words new : List ℕ) (within : a ≤ length words) where
+    front_counted : a ≡ length (take a words)
+    front_counted = omega (arith, length-take a words)
+
+    front_is : take a (take a words ++ new) ≡ take a words
+    front_is = ap (λ k. take k (take a words ++ new)) front_counted ∙ take-append_seam (take a words) new
+
+    end_of : drop a (take a words ++ new) ≡ new
+    end_of = ap (λ k. drop k (take a words ++ new)) front_counted ∙ drop-append_seam (take a words) new
+
+  room_of_twos : a ≤ length t
+  room_of_twos = omega (arith, row.as_long)
+
+  abbrev o2 : List ℕ
+  o2 = take a o ++ sum.ones_of_two
+
+  abbrev t2 : List ℕ
+  t2 = take a t ++ sum.twos_of_two
+
+  first_sum : IsTritSum o t x x' o2 t2
+  first_sum = IsTritSum-end a o t x x' sum.ones_of_two sum.twos_of_two room row zero_x.ones_zero zero_x.twos_zero sum.first
+
+  second_sum : IsTritSum (drop a o2) (drop a t2) (drop a y) (drop a y') p q
+  second_sum =
+      subst (λ (v : List ℕ). IsTritSum v (drop a t2) (drop a y) (drop a y') p q) (sym (end_of o sum.ones_of_two room))
+      (subst (λ (v : List ℕ). IsTritSum sum.ones_of_two v (drop a y) (drop a y') p q) (sym (end_of t sum.twos_of_two room_of_twos)) sum.second)
+
+  pub IsTritSumOfThree-end : IsTritSumOfThree o t x x' y y' (take a o ++ p) (take a t ++ q)
+  IsTritSumOfThree-end = record {
+    ones_of_two = o2;
+    twos_of_two = t2;
+    first = first_sum;
+    second =
+        subst (λ (v : List ℕ). IsTritSum o2 t2 y y' (v ++ p) (take a t ++ q)) (front_is o sum.ones_of_two room)
+        (subst (λ (v : List ℕ). IsTritSum o2 t2 y y' (take a o2 ++ p) (v ++ q)) (front_is t sum.twos_of_two room_of_twos)
+        (IsTritSum-end a o2 t2 y y' p q (omega (arith, first_sum.long)) first_sum.are_trits zero_y.ones_zero zero_y.twos_zero second_sum));
+  }
+
 -- the words from one on, as those that a part of a list lends
 pub AreTrits-part : (a : ℕ) (ones twos : List ℕ) → AreTrits ones twos →
     AreTrits (take (length ones - a) (drop a ones)) (take (length twos - a) (drop a twos))
 AreTrits-part a ones twos h =
     subst (λ (v : List ℕ). AreTrits v (take (length twos - a) (drop a twos))) (sym (end_is a ones))
     (subst (AreTrits (drop a ones)) (sym (end_is a twos)) (AreTrits-drop a ones twos h))
+
+pub AreTritsOf-part : (a : ℕ) (o ones twos : List ℕ) → length ones ≡ length o → AreTrits ones twos →
+    AreTritsOf (length (take (length o - a) (drop a o))) (take (length ones - a) (drop a ones)) (take (length twos - a) (drop a twos))
+AreTritsOf-part a o ones twos long h = record {
+  long = omega (arith, ap length (end_is a ones), ap length (end_is a o), length-drop a ones, length-drop a o, long);
+  are_trits = AreTrits-part a ones twos h;
+}
 
 -- the words after, where those from one on were written anew
 abbrev pub anew : ℕ → List ℕ → List ℕ → List ℕ
@@ -138,6 +188,20 @@ module _ (a : ℕ) (o t x y p q : List ℕ) (room : a ≤ length o) (row : AreTr
       (subst (IsTritSum o t x y (take a o ++ p)) (sym (end_written a t q))
       (IsTritSum-end a o t x y p q room row zero_x zero_y sum_of_ends))
 
+module _ (a : ℕ) (o t x x' y y' p q : List ℕ) (room : a ≤ length o) (row : AreTrits o t) (zero_x : AreZeroLayersBefore x x' a)
+    (zero_y : AreZeroLayersBefore y y' a)
+    (sum : IsTritSumOfThree (take (length o - a) (drop a o)) (take (length t - a) (drop a t)) (take (length x - a) (drop a x))
+    (take (length x' - a) (drop a x')) (take (length y - a) (drop a y)) (take (length y' - a) (drop a y')) p q) where
+  three_of_ends : IsTritSumOfThree (drop a o) (drop a t) (drop a x) (drop a x') (drop a y) (drop a y') p q
+  three_of_ends =
+      rw (end_is a o, end_is a t, end_is a x, end_is a x', end_is a y, end_is a y') at sum
+
+  pub IsTritSumOfThree-anew : IsTritSumOfThree o t x x' y y' (anew a o p) (anew a t q)
+  IsTritSumOfThree-anew =
+      subst (λ (v : List ℕ). IsTritSumOfThree o t x x' y y' v (anew a t q)) (sym (end_written a o p))
+      (subst (IsTritSumOfThree o t x x' y y' (take a o ++ p)) (sym (end_written a t q))
+      (IsTritSumOfThree-end a o t x x' y y' p q room row zero_x zero_y three_of_ends))
+
 -- ---- layers of digits of which those before an index are 0
 
 module _ (n start : ℕ) (ones twos : List ℕ) (h : HoldLayers n ones twos) (zeros : AreZerosBefore (trits (bits n ones) (bits n twos)) start) where
@@ -148,3 +212,6 @@ module _ (n start : ℕ) (ones twos : List ℕ) (h : HoldLayers n ones twos) (ze
   pub zero_twos_before : AreZerosBefore twos (start / 64)
   zero_twos_before =
       zero_words_before n twos start h.twos_held (λ e before. omega (arith, zeros e before, get_or-trits (bits n ones) (bits n twos) h.together e))
+
+  pub zero_layers_before : AreZeroLayersBefore ones twos (start / 64)
+  zero_layers_before = record { ones_zero = zero_ones_before; twos_zero = zero_twos_before }

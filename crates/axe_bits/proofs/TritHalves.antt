@@ -5,12 +5,12 @@ use Rattle.std.proofs.lemmas.List.{get_or_past, get_or-drop, get_or-take, length
 use Rattle.std.proofs.Math.Seq.{drop-append_seam, take-append_seam}
 use native.Mathlib.Decide.{dec_lt}
 use Rattle.axe_lane.specs.Entries.{HasNonzero}
-use Rattle.axe_lane.specs.Trits.{IsTritSum, IsTritSumOfFive}
+use Rattle.axe_lane.specs.Trits.{IsTritSum, IsTritSumOfFive, IsTritSumOfThree}
 use Rattle.axe_layer.specs.Bits.{bits, HoldsBits}
 use Rattle.axe_layer.specs.Digits.{digits_with_four, digits_with_multiple}
 use Rattle.axe_bits.specs.Trits.{trits, first_half, second_half, HoldLayers, HoldTrits}
 use Rattle.axe_layer.proofs.BitLaws.{bit_of-zeros, bits-zeros, bits-injective, HoldsBits-zeros, written, zeros}
-use Rattle.axe_bits.proofs.TritWords.{digits_of_five, digits_of_sum, layers, layers_of_five, layers_of_planes, layers_of_sum, length-layers}
+use Rattle.axe_bits.proofs.TritWords.{digits_of_five, digits_of_sum, digits_of_three, layers, layers_of_five, layers_of_planes, layers_of_sum, layers_of_three, length-layers}
 use Rattle.axe_bits.proofs.TritZeros.{same_ones, same_twos, trits-zeros, zero_ones, zero_trits, zero_twos}
 use Rattle.axe_layer.proofs.ZeroDigits.{no_bit, zero_word, zero_words}
 
@@ -135,6 +135,30 @@ module _ (n k : ℕ) (words whole new a b x : List ℕ) (held : HalvesHold n wor
   half_trits-sum =
       ap (half_trits n) new_written ∙ digits_of_sum n _ _ a b _ _ held other total
       ∙ ap₂ (λ (v : List ℕ) m. digits_with_multiple 3 v 1 (trits (bits m a) (bits m b))) is (sym (halves_long n words x is))
+
+-- the layers of multiples of two planes are
+module _ (n k : ℕ) (words whole new a a' b b' x : List ℕ) (held : HalvesHold n words) (is : half_trits n words ≡ x) (same : whole ≡ words)
+    (all : k ≡ length words) (wide : length new ≡ length whole) (ha : HoldLayers (length x) a a') (hb : HoldLayers (length x) b b')
+    (sum : IsTritSumOfThree (first_half whole) (second_half whole) a a' b b' (first_half new) (second_half new)) where
+  total_of_three : IsTritSumOfThree (first_half words) (second_half words) a a' b b' (first_half new) (second_half new)
+  total_of_three =
+      subst (λ (v : List ℕ). IsTritSumOfThree (first_half v) (second_half v) a a' b b' (first_half new) (second_half new)) same sum
+
+  three_written : take k (new ++ drop (length new) words) ≡ new
+  three_written = written k new words all (wide ∙ ap length same)
+
+  pub HalvesHold-three : HalvesHold n (take k (new ++ drop (length new) words))
+  HalvesHold-three =
+      subst (HalvesHold n) (sym three_written)
+      (layers_of_three n _ _ a a' b b' _ _ held (HoldLayers-len n words a a' x is ha) (HoldLayers-len n words b b' x is hb) total_of_three)
+
+  pub half_trits-three : half_trits n (take k (new ++ drop (length new) words))
+      ≡ digits_with_multiple 3 (digits_with_multiple 3 x 1 (trits (bits (length x) a) (bits (length x) a'))) 1 (trits (bits (length x) b) (bits (length x) b'))
+  half_trits-three =
+      ap (half_trits n) three_written
+      ∙ digits_of_three n _ _ a a' b b' _ _ held (HoldLayers-len n words a a' x is ha) (HoldLayers-len n words b b' x is hb) total_of_three
+      ∙ ap₂ (λ (v : List ℕ) m. digits_with_multiple 3 (digits_with_multiple 3 v 1 (trits (bits m a) (bits m a'))) 1 (trits (bits m b) (bits m b')))
+      is (sym (halves_long n words x is))
 
 -- the layers of four planes are
 module _ (n k : ℕ) (words whole new a a' b b' c c' d d' x : List ℕ) (held : HalvesHold n words) (is : half_trits n words ≡ x) (same : whole ≡ words)

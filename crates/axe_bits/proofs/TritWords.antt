@@ -4,7 +4,7 @@ use Rattle.std.proofs.lemmas.Bool.{cases_lt}
 use Rattle.std.proofs.lemmas.List.{ext_get_or, get_or_past}
 use Rattle.axe_algebra.proofs.ListEntries.{listed_length, listed_at}
 use Rattle.axe_lane.specs.Words.{bit_of}
-use Rattle.axe_lane.specs.Trits.{AreTrits, FitAt, IsTritSum, IsTritSumOfFive}
+use Rattle.axe_lane.specs.Trits.{AreTrits, FitAt, IsTritSum, IsTritSumOfFive, IsTritSumOfThree}
 use Rattle.axe_layer.specs.Bits.{bits, HoldsBits}
 use Rattle.axe_layer.specs.Digits.{digits_with_four, digits_with_multiple}
 use Rattle.axe_bits.specs.Trits.{trits, HoldLayers, HoldTrits}
@@ -96,6 +96,22 @@ module _ (n : ℕ) (o t a b p q : List ℕ) (row : HoldLayers n o t) (more : Hol
       let one : 1 * get_or (trits (bits n a) (bits n b)) e 0 ≡ bit_of a e + 2 * bit_of b e = omega (arith, get_or-layers n a b e below) in
       get_or-layers n p q e below ∙ digit e
       ∙ sym (get_or-digits_with_multiple 3 _ 1 _ e here ∙ ap₂ (λ x y. (x + y) % 3) (get_or-layers n o t e below) one))
+
+-- two rows are added, one after another
+module _ (n : ℕ) (o t a a' b b' p q : List ℕ) (row : HoldLayers n o t) (ha : HoldLayers n a a') (hb : HoldLayers n b b')
+    (sum : IsTritSumOfThree o t a a' b b' p q) where
+  sum_held : HoldLayers n sum.ones_of_two sum.twos_of_two
+  sum_held = layers_of_sum n o t a a' sum.ones_of_two sum.twos_of_two row ha sum.first
+
+  pub layers_of_three : HoldLayers n p q
+  layers_of_three = layers_of_sum n sum.ones_of_two sum.twos_of_two b b' p q sum_held hb sum.second
+
+  pub digits_of_three : trits (bits n p) (bits n q)
+      ≡ digits_with_multiple 3 (digits_with_multiple 3 (trits (bits n o) (bits n t)) 1 (trits (bits n a) (bits n a'))) 1 (trits (bits n b) (bits n b'))
+  digits_of_three =
+      digits_of_sum n sum.ones_of_two sum.twos_of_two b b' p q sum_held hb sum.second
+      ∙ ap (λ (x : List ℕ). digits_with_multiple 3 x 1 (trits (bits n b) (bits n b')))
+      (digits_of_sum n o t a a' sum.ones_of_two sum.twos_of_two row ha sum.first)
 
 -- four rows are added, one after another
 module _ (n : ℕ) (o t a a' b b' c c' d d' p q : List ℕ) (row : HoldLayers n o t) (ha : HoldLayers n a a') (hb : HoldLayers n b b')

@@ -1,2 +1,3 @@
+pub mod Combinations
 pub mod FlatTables
 pub mod Trits

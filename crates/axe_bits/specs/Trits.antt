@@ -4,6 +4,7 @@ use Rattle.std.specs.Prelude.{length, slice_index, slice_index_or, take, drop}
 use Rattle.axe_algebra.specs.Lists.{listed}
 use Rattle.axe_layer.specs.Bits.{bits, HoldsBits}
 use Rattle.axe_lane.specs.Bytes.{AreDigits}
+use Rattle.axe_lane.specs.Entries.{AreZerosBefore}
 
 -- the digits of two layers: those of the first, and twice those of the second
 unfoldable pub trits : List ℕ → List ℕ → List ℕ
@@ -21,6 +22,11 @@ pub record HoldLayers (n : ℕ) (ones twos : List ℕ) : Type 0 where
   pub ones_held : HoldsBits n ones
   pub twos_held : HoldsBits n twos
   pub together : HoldTrits (bits n ones) (bits n twos)
+
+-- the words of both layers before one are zero
+pub record AreZeroLayersBefore (ones twos : List ℕ) (first : ℕ) : Type 0 where
+  pub ones_zero : AreZerosBefore ones first
+  pub twos_zero : AreZerosBefore twos first
 
 -- the first half of a list of words, and the rest of it: those of two layers, one after another in one list
 abbrev pub first_half : List ℕ → List ℕ

@@ -5,12 +5,13 @@ ghost use Rattle.axe_algebra.specs.Lists.{listed};
 ghost use Rattle.axe_lane.specs.Bytes.{multiple_modulo, sum_of_products, AreDigits};
 ghost use Rattle.axe_lane.specs.Entries.{IsFirstNonzero, AreZerosBefore, AreZerosFrom, IsNextNonzero};
 ghost use Rattle.axe_layer.specs.Bits.{bits};
-ghost use Rattle.axe_lane.specs.Trits.{AreTrits, AreTritsOf, IsTritSum, IsTritSumOfFive};
-ghost use Rattle.axe_bits.specs.Trits.{trits, first_half, second_half, HoldLayers};
+ghost use Rattle.axe_lane.specs.Trits.{AreTrits, AreTritsOf, IsTritSum, IsTritSumOfFive, IsTritSumOfThree};
+ghost use Rattle.axe_bits.specs.Trits.{trits, first_half, second_half, AreZeroLayersBefore, HoldLayers};
+ghost use Rattle.axe_bits.specs.Combinations.{digits_with_two};
 ghost use Rattle.axe_layer.specs.Digits.{digits_with_four, digits_with_multiple};
 ghost use Rattle.axe_layer.specs.Digits.{AreSmallSums, numbers_with_multiple, numbers_from, number_bound};
 
-use axe_lane::{WORD, add_trits, add4_trits, any_nonzero, dot_trits};
+use axe_lane::{WORD, add_trits, add2_trits, add4_trits, any_nonzero, dot_trits};
 use axe_layer::{
     add_digits, bit_in, copy_digits, fill_with_bits, fill_with_part, fill_with_selected,
     next_in_word, numbers_by_digits, set_bit,
@@ -205,6 +206,30 @@ impl TritPlane {
         self.add_layers(start, factor, ones, twos);
     }
 
+    /// Adds multiples of two other planes of the same length, whose digits before an index are 0, modulo 3. The words
+    /// before that of the index are not looked at.
+    #[inline]
+    pub fn add_two_from(&mut self, start: usize, factors: [u8; 2], a: &TritPlane, b: &TritPlane)
+        requires within { start ≤ length self.old }
+        requires factors { AreDigits 3 factors }
+        requires a_fits { length a.now ≡ length self.old }
+        requires b_fits { length b.now ≡ length self.old }
+        requires a_zeros { AreZerosBefore a.now start }
+        requires b_zeros { AreZerosBefore b.now start }
+        ensures { self.new ≡ digits_with_two 3 self.old factors a.now b.now }
+    {
+        let (to_a, to_b) = (factors[0], factors[1]);
+        if to_a == 0 {
+            self.add_scaled_from(start, to_b, b);
+        } else if to_b == 0 {
+            self.add_scaled_from(start, to_a, a);
+        } else {
+            let a = multiple_layers(to_a, a);
+            let b = multiple_layers(to_b, b);
+            add_two_to_halves(&mut self.words, start / WORD, a, b);
+        }
+    }
+
     /// Adds a multiple of the digits that two layers of as many bits hold, which are 0 before an index. Twice a digit
     /// is the digit with its layers exchanged.
     #[inline]
@@ -366,4 +391,45 @@ fn add_four_to_halves(
     let width = words.len() / 2;
     let (own_ones, own_twos) = words.split_at_mut(width);
     add4_trits(own_ones, own_twos, a, b, c, d);
+}
+
+/// Adds two rows over the field of order 3, which are 0 in the words before the first that is given, to the one of
+/// which the two halves of a list of words are the ones and the twos.
+#[inline(always)]
+fn add_two_to_halves(words: &mut [u64], first: usize, a: (&[u64], &[u64]), b: (&[u64], &[u64]))
+    requires within { first ≤ length words.old / 2 }
+    requires row { AreTrits (first_half words.old) (second_half words.old) }
+    requires a { AreTritsOf (length words.old / 2) a.0.now a.1.now }
+    requires b { AreTritsOf (length words.old / 2) b.0.now b.1.now }
+    requires a_zeros { AreZeroLayersBefore a.0.now a.1.now first }
+    requires b_zeros { AreZeroLayersBefore b.0.now b.1.now first }
+    ensures long { length words.new ≡ length words.old }
+    ensures sum { IsTritSumOfThree (first_half words.old) (second_half words.old) a.entry.0.now a.entry.1.now
+        b.entry.0.now b.entry.1.now (first_half words.new) (second_half words.new) }
+{
+    let width = words.len() / 2;
+    let (own_ones, own_twos) = words.split_at_mut(width);
+    add2_trits(
+        &mut own_ones[first..],
+        &mut own_twos[first..],
+        (&a.0[first..], &a.1[first..]),
+        (&b.0[first..], &b.1[first..]),
+    );
+}
+
+/// The layers of the multiple of a plane by 1 or 2: twice a digit is the digit with its layers exchanged.
+#[inline(always)]
+fn multiple_layers(factor: u8, plane: &TritPlane) -> (&[u64], &[u64])
+    requires positive { 0 < factor }
+    requires small { factor < 3 }
+    ensures holds { HoldLayers (length plane.now) result.0.now result.1.now }
+    ensures digits { trits (bits (length plane.now) result.0.now) (bits (length plane.now) result.1.now)
+        ≡ multiple_modulo 3 factor plane.now }
+{
+    let (ones, twos) = plane.layers();
+    if factor == 1 {
+        (ones, twos)
+    } else {
+        (twos, ones)
+    }
 }

@@ -27,7 +27,7 @@ module _ (f : ℕ → ℕ → ℕ) where
   pub chunk-zip2 : (n k : ℕ) (xs ys : List ℕ) → length ys ≡ length xs → chunk n k (zip2 f xs ys) ≡ zip2 f (chunk n k xs) (chunk n k ys)
   chunk-zip2 n k xs ys e = ap (take k) (drop-zip2 n xs ys e) ∙ take-zip2 k (drop n xs) (drop n ys)
 
-  associative : ((x y z : ℕ) → f x (f y z) ≡ f (f x y) z) → (xs ys zs : List ℕ) → zip2 f xs (zip2 f ys zs) ≡ zip2 f (zip2 f xs ys) zs
+  pub associative : ((x y z : ℕ) → f x (f y z) ≡ f (f x y) z) → (xs ys zs : List ℕ) → zip2 f xs (zip2 f ys zs) ≡ zip2 f (zip2 f xs ys) zs
   associative law [] ys zs = refl
   associative law (x ∷ xs) [] zs = refl
   associative law (x ∷ xs) (y ∷ ys) [] = refl

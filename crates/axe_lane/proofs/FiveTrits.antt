@@ -1,10 +1,10 @@
--- The sum of five rows over the field of order 3, words by words: what is made so far, and why it is one sum after another.
+-- The sum of three or five rows over the field of order 3, words by words: what is made so far, and why it is one sum after another.
 use Rattle.std.proofs.Common.{◌≡◌, ◌≢◌, ℕ, ◌+◌, ◌-◌, ◌<◌, ◌≤◌, List, length, get_or, set, refl, sym, ap, ◌∙◌, arith, inl, inr, bit_or, bit_xor, get_or-set_same, get_or-set_other}
 use Rattle.std.specs.Simd.Lanes.{chunk, put_chunk}
 use Rattle.std.proofs.lemmas.Bool.{cases_lt}
 use Rattle.std.proofs.lemmas.List.{get_or_past, length-set}
 use Rattle.std.proofs.lemmas.Simd.{length-put_chunk}
-use Rattle.axe_lane.specs.Trits.{ones_of_sum, twos_of_sum, ones_of_sums, twos_of_sums, sum_of_five, sum_of_words, turned_bits, turned_lists, word_at, AreMadeBetween, AreTrits, AreTritsOf, HaveWords, IsTritSum, IsTritSumOfFive, TritWord}
+use Rattle.axe_lane.specs.Trits.{ones_of_sum, twos_of_sum, ones_of_sums, twos_of_sums, sum_of_five, sum_of_three, sum_of_words, turned_bits, turned_lists, word_at, AreMadeBetween, AreTrits, AreTritsOf, HaveWords, IsTritSum, IsTritSumOfFive, IsTritSumOfThree, TritWord}
 use Rattle.axe_lane.proofs.TritSums.{block_kept, block_made, both_words, chunk_words, sum_made, AreWords}
 
 -- ---- what is made so far
@@ -18,26 +18,38 @@ made_none made o t = record {
   kept = λ k outside. refl;
 }
 
--- a part more, of the sum of what is there with four rows
-pub five_more : (n m e : ℕ) (o t a a' b b' c c' d d' u v p q : List ℕ) →
-    AreMadeBetween 0 n (λ k. sum_of_five (word_at o t k) (word_at a a' k) (word_at b b' k) (word_at c c' k) (word_at d d' k)) o t u v →
-    AreMadeBetween n m (λ k. sum_of_five (word_at u v k) (word_at a a' k) (word_at b b' k) (word_at c c' k) (word_at d d' k)) u v p q →
-    n ≤ m → m ≡ e →
-    AreMadeBetween 0 e (λ k. sum_of_five (word_at o t k) (word_at a a' k) (word_at b b' k) (word_at c c' k) (word_at d d' k)) o t p q
-five_more n m e o t a a' b b' c c' d d' u v p q before more le same = record {
+-- a part more, where each word is made from the one that is there
+part_more : (made : ℕ → TritWord → TritWord) (n m e : ℕ) (o t u v p q : List ℕ) → AreMadeBetween 0 n (λ k. made k (word_at o t k)) o t u v →
+    AreMadeBetween n m (λ k. made k (word_at u v k)) u v p q → n ≤ m → m ≡ e → AreMadeBetween 0 e (λ k. made k (word_at o t k)) o t p q
+part_more made n m e o t u v p q before more le same = record {
   ones_long = more.ones_long ∙ before.ones_long;
   twos_long = more.twos_long ∙ before.twos_long;
   made_between = λ k from to. elim (cases_lt k n) [
     | inl below ↦ more.kept k (inl below) ∙ before.made_between k from below
-    | inr past ↦
-        more.made_between k (omega arith) (omega arith)
-        ∙ ap (λ (w : TritWord). sum_of_five w (word_at a a' k) (word_at b b' k) (word_at c c' k) (word_at d d' k)) (before.kept k (inr (omega arith)))
+    | inr past ↦ more.made_between k (omega arith) (omega arith) ∙ ap (made k) (before.kept k (inr (omega arith)))
   ];
   kept = λ k outside. elim outside [
     | inl below ↦ absurd (omega arith)
     | inr past ↦ more.kept k (inr (omega arith)) ∙ before.kept k (inr (omega arith))
   ];
 }
+
+-- of the sum of what is there with two rows
+pub three_more : (n m e : ℕ) (o t a a' b b' u v p q : List ℕ) →
+    AreMadeBetween 0 n (λ k. sum_of_three (word_at o t k) (word_at a a' k) (word_at b b' k)) o t u v →
+    AreMadeBetween n m (λ k. sum_of_three (word_at u v k) (word_at a a' k) (word_at b b' k)) u v p q → n ≤ m → m ≡ e →
+    AreMadeBetween 0 e (λ k. sum_of_three (word_at o t k) (word_at a a' k) (word_at b b' k)) o t p q
+three_more n m e o t a a' b b' u v p q before more le same =
+    part_more (λ k w. sum_of_three w (word_at a a' k) (word_at b b' k)) n m e o t u v p q before more le same
+
+-- and with four
+pub five_more : (n m e : ℕ) (o t a a' b b' c c' d d' u v p q : List ℕ) →
+    AreMadeBetween 0 n (λ k. sum_of_five (word_at o t k) (word_at a a' k) (word_at b b' k) (word_at c c' k) (word_at d d' k)) o t u v →
+    AreMadeBetween n m (λ k. sum_of_five (word_at u v k) (word_at a a' k) (word_at b b' k) (word_at c c' k) (word_at d d' k)) u v p q →
+    n ≤ m → m ≡ e →
+    AreMadeBetween 0 e (λ k. sum_of_five (word_at o t k) (word_at a a' k) (word_at b b' k) (word_at c c' k) (word_at d d' k)) o t p q
+five_more n m e o t a a' b b' c c' d d' u v p q before more le same =
+    part_more (λ k w. sum_of_five w (word_at a a' k) (word_at b b' k) (word_at c c' k) (word_at d d' k)) n m e o t u v p q before more le same
 
 -- ---- one word
 
@@ -174,6 +186,19 @@ sum_of_made o t a b x y p q row more x_long y_long kept p_long q_long made =
 -- a row of as many words as another
 as_many : (o o' a b : List ℕ) → length o' ≡ length o → AreTritsOf (length o) a b → AreTritsOf (length o') a b
 as_many o o' a b long h = record { long = h.long ∙ sym long; are_trits = h.are_trits }
+
+pub three_made : (n : ℕ) (o t a a' b b' p q : List ℕ) → AreTrits o t → AreTritsOf (length o) a a' → AreTritsOf (length o) b b' → n ≡ length o →
+    AreMadeBetween 0 n (λ k. sum_of_three (word_at o t k) (word_at a a' k) (word_at b b' k)) o t p q → IsTritSumOfThree o t a a' b b' p q
+three_made n o t a a' b b' p q row ha hb all h =
+    let o2 : List ℕ = ones_of_sums o t a a' in
+    let t2 : List ℕ = twos_of_sums o t a a' in
+    let first : IsTritSum o t a a' o2 t2 = sum_of_lists o t a a' row ha in
+    let second : IsTritSum o2 t2 b b' p q =
+    sum_of_made o2 t2 b b' o t p q first.are_trits (as_many o o2 b b' first.long hb) (sym first.long) (row.as_long ∙ sym first.long)
+    (λ k past. h.kept k (inr (omega (arith, first.long)))) h.ones_long h.twos_long (λ k below.
+    h.made_between k (omega arith) (omega (arith, first.long))
+    ∙ ap (λ (w : TritWord). sum_of_words w (word_at b b' k)) (sym (words_of_lists o t a a' row ha k (omega (arith, first.long))))) in
+    record { ones_of_two = o2; twos_of_two = t2; first = first; second = second }
 
 pub five_made : (n : ℕ) (o t a a' b b' c c' d d' p q : List ℕ) → AreTrits o t → AreTritsOf (length o) a a' → AreTritsOf (length o) b b' →
     AreTritsOf (length o) c c' → AreTritsOf (length o) d d' → n ≡ length o →

@@ -84,6 +84,10 @@ sum_of_words x y = record {
   twos = twos_of_sum x.ones x.twos y.ones y.twos;
 }
 
+-- those of the sum of three, one after another
+abbrev pub sum_of_three : TritWord → TritWord → TritWord → TritWord
+sum_of_three x a b = sum_of_words (sum_of_words x a) b
+
 -- those of the sum of five, one after another
 abbrev pub sum_of_five : TritWord → TritWord → TritWord → TritWord → TritWord → TritWord
 sum_of_five x a b c d = sum_of_words (sum_of_words (sum_of_words (sum_of_words x a) b) c) d
@@ -117,3 +121,10 @@ pub record IsTritSumOfFive (ones twos a_ones a_twos b_ones b_twos c_ones c_twos 
   pub second : IsTritSum ones_of_two twos_of_two b_ones b_twos ones_of_three twos_of_three
   pub third : IsTritSum ones_of_three twos_of_three c_ones c_twos ones_of_four twos_of_four
   pub fourth : IsTritSum ones_of_four twos_of_four d_ones d_twos sum_ones sum_twos
+
+-- a row is the sum of three, which were added one after another
+pub record IsTritSumOfThree (ones twos a_ones a_twos b_ones b_twos sum_ones sum_twos : List ℕ) : Type 0 where
+  pub ones_of_two : List ℕ
+  pub twos_of_two : List ℕ
+  pub first : IsTritSum ones twos a_ones a_twos ones_of_two twos_of_two
+  pub second : IsTritSum ones_of_two twos_of_two b_ones b_twos sum_ones sum_twos

@@ -1,12 +1,24 @@
 -- Lists of 64-bit words as rows of bits: bit i of a list is bit i mod 64 of its word i / 64, the lowest bit being bit
 -- 0.
-use Rattle.std.specs.Prelude.{◌≡◌, ℕ, ◌/◌, ◌%◌, ◌<◌, List, length, slice_index, sum, bit_and, bit_xor, count_ones}
+use Rattle.std.specs.Prelude.{◌≡◌, ℕ, ◌/◌, ◌%◌, ◌<◌, List, length, map, slice_index, sum, bit_and, bit_xor, count_ones}
 use Rattle.std.specs.Int.{bit_at}
 use Rattle.std.specs.Simd.Lanes.{zip2}
 
 -- the exclusive or of two lists of words, word by word: the sum of two rows over the field of order 2
 abbrev pub xor_of_words : List ℕ → List ℕ → List ℕ
 xor_of_words a b = zip2 bit_xor a b
+
+-- the words of a list, of each of which those bits stay that a mask has
+abbrev pub masked : ℕ → List ℕ → List ℕ
+masked mask words = map (λ word. bit_and word mask) words
+
+-- the sum of two rows over the field of order 2, of each of which the bits of its mask are taken
+abbrev pub masked_sum_of_two : List ℕ → List ℕ → List ℕ → List ℕ
+masked_sum_of_two masks a b = xor_of_words (masked (slice_index masks 0) a) (masked (slice_index masks 1) b)
+
+-- the sum of three such rows
+abbrev pub masked_sum_of_three : List ℕ → List ℕ → List ℕ → List ℕ → List ℕ
+masked_sum_of_three masks a b c = xor_of_words (masked_sum_of_two masks a b) (masked (slice_index masks 2) c)
 
 -- bit e of a list of words: bit e mod 64 of word e / 64, where bit 0 is the lowest
 unfoldable pub bit_of : List ℕ → ℕ → ℕ

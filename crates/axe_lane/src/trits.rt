@@ -2,8 +2,9 @@
 //! is set in the first, 2 where it is set in the second, and else 0.
 ghost use Rattle.std.specs.Prelude.{◌≡◌, ◌+◌, ◌*◌, ◌%◌, ◌<◌, ◌≤◌, length};
 ghost use Rattle.axe_lane.specs.Trits.{common_trits, AreTrits, HasSumBetween, IsTritSum};
-ghost use Rattle.axe_lane.specs.Trits.{sum_of_five, sum_of_words, word_at, AreMadeBetween, AreTritsOf, HaveWords};
-ghost use Rattle.axe_lane.specs.Trits.{ones_of_sums, twos_of_sums, IsTritSumOfFive};
+ghost use Rattle.axe_lane.specs.Trits.{sum_of_five, sum_of_three, sum_of_words, word_at, AreMadeBetween};
+ghost use Rattle.axe_lane.specs.Trits.{ones_of_sums, twos_of_sums, AreTritsOf, HaveWords};
+ghost use Rattle.axe_lane.specs.Trits.{IsTritSumOfFive, IsTritSumOfThree};
 ghost use Rattle.std.specs.Simd.Lanes.{chunk};
 
 use std::simd::prelude::*;
@@ -11,6 +12,9 @@ use std::simd::prelude::*;
 /// How many words a block has: one vector. Rows of few words are added most, and what is left after the blocks is at
 /// most a pair and a word.
 const BLOCK: usize = 4;
+
+/// How many words a pair has.
+const PAIR: usize = 2;
 
 /// Adds a row over the field of order 3 to another one of its length.
 pub fn add_trits(ones: &mut [u64], twos: &mut [u64], more_ones: &[u64], more_twos: &[u64])
@@ -30,7 +34,7 @@ pub fn add_trits(ones: &mut [u64], twos: &mut [u64], more_ones: &[u64], more_two
         2 => add_pair(ones, twos, more_ones, more_twos, rest),
         _ => {
             add_pair(ones, twos, more_ones, more_twos, rest);
-            add_word(ones, twos, more_ones, more_twos, rest + 2);
+            add_word(ones, twos, more_ones, more_twos, rest + PAIR);
         }
     }
 }
@@ -50,15 +54,34 @@ pub fn add4_trits(
     requires b { AreTritsOf (length ones.old) b.0.now b.1.now }
     requires c { AreTritsOf (length ones.old) c.0.now c.1.now }
     requires d { AreTritsOf (length ones.old) d.0.now d.1.now }
-    ensures { IsTritSumOfFive ones.old twos.old a.entry.0.now a.entry.1.now b.entry.0.now b.entry.1.now c.entry.0.now c.entry.1.now d.entry.0.now d.entry.1.now
+    ensures { IsTritSumOfFive ones.old twos.old a.entry.0.now a.entry.1.now b.entry.0.now b.entry.1.now
+        c.entry.0.now c.entry.1.now d.entry.0.now d.entry.1.now ones.new twos.new }
+{
+    let whole = ones.len() / PAIR;
+    for pair in 0..whole {
+        add4_pair(ones, twos, a, b, c, d, pair * PAIR);
+    }
+    let rest = whole * PAIR;
+    if rest < ones.len() {
+        add4_word(ones, twos, a, b, c, d, rest);
+    }
+}
+
+/// Adds two rows over the field of order 3 to a third of their length, in one pass, as [`add4_trits`] adds four.
+pub fn add2_trits(ones: &mut [u64], twos: &mut [u64], a: (&[u64], &[u64]), b: (&[u64], &[u64]))
+    requires row { AreTrits ones.old twos.old }
+    requires a { AreTritsOf (length ones.old) a.0.now a.1.now }
+    requires b { AreTritsOf (length ones.old) b.0.now b.1.now }
+    ensures { IsTritSumOfThree ones.old twos.old a.entry.0.now a.entry.1.now b.entry.0.now b.entry.1.now
         ones.new twos.new }
 {
-    let whole = ones.len() / BLOCK;
-    for block in 0..whole {
-        add4_block(ones, twos, a, b, c, d, block * BLOCK);
+    let whole = ones.len() / PAIR;
+    for pair in 0..whole {
+        add2_pair(ones, twos, a, b, pair * PAIR);
     }
-    for at in whole * BLOCK..ones.len() {
-        add4_word(ones, twos, a, b, c, d, at);
+    let rest = whole * PAIR;
+    if rest < ones.len() {
+        add2_word(ones, twos, a, b, rest);
     }
 }
 
@@ -102,11 +125,11 @@ fn add_block(ones: &mut [u64], twos: &mut [u64], more_ones: &[u64], more_twos: &
 /// Adds the pair of words of a row from an index on to that of another one.
 #[inline(always)]
 fn add_pair(ones: &mut [u64], twos: &mut [u64], more_ones: &[u64], more_twos: &[u64], at: usize)
-    requires ones_has_pair { at + 2 ≤ length ones.old }
-    requires twos_has_pair { at + 2 ≤ length twos.old }
-    requires more_ones_has_pair { at + 2 ≤ length more_ones.now }
-    requires more_twos_has_pair { at + 2 ≤ length more_twos.now }
-    ensures { HasSumBetween at (at + 2) ones.old twos.old more_ones.now more_twos.now ones.new twos.new }
+    requires ones_has_pair { at + PAIR ≤ length ones.old }
+    requires twos_has_pair { at + PAIR ≤ length twos.old }
+    requires more_ones_has_pair { at + PAIR ≤ length more_ones.now }
+    requires more_twos_has_pair { at + PAIR ≤ length more_twos.now }
+    ensures { HasSumBetween at (at + PAIR) ones.old twos.old more_ones.now more_twos.now ones.new twos.new }
 {
     let one = u64x2::from_slice(&ones[at..]);
     let two = u64x2::from_slice(&twos[at..]);
@@ -132,9 +155,73 @@ fn add_word(ones: &mut [u64], twos: &mut [u64], more_ones: &[u64], more_twos: &[
     twos[at] = turned ^ (one | more_ones[at]);
 }
 
-/// Adds the blocks of four rows from an index on to that of a fifth.
+/// Adds the pairs of words of two rows from an index on to that of a third.
 #[inline(always)]
-fn add4_block(
+fn add2_pair(
+    ones: &mut [u64],
+    twos: &mut [u64],
+    a: (&[u64], &[u64]),
+    b: (&[u64], &[u64]),
+    at: usize,
+)
+    requires row { HaveWords (at + PAIR) ones.old twos.old }
+    requires a { HaveWords (at + PAIR) a.0.now a.1.now }
+    requires b { HaveWords (at + PAIR) b.0.now b.1.now }
+    ensures { AreMadeBetween at (at + PAIR) (λ k. sum_of_three (word_at ones.old twos.old k)
+        (word_at a.entry.0.now a.entry.1.now k) (word_at b.entry.0.now b.entry.1.now k))
+        ones.old twos.old ones.new twos.new }
+{
+    let row = (
+        u64x2::from_slice(&ones[at..]),
+        u64x2::from_slice(&twos[at..]),
+    );
+    let two = with_pair(row, a, at);
+    let three = with_pair(two, b, at);
+    three.0.copy_to_slice(&mut ones[at..]);
+    three.1.copy_to_slice(&mut twos[at..]);
+}
+
+/// The sum of a pair of words and that of a row from an index on.
+#[inline(always)]
+fn with_pair(pair: (u64x2, u64x2), more: (&[u64], &[u64]), at: usize) -> (u64x2, u64x2)
+    requires more { HaveWords (at + PAIR) more.0.now more.1.now }
+    ensures ones { result.0 ≡ ones_of_sums pair.0 pair.1
+        (chunk at PAIR more.entry.0.now) (chunk at PAIR more.entry.1.now) }
+    ensures twos { result.1 ≡ twos_of_sums pair.0 pair.1
+        (chunk at PAIR more.entry.0.now) (chunk at PAIR more.entry.1.now) }
+{
+    let (one, two) = pair;
+    let more_one = u64x2::from_slice(&more.0[at..]);
+    let more_two = u64x2::from_slice(&more.1[at..]);
+    let turned = (one | more_two) ^ (two | more_one);
+    (turned ^ (two | more_two), turned ^ (one | more_one))
+}
+
+/// Adds the words of two rows at an index to that of a third.
+#[inline(always)]
+fn add2_word(
+    ones: &mut [u64],
+    twos: &mut [u64],
+    a: (&[u64], &[u64]),
+    b: (&[u64], &[u64]),
+    at: usize,
+)
+    requires row { HaveWords (at + 1) ones.old twos.old }
+    requires a { HaveWords (at + 1) a.0.now a.1.now }
+    requires b { HaveWords (at + 1) b.0.now b.1.now }
+    ensures { AreMadeBetween at (at + 1) (λ k. sum_of_three (word_at ones.old twos.old k)
+        (word_at a.entry.0.now a.entry.1.now k) (word_at b.entry.0.now b.entry.1.now k))
+        ones.old twos.old ones.new twos.new }
+{
+    let two = with_word((ones[at], twos[at]), a, at);
+    let three = with_word(two, b, at);
+    ones[at] = three.0;
+    twos[at] = three.1;
+}
+
+/// Adds the pairs of words of four rows from an index on to that of a fifth.
+#[inline(always)]
+fn add4_pair(
     ones: &mut [u64],
     twos: &mut [u64],
     a: (&[u64], &[u64]),
@@ -143,39 +230,26 @@ fn add4_block(
     d: (&[u64], &[u64]),
     at: usize,
 )
-    requires row { HaveWords (at + BLOCK) ones.old twos.old }
-    requires a { HaveWords (at + BLOCK) a.0.now a.1.now }
-    requires b { HaveWords (at + BLOCK) b.0.now b.1.now }
-    requires c { HaveWords (at + BLOCK) c.0.now c.1.now }
-    requires d { HaveWords (at + BLOCK) d.0.now d.1.now }
-    ensures { AreMadeBetween at (at + BLOCK) (λ k. sum_of_five (word_at ones.old twos.old k) (word_at a.entry.0.now a.entry.1.now k)
-        (word_at b.entry.0.now b.entry.1.now k) (word_at c.entry.0.now c.entry.1.now k) (word_at d.entry.0.now d.entry.1.now k))
+    requires row { HaveWords (at + PAIR) ones.old twos.old }
+    requires a { HaveWords (at + PAIR) a.0.now a.1.now }
+    requires b { HaveWords (at + PAIR) b.0.now b.1.now }
+    requires c { HaveWords (at + PAIR) c.0.now c.1.now }
+    requires d { HaveWords (at + PAIR) d.0.now d.1.now }
+    ensures { AreMadeBetween at (at + PAIR) (λ k. sum_of_five (word_at ones.old twos.old k)
+        (word_at a.entry.0.now a.entry.1.now k) (word_at b.entry.0.now b.entry.1.now k)
+        (word_at c.entry.0.now c.entry.1.now k) (word_at d.entry.0.now d.entry.1.now k))
         ones.old twos.old ones.new twos.new }
 {
     let row = (
-        u64x4::from_slice(&ones[at..]),
-        u64x4::from_slice(&twos[at..]),
+        u64x2::from_slice(&ones[at..]),
+        u64x2::from_slice(&twos[at..]),
     );
-    let two = with_block(row, a, at);
-    let three = with_block(two, b, at);
-    let four = with_block(three, c, at);
-    let five = with_block(four, d, at);
+    let two = with_pair(row, a, at);
+    let three = with_pair(two, b, at);
+    let four = with_pair(three, c, at);
+    let five = with_pair(four, d, at);
     five.0.copy_to_slice(&mut ones[at..]);
     five.1.copy_to_slice(&mut twos[at..]);
-}
-
-/// The sum of a block and that of a row from an index on.
-#[inline(always)]
-fn with_block(block: (u64x4, u64x4), more: (&[u64], &[u64]), at: usize) -> (u64x4, u64x4)
-    requires more { HaveWords (at + BLOCK) more.0.now more.1.now }
-    ensures ones { result.0 ≡ ones_of_sums block.0 block.1 (chunk at BLOCK more.entry.0.now) (chunk at BLOCK more.entry.1.now) }
-    ensures twos { result.1 ≡ twos_of_sums block.0 block.1 (chunk at BLOCK more.entry.0.now) (chunk at BLOCK more.entry.1.now) }
-{
-    let (one, two) = block;
-    let more_one = u64x4::from_slice(&more.0[at..]);
-    let more_two = u64x4::from_slice(&more.1[at..]);
-    let turned = (one | more_two) ^ (two | more_one);
-    (turned ^ (two | more_two), turned ^ (one | more_one))
 }
 
 /// Adds the words of four rows at an index to that of a fifth.
@@ -194,8 +268,9 @@ fn add4_word(
     requires b { HaveWords (at + 1) b.0.now b.1.now }
     requires c { HaveWords (at + 1) c.0.now c.1.now }
     requires d { HaveWords (at + 1) d.0.now d.1.now }
-    ensures { AreMadeBetween at (at + 1) (λ k. sum_of_five (word_at ones.old twos.old k) (word_at a.entry.0.now a.entry.1.now k)
-        (word_at b.entry.0.now b.entry.1.now k) (word_at c.entry.0.now c.entry.1.now k) (word_at d.entry.0.now d.entry.1.now k))
+    ensures { AreMadeBetween at (at + 1) (λ k. sum_of_five (word_at ones.old twos.old k)
+        (word_at a.entry.0.now a.entry.1.now k) (word_at b.entry.0.now b.entry.1.now k)
+        (word_at c.entry.0.now c.entry.1.now k) (word_at d.entry.0.now d.entry.1.now k))
         ones.old twos.old ones.new twos.new }
 {
     let two = with_word((ones[at], twos[at]), a, at);

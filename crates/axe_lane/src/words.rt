@@ -4,6 +4,7 @@ ghost use Rattle.std.specs.Prelude.{MatchOption, slice_index, slice_set};
 ghost use Rattle.std.specs.Simd.Lanes.{chunk, put_chunk, zip2};
 ghost use Rattle.axe_lane.specs.Entries.{AreZerosBefore, HasNonzero, IsFirstNonzero};
 ghost use Rattle.axe_lane.specs.Words.{common_bits, xor_of_words, HasNoSetBitBefore, IsFirstSetBit};
+ghost use Rattle.axe_lane.specs.Words.{masked_sum_of_two, masked_sum_of_three};
 
 use std::simd::prelude::*;
 
@@ -16,6 +17,9 @@ const BLOCK: usize = 8;
 /// How many words a block of a sum has. Rows of few words are summed most, and what is left after its blocks is at most
 /// a pair and a word.
 const SUM_BLOCK: usize = 4;
+
+/// How many words a pair has.
+const PAIR: usize = 2;
 
 /// Makes each word of `dst` its exclusive or with the word of `src` at the same index: the sum of two rows over the
 /// field of order 2.
@@ -80,6 +84,78 @@ pub fn xor4_into(dst: &mut [u64], a: &[u64], b: &[u64], c: &[u64], d: &[u64])
     }
 }
 
+/// Adds combinations of two rows over the field of order 2 to each of two others, in one pass: each word of `first`
+/// becomes its exclusive or with those bits of the words of `a` and `b` at the same index that the masks for it have,
+/// and each word of `second` by its own masks.
+pub fn xor_masked_into_two(
+    first: &mut [u64],
+    second: &mut [u64],
+    to_first: [u64; 2],
+    to_second: [u64; 2],
+    a: &[u64],
+    b: &[u64],
+)
+    requires second_fits { length second.old ≡ length first.old }
+    requires a_fits { length a.now ≡ length first.old }
+    requires b_fits { length b.now ≡ length first.old }
+    ensures first { first.new ≡ xor_of_words first.old (masked_sum_of_two to_first a.now b.now) }
+    ensures second { second.new ≡ xor_of_words second.old (masked_sum_of_two to_second a.now b.now) }
+{
+    let whole = first.len() / PAIR;
+    for pair in 0..whole {
+        let at = pair * PAIR;
+        let (a, b) = (u64x2::from_slice(&a[at..]), u64x2::from_slice(&b[at..]));
+        xor_masked_pair_of_two(first, to_first, a, b, at);
+        xor_masked_pair_of_two(second, to_second, a, b, at);
+    }
+    let rest = whole * PAIR;
+    if rest < first.len() {
+        let (a, b) = (a[rest], b[rest]);
+        xor_masked_word_of_two(first, to_first, a, b, rest);
+        xor_masked_word_of_two(second, to_second, a, b, rest);
+    }
+}
+
+/// Adds combinations of three rows over the field of order 2 to each of three others, in one pass, as
+/// [`xor_masked_into_two`] does.
+pub fn xor_masked_into_three(
+    first: &mut [u64],
+    second: &mut [u64],
+    third: &mut [u64],
+    to_first: [u64; 3],
+    to_second: [u64; 3],
+    to_third: [u64; 3],
+    a: &[u64],
+    b: &[u64],
+    c: &[u64],
+)
+    requires second_fits { length second.old ≡ length first.old }
+    requires third_fits { length third.old ≡ length first.old }
+    requires a_fits { length a.now ≡ length first.old }
+    requires b_fits { length b.now ≡ length first.old }
+    requires c_fits { length c.now ≡ length first.old }
+    ensures first { first.new ≡ xor_of_words first.old (masked_sum_of_three to_first a.now b.now c.now) }
+    ensures second { second.new ≡ xor_of_words second.old (masked_sum_of_three to_second a.now b.now c.now) }
+    ensures third { third.new ≡ xor_of_words third.old (masked_sum_of_three to_third a.now b.now c.now) }
+{
+    let whole = first.len() / PAIR;
+    for pair in 0..whole {
+        let at = pair * PAIR;
+        let (a, b) = (u64x2::from_slice(&a[at..]), u64x2::from_slice(&b[at..]));
+        let c = u64x2::from_slice(&c[at..]);
+        xor_masked_pair_of_three(first, to_first, a, b, c, at);
+        xor_masked_pair_of_three(second, to_second, a, b, c, at);
+        xor_masked_pair_of_three(third, to_third, a, b, c, at);
+    }
+    let rest = whole * PAIR;
+    if rest < first.len() {
+        let (a, b, c) = (a[rest], b[rest], c[rest]);
+        xor_masked_word_of_three(first, to_first, a, b, c, rest);
+        xor_masked_word_of_three(second, to_second, a, b, c, rest);
+        xor_masked_word_of_three(third, to_third, a, b, c, rest);
+    }
+}
+
 /// Whether some word is other than zero: some bit is set.
 pub fn any_nonzero(words: &[u64]) -> bool
     ensures { IsTrue result ↔ HasNonzero words.now }
@@ -115,6 +191,58 @@ pub fn parity_and(a: &[u64], b: &[u64]) -> u8
         sum ^= a[at] & b[at];
     }
     (sum.count_ones() % 2) as u8
+}
+
+/// Adds those bits of two pairs of words that the masks have to the pair of a row from an index on.
+#[inline(always)]
+fn xor_masked_pair_of_two(words: &mut [u64], masks: [u64; 2], a: u64x2, b: u64x2, at: usize)
+    requires { at + PAIR ≤ length words.old }
+    ensures { words.new ≡ put_chunk at words.old (zip2 bit_xor (chunk at PAIR words.old) (masked_sum_of_two masks a b)) }
+{
+    let more = (a & u64x2::splat(masks[0])) ^ (b & u64x2::splat(masks[1]));
+    let sum = u64x2::from_slice(&words[at..]) ^ more;
+    sum.copy_to_slice(&mut words[at..]);
+}
+
+/// Adds those bits of two words that the masks have to the word of a row at an index.
+#[inline(always)]
+fn xor_masked_word_of_two(words: &mut [u64], masks: [u64; 2], a: u64, b: u64, at: usize)
+    requires { at < length words.old }
+    ensures { words.new ≡ slice_set words.old at (bit_xor (slice_index words.old at)
+        (bit_xor (bit_and a (slice_index masks 0)) (bit_and b (slice_index masks 1)))) }
+{
+    words[at] ^= (a & masks[0]) ^ (b & masks[1]);
+}
+
+/// Adds those bits of three pairs of words that the masks have to the pair of a row from an index on.
+#[inline(always)]
+fn xor_masked_pair_of_three(
+    words: &mut [u64],
+    masks: [u64; 3],
+    a: u64x2,
+    b: u64x2,
+    c: u64x2,
+    at: usize,
+)
+    requires { at + PAIR ≤ length words.old }
+    ensures { words.new
+        ≡ put_chunk at words.old (zip2 bit_xor (chunk at PAIR words.old) (masked_sum_of_three masks a b c)) }
+{
+    let two = (a & u64x2::splat(masks[0])) ^ (b & u64x2::splat(masks[1]));
+    let more = two ^ (c & u64x2::splat(masks[2]));
+    let sum = u64x2::from_slice(&words[at..]) ^ more;
+    sum.copy_to_slice(&mut words[at..]);
+}
+
+/// Adds those bits of three words that the masks have to the word of a row at an index.
+#[inline(always)]
+fn xor_masked_word_of_three(words: &mut [u64], masks: [u64; 3], a: u64, b: u64, c: u64, at: usize)
+    requires { at < length words.old }
+    ensures { words.new ≡ slice_set words.old at (bit_xor (slice_index words.old at)
+        (bit_xor (bit_xor (bit_and a (slice_index masks 0)) (bit_and b (slice_index masks 1)))
+        (bit_and c (slice_index masks 2)))) }
+{
+    words[at] ^= (a & masks[0]) ^ (b & masks[1]) ^ (c & masks[2]);
 }
 
 /// The block of a sum from an index on.

@@ -28,7 +28,7 @@ row_added_to {o} {r} {n} {m} {c} {l} {q} {c'} {l'} {q'} {self} {other} row plane
         ∙ length_of_row o c l q self row.is ∙ row.planes.constant.long
 
 -- two planes of one prime and one length
-plane_added_to : {p n : ℕ} {plane other : Plane} → IsPlaneOf p n plane → IsPlaneOf p n other → IsAddend plane other
+pub plane_added_to : {p n : ℕ} {plane other : Plane} → IsPlaneOf p n plane → IsPlaneOf p n other → IsAddend plane other
 plane_added_to h h' = record { prime = h'.prime ∙ sym h.prime; fits = h'.long ∙ sym h.long }
 
 -- what the planes may be given

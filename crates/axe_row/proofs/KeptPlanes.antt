@@ -13,7 +13,8 @@ use Rattle.axe_plane.specs.Planes.{prime_of_plane, digits_of, IsPlane, IsPlaneOf
 use Rattle.axe_plane.specs.declared.Plane.{Plane}
 use Rattle.axe_row.specs.Combinations.{CombosValue}
 use Rattle.axe_row.specs.HigherPlanes.{HigherPlanes, empty_plane, linear_of, quadratic_of, AreKeptPlanes}
-use Rattle.axe_row.specs.Planes.{ArePlanes, digits_with_multiples}
+use Rattle.axe_bits.specs.Combinations.{digits_with_multiples}
+use Rattle.axe_row.specs.Planes.{ArePlanes}
 use Rattle.axe_row.specs.Refusals.{Answers}
 use Rattle.axe_row.specs.Rows.{RowValue}
 use Rattle.axe_row.specs.declared.refusals.Refusal.{Refusal}

@@ -14,6 +14,7 @@ pub mod TableRows
 pub mod TablePlanes
 pub mod TableSums
 pub mod AddedRows
+pub mod AddedPlanes
 pub mod PieceNumbers
 pub mod PackedRows
 pub mod PlaneNumbers

@@ -1,5 +1,5 @@
 -- A row plus a multiple of another, by their planes.
-use Rattle.std.proofs.Common.{◌≡◌, ◌≢◌, ℕ, zero, suc, ◌+◌, ◌*◌, ◌%◌, ◌<◌, ◌≤◌, Bool, true, false, List, length, get_or, cond, ltb, refl, sym, ap, subst, ◌∙◌, arith, lit<}
+use Rattle.std.proofs.Common.{◌≡◌, ◌≢◌, ℕ, ◌+◌, ◌*◌, ◌%◌, ◌<◌, Bool, true, false, List, length, get_or, cond, ltb, refl, sym, ap, subst, ◌∙◌, arith, lit<}
 use Rattle.std.proofs.lemmas.Bool.{lt-ltb}
 use Rattle.std.proofs.lemmas.List.{ext_get_or, get_or_past}
 use Rattle.axe_algebra.specs.Lists.{entry}
@@ -17,7 +17,8 @@ use Rattle.axe_layer.proofs.DigitLaws.{AreDigits-sum, length-digits_with_multipl
 use Rattle.axe_plane.proofs.PlaneLaws.{prime_of_plane-positive}
 use Rattle.axe_row.specs.MadePlanes.{row_of_planes}
 use Rattle.axe_row.specs.Operations.{sum_with_multiple, row_with_multiple}
-use Rattle.axe_row.specs.Planes.{column, ArePlanes, IsAddable, AreAddable, ReachWhereNonzero, digits_with_multiples}
+use Rattle.axe_bits.specs.Combinations.{digits_with_multiples}
+use Rattle.axe_row.specs.Planes.{column, ArePlanes, IsAddable, AreAddable}
 use Rattle.axe_row.specs.Rows.{RowValue}
 use Rattle.axe_row.proofs.OperationLaws.{length-sum_with_multiple, get_or-row_with_multiple}
 use Rattle.axe_row.proofs.RowPlanes.{entries_of, length-entries, entries-at, element_at, prime-positive, constant_is_there, along_order, element_along}
@@ -191,41 +192,6 @@ pub addable_quadratic : (o : Order) (n k : ℕ) (c l q c' l' q' : Plane) (f0 f1 
     AreAddable q f2 c' l' q'
 addable_quadratic o n k c l q c' l' q' f0 f1 f2 h =
     addable o n k 2 q c' l' q' f2 (lit< tt) h.scalar h.planes.quadratic h.others h.to_quadratic
-
--- ---- an index that the planes reach
-
--- where a factor is not 0, the plane that it is of is there
-reach_one : (o : Order) (n k i j f start : ℕ) (plane : Plane) → i < 3 → j < 3 → IsElement o k →
-    IsPlaneOf (prime_of o) (cond (ltb j (degree_of o)) n 0) plane → f ≡ entry (matrix_of_multiplication o k) i j → start ≤ n → f ≢ 0 →
-    start ≤ length (digits_of plane)
-reach_one o n k i j f start plane hi hj hk h ef within nonzero =
-    let both = matrix_of_multiplication-outside o k i j hk hi hj (λ none. nonzero (ef ∙ none)) in
-    omega (arith, within, h.long ∙ present j (degree_of o) n both.1)
-
-reach_each : (o : Order) (n k j start : ℕ) (plane : Plane) (f : List ℕ) → j < 3 → IsElement o k →
-    IsPlaneOf (prime_of o) (cond (ltb j (degree_of o)) n 0) plane → IsColumn o k j f → start ≤ n → (i : ℕ) → i < 3 → get_or f i 0 ≢ 0 →
-    start ≤ length (digits_of plane)
-reach_each o n k j start plane f hj hk h column within zero below nonzero = reach_one o n k 0 j _ start plane (lit< tt) hj hk h column.first within nonzero
-reach_each o n k j start plane f hj hk h column within (suc zero) below nonzero = reach_one o n k 1 j _ start plane (lit< tt) hj hk h column.second within nonzero
-reach_each o n k j start plane f hj hk h column within (suc (suc zero)) below nonzero = reach_one o n k 2 j _ start plane (lit< tt) hj hk h column.third within nonzero
-reach_each o n k j start plane f hj hk h column within (suc (suc (suc i))) below nonzero = absurd (omega arith)
-
-module _ (o : Order) (n k start : ℕ) (c l q c' l' q' : Plane) (f0 f1 f2 : List ℕ) (h : AreSummands o n k c l q c' l' q' f0 f1 f2) (within : start ≤ n) where
-  pub reach_constant : ReachWhereNonzero c start f0
-  reach_constant = reach_each o n k 0 start c f0 (lit< tt) h.scalar (constant_plane o n c h.planes.constant) h.to_constant within
-
-  pub reach_linear : ReachWhereNonzero l start f1
-  reach_linear = reach_each o n k 1 start l f1 (lit< tt) h.scalar h.planes.linear h.to_linear within
-
-  pub reach_quadratic : ReachWhereNonzero q start f2
-  reach_quadratic = reach_each o n k 2 start q f2 (lit< tt) h.scalar h.planes.quadratic h.to_quadratic within
-
--- a plane that reaches an index does so after a step
-pub reach_after : (f start : ℕ) (b : List ℕ) (plane after : Plane) →
-    IsPlane (prime_of_plane plane) (digits_with_multiple (prime_of_plane plane) (digits_of plane) f b) after →
-    start ≤ length (digits_of plane) → start ≤ length (digits_of after)
-reach_after f start b plane after e within =
-    omega (arith, within, ap length e.digits_are ∙ length-digits_with_multiple (prime_of_plane plane) (digits_of plane) f b)
 
 -- a plane after its step
 abbrev pub IsSummed : Plane → List ℕ → Plane → Plane → Plane → Plane → Type 0

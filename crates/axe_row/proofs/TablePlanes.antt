@@ -21,7 +21,8 @@ use Rattle.axe_plane.proofs.TableLaws.{written_at}
 use Rattle.axe_layer.proofs.DigitLaws.{AreDigits-zeros, AreDigits-sum, digit-below, length-digits_with_multiple, get_or-digits_with_multiple}
 use Rattle.axe_row.specs.Combinations.{CombosValue, IsTableOfRows, most_combined}
 use Rattle.axe_row.specs.Operations.{sum_with_multiple}
-use Rattle.axe_row.specs.Planes.{ArePlanes, digits_with_multiples, entries_of_digits}
+use Rattle.axe_bits.specs.Combinations.{digits_with_multiples}
+use Rattle.axe_row.specs.Planes.{ArePlanes, entries_of_digits}
 use Rattle.axe_row.specs.PlaneTables.{ArePlaneTables, IsPlaneTable, rows_of_tables}
 use Rattle.axe_row.specs.Rows.{RowValue}
 use Rattle.axe_row.proofs.PlaneSums.{AreSummands, IsSummed, summands, summed_planes, summed_entries}

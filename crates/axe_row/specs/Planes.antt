@@ -1,11 +1,10 @@
 -- What a row keeps: the planes of the coefficients of 1, x and x^2 of its entries.
-use Rattle.std.specs.Prelude.{◌≢◌, ◌≡◌, ℕ, ◌<◌, ◌≤◌, List, [], ◌∷◌, length, map, slice_index, cond, ltb}
+use Rattle.std.specs.Prelude.{◌≢◌, ◌≡◌, ℕ, ◌<◌, List, [], ◌∷◌, length, map, slice_index, cond, ltb}
 use Rattle.axe_algebra.specs.Lists.{entry, listed}
 use Rattle.axe_field.specs.Order.{Order, prime_of, degree_of}
 use Rattle.axe_field.specs.Planes.{coefficient, element_of}
 use Rattle.axe_lane.specs.Entries.{AreZerosBefore}
 use Rattle.axe_lane.specs.Bytes.{AreDigits}
-use Rattle.axe_layer.specs.Digits.{digits_with_multiple}
 use Rattle.axe_plane.specs.Planes.{prime_of_plane, digits_of, IsPlaneOf}
 use Rattle.axe_plane.specs.declared.Plane.{Plane}
 
@@ -23,13 +22,6 @@ pub record ArePlanes (o : Order) (n : ℕ) (c l q : Plane) : Type 0 where
   pub linear : IsPlaneOf (prime_of o) (cond (ltb 1 (degree_of o)) n 0) l
   pub quadratic : IsPlaneOf (prime_of o) (cond (ltb 2 (degree_of o)) n 0) q
 
--- a plane plus multiples of three others
-unfoldable pub digits_with_multiples : ℕ → List ℕ → List ℕ → List ℕ → List ℕ → List ℕ → List ℕ
-digits_with_multiples p a factors c l q =
-    digits_with_multiple p
-    (digits_with_multiple p (digits_with_multiple p a (slice_index factors 0) c) (slice_index factors 1) l)
-    (slice_index factors 2) q
-
 -- a multiple of a plane may be added to this one
 pub record IsAddable (plane : Plane) (factor : ℕ) (other : Plane) : Type 0 where
   pub prime : prime_of_plane other ≡ prime_of_plane plane
@@ -42,10 +34,6 @@ pub record AreAddable (plane : Plane) (factors : List ℕ) (c l q : Plane) : Typ
   pub constant : IsAddable plane (slice_index factors 0) c
   pub linear : IsAddable plane (slice_index factors 1) l
   pub quadratic : IsAddable plane (slice_index factors 2) q
-
--- the plane reaches an index, except where the three factors of what is added to it are 0
-abbrev pub ReachWhereNonzero : Plane → ℕ → List ℕ → Type 0
-ReachWhereNonzero plane index factors = (i : ℕ) → i < 3 → slice_index factors i ≢ 0 → index ≤ length (digits_of plane)
 
 -- the digits of three planes before an index are 0
 pub record HaveZerosBefore (index : ℕ) (c l q : Plane) : Type 0 where

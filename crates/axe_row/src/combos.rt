@@ -10,7 +10,8 @@ ghost use Rattle.axe_row.specs.ByteDigits.{digits_per_byte};
 ghost use Rattle.axe_row.specs.Combinations.{most_combined, zero_table, combination_at, row_with_four, AreOfOneKind};
 ghost use Rattle.axe_row.specs.Combinations.{Combines, IsRowFor, IsTableOfRows};
 ghost use Rattle.axe_row.specs.Operations.{row_with_multiple, sum_with_multiple};
-ghost use Rattle.axe_row.specs.Planes.{digits_with_multiples, AreAddable};
+ghost use Rattle.axe_bits.specs.Combinations.{digits_with_multiples};
+ghost use Rattle.axe_row.specs.Planes.{AreAddable};
 ghost use Rattle.axe_row.specs.Refusals.{Answers};
 ghost use Rattle.axe_row.specs.Rows.{IsRow};
 

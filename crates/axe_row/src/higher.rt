@@ -1,10 +1,11 @@
 //! The planes that a row keeps over the fields that are not prime, beside that of the coefficients of 1.
 ghost use Rattle.std.specs.Prelude.{◌<◌, length};
+ghost use Rattle.axe_bits.specs.Combinations.{digits_with_multiples};
 ghost use Rattle.axe_layer.specs.Digits.{digits_with_four};
 ghost use Rattle.axe_plane.specs.Planes.{prime_of_plane, digits_of, IsPlane};
 ghost use Rattle.axe_plane.specs.Tables.{entries_of_table, plane_at};
 ghost use Rattle.axe_row.specs.Addends.{AreAddends};
-ghost use Rattle.axe_row.specs.Planes.{column, digits_with_multiples, AreAddable};
+ghost use Rattle.axe_row.specs.Planes.{column, AreAddable};
 
 use crate::combos::add_entries;
 use axe_plane::{Plane, PlaneTable};

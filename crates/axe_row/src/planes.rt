@@ -2,14 +2,10 @@
 ghost use Rattle.std.specs.Prelude.{◌≡◌, ◌≢◌, ◌<◌, ◌≤◌, IfOk, cond, length, ltb, slice_index};
 ghost use Rattle.axe_field.specs.Order.{prime_of, degree_of, IsElement};
 ghost use Rattle.axe_field.specs.Planes.{IsCoefficient, element_of};
-ghost use Rattle.axe_lane.specs.Entries.{AreZerosBefore};
-ghost use Rattle.axe_lane.specs.Bytes.{AreDigits};
-ghost use Rattle.axe_layer.specs.Digits.{digits_with_multiple};
-ghost use Rattle.axe_plane.specs.Planes.{prime_of_plane, digits_of, IsPlane};
-ghost use Rattle.axe_row.specs.Planes.{AreAddable, HaveZerosBefore, IsAddable, ReachWhereNonzero};
+ghost use Rattle.axe_plane.specs.Planes.{digits_of, IsPlane};
 ghost use Rattle.axe_row.specs.MadePlanes.{row_of_planes};
 ghost use Rattle.axe_row.specs.Operations.{row_with_multiple};
-ghost use Rattle.axe_row.specs.Planes.{coefficients_at, digits_with_multiples, ArePlanes};
+ghost use Rattle.axe_row.specs.Planes.{coefficients_at, ArePlanes, HaveZerosBefore};
 
 use crate::higher::Higher;
 use axe_field::Field;
@@ -85,6 +81,7 @@ pub(crate) fn add_planes(
     requires others { ArePlanes field.now (length (digits_of constant.old)) other.now others.now.linear
         others.now.quadratic }
     requires within { start ≤ length (digits_of constant.old) }
+    requires not_prime { degree_of field.now ≢ 1 }
     requires element { IsElement field.now scalar }
     requires zeros { HaveZerosBefore start other.now others.now.linear others.now.quadratic }
     ensures planes { ArePlanes field.now (length (digits_of constant.old)) constant.new higher.new.linear
@@ -94,66 +91,25 @@ pub(crate) fn add_planes(
         (row_of_planes field.now other.now others.now.linear others.now.quadratic) }
 {
     let m = field.plane_matrix(scalar);
-    let (l, q) = (&others.linear, &others.quadratic);
-    add_multiples(constant, start, [m[0][0], m[1][0], m[2][0]], other, l, q);
-    add_multiples(
-        &mut higher.linear,
-        start,
-        [m[0][1], m[1][1], m[2][1]],
-        other,
-        l,
-        q,
-    );
-    // Over a field of degree 2 no coefficient of x^2 is left to be added to.
+    let Higher { linear, quadratic } = higher;
+    // Over a field of degree 2 there are no coefficients of x^2.
     let without_squares = field.degree() == 2;
     if without_squares {
+        let (to_constant, to_linear) = ([m[0][0], m[1][0]], [m[0][1], m[1][1]]);
+        let l = &others.linear;
+        Plane::add_to_two(constant, linear, start, to_constant, to_linear, other, l);
         return;
     }
-    add_multiples(
-        &mut higher.quadratic,
+    Plane::add_to_three(
+        constant,
+        linear,
+        quadratic,
         start,
+        [m[0][0], m[1][0], m[2][0]],
+        [m[0][1], m[1][1], m[2][1]],
         [m[0][2], m[1][2], m[2][2]],
         other,
-        l,
-        q,
+        &others.linear,
+        &others.quadratic,
     );
-}
-
-/// Adds multiples of three planes, whose digits before an index are 0, to one.
-#[inline]
-fn add_multiples(
-    plane: &mut Plane,
-    start: usize,
-    factors: [u8; 3],
-    constant: &Plane,
-    linear: &Plane,
-    quadratic: &Plane,
-)
-    requires addable { AreAddable plane.old factors constant.now linear.now quadratic.now }
-    requires within { ReachWhereNonzero plane.old start factors }
-    requires zeros { HaveZerosBefore start constant.now linear.now quadratic.now }
-    ensures { IsPlane (prime_of_plane plane.old)
-        (digits_with_multiples (prime_of_plane plane.old) (digits_of plane.old) factors
-        (digits_of constant.now) (digits_of linear.now) (digits_of quadratic.now)) plane.new }
-{
-    add_multiple(plane, start, factors[0], constant);
-    add_multiple(plane, start, factors[1], linear);
-    add_multiple(plane, start, factors[2], quadratic);
-}
-
-/// Adds a multiple of a plane, whose digits before an index are 0, to one. Factor 0, which stands wherever a power of x
-/// is beyond the degree, costs no call.
-#[inline]
-fn add_multiple(plane: &mut Plane, start: usize, factor: u8, other: &Plane)
-    requires digits { AreDigits (prime_of_plane plane.old) (digits_of plane.old) }
-    requires addable { IsAddable plane.old factor other.now }
-    requires within { factor ≢ 0 → start ≤ length (digits_of plane.old) }
-    requires zeros { AreZerosBefore (digits_of other.now) start }
-    ensures { IsPlane (prime_of_plane plane.old)
-        (digits_with_multiple (prime_of_plane plane.old) (digits_of plane.old) factor (digits_of other.now)) plane.new }
-{
-    let counts = factor != 0;
-    if counts {
-        plane.add_scaled_from(start, factor, other);
-    }
 }

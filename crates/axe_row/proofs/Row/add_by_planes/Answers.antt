@@ -55,6 +55,9 @@ add_planes-requires-clause-others c =
 pub add_planes-requires-clause-within : goal.add_planes-requires-clause-within
 add_planes-requires-clause-within c = omega (arith, c.requires.within, length_of_row _ c.self.inside.constant (linear_of c.self.inside.field c.self.inside.higher) (quadratic_of c.self.inside.field c.self.inside.higher) _ c.self.view_is)
 
+pub add_planes-requires-clause-not_prime : goal.add_planes-requires-clause-not_prime
+add_planes-requires-clause-not_prime c = kept_not_prime _ _ _ _ c.self.invariant _ c.in-Some-higher.is
+
 pub add_planes-requires-clause-element : goal.add_planes-requires-clause-element
 add_planes-requires-clause-element c =
     (summands _ _ _ _ _ _ _ _ _ (matrix_of_multiplication c.self.inside.field c.args.scalar) _ _ (kept_planes _ _ _ _ c.self.invariant _ _ _ c.in-Some-higher.is c.deref_mut.ensures.value c.deref_mut.ensures.value) (kept_planes _ _ _ _ c.other.invariant _ _ _ c.in-Some.is c.deref.ensures c.deref.ensures) (kept_view _ c.self.inside.constant _ _ _ _ _ c.self.view_is c.in-Some-higher.is c.deref_mut.ensures.value c.deref_mut.ensures.value) (kept_view _ c.other.inside.constant _ _ _ _ _ c.other.view_is c.in-Some.is c.deref.ensures c.deref.ensures) c.requires.field c.requires.fits c.requires.element refl).scalar

@@ -1,5 +1,5 @@
 use Rattle.std.proofs.Common.{rules}
-use Rattle.axe_row.specs.Planes.{digits_with_multiples}
+use Rattle.axe_bits.specs.Combinations.{digits_with_multiples}
 use Rattle.axe_row.proofs.PlaneSums.{after_more, addable_after, digits_after}
 use Rattle.axe_row.proofs.combos.add_entries.Goals as goal
 

@@ -1,7 +1,7 @@
 use Rattle.std.proofs.Common.{rules, sym, ◌∙◌}
 use Rattle.axe_layer.proofs.DigitLaws.{length-digits_with_multiple, AreDigits-sum}
 use Rattle.axe_plane.proofs.TableLaws.{prime_of_table-positive, written_fits, written_digits, written_more}
-use Rattle.axe_row.specs.Planes.{digits_with_multiples}
+use Rattle.axe_bits.specs.Combinations.{digits_with_multiples}
 use Rattle.axe_row.proofs.TablePlanes.{sum_with_entry}
 use Rattle.axe_row.proofs.combos.put_multiples.Goals as goal
 

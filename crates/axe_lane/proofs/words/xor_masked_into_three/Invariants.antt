@@ -1,0 +1,10 @@
+use Rattle.std.proofs.Common.{◌≡◌, ◌*◌, bit_xor}
+use Rattle.axe_lane.specs.Words.{masked_sum_of_three}
+use Rattle.axe_lane.proofs.Progress.{combined_to}
+use Rattle.axe_lane.proofs.words.xor_masked_into_three.Given as goal
+
+abbrev pub invariant-loop-pair : goal.invariant-loop-pair
+invariant-loop-pair l =
+    (l.first ≡ combined_to bit_xor (l.pair * 2) l.fn.first (masked_sum_of_three l.to_first l.a l.b l.c))
+    × ((l.second ≡ combined_to bit_xor (l.pair * 2) l.fn.second (masked_sum_of_three l.to_second l.a l.b l.c))
+    × (l.third ≡ combined_to bit_xor (l.pair * 2) l.fn.third (masked_sum_of_three l.to_third l.a l.b l.c)))
