@@ -105,10 +105,10 @@ module _ (m matrices : ModuleValue) (is_module : IsModule m) (form : AreFormMatr
   abbrev A : Module F
   A = module_of K matrices.dim matrices.generators
 
-  own : AreOfUnitVector F A
+  pub own : AreOfUnitVector F A
   own = subst (λ o. AreOfUnitVector (gf o) (module_of (number_field o) matrices.dim matrices.generators)) form.field form.own
 
-  squares : All (IsSquareOver K matrices.dim) matrices.generators
+  pub squares : All (IsSquareOver K matrices.dim) matrices.generators
   squares = subst (λ o. All (IsSquareOver (number_field o) matrices.dim) matrices.generators) form.field form.well_formed.over.square
 
   A_is_module : Modules.HasSquareMatrices F A

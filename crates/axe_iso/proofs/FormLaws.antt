@@ -168,12 +168,6 @@ pub record AreTried (form : FormValue) (m : ModuleValue) (space : MatrixValue) (
   pub rest : drop place (points_of space) ≡ left.left
   pub tried : (j : ℕ) → j < place → ¬ (HasStandardMatrices m (point_row space j).entries form.matrices)
 
--- the same of the points of the null space of the form's deciding matrix
-pub record AreTriedOfWord (form : FormValue) (m : ModuleValue) (left : PointsLeft) : Type 0 where
-  pub space : MatrixValue
-  pub is_space : IsNullSpaceOf m form.seed form.word form.poly space
-  pub tried : AreTried form m space left
-
 module _ (form : FormValue) (m : ModuleValue) (space : MatrixValue) where
   module _ (s t : PointsLeft) (point : RowValue) (before : AreTried form m space s) (gives : GivesNext s (Some (Ok point)) t) where
     pub tried_inside : before.place < length (points_of space)

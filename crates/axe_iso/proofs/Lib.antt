@@ -1,6 +1,10 @@
 pub mod StillToCome
 pub mod Followed
 pub mod FollowLaws
+pub mod ImageLayers
+pub mod LayerLaws
+pub mod ImageLaws
+pub mod SkippedPoints
 pub mod PolynomialWords
 pub mod DecidingWords
 pub mod SmallSpaces
@@ -12,4 +16,3 @@ pub mod FormAnswers
 pub mod PointForms
 pub mod OneForm
 pub mod SomeForm
-pub mod OtherLaws

@@ -4,6 +4,7 @@ use Rattle.axe_algebra.specs.NumberField.{NumberField}
 use Rattle.axe_algebra.specs.Lists.{IsMatrixOver}
 use Rattle.axe_algebra.specs.ModulesOfLists.{IsIsomorphism, IsStandardBasis}
 use Rattle.axe_algebra.specs.PointTheorems.{IsNonzeroSpanned}
+use Rattle.axe_algebra.specs.SpansOfLists.{IsSpanned}
 use Rattle.axe_algebra.proofs.ListEntries.{vector_length}
 use Rattle.axe_echelon.proofs.InverseLaws.{matrix_over}
 use Rattle.axe_field.specs.NumberFields.{number_field}
@@ -15,7 +16,7 @@ use Rattle.axe_word.specs.PointsOfMatrix.{PointsLeft, points_of, GivesNext}
 use Rattle.axe_iso.specs.Forms.{FormValue, IsNullSpaceOf}
 use Rattle.axe_iso.specs.Matches.{HasStandardMatrices, IsFirstMatch}
 use Rattle.axe_iso.specs.Following.{IsBasisWithMatrices}
-use Rattle.axe_iso.proofs.FormLaws.{IsDecidingSpace, deciding_space, point_in_module, AreTried, AreTriedOfWord, tried_inside, tried_point, tried_more}
+use Rattle.axe_iso.proofs.FormLaws.{IsDecidingSpace, deciding_space, point_in_module, AreTried, tried_inside, tried_point, tried_more}
 use Rattle.axe_iso.proofs.MatchLaws.{rows_of_standard_matrices, action_of_standard_matrices, isomorphism_of_action}
 
 module _ (form : FormValue) (m : ModuleValue) (space : MatrixValue) (is_module : IsModule m) (is_space : IsNullSpaceOf m form.seed form.word form.poly space)
@@ -81,24 +82,24 @@ module _ (form : FormValue) (m : ModuleValue) (space : MatrixValue) (is_module :
     }
 
 -- the same of an item that was read
-module _ (form : FormValue) (m : ModuleValue) (is_module : IsModule m) (field : m.order ≡ form.matrices.order) (dimension : m.dim ≡ form.matrices.dim)
-    (s t : PointsLeft) (item : Result RowValue Refusal) (point : RowValue) (before : AreTriedOfWord form m s) (was : item ≡ Ok point)
+module _ (form : FormValue) (m : ModuleValue) (space : MatrixValue) (is_module : IsModule m) (is_space : IsNullSpaceOf m form.seed form.word form.poly space)
+    (field : m.order ≡ form.matrices.order) (dimension : m.dim ≡ form.matrices.dim)
+    (s t : PointsLeft) (item : Result RowValue Refusal) (point : RowValue) (before : AreTried form m space s) (was : item ≡ Ok point)
     (gives : GivesNext s (Some item) t) where
   given : GivesNext s (Some (Ok point)) t
   given = subst (λ r. GivesNext s (Some r) t) was gives
 
   pub item_field : point.order ≡ m.order
-  item_field = point_field form m before.space is_module before.is_space field dimension s t point before.tried given
+  item_field = point_field form m space is_module is_space field dimension s t point before given
 
   pub item_fits : length point.entries ≡ m.dim
-  item_fits = point_fits form m before.space is_module before.is_space field dimension s t point before.tried given
+  item_fits = point_fits form m space is_module is_space field dimension s t point before given
 
-  pub item_unmatched : ¬ (HasStandardMatrices m point.entries form.matrices) → AreTriedOfWord form m t
-  item_unmatched fails = record {
-    space = before.space;
-    is_space = before.is_space;
-    tried = tried_more form m before.space s t point before.tried given fails;
-  }
+  pub item_spanned : IsSpanned (number_field m.order) space.rows point.entries
+  item_spanned = (nonzero_spanned form m space is_module is_space field dimension s t point before given).spanned
+
+  pub item_unmatched : ¬ (HasStandardMatrices m point.entries form.matrices) → AreTried form m space t
+  item_unmatched fails = tried_more form m space s t point before given fails
 
   pub item_matched : (basis : MatrixValue) → IsBasisWithMatrices m point form.matrices basis → IsFirstMatch form m basis
-  item_matched = matched form m before.space is_module before.is_space field dimension s t point before.tried given
+  item_matched = matched form m space is_module is_space field dimension s t point before given

@@ -1,3 +1,4 @@
 pub mod Forms
 pub mod Matches
 pub mod Following
+pub mod Images

@@ -2,10 +2,10 @@
 #![tactic(auto)]
 
 mod form;
+mod images;
 pub mod laws;
 mod matching;
 mod null_space;
-mod others;
 
 pub use form::{Form, form_of, form_of_owned};
 pub use matching::matches;

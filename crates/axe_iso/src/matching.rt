@@ -1,35 +1,35 @@
 //! Modules that are matched with forms.
 
-ghost use Rattle.std.specs.Prelude.{◌≡◌, ◌≢◌, ◌+◌, ◌<◌, ◌≤◌, [], length, get_or, MatchOption, None, Ok};
+ghost use Rattle.std.specs.Prelude.{◌≡◌, ◌≢◌, ◌+◌, ◌<◌, ◌≤◌, ◌↔◌, [], length, get_or, IsTrue, MatchOption, None, Ok};
+ghost use Rattle.axe_algebra.specs.SpansOfLists.{IsSpanned};
+ghost use Rattle.axe_field.specs.NumberFields.{number_field};
 ghost use Rattle.axe_row.specs.Refusals.{Answers};
 ghost use Rattle.axe_matrix.specs.Limits.{most_rows};
 ghost use Rattle.axe_matrix.specs.Matrices.{IsMatrix};
 ghost use Rattle.axe_iso.specs.Following.{AreFormMatrices, FollowsImage, FollowsRow};
 ghost use Rattle.axe_iso.specs.Following.{IsBasisWithMatrices, IsFollowedBasis};
 ghost use Rattle.axe_iso.specs.Forms.{IsNullSpaceOf};
+ghost use Rattle.axe_iso.specs.Images.{IsSpaceOfImages};
 ghost use Rattle.axe_iso.specs.Matches.{HasStandardMatrices, IsMatch};
 
 use crate::form::Form;
+use crate::images::images_of_first;
 use crate::null_space::null_space_of;
-use crate::others::is_other;
-use axe_echelon::span_of;
+use axe_echelon::{Subspace, row_space, span_of};
 use axe_matrix::{Matrix, Refusal, Row};
 use axe_spin::Module;
 use axe_word::{MAX_POINTS, Points, few_points};
 use std::alloc::Global;
 
-/// Where more points than these would have to be followed, other words are asked first: what these words take is less,
-/// a guess.
-const MANY_POINTS: usize = 32;
-
 /// The isomorphism T from a module to a form's matrices that the form gives: T is invertible, and `T g' = g T` for each
 /// generator g' of the module and of the form's matrices g. It is the standard basis of the first point, of the null
 /// space of the form's deciding matrix in the module, whose standard matrices are the form's. `None` where the module
 /// is not isomorphic to the form's matrices; for another dimension at once. The module is over the form's field and has
-/// as many generators. Where more than 32 points would have to be followed, null spaces of other words are asked
-/// first whether the two differ. The form's matrices tell which images of rows are the next rows of a point's standard
-/// basis, and which combinations of earlier rows the others are; a point is given up at its first image that is another
-/// vector, and no point is tried past the one that matches: all this is so by the code alone, and no clause says it.
+/// as many generators. The form's matrices tell which images of rows are the next rows of a point's standard basis, and
+/// which combinations of earlier rows the others are. Where the null space has more than one point, this is first asked
+/// of all of its vectors at once, and only points to which a homomorphism can take the form's first unit vector are
+/// followed; a point is given up at its first image that is another vector, and no point is tried past the one that
+/// matches: all this is so by the code alone, and no clause says it.
 pub fn matches(alloc: Global, form: &Form, module: &Module) -> Result<Option<Matrix>, Refusal>
     requires field { «module».now.order ≡ form.now.matrices.order }
     requires generators { length «module».now.generators ≡ length form.now.matrices.generators }
@@ -40,11 +40,6 @@ pub fn matches(alloc: Global, form: &Form, module: &Module) -> Result<Option<Mat
         return Ok(None);
     }
     let space = null_space_of(alloc, module, form.seed(), form.word(), form.poly())?;
-    if !few_points(module.field().order(), space.rows(), MANY_POINTS)
-        && is_other(alloc, form, module, &space)?
-    {
-        return Ok(None);
-    }
     first_match(alloc, form, module, &space)
 }
 
@@ -67,12 +62,51 @@ pub(crate) fn first_match(
     if !few_points(module.field().order(), space.rows(), MAX_POINTS) {
         return Ok(None);
     }
+    let images = possible_images(alloc, form.matrices(), module, space)?;
+    if images.dim() == 0 {
+        return Ok(None);
+    }
     for point in Points::new(alloc, space) {
-        if let Some(basis) = followed_basis(alloc, form.matrices(), module, point?)? {
+        let point = point?;
+        if !contains(alloc, &images, &point)? {
+            continue;
+        }
+        if let Some(basis) = followed_basis(alloc, form.matrices(), module, point)? {
             return Ok(Some(basis));
         }
     }
     Ok(None)
+}
+
+/// A space that has each vector of a space of which a form's matrices are the standard matrices. The one point of a
+/// space of one dimension is followed anyway.
+fn possible_images(
+    alloc: Global,
+    matrices: &Module,
+    module: &Module,
+    space: &Matrix,
+) -> Result<Subspace, Refusal>
+    requires matrices { AreFormMatrices «module».now matrices.now }
+    requires field { space.now.order ≡ «module».now.order }
+    requires columns { space.now.cols ≡ «module».now.dim }
+    ensures { Answers None (IsSpaceOfImages «module».now matrices.now space.now) result }
+{
+    if space.rows() <= 1 {
+        return row_space(alloc, space);
+    }
+    row_space(alloc, &images_of_first(alloc, matrices, module, space)?)
+}
+
+/// Whether a vector is in a space.
+fn contains(alloc: Global, space: &Subspace, vector: &Row) -> Result<bool, Refusal>
+    requires field { vector.now.order ≡ space.now.order }
+    requires fits { length vector.now.entries ≡ space.now.cols }
+    ensures { Answers None
+        (λ is. IsTrue is ↔ IsSpanned (number_field space.now.order) space.now.rows vector.now.entries) result }
+{
+    let mut rest = vector.copy(alloc)?;
+    space.reduce(&mut rest);
+    Ok(rest.is_zero())
 }
 
 /// The standard basis of a point in a module where its standard matrices are a form's, and else `None`. The form's are

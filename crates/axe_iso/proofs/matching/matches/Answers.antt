@@ -9,16 +9,6 @@ null_space_of-requires c = record {
   field = form_polynomial_field c.args.form.now c.args.module.now.order _ c.poly.ensures.well_formed c.poly.ensures.value c.requires.field;
 }
 
-pub is_other-requires-clause-dimension : goal.is_other-requires-clause-dimension
-is_other-requires-clause-dimension c =
-    sym c.dim.ensures.count ∙ c.if-dim.false ∙ c.dim-2.ensures.count ∙ ap (λ (v : ModuleValue). v.dim) c.matrices.ensures.value
-
-pub is_other-requires-clause-space : goal.is_other-requires-clause-space
-is_other-requires-clause-space c = space_of_numbers _ _ _ _ _ _ _ _ c.seed.ensures.value c.word.ensures.value c.poly.ensures.value c.in_ok-space.ensures
-
-pub returns-then-branch-clause-answer : goal.returns-then-branch-clause-answer
-returns-then-branch-clause-answer c = c.in_ok-is_other.ensures c.if-branch.true
-
 pub first_match-requires-clause-dimension : goal.first_match-requires-clause-dimension
 first_match-requires-clause-dimension c =
     sym c.dim.ensures.count ∙ c.if-dim.false ∙ c.dim-2.ensures.count ∙ ap (λ (v : ModuleValue). v.dim) c.matrices.ensures.value
