@@ -101,8 +101,8 @@ KeepCombinations o r size coefficients image old new = (e : Vector (gf o)) → H
     HasCombination (gf o) size (length new) (layer_matrix (number_field o) new)
     (λ t. times (gf o) r e (layer_matrix (number_field o) old t))
 
--- the layers are narrowed to the vectors for which the image is the combination of the layers with these coefficients,
--- and have all of them
+-- narrowed layers: they are of one shape, and keep all vectors for which the image is the combination of the layers with
+-- these coefficients
 pub record AreNarrowed (coefficients : List ℕ) (image : MatrixValue) (old new : List MatrixValue) : Type 0 where
   pub count : length new ≡ length old
   pub size : ℕ

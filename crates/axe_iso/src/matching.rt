@@ -63,6 +63,7 @@ pub(crate) fn first_match(
         return Ok(None);
     }
     let images = possible_images(alloc, form.matrices(), module, space)?;
+    // No homomorphism but zero takes the form's first unit vector into the space.
     if images.dim() == 0 {
         return Ok(None);
     }
