@@ -32,7 +32,7 @@ use std::alloc::Global;
 ///
 /// A constituent's word is that of the report's seed and of the number that the report names. A polynomial that is
 /// named beside it, is irreducible and fits the word's value tells as [`axe_norton::decide_poly`] does; else the word
-/// tells as [`axe_norton::decide_at`] does, by [`axe_norton::test_word_of_seed`]. The only fault is Memory.
+/// tells as [`axe_norton::decide_at`] does, by [`axe_norton::decide_at_with`]. The only fault is Memory.
 pub fn check(
     alloc: Global,
     report: &Report,

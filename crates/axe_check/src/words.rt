@@ -15,7 +15,7 @@ use crate::reasons::{Stop, name_of};
 use axe_field::Field;
 use axe_iso::{Form, form_of};
 use axe_matrix::Refusal;
-use axe_norton::{At, decide_poly_where_fits, test_word_of_seed};
+use axe_norton::{At, decide_at_with, decide_poly_where_fits};
 use axe_poly::{Irreducibles, Poly};
 use axe_report::{Reason, ReportFactor};
 use axe_spin::Module;
@@ -100,7 +100,7 @@ fn said(
         }
     }
     let mut products = Products::new(alloc);
-    test_word_of_seed(alloc, module, table, &mut products, &word, seed, number)
+    decide_at_with(alloc, module, table, &mut products, &word)
 }
 
 /// What the polynomial that these digits name says of a module by a word; nothing where it is not irreducible or

@@ -23,13 +23,12 @@ use Rattle.axe_norton.specs.declared.verdicts.At.TheVariants.{Irreducible, Reduc
 use Rattle.axe_norton.specs.Spaces.{HasFewPoints, TriedGenerate, TransposeGenerates, point_of}
 use Rattle.axe_norton.specs.SmallFactors.{IsFittingFactor, IsFirstFitting}
 use Rattle.axe_norton.specs.OneVector.{TellsByOne}
-use Rattle.axe_norton.specs.Searches.{IsReducedIn, IsSquareIn, IsTestedWord, IsToldByFirst, TellsByFirst}
+use Rattle.axe_norton.specs.Searches.{IsReducedIn, IsSquareIn, TellsByFirst}
 use Rattle.axe_norton.specs.Verdicts.{IsLeftByPoints, TellsByPoints, Tells, Says, LeavesOpen, LeaveOpenBefore, DecidesAt, word_of_seed, IsTrueOf}
 use Rattle.axe_norton.proofs.OpenLaws.{own_square, invertible_without_rows, no_rows_of_invertible}
 use Rattle.axe_norton.proofs.TestedLaws.{null_in_module}
 use Rattle.axe_norton.proofs.SearchLaws.{some_point_in}
 use Rattle.axe_norton.proofs.FactorLaws.{fits_by_rows}
-use Rattle.axe_norton.proofs.OneVectorLaws.{told_is_true, fitting_fits_word, tested_at_value}
 use Rattle.axe_norton.proofs.SaidLaws.{said_is_true}
 use mathlib.Core.Logic.{inl, inr}
 use mathlib.Core.Path.{refl, sym, ◌∙◌, ap, subst}
@@ -116,24 +115,6 @@ module _ (m : ModuleValue) (x : MatrixValue) where
       told_so (Reducible space) found =
           inr (record { left = left; poly = found.poly; first = found.first; tested = found.tested; is_tested = found.is_tested; tells = found.tells })
       told_so Left none = (left, none)
-
--- what it tells is true of the module where the matrix is the value of a word
-pub first_is_true : (m : ModuleValue) (t : Tested) (answer : At) → IsModule m → IsTestedWord m t → TellsByFirst m t.matrix answer → IsTrueOf m answer
-first_is_true m t answer formed of_word told = true_so answer told
-  where
-    by_one : (a : At) → IsToldByFirst m t.matrix a → IsTrueOf m a
-    by_one a found =
-        told_is_true m of_word.word found.poly (fitting_fits_word m of_word.word t.matrix of_word.is_tested.value found.poly found.first.fitting) found.tested
-        (tested_at_value m of_word.word t.matrix of_word.is_tested.value found.poly found.tested found.is_tested) formed of_word.is_word a found.tells
-
-    true_so : (a : At) → TellsByFirst m t.matrix a → IsTrueOf m a
-    true_so (Irreducible p v) found = by_one (Irreducible p v) found
-    true_so (Reducible space) found = by_one (Reducible space) found
-    true_so Left none = tt
-
-pub first_truth_told : (m : ModuleValue) (t : Tested) (result : Result At Refusal) → IsModule m → IsTestedWord m t →
-    Answers None (TellsByFirst m t.matrix) result → Answers None (IsTrueOf m) result
-first_truth_told m t result formed of_word told = answers_more result (TellsByFirst m t.matrix) (IsTrueOf m) told (λ answer tells. first_is_true m t answer formed of_word tells)
 
 -- ---- a word
 

@@ -11,3 +11,6 @@ pub mod OneVectorLaws
 pub mod FittingLaws
 pub mod SaidLaws
 pub mod MisfitLaws
+pub mod PairingLaws
+pub mod SeenLaws
+pub mod TriedLaws

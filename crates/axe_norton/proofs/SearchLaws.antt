@@ -3,14 +3,11 @@ use Rattle.std.specs.Prelude.{◌≡◌, ◌≢◌, ℕ, ◌-◌, ◌<◌, ◌�
 use Rattle.std.proofs.lemmas.Bool.{eq-eqb}
 use Rattle.axe_algebra.specs.Vectors.{Matrix, zero_vector}
 use Rattle.axe_algebra.specs.Spans
-use Rattle.axe_algebra.specs.Bridge.{vector_of, matrix_of, module_of}
+use Rattle.axe_algebra.specs.Bridge.{vector_of, matrix_of}
 use Rattle.axe_algebra.specs.Lists.{IsMatrixOver, IsSquareOver}
 use Rattle.axe_algebra.specs.ListArithmetic.{transpose, IsInverse}
 use Rattle.axe_algebra.specs.SpansOfLists.{IsIndependent, IsReducedBasis}
 use Rattle.axe_algebra.specs.PointTheorems.{IsNonzeroSpanned}
-use Rattle.axe_algebra.proofs.Duality.{nonzero_vector_generates}
-use Rattle.axe_algebra.proofs.ListEntries.{vector_length}
-use Rattle.axe_algebra.proofs.ListModules.{module_shape}
 use Rattle.axe_algebra.proofs.SquareMatrices.{transpose_criterion}
 use Rattle.axe_algebra.proofs.ReducedBases.{reduced_independent}
 use Rattle.axe_algebra.proofs.ListGenerated.{generates_everything, everything_is_full}
@@ -31,7 +28,7 @@ use Rattle.axe_echelon.specs.Echelons.{EchelonValue, IsReducedMatrix, IsNullSpac
 use Rattle.axe_echelon.specs.OrthogonalPoints.{IsOrthogonalPoint}
 use Rattle.axe_echelon.proofs.InverseLaws.{matrix_over}
 use Rattle.axe_echelon.proofs.EliminationLaws.{vector_of_zero_row}
-use Rattle.axe_spin.specs.Modules.{ModuleValue, IsModule}
+use Rattle.axe_spin.specs.Modules.{ModuleValue}
 use Rattle.axe_spin.specs.Spinning.{seed_refusal, IsGeneratedSpace}
 use Rattle.axe_spin.proofs.GeneratedLaws.{generated_matrix}
 use Rattle.axe_spin.proofs.SpaceLaws.{space_over}
@@ -39,7 +36,7 @@ use Rattle.axe_action.specs.Actions.{dual_module, IsAnnihilatorMatrix}
 use Rattle.axe_word.specs.PointsOfMatrix.{points_of}
 use Rattle.axe_word.proofs.PointSums.{last_row_is_first_point}
 use Rattle.axe_word.proofs.ReducedNullSpaces.{null_is_reduced}
-use Rattle.axe_norton.specs.Spaces.{IsIrreducibleModule, GeneratesModule, GeneratesProper, one_row, point_of, HasFewPoints, IsTried, TriedGenerate, TransposedPoint, TransposeGenerates, IsTransposedSpace}
+use Rattle.axe_norton.specs.Spaces.{GeneratesModule, GeneratesProper, one_row, point_of, HasFewPoints, IsTried, TransposedPoint, TransposeGenerates, IsTransposedSpace}
 use Rattle.axe_norton.specs.Searches.{IsReducedIn, IsSquareIn, FindsProper, IsProperSpaceOf, FindsFirstOf, FindsFirst, IsTransposedPointRow, IsAnnihilatorOf}
 use Rattle.axe_norton.proofs.PointLaws.{point_is, some_point}
 use Rattle.axe_norton.proofs.TruthLaws.{rows_over_field}
@@ -119,14 +116,6 @@ module _ (m : ModuleValue) (basis : MatrixValue) (is : IsReducedIn m basis) (wel
 
   pub some_point_in : 0 < length basis.rows → 0 < length (points_of basis)
   some_point_in = some_point m.order m.dim basis is.field is.columns over_basis
-
-  -- in an irreducible module every point generates everything
-  pub irreducible_tried : IsModule m → IsIrreducibleModule m → TriedGenerate m basis
-  irreducible_tried formed irreducible i tried =
-      let point = point_in i tried.below in
-      nonzero_vector_generates (gf m.order) (module_of (number_field m.order) m.dim m.generators)
-      (module_shape (number_field m.order) m.dim m.generators formed.over.square) irreducible (vector_of (number_field m.order) (point_of basis i))
-      (vector_length (number_field m.order) m.dim (point_of basis i) point.over.length_is) point.nonzero
 
   -- a row that is a point is a nonzero vector of the module
   pub point_fits : (i : ℕ) (v : RowValue) → i < length (points_of basis) → v.entries ≡ point_of basis i → length v.entries ≡ m.dim

@@ -4,3 +4,4 @@ pub mod OneVector
 pub mod Verdicts
 pub mod Searches
 pub mod Misfits
+pub mod Pairings

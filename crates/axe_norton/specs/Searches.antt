@@ -1,5 +1,5 @@
 -- What the steps of the test find: proper spaces that points generate, or none.
-use Rattle.std.specs.Prelude.{◌≡◌, ⊤, ℕ, ◌<◌, ◌≤◌, List, [], ◌∷◌, ◌++◌, length, get_or, Option, Some, None}
+use Rattle.std.specs.Prelude.{◌≡◌, ℕ, ◌<◌, ◌≤◌, List, [], ◌∷◌, length, get_or, Option, Some, None}
 use Rattle.axe_algebra.specs.Lists.{IsSquareOver}
 use Rattle.axe_polynomial_algebra.specs.PolynomialsOfLists.{IsFactorOfDegree, polynomial_number, Fits}
 use Rattle.axe_field.specs.Order.{order_number}
@@ -14,13 +14,12 @@ use Rattle.axe_action.specs.Actions.{dual_module, IsAnnihilatorMatrix}
 use Rattle.axe_word.specs.declared.tested.Tested.{Tested}
 use Rattle.axe_word.specs.Tested.{IsTestedAt, IsTestedBy, IsTestedByPoly}
 use Rattle.axe_word.specs.Words.{WordValue, IsWordIn}
-use Rattle.axe_word.specs.PointsOfMatrix.{IsReduced, PointsLeft, points_of}
+use Rattle.axe_word.specs.PointsOfMatrix.{IsReduced}
 use Rattle.axe_norton.specs.declared.factors.Fitted.{Fitted}
-use Rattle.axe_norton.specs.declared.spaces.Known
+use Rattle.axe_norton.specs.declared.spaces.Tried
 use Rattle.axe_norton.specs.declared.verdicts.At.{At}
 use Rattle.axe_norton.specs.declared.verdicts.At.TheVariants.{Irreducible, Reducible, Left}
 use Rattle.axe_norton.specs.Spaces.{GeneratesModule, GeneratesProper, TriedGenerate, IsFirstProperSpace, point_of}
-use Rattle.axe_norton.specs.Spaces.{IsIrreducibleModule}
 use Rattle.axe_norton.specs.Spaces.{TransposedPoint}
 use Rattle.axe_norton.specs.SmallFactors.{IsFirstFitting, NoneFits}
 use Rattle.axe_norton.specs.OneVector.{FitsWord, TellsByOne}
@@ -64,21 +63,6 @@ abbrev pub FindsFirstOf : ModuleValue → List (List ℕ) → Option MatrixValue
 FindsFirstOf m vectors None = (i : ℕ) → i < length vectors → GeneratesModule m (get_or vectors i [])
 FindsFirstOf m vectors (Some space) = IsFirstProperOf m vectors space
 
--- these points of a space are left, and those before them generate everything
-pub record PointsTried (m : ModuleValue) (basis : MatrixValue) (rest : PointsLeft) : Type 0 where
-  pub tried : List (List ℕ)
-  pub order : rest.order ≡ basis.order
-  pub split : points_of basis ≡ tried ++ rest.left
-  pub generate : (i : ℕ) → i < length tried → GeneratesModule m (get_or tried i [])
-
--- what is known of a module before the points of the space with this reduced basis are tried is so: that the first
--- point generates everything, that the module is irreducible, or the proper space that the first point generates
-abbrev pub IsKnown : ModuleValue → MatrixValue → Known.Known → Type 0
-IsKnown m basis Known.TheVariants.Nothing = ⊤
-IsKnown m basis Known.TheVariants.FirstGenerates = GeneratesModule m (point_of basis 0)
-IsKnown m basis Known.TheVariants.Irreducible = IsIrreducibleModule m
-IsKnown m basis (Known.TheVariants.FirstProper space) = GeneratesProper m (point_of basis 0) space
-
 -- whether a tried point of a space does
 abbrev pub FindsFirst : ModuleValue → MatrixValue → Option MatrixValue → Type 0
 FindsFirst m basis None = TriedGenerate m basis
@@ -89,6 +73,13 @@ pub record IsTransposedPointRow (matrix : MatrixValue) (v : RowValue) : Type 0 w
   pub point : TransposedPoint matrix
   pub field : v.order ≡ matrix.order
   pub first : v.entries ≡ point_of point.null_space 0
+
+-- what came of trying the points of the null space of a matrix: what the first that generates a proper space generates,
+-- or, where each tried point generates everything, the first point of the null space of the transpose
+abbrev pub FindsTried : ModuleValue → MatrixValue → MatrixValue → Tried.Tried → Type 0
+FindsTried m matrix null_space (Tried.TheVariants.Proper space) = FindsFirst m null_space (Some space)
+FindsTried m matrix null_space (Tried.TheVariants.Generate v) =
+    FindsFirst m null_space None × IsTransposedPointRow matrix v
 
 -- the vector generates a proper space under the transposes, and this is the annihilator of that space
 pub record IsAnnihilatorOf (m : ModuleValue) (v : List ℕ) (space : MatrixValue) : Type 0 where

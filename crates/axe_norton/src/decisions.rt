@@ -1,20 +1,16 @@
 //! What a word says of a module, and what words of a seed decide.
 
-ghost use Rattle.std.specs.Prelude.{◌≡◌, ◌<◌, ◌≤◌, length, None};
+ghost use Rattle.std.specs.Prelude.{◌≡◌, ◌≤◌, None};
 ghost use Rattle.axe_row.specs.Refusals.{Answers};
-ghost use Rattle.axe_matrix.specs.Matrices.{IsMatrix};
-ghost use Rattle.axe_echelon.specs.Echelons.{IsNullSpaceMatrix};
 ghost use Rattle.axe_spin.specs.Modules.{IsModule};
 ghost use Rattle.axe_word.specs.Words.{IsWordIn};
 ghost use Rattle.axe_word.specs.KeptProducts.{AreProductsOf};
-ghost use Rattle.axe_word.specs.Tested.{IsTested};
-ghost use Rattle.axe_norton.specs.Searches.{IsSquareIn, IsKnown};
+ghost use Rattle.axe_norton.specs.Searches.{IsTestedWord};
 ghost use Rattle.axe_norton.specs.Verdicts.{last_word, TellsByPoints, Tells, Says, IsTrueOf, Decides, IsTrueVerdict};
 
 use crate::MOST_POINTS;
 use crate::one_vector::test_by_factor;
-use crate::others::known_before_points;
-use crate::spaces::{Known, transposed_point, transposed_space, tried_space};
+use crate::spaces::{Tried, transposed_space, tried_points};
 use crate::verdicts::{At, Verdict};
 use axe_matrix::{Matrix, Refusal};
 use axe_poly::Irreducibles;
@@ -40,8 +36,8 @@ pub fn decide_at(alloc: Global, module: &Module, word: &Word) -> Result<At, Refu
     ensures holds { Answers None (IsTrueOf «module».now) result }
 {
     let mut table = Irreducibles::new(alloc, *module.field());
-    let tested = word.tested(alloc, module)?;
-    test_matrix(alloc, module, &mut table, tested, Known::Nothing)
+    let mut products = Products::new(alloc);
+    decide_at_with(alloc, module, &mut table, &mut products, word)
 }
 
 /// What the words 0 to `words` of a seed decide of a module: what the first of them says that doesn't leave the module
@@ -78,7 +74,7 @@ pub fn decide_with(
     let mut products = Products::new(alloc);
     for number in 0..words + 1 {
         let word = nth_word(seed, number, order, gens);
-        match test_word_of_seed(alloc, module, table, &mut products, &word, seed, number)? {
+        match decide_at_with(alloc, module, table, &mut products, &word)? {
             At::Irreducible { poly, vector } => {
                 return Ok(Verdict::Irreducible {
                     word: number,
@@ -93,24 +89,16 @@ pub fn decide_with(
     Ok(Verdict::Undecided)
 }
 
-/// What a word says of a module, of which it is one as [`Word::is_word_in`] says: the same as [`decide_at`] tells, and
-/// often sooner. Where there are many points to try, a factor of the word's value, and the words after a number of a
-/// seed, are asked first whether the module is irreducible, so that not all of the points need be tried. Which seed and
-/// number these are changes nothing of the answer: they are those of the word, where it comes from a seed. The number
-/// is at most [`crate::MAX_WORDS`]. The table of irreducible polynomials is as [`decide_with`] takes it. The products of
-/// generators are those that were kept for other words of this module; those that are made are kept, too. The only
-/// refusal is [`Refusal::Memory`].
-pub fn test_word_of_seed(
+/// What [`decide_at`] tells, with a table of irreducible polynomials as [`decide_with`] takes it, and with the products
+/// of generators that were kept for other words of this module; those that are made are kept, too.
+pub fn decide_at_with(
     alloc: Global,
     module: &Module,
     table: &mut Irreducibles,
     products: &mut Products,
     word: &Word,
-    seed: u64,
-    number: u32,
 ) -> Result<At, Refusal>
     requires word { IsWordIn «module».now word.now }
-    requires number { number ≤ last_word }
     requires products { AreProductsOf «module».now products.old }
     requires field { table.old.order ≡ «module».now.order }
     ensures says { Answers None (Says «module».now word.now) result }
@@ -119,47 +107,38 @@ pub fn test_word_of_seed(
     ensures products { AreProductsOf «module».now products.new }
 {
     let tested = word.tested_with(alloc, module, products)?;
-    let known = known_before_points(alloc, module, table, products, &tested, seed, number)?;
-    test_matrix(alloc, module, table, tested, known)
+    test_matrix(alloc, module, table, tested)
 }
 
-/// What a square matrix, as the value of a word, and its null space tell of a module, of which something may be known:
-/// what the points tell, and where these leave the module open, what the first small factor that fits the matrix tells.
-pub(crate) fn test_matrix(
+/// What the value of a word and its null space tell of a module: what the points tell, and where these leave the module
+/// open, what the first small factor that fits the value tells.
+fn test_matrix(
     alloc: Global,
     module: &Module,
     table: &mut Irreducibles,
     tested: Tested,
-    known: Known,
 ) -> Result<At, Refusal>
-    requires known { IsKnown «module».now tested.null_space known }
-    requires square { IsSquareIn «module».now tested.matrix }
-    requires tested { IsTested tested }
+    requires value { IsTestedWord «module».now tested }
     requires field { table.old.order ≡ «module».now.order }
     ensures tells { Answers None (Tells «module».now tested.matrix tested.null_space) result }
     ensures well_formed { IsModule «module».now }
     ensures same_field { table.new.order ≡ «module».now.order }
 {
     let Tested { matrix, null_space } = tested;
-    match test_points(alloc, module, &matrix, null_space, known)? {
+    match test_points(alloc, module, &matrix, null_space)? {
         At::Left => test_by_factor(alloc, module, table, &matrix),
         told => Ok(told),
     }
 }
 
-/// What the points of the null spaces of a square matrix and of its transpose tell of a module, of which something may
-/// be known.
+/// What the points of the null spaces of the value of a word and of its transpose tell of a module.
 fn test_points(
     alloc: Global,
     module: &Module,
     matrix: &Matrix,
     null_space: Matrix,
-    known: Known,
 ) -> Result<At, Refusal>
-    requires known { IsKnown «module».now null_space known }
-    requires square { IsSquareIn «module».now matrix.now }
-    requires null_space { IsNullSpaceMatrix matrix.now null_space }
-    requires null_formed { IsMatrix null_space }
+    requires value { IsTestedWord «module».now (record { matrix = matrix.now; null_space = null_space }) }
     ensures tells { Answers None (TellsByPoints «module».now matrix.now null_space) result }
     ensures well_formed { IsModule «module».now }
 {
@@ -168,10 +147,10 @@ fn test_points(
         return Ok(At::Left);
     }
     let first = first_point(alloc, &null_space)?;
-    if let Some(space) = tried_space(alloc, module, null_space, few, known)? {
-        return Ok(At::Reducible(space));
-    }
-    let transposed = transposed_point(alloc, matrix)?;
+    let transposed = match tried_points(alloc, module, matrix, null_space, few)? {
+        Tried::Proper(space) => return Ok(At::Reducible(space)),
+        Tried::Generate(transposed) => transposed,
+    };
     if let Some(space) = transposed_space(alloc, module, transposed)? {
         return Ok(At::Reducible(space));
     }

@@ -7,11 +7,11 @@ mod fitting;
 pub mod laws;
 mod misfits;
 mod one_vector;
-mod others;
+mod pairings;
 mod spaces;
 mod verdicts;
 
-pub use decisions::{decide, decide_at, decide_with, test_word_of_seed};
+pub use decisions::{decide, decide_at, decide_at_with, decide_with};
 pub use fitting::fits;
 pub use one_vector::{decide_poly, decide_poly_where_fits};
 pub use verdicts::{At, Verdict};

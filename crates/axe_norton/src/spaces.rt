@@ -1,36 +1,33 @@
 //! The spaces that points of null spaces generate in a module and in the transposed one.
 
-ghost use Rattle.std.specs.Prelude.{◌≡◌, ◌<◌, ◌≤◌, ◌↔◌, length, None, IfOk, IsTrue};
+ghost use Rattle.std.specs.Prelude.{◌≡◌, ◌<◌, ◌↔◌, length, All, None, IsTrue};
 ghost use Rattle.axe_algebra.specs.Lists.{IsSquareOver};
 ghost use Rattle.axe_field.specs.NumberFields.{number_field};
 ghost use Rattle.axe_row.specs.Operations.{IsZeroVector};
 ghost use Rattle.axe_row.specs.Refusals.{Answers};
-ghost use Rattle.axe_matrix.specs.Matrices.{IsMatrix};
+ghost use Rattle.axe_matrix.specs.Matrices.{vector_product};
 ghost use Rattle.axe_reduction.specs.Solutions.{IsInvertibleMatrix};
 ghost use Rattle.axe_word.specs.PointsOfMatrix.{points_of};
 ghost use Rattle.axe_norton.specs.Spaces.{GeneratesModule, HasFewPoints, point_of};
-ghost use Rattle.axe_norton.specs.Searches.{IsReducedIn, IsSquareIn, FindsProper, FindsFirstOf, FindsFirst};
-ghost use Rattle.axe_norton.specs.Searches.{FindsProperSpace, PointsTried, IsKnown};
+ghost use Rattle.axe_norton.specs.Searches.{IsTestedWord, FindsProper, FindsProperSpace, FindsFirstOf, FindsTried};
 ghost use Rattle.axe_norton.specs.Searches.{IsTransposedPointRow, FindsTransposed};
+ghost use Rattle.axe_norton.specs.Pairings.{AreNullSpaces, AreCoordinatesOfPoint, IsPairing};
 
+use crate::pairings::{is_seen_to_generate, pairings};
 use axe_action::{annihilator, dual};
-use axe_echelon::{Subspace, orthogonal_point};
+use axe_echelon::{Subspace, orthogonal_point, orthogonal_space};
 use axe_matrix::{Matrix, Refusal, Row};
 use axe_spin::{Module, generated_space};
 use axe_word::{Points, first_point};
 use std::alloc::Global;
 
-/// What is known of a module before the points of a space are tried.
+/// What came of trying the points of the null space of a matrix.
 #[derive(Drop)]
-pub(crate) enum Known {
-    /// Nothing.
-    Nothing,
-    /// The first point generates everything.
-    FirstGenerates,
-    /// The module is irreducible.
-    Irreducible,
-    /// The first point generates a proper space, of which this is the reduced basis.
-    FirstProper(Matrix),
+pub(crate) enum Tried {
+    /// The first that generates a proper space generates this one, of which this is the reduced basis.
+    Proper(Matrix),
+    /// Each tried point generates everything; this is the first point of the null space of the transpose.
+    Generate(Row),
 }
 
 /// The space that a vector other than zero generates in a module, or `None` where that is everything.
@@ -68,129 +65,115 @@ pub(crate) fn proper_space(
     }
 }
 
-/// What the first tried point of a space that generates a proper space generates, or `None` where each tried point
-/// generates everything. What is known is not looked for again: in an irreducible module no point need be tried.
-pub(crate) fn tried_space(
+/// What the first tried point of the null space of the value of a word that generates a proper space generates; or that
+/// each tried point generates everything. All points are tried where there are few, and else the first alone.
+pub(crate) fn tried_points(
     alloc: Global,
     module: &Module,
-    basis: Matrix,
+    matrix: &Matrix,
+    null_space: Matrix,
     few: bool,
-    known: Known,
-) -> Result<Option<Matrix>, Refusal>
-    requires basis { IsReducedIn «module».now basis }
-    requires well_formed { IsMatrix basis }
-    requires some_row { 0 < length basis.rows }
-    requires few { IsTrue few ↔ HasFewPoints basis }
-    requires known { IsKnown «module».now basis known }
-    ensures { Answers None (FindsFirst «module».now basis) result }
+) -> Result<Tried, Refusal>
+    requires value { IsTestedWord «module».now (record { matrix = matrix.now; null_space = null_space }) }
+    requires some_row { 0 < length null_space.rows }
+    requires few { IsTrue few ↔ HasFewPoints null_space }
+    ensures { Answers None (FindsTried «module».now matrix.now null_space) result }
 {
-    // `dim` is called for what it ensures beside the number: that the module is one.
-    prove!(basis.cols() == module.dim());
-    match known {
-        Known::Nothing => first_proper_space(alloc, module, basis, few),
-        Known::FirstGenerates => later_proper_space(alloc, module, basis, few),
-        Known::Irreducible => Ok(None),
-        Known::FirstProper(space) => Ok(Some(space)),
+    let point = first_point(alloc, &null_space)?;
+    if few && null_space.rows() > 1 {
+        return all_points(alloc, module, matrix, &null_space, point);
     }
-}
-
-/// What the first of the points of a space that generates a proper space in a module generates, as its reduced basis,
-/// or `None` where all generate everything. Where there are many points the first alone is tried.
-fn first_proper_space(
-    alloc: Global,
-    module: &Module,
-    basis: Matrix,
-    few: bool,
-) -> Result<Option<Matrix>, Refusal>
-    requires basis { IsReducedIn «module».now basis }
-    requires well_formed { IsMatrix basis }
-    requires some_row { 0 < length basis.rows }
-    requires few { IsTrue few ↔ HasFewPoints basis }
-    ensures { Answers None (FindsFirst «module».now basis) result }
-{
-    if few {
-        return first_proper_of_all(alloc, module, &basis);
-    }
-    let point = first_point(alloc, &basis)?;
     // Of many points it may have as many rows as the module: their memory is free again before the point is spun.
-    drop(basis);
-    proper_space(alloc, module, point)
+    drop(null_space);
+    if let Some(space) = proper_space(alloc, module, point)? {
+        return Ok(Tried::Proper(space));
+    }
+    Ok(Tried::Generate(transposed_point(alloc, matrix)?))
 }
 
-/// The same where the first point generates everything.
+/// The same of all points of a null space, of which this is the first.
+fn all_points(
+    alloc: Global,
+    module: &Module,
+    matrix: &Matrix,
+    null_space: &Matrix,
+    first: Row,
+) -> Result<Tried, Refusal>
+    requires value { IsTestedWord «module».now (record { matrix = matrix.now; null_space = null_space.now }) }
+    requires some_row { 0 < length null_space.now.rows }
+    requires few { HasFewPoints null_space.now }
+    requires first { first ≡ record { order = null_space.now.order; entries = point_of null_space.now 0 } }
+    ensures { Answers None (FindsTried «module».now matrix.now null_space.now) result }
+{
+    if let Some(space) = proper_space(alloc, module, first)? {
+        return Ok(Tried::Proper(space));
+    }
+    let transposed = orthogonal_space(alloc, matrix)?;
+    if let Some(space) = later_proper_space(alloc, module, null_space, &transposed)? {
+        return Ok(Tried::Proper(space));
+    }
+    Ok(Tried::Generate(first_point(alloc, &transposed)?))
+}
+
+/// What the first point of a null space that generates a proper space generates, or `None` where all generate
+/// everything, as the first does. Only those are spun that are not seen to generate everything by pairings with the
+/// null space of the transpose.
 fn later_proper_space(
     alloc: Global,
     module: &Module,
-    basis: Matrix,
-    few: bool,
+    null_space: &Matrix,
+    transposed: &Matrix,
 ) -> Result<Option<Matrix>, Refusal>
-    requires basis { IsReducedIn «module».now basis }
-    requires well_formed { IsMatrix basis }
-    requires few { IsTrue few ↔ HasFewPoints basis }
-    requires first { GeneratesModule «module».now (point_of basis 0) }
-    ensures { Answers None (FindsFirst «module».now basis) result }
+    requires spaces { AreNullSpaces «module».now null_space.now transposed.now }
+    requires few { HasFewPoints null_space.now }
+    requires first { GeneratesModule «module».now (point_of null_space.now 0) }
+    ensures { Answers None (FindsFirstOf «module».now (points_of null_space.now)) result }
 {
-    if few {
-        return later_proper_of_all(alloc, module, &basis);
-    }
-    Ok(None)
-}
-
-/// What the first of all points of a space that generates a proper space generates.
-fn first_proper_of_all(
-    alloc: Global,
-    module: &Module,
-    basis: &Matrix,
-) -> Result<Option<Matrix>, Refusal>
-    requires basis { IsReducedIn «module».now basis.now }
-    requires well_formed { IsMatrix basis.now }
-    requires few { HasFewPoints basis.now }
-    ensures { Answers None (FindsFirstOf «module».now (points_of basis.now)) result }
-{
-    first_proper_left(alloc, module, basis, Points::new(alloc, basis))
-}
-
-/// The same where the first point generates everything, so that it need not be spun.
-fn later_proper_of_all(
-    alloc: Global,
-    module: &Module,
-    basis: &Matrix,
-) -> Result<Option<Matrix>, Refusal>
-    requires basis { IsReducedIn «module».now basis.now }
-    requires well_formed { IsMatrix basis.now }
-    requires few { HasFewPoints basis.now }
-    requires first { GeneratesModule «module».now (point_of basis.now 0) }
-    ensures { Answers None (FindsFirstOf «module».now (points_of basis.now)) result }
-{
-    let mut points = Points::new(alloc, basis);
-    if let Some(first) = points.next() {
-        // Where there is no memory for it no point is left.
-        first?;
-    }
-    first_proper_left(alloc, module, basis, points)
-}
-
-/// What the first point of a space that generates a proper space generates, where these points are left and those
-/// before them generate everything.
-fn first_proper_left(
-    alloc: Global,
-    module: &Module,
-    basis: &Matrix,
-    points: Points<'_>,
-) -> Result<Option<Matrix>, Refusal>
-    requires basis { IsReducedIn «module».now basis.now }
-    requires well_formed { IsMatrix basis.now }
-    requires tried { PointsTried «module».now basis.now points }
-    ensures { Answers None (FindsFirstOf «module».now (points_of basis.now)) result }
-{
-    for point in points {
-        let space = proper_space(alloc, module, point?)?;
+    let pairings = pairings(alloc, module, null_space, transposed)?;
+    // The points of the space of all vectors of coordinates are the coordinates of the points.
+    let identity = Matrix::identity(alloc, *module.field(), null_space.rows())?;
+    for coordinates in Points::new(alloc, &identity) {
+        let coordinates = coordinates?;
+        let space = proper_combination(
+            alloc,
+            module,
+            null_space,
+            transposed,
+            &pairings,
+            &coordinates,
+        )?;
         if space.is_some() {
             return Ok(space);
         }
     }
     // Each of them generates everything.
     Ok(None)
+}
+
+/// What the point of a null space with these coordinates generates, or `None` where that is everything. It is spun only
+/// where it is not seen to generate everything.
+fn proper_combination(
+    alloc: Global,
+    module: &Module,
+    null_space: &Matrix,
+    transposed: &Matrix,
+    pairings: &[Matrix],
+    coordinates: &Row,
+) -> Result<Option<Matrix>, Refusal>
+    requires spaces { AreNullSpaces «module».now null_space.now transposed.now }
+    requires first { GeneratesModule «module».now (point_of null_space.now 0) }
+    requires pairings { All (IsPairing «module».now null_space.now transposed.now) pairings.now }
+    requires coordinates { AreCoordinatesOfPoint «module».now null_space.now coordinates.now }
+    ensures { Answers None
+        (FindsProper «module».now (vector_product coordinates.now null_space.now).entries) result }
+{
+    // `dim` is called for what it ensures beside the number: that the module is one.
+    prove!(null_space.cols() == module.dim());
+    if is_seen_to_generate(alloc, pairings, transposed.rows(), coordinates)? {
+        return Ok(None);
+    }
+    let point = null_space.vec_mul(alloc, coordinates)?;
+    proper_space(alloc, module, point)
 }
 
 /// The first point of the null space of the transpose of a singular matrix.

@@ -10,13 +10,13 @@ loop-number-init c = record {
   before = none_before c.args.module.now c.args.seed;
 }
 
-pub test_word_of_seed-requires-clause-field : goal.test_word_of_seed-requires-clause-field
-test_word_of_seed-requires-clause-field c = c.loop-number.invariant.field
+pub decide_at_with-requires-clause-field : goal.decide_at_with-requires-clause-field
+decide_at_with-requires-clause-field c = c.loop-number.invariant.field
 
 pub loop-number-preserved : goal.loop-number-preserved
 loop-number-preserved c = record {
-  field = c.test_word_of_seed.ensures.same_field;
-  products = c.test_word_of_seed.ensures.products;
+  field = c.decide_at_with.ensures.same_field;
+  products = c.decide_at_with.ensures.products;
   before = open_more c.args.module.now c.args.seed c.loop-number.number _ c.nth_word-word.result
       (let e : c.loop-number.number + 1 ≡ suc c.loop-number.number = omega arith in e) c.loop-number.invariant.before
       (word_drawn c.args.module.now c.args.seed c.loop-number.number _ _ c.nth_word-word.result c.nth_word-word.ensures.drawn (cc) (cc))
