@@ -27,6 +27,8 @@ use Rattle.axe_row.specs.declared.refusals.Refusal.{Refusal}
 use Rattle.axe_matrix.specs.Matrices.{MatrixValue, IsMatrix}
 use Rattle.axe_echelon.proofs.Exits.{answers_more}
 use Rattle.axe_poly.specs.Limits.{greatest_degree}
+use Rattle.axe_poly.specs.declared.minimal.CyclicBasis.{CyclicBasis}
+use Rattle.axe_poly.specs.Powers.{IsCyclicBasis}
 use Rattle.axe_poly.specs.Polys.{PolyValue, IsPoly, coefficients_of, IsValueAt, IsMinimalPolynomialOf, AreFactorsOf}
 use Rattle.axe_word.specs.declared.tested.Tested.{Tested}
 use Rattle.axe_word.specs.Tested.{IsTested, IsTestedAt}
@@ -64,8 +66,8 @@ module _ (x : MatrixValue) (v : RowValue) (is : v ≡ first_unit_row x) where
   pub unit_not_zero : 0 < x.cols → ¬ (IsZeroVector v.entries)
   unit_not_zero some = subst (λ (r : RowValue). ¬ (IsZeroVector r.entries)) (sym is) (unit_nonzero x.cols some)
 
-  pub minimal_of_unit : (f : PolyValue) → IsMinimalPolynomialOf x v f → IsMinimalPolynomialOf x (first_unit_row x) f
-  minimal_of_unit f minimal = subst (λ (r : RowValue). IsMinimalPolynomialOf x r f) is minimal
+  pub basis_of_unit : (basis : CyclicBasis) → IsCyclicBasis x v basis → IsCyclicBasis x (first_unit_row x) basis
+  basis_of_unit basis cyclic = subst (λ (r : RowValue). IsCyclicBasis x r basis) is cyclic
 
 module _ (x : MatrixValue) where
   abbrev K : NumberField

@@ -1,26 +1,29 @@
 -- Rows over a field by their number of entries, and null vectors that are more than the degree of a polynomial.
-use Rattle.std.specs.Prelude.{◌≡◌, ℕ, suc, ◌<◌, ◌≤◌, List, [], ◌∷◌, length, All, Bool, true, false, slice_set}
+use Rattle.std.specs.Prelude.{◌≡◌, ℕ, suc, ◌<◌, ◌≤◌, List, [], ◌∷◌, length, get_or, All, Bool, true, false, cond, eqb, slice_set}
 use Rattle.std.proofs.lemmas.List.{length-set}
 use Rattle.std.proofs.lemmas.List.Elements.{All-get_or, All-append, All-cons, All-nil}
 use Rattle.axe_algebra.specs.NumberField.{NumberField}
 use Rattle.axe_algebra.specs.Bridge.{field_of, vector_of, matrix_of}
 use Rattle.axe_algebra.specs.ListArithmetic.{combination}
-use Rattle.axe_algebra.specs.Lists.{IsMatrixOver, IsSquareOver}
+use Rattle.axe_algebra.specs.Lists.{IsMatrixOver, IsSquareOver, unit_row}
 use Rattle.axe_algebra.specs.Field.{Field}
 use Rattle.axe_algebra.specs.Vectors.{Matrix, HasLength, times, zero_vector}
 use Rattle.axe_algebra.specs.Spans.{IsNullVector}
 use Rattle.axe_algebra.specs.SpansOfLists.{IsIndependent}
 use Rattle.axe_algebra.proofs.Exchange.{exchange}
-use Rattle.axe_algebra.proofs.ListEntries.{listed_length, rows_length}
+use Rattle.axe_algebra.proofs.ListEntries.{listed_length, listed_at, rows_length}
 use Rattle.axe_polynomial_algebra.specs.PolynomialValues.{polynomial_value}
 use Rattle.axe_polynomial_algebra.specs.PolynomialsOfLists.{Annihilates, Fits, degree_of, IsMonicOver}
 use Rattle.axe_field.specs.Order.{Order}
 use Rattle.axe_field.specs.NumberFields.{number_field}
+use Rattle.axe_row.specs.Operations.{IsZeroVector, row_with_multiple}
 use Rattle.axe_row.specs.Rows.{RowValue}
 use Rattle.axe_matrix.specs.Matrices.{MatrixValue, vector_product}
 use Rattle.axe_echelon.specs.Echelons.{EchelonValue, IsEchelon, with_row_where}
+use Rattle.axe_poly.specs.declared.minimal.CyclicBasis.{CyclicBasis}
 use Rattle.axe_poly.specs.Polys.{PolyValue, IsPoly}
-use Rattle.axe_norton.specs.Misfits.{IsRowLike, AreNullRows}
+use Rattle.axe_poly.specs.Powers.{IsCyclicBasis}
+use Rattle.axe_norton.specs.Misfits.{IsRowLike, IsBasisLike, AreNullRows}
 use mathlib.Core.Path.{sym, ◌∙◌, ap, subst}
 use native.Mathlib.Omega.{arith}
 
@@ -40,6 +43,44 @@ unfolding combination
 like_product m row product is = record {
   field = ap (λ (r : RowValue). r.order) is;
   long = ap (λ (r : RowValue). length r.entries) is ∙ listed_length {A = ℕ} m.cols _;
+}
+
+-- a sum with a multiple of a row has as many entries
+pub like_sum : (o : Order) (n : ℕ) (row other new : RowValue) (c : ℕ) → IsRowLike o n row →
+    new ≡ row_with_multiple row c other → length new.entries ≡ length row.entries → IsRowLike o n new
+like_sum o n row other new c like is as_long = record {
+  field = ap (λ (r : RowValue). r.order) is ∙ like.field;
+  long = as_long ∙ like.long;
+}
+
+-- the second unit vector has as many entries, and is not zero
+module _ (x : MatrixValue) (o : Order) (n : ℕ) (v : RowValue) (columns : n ≡ x.cols)
+    (is : v ≡ record { order = o; entries = unit_row n 1 }) where
+  pub second_unit_fits : length v.entries ≡ x.cols
+  second_unit_fits =
+      ap (λ (r : RowValue). length r.entries) is
+      ∙ listed_length {A = ℕ} n (λ j. cond (eqb 1 j) 1 0) ∙ columns
+
+  pub second_unit_not_zero : 2 ≤ x.cols → ¬ (IsZeroVector v.entries)
+  second_unit_not_zero two = subst (λ (r : RowValue). ¬ (IsZeroVector r.entries)) (sym is) nonzero
+    where
+      nonzero : ¬ (IsZeroVector (unit_row n 1))
+      nonzero zeros =
+          let zero_second : get_or (unit_row n 1) 1 0 ≡ 0 =
+          zeros 1 0 (omega (arith, two, columns, listed_length {A = ℕ} n (λ j. cond (eqb 1 j) 1 0))) in
+          let one_second : get_or (unit_row n 1) 1 0 ≡ 1 =
+          listed_at {A = ℕ} n (λ j. cond (eqb 1 j) 1 0) 1 0 (omega (arith, two, columns)) in
+          omega (arith, zero_second, one_second)
+
+-- ---- cyclic bases
+
+-- the cyclic basis of a vector is like one
+pub basis_like : (x : MatrixValue) (v : RowValue) (basis : CyclicBasis) → IsCyclicBasis x v basis → IsBasisLike x basis
+basis_like x v basis is = record {
+  minimal_field = is.minimal.field;
+  field = is.field;
+  columns = is.columns;
+  count = is.count;
 }
 
 -- ---- null vectors

@@ -1,66 +1,114 @@
 //! Polynomials that are seen not to fit a square matrix, by null vectors of their values at it.
 
-ghost use Rattle.std.specs.Prelude.{◌≡◌, ◌+◌, ◌<◌, ◌≤◌, length, IsTrue, None};
+ghost use Rattle.std.specs.Prelude.{◌≡◌, ◌+◌, ◌<◌, ◌≤◌, length, IsTrue, IfSome, None};
 ghost use Rattle.axe_algebra.specs.Lists.{IsSquareOver};
 ghost use Rattle.axe_polynomial_algebra.specs.PolynomialsOfLists.{Annihilates, Fits, degree_of};
 ghost use Rattle.axe_field.specs.NumberFields.{number_field};
 ghost use Rattle.axe_row.specs.Refusals.{Answers};
 ghost use Rattle.axe_matrix.specs.Limits.{most_columns};
-ghost use Rattle.axe_norton.specs.Misfits.{AreNullRows, IsRowLike};
+ghost use Rattle.axe_norton.specs.Misfits.{AreNullRows, IsBasisLike, IsRowLike};
 
 use axe_echelon::Echelon;
 use axe_matrix::{Matrix, Refusal, Row};
-use axe_poly::{Poly, minimal_of_vector};
+use axe_poly::{CyclicBasis, Poly, cyclic_basis, minimal_of_vector};
 use std::alloc::Global;
 
-/// How many unit vectors are looked at: the first is the one by which divisors are found.
-const UNITS: usize = 2;
-
-/// Of how many rows a matrix has to be for each degree of f above that of p, so that products of vectors take less
-/// time than the null space of p(x): a guess.
-const ROWS_FOR_DEGREE: usize = 8;
-
-/// Whether an irreducible divisor p of a polynomial f is seen not to fit a square matrix x: whether more independent
-/// null vectors of p(x) are seen than p has degrees. Where they are not seen, p may fit or not.
+/// Whether an irreducible divisor p of the minimal polynomial of the first unit vector under a square matrix x is seen
+/// not to fit x: whether more independent null vectors of p(x) are seen than p has degrees. Where they are not seen, p
+/// may fit or not.
 ///
-/// They are looked for among u h(x), u h(x) x and so on, for the first unit vectors u and the cofactor h of p in f, which
-/// are null vectors where f annihilates u; and only where f has so small a degree that this takes less time than the
-/// null space of p(x): no clause says so. All is done by products of vectors with x.
+/// They are looked for in the spaces that the first two unit vectors generate, whose cyclic bases take the place of
+/// products with p(x): that of the first is given, and that of the second is made where it is first asked for, and kept
+/// for further polynomials. Where the first unit vector generates everything, p fits, and nothing is looked for.
 pub(crate) fn is_seen_not_to_fit(
     alloc: Global,
     matrix: &Matrix,
     poly: &Poly,
-    multiple: &Poly,
+    first: &CyclicBasis,
+    second: &mut Option<CyclicBasis>,
 ) -> Result<bool, Refusal>
     requires square { IsSquareOver (number_field matrix.now.order) matrix.now.cols matrix.now.rows }
     requires field { poly.now.order ≡ matrix.now.order }
-    requires multiple_field { multiple.now.order ≡ matrix.now.order }
-    ensures { Answers None
+    requires first { IsBasisLike matrix.now first.now }
+    requires second { IfSome second.old (IsBasisLike matrix.now) }
+    ensures seen { Answers None
         (λ seen. IsTrue seen → ¬ (Fits (number_field matrix.now.order) matrix.now.rows poly.now.coefficients)) result }
+    ensures second { Answers None (λ _. IfSome second.new (IsBasisLike matrix.now)) result }
 {
     // `cols` is called for what it ensures beside the number: that the matrix is one.
     prove!(matrix.rows() == matrix.cols());
-    if !is_worthwhile(matrix, poly, multiple) {
+    if first.minimal.degree() >= matrix.cols() {
         return Ok(false);
     }
-    let quotient = divided(alloc, poly, multiple)?;
     let mut found = Echelon::new(alloc, *matrix.field(), matrix.cols());
-    for place in 0..UNITS.min(matrix.cols()) {
-        let row = unit_times(alloc, matrix, &quotient, poly.degree(), place)?;
-        insert_null_rows(alloc, matrix, poly, row, &mut found)?;
-    }
+    insert_from_basis(alloc, matrix, poly, first, &mut found)?;
+    insert_from_second(alloc, matrix, poly, second, &mut found)?;
     Ok(found.rank() > poly.degree())
 }
 
-/// Whether the degree of f is so small, beside that of p and the number of rows, that null vectors are looked for.
-fn is_worthwhile(matrix: &Matrix, poly: &Poly, multiple: &Poly) -> bool
-    ensures divisor { IsTrue result → degree_of poly.now.coefficients ≤ degree_of multiple.now.coefficients }
-    ensures bounded { IsTrue result → degree_of multiple.now.coefficients ≤ matrix.now.cols }
+/// Inserts null vectors of p(x) from the space that the second unit vector generates. Its basis is made where there is
+/// none.
+fn insert_from_second(
+    alloc: Global,
+    matrix: &Matrix,
+    poly: &Poly,
+    second: &mut Option<CyclicBasis>,
+    found: &mut Echelon,
+) -> Result<(), Refusal>
+    requires square { length matrix.now.rows ≡ matrix.now.cols }
+    requires two { 2 ≤ matrix.now.cols }
+    requires field { poly.now.order ≡ matrix.now.order }
+    requires second { IfSome second.old (IsBasisLike matrix.now) }
+    requires found { AreNullRows matrix.now poly.now found.old }
+    ensures found { Answers None (λ _. AreNullRows matrix.now poly.now found.new) result }
+    ensures second { Answers None (λ _. IfSome second.new (IsBasisLike matrix.now)) result }
 {
-    let (degree, of_multiple) = (poly.degree(), multiple.degree());
-    degree <= of_multiple
-        && of_multiple <= matrix.cols()
-        && of_multiple / degree <= matrix.rows() / ROWS_FOR_DEGREE
+    if let Some(basis) = &*second {
+        return insert_from_basis(alloc, matrix, poly, basis, found);
+    }
+    let unit = Row::unit(alloc, *matrix.field(), matrix.cols(), 1)?;
+    let basis = cyclic_basis(alloc, matrix, &unit)?;
+    insert_from_basis(alloc, matrix, poly, &basis, found)?;
+    *second = Some(basis);
+    Ok(())
+}
+
+/// Inserts null vectors of p(x) from the space that a vector u generates, by its cyclic basis: where its minimal
+/// polynomial g is p h, u h(x) is one, and u h(x) x and so on. A g of smaller degree than p gives none.
+fn insert_from_basis(
+    alloc: Global,
+    matrix: &Matrix,
+    poly: &Poly,
+    basis: &CyclicBasis,
+    found: &mut Echelon,
+) -> Result<(), Refusal>
+    requires square { length matrix.now.rows ≡ matrix.now.cols }
+    requires field { poly.now.order ≡ matrix.now.order }
+    requires basis { IsBasisLike matrix.now basis.now }
+    requires found { AreNullRows matrix.now poly.now found.old }
+    ensures { Answers None (λ _. AreNullRows matrix.now poly.now found.new) result }
+{
+    if basis.minimal.degree() < poly.degree() {
+        return Ok(());
+    }
+    // `rows` is called for what it ensures: that there are no more rows than a matrix may have.
+    prove!(basis.rows.rows() == basis.minimal.degree());
+    let quotient = divided(alloc, poly, &basis.minimal)?;
+    let row = combined(alloc, &basis.rows, &quotient, poly.degree())?;
+    insert_null_rows(alloc, matrix, poly, row, found)
+}
+
+/// The combination of the first rows of a matrix with the entries of a row from a first one on. No clause says so.
+fn combined(alloc: Global, rows: &Matrix, entries: &Row, first: usize) -> Result<Row, Refusal>
+    requires field { entries.now.order ≡ rows.now.order }
+    requires fits { length entries.now.entries ≤ first + length rows.now.rows }
+    ensures { Answers None (IsRowLike rows.now.order rows.now.cols) result }
+{
+    let mut row = Row::zero(alloc, *rows.field(), rows.cols())?;
+    for index in first..entries.len() {
+        row.add_scaled(entries.get(index), rows.row(index - first));
+    }
+    Ok(row)
 }
 
 /// The division of a polynomial f by p: its entries from the degree of p on are the coefficients of the quotient, the
@@ -107,30 +155,6 @@ fn take_multiple(row: &mut Row, poly: &Poly, place: usize)
         let entry = field.add(row.get(place + exponent), product);
         row.set(place + exponent, entry);
     }
-}
-
-/// A unit vector times h(x), for the polynomial h whose coefficients, the constant one first, are the entries of a row
-/// from a first one on. No clause says so.
-fn unit_times(
-    alloc: Global,
-    matrix: &Matrix,
-    entries: &Row,
-    first: usize,
-    place: usize,
-) -> Result<Row, Refusal>
-    requires square { length matrix.now.rows ≡ matrix.now.cols }
-    requires field { entries.now.order ≡ matrix.now.order }
-    requires place { place < matrix.now.cols }
-    ensures { Answers None (IsRowLike matrix.now.order matrix.now.cols) result }
-{
-    let field = *matrix.field();
-    let mut row = Row::zero(alloc, field, matrix.cols())?;
-    for index in (first..entries.len()).rev() {
-        row = matrix.vec_mul(alloc, &row)?;
-        let entry = field.add(row.get(place), entries.get(index));
-        row.set(place, entry);
-    }
-    Ok(row)
 }
 
 /// Inserts a row u, then u x, u x^2 and so on, as many as p has degrees, as long as they are seen to be null vectors of

@@ -27,7 +27,8 @@ use Rattle.axe_echelon.proofs.StepLaws.{over_of_row}
 use Rattle.axe_polynomial_algebra.specs.PolynomialsOfLists.{degree_of, IsMonicOver}
 use Rattle.axe_polynomial_algebra.proofs.MinimalLists.{ArePowerRows, minimal_of_power_rows}
 use Rattle.axe_poly.specs.Polys.{PolyValue, IsPoly, poly_with, IsMinimalPolynomialOf}
-use Rattle.axe_poly.specs.Powers.{ArePowers, IsNextPower, power_less}
+use Rattle.axe_poly.specs.declared.minimal.CyclicBasis.{CyclicBasis}
+use Rattle.axe_poly.specs.Powers.{ArePowers, IsNextPower, IsCyclicBasis, matrix_of_rows, power_less}
 use Rattle.axe_poly.proofs.HornerLaws.{square_over}
 use mathlib.Core.Path.{refl, sym, ◌∙◌, ap, subst}
 use native.Mathlib.Omega.{arith}
@@ -38,6 +39,23 @@ at_last : (rows : List (List ℕ)) (row : List ℕ) (t : ℕ) → t ≡ length r
 at_last rows row t e =
     (let place : t ≡ length rows + 0 = omega (arith, e) in ap (λ (k : ℕ). get_or (rows ++ row ∷ []) k []) place)
     ∙ get_or-append-add rows (row ∷ []) 0 []
+
+-- a row that the echelon form takes and the matrix of its rows gets: it is the matrix of the rows still
+pub rows_more : (e grown : EchelonValue) (rows more : MatrixValue) (power copy : RowValue) (new : Bool) →
+    rows ≡ matrix_of_rows e → copy ≡ power → new ≡ true → grown ≡ with_row_where new e copy.entries →
+    more ≡ record rows { rows = rows.rows ++ power.entries ∷ [] } → more ≡ matrix_of_rows grown
+rows_more e grown rows more power copy new same copied is_new inserted appended =
+    appended
+    ∙ ap (λ (r : MatrixValue). record r { rows = r.rows ++ power.entries ∷ [] }) same
+    ∙ sym (ap matrix_of_rows
+    (inserted ∙ ap (λ b. with_row_where b e copy.entries) is_new
+    ∙ ap (λ (r : RowValue). with_row_where true e r.entries) copied))
+
+-- one that it doesn't take changes neither
+pub rows_kept : (e grown : EchelonValue) (rows : MatrixValue) (copy : RowValue) (new : Bool) →
+    rows ≡ matrix_of_rows e → new ≡ false → grown ≡ with_row_where new e copy.entries → rows ≡ matrix_of_rows grown
+rows_kept e grown rows copy new same not_new inserted =
+    same ∙ sym (ap matrix_of_rows (inserted ∙ ap (λ b. with_row_where b e copy.entries) not_new))
 
 module _ (m : MatrixValue) (v : List ℕ) where
   abbrev K : NumberField
@@ -293,3 +311,26 @@ module _ (m : MatrixValue) (v : RowValue) (formed : IsMatrix m) (square : length
 
       powers : ArePowerRows K m.cols m.rows v.entries over_m over_v e.rows
       powers = record { first = before.first; next = before.next }
+
+  -- and with the rows before it the cyclic basis
+  pub basis_of_next : (basis : CyclicBasis) → basis.minimal ≡ power_less c → basis.rows ≡ matrix_of_rows e →
+      IsMatrix basis.rows → IsCyclicBasis m v basis
+  basis_of_next basis is same rows_formed = record {
+    minimal = minimal_of_next basis.minimal is;
+    field = ap (λ (r : MatrixValue). r.order) same ∙ is_next.field;
+    columns = ap (λ (r : MatrixValue). r.cols) same ∙ is_next.columns;
+    count =
+        (let as_long : length basis.minimal.coefficients ≡ length (map (field_neg c.order) c.entries ++ 1 ∷ []) =
+        ap (λ (f : PolyValue). length f.coefficients) is in
+        omega (
+          arith,
+          as_long,
+          ap (λ (r : MatrixValue). length r.rows) same,
+          length-append (map (field_neg c.order) c.entries) (1 ∷ []),
+          length-map c.entries (field_neg c.order),
+          coordinates_over.length_is,
+        ));
+    powers = subst (λ (r : MatrixValue). ArePowers m v.entries r.rows) (sym same)
+        (powers_before m v.entries e.rows next.entries is_next.powers);
+    well_formed = rows_formed;
+  }

@@ -17,5 +17,5 @@ mod windows;
 pub use factors::factors_up_to;
 pub use irreducibles::Irreducibles;
 pub use limits::{degrees_are_greatest, greatest_degree};
-pub use minimal::minimal_of_vector;
+pub use minimal::{CyclicBasis, cyclic_basis, minimal_of_vector};
 pub use poly::Poly;

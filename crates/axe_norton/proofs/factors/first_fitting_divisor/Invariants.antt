@@ -1,4 +1,5 @@
-use Rattle.std.proofs.Common.{◌≡◌, ◌≤◌}
+use Rattle.std.proofs.Common.{◌≡◌, ◌≤◌, IfSome}
+use Rattle.axe_norton.specs.Misfits.{IsBasisLike}
 use Rattle.axe_norton.proofs.FactorLaws.{NoneUpTo}
 use Rattle.axe_norton.proofs.factors.first_fitting_divisor.Given as goal
 
@@ -6,5 +7,6 @@ abbrev pub invariant-loop-below : goal.invariant-loop-below
 invariant-loop-below l = record {
   field : l.table.order ≡ l.matrix.order;
   reached : l.below ≤ l.table.degree;
-  none : NoneUpTo l.matrix l.minimal l.below;
+  none : NoneUpTo l.matrix l.first.minimal l.below;
+  second : IfSome l.second (IsBasisLike l.matrix);
 }

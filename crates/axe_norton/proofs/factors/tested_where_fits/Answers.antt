@@ -3,8 +3,8 @@ use Rattle.axe_word.specs.Tested.{IsTestedAt}
 use Rattle.axe_norton.proofs.FactorLaws.{fits_by_rows, tested_at}
 use Rattle.axe_norton.proofs.factors.tested_where_fits.Goals as goal
 
-pub returns-then-rows-degree : goal.returns-then-rows-degree
-returns-then-rows-degree c =
+pub returns-then-rows-degree-clause-found : goal.returns-then-rows-degree-clause-found
+returns-then-rows-degree-clause-found c =
     let is : IsTestedAt c.args.poly.now c.args.matrix.now c.in_ok-tested.tested =
     tested_at c.args.matrix.now c.args.poly.now _ c.in_ok-tested.tested c.in_ok-value_at.ensures.value c.in_ok-tested.ensures.0 c.in_ok-tested.ensures.1 in (
       (fits_by_rows c.args.matrix.now c.args.poly.now c.in_ok-tested.tested c.requires.field c.degree.ensures.well_formed is).1
@@ -12,8 +12,8 @@ returns-then-rows-degree c =
       is,
     )
 
-pub returns-else-rows-degree : goal.returns-else-rows-degree
-returns-else-rows-degree c =
+pub returns-else-rows-degree-clause-found : goal.returns-else-rows-degree-clause-found
+returns-else-rows-degree-clause-found c =
     let is : IsTestedAt c.args.poly.now c.args.matrix.now c.in_ok-tested.tested =
     tested_at c.args.matrix.now c.args.poly.now _ c.in_ok-tested.tested c.in_ok-value_at.ensures.value c.in_ok-tested.ensures.0 c.in_ok-tested.ensures.1 in
     λ fits. c.if-rows-degree.false (c.rows.ensures.count

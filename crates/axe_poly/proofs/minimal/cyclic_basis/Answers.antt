@@ -1,21 +1,19 @@
-use Rattle.std.proofs.Common.{◌≡◌, subst, sym, arith}
+use Rattle.std.proofs.Common.{subst, sym, arith}
 use Rattle.axe_algebra.specs.SpansOfLists.{IsSpanned}
 use Rattle.axe_field.specs.NumberFields.{number_field}
 use Rattle.axe_field.specs.Order.{Order}
 use Rattle.axe_echelon.specs.Echelons.{AreCoordinates}
 use Rattle.axe_echelon.proofs.EliminationLaws.{room_of_rank}
-use Rattle.axe_echelon.proofs.Exits.{answers_more}
 use Rattle.axe_echelon.proofs.StepLaws.{over_of_row}
-use Rattle.axe_poly.specs.Polys.{PolyValue, IsMinimalPolynomialOf}
-use Rattle.axe_poly.specs.Powers.{IsNextPower, power_less}
-use Rattle.axe_poly.proofs.PowerLaws.{minimal_of_next}
-use Rattle.axe_poly.proofs.minimal.minimal_of_vector.Goals as goal
+use Rattle.axe_poly.specs.Powers.{IsNextPower}
+use Rattle.axe_poly.proofs.PowerLaws.{basis_of_next}
+use Rattle.axe_poly.proofs.minimal.cyclic_basis.Goals as goal
 
 pub power_less-requires-clause-few : goal.power_less-requires-clause-few
 power_less-requires-clause-few c =
     let powers = c.insert_powers.new.powers in
     let next = c.in_ok-next.next in
-    let is_next : IsNextPower c.args.matrix.now c.args.vector.now.entries powers next = c.in_ok-next.ensures in
+    let is_next : IsNextPower c.args.matrix.now c.args.vector.now.entries powers next = c.in_ok-next.ensures.next in
     let are : AreCoordinates powers next.entries c.in-Some.coordinates =
     rw c.in-Some.is at c.in_ok-coordinates.ensures.coefficients in
     omega (arith, are.over.length_is, room_of_rank powers is_next.well_formed, is_next.well_formed.columns_fit)
@@ -24,7 +22,7 @@ pub unreachable-requires : goal.unreachable-requires
 unreachable-requires c =
     let powers = c.insert_powers.new.powers in
     let next = c.in_ok-next.next in
-    let is_next : IsNextPower c.args.matrix.now c.args.vector.now.entries powers next = c.in_ok-next.ensures in
+    let is_next : IsNextPower c.args.matrix.now c.args.vector.now.entries powers next = c.in_ok-next.ensures.next in
     let outside : ¬ (IsSpanned (number_field powers.order) powers.rows next.entries) =
     rw c.in-None.is at c.in_ok-coordinates.ensures.coefficients in
     outside
@@ -35,11 +33,11 @@ returns c =
     let m = c.args.matrix.now in
     let v = c.args.vector.now in
     let powers = c.insert_powers.new.powers in
-    let is_next : IsNextPower m v.entries powers c.in_ok-next.next = c.in_ok-next.ensures in
+    let is_next : IsNextPower m v.entries powers c.in_ok-next.next = c.in_ok-next.ensures.next in
     let are : AreCoordinates powers c.in_ok-next.next.entries c.in-Some.coordinates =
     rw c.in-Some.is at c.in_ok-coordinates.ensures.coefficients in
-    answers_more c.power_less.result (λ (f : PolyValue). f ≡ power_less c.in-Some.coordinates)
-    (IsMinimalPolynomialOf m v) c.power_less.ensures
-    (minimal_of_next m v c.cols.ensures.well_formed c.requires.square
+    basis_of_next m v c.cols.ensures.well_formed c.requires.square
     (over_of_row m.order m.cols v c.requires.field c.len.ensures.well_formed c.requires.fits) powers c.in_ok-next.next
-    is_next c.in-Some.coordinates are)
+    is_next c.in-Some.coordinates are
+    (record { rows = c.insert_powers.new.rows; minimal = c.in_ok-minimal-in-Some.minimal })
+    c.in_ok-minimal-in-Some.ensures c.in_ok-next.ensures.same_rows c.cols-4.ensures.well_formed

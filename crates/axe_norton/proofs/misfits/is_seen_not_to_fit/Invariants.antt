@@ -1,5 +1,0 @@
-use Rattle.axe_norton.specs.Misfits.{AreNullRows}
-use Rattle.axe_norton.proofs.misfits.is_seen_not_to_fit.Given as goal
-
-abbrev pub invariant-loop-place : goal.invariant-loop-place
-invariant-loop-place l = AreNullRows l.matrix l.poly l.found
