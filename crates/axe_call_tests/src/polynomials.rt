@@ -2,7 +2,7 @@
 //!
 //! The answers of the second table are GAP's (`polynomials.g` beside this crate's sources makes it).
 use crate::tables::{Topic, each_call};
-use axe_poly::{Poly, factors_up_to, greatest_degree, minimal_of_vector};
+use axe_poly::{Poly, cyclic_basis, factors_up_to, greatest_degree, minimal_of_vector};
 use axe_test_values::{
     TableFault, field_of, is_matrix, matrix_of, number_of, row_of_shape, small_number_of,
     three_fields, truth_of, two_fields,
@@ -15,6 +15,7 @@ use std::process::Abort;
 /// - `degree`, `coefficient`: a polynomial, and its degree, or an exponent and the coefficient there;
 /// - `same`: two polynomials, and whether they are equal;
 /// - `minimal`: a matrix, a row, and the minimal polynomial of the row;
+/// - `cyclic`: a matrix, a row, and the row times the powers of the matrix below the degree of that polynomial;
 /// - `factors`: a degree, a polynomial, and its irreducible divisors up to the degree, or `none`;
 /// - `value`: a polynomial, a matrix, and the value.
 const BY_HAND: &str = "\
@@ -34,6 +35,10 @@ same | 2: 111 | 2: 101 | no
 same | 2: 111 | 2: 11 | no
 same | 2: 11 | 3: 11 | no
 minimal | 2: 01/11 | 2: 10 | 2: 111
+cyclic | 2: 01/11 | 2: 10 | 2: 10/01
+cyclic | 2: 000/010/100 | 2: 110 | 2: 110/010
+cyclic | 3: 00/11 | 3: 22 | 3: 22
+cyclic | 9: 3 | 9: 5 | 9: 5
 factors | 2 | 2: 111 | 111
 factors | 1 | 3: 201 | 11 21
 value | 2: 111 | 2: 01/11 | 2: 00/00
@@ -313,6 +318,17 @@ fn minimal(rt: &impl Abort, alloc: Global, line: &str) -> Result<bool, TableFaul
     Ok(found.same(&poly_of(alloc, wanted)?))
 }
 
+fn cyclic(rt: &impl Abort, alloc: Global, line: &str) -> Result<bool, TableFault> {
+    let (matrix, row, wanted) = three_fields(line)?;
+    let matrix = matrix_of(alloc, matrix)?;
+    let row = row_of_shape(alloc, row, matrix.field(), matrix.cols())?;
+    assert!(rt; matrix.rows() == matrix.cols());
+    assert!(rt; !row.is_zero());
+    let found = cyclic_basis(alloc, &matrix, &row)?;
+    let has_degree = found.minimal.degree() == found.rows.rows();
+    Ok(is_matrix(alloc, Ok(found.rows), wanted)? && has_degree)
+}
+
 /// Whether polynomials are those with these digits, in their order.
 fn are_written(factors: &[Poly], text: &str) -> bool {
     if text == "none" {
@@ -374,6 +390,7 @@ pub(crate) fn answers(
         "coefficient" => has_coefficient(rt, alloc, line),
         "same" => are_same(alloc, line),
         "minimal" => minimal(rt, alloc, line),
+        "cyclic" => cyclic(rt, alloc, line),
         "factors" => factors(rt, alloc, line),
         "value" => value(rt, alloc, line),
         _ => Err(TableFault::NotWritten),
