@@ -19,7 +19,8 @@ use std::alloc::Global;
 ///
 /// They are looked for in the spaces that the first two unit vectors generate, whose cyclic bases take the place of
 /// products with p(x): that of the first is given, and that of the second is made where it is first asked for, and kept
-/// for further polynomials. Where the first unit vector generates everything, p fits, and nothing is looked for.
+/// for further polynomials. They are looked for only where the first unit vector generates no more than half of the
+/// dimensions, a guess: else the second basis costs more than the null spaces of p(x) that it spares.
 pub(crate) fn is_seen_not_to_fit(
     alloc: Global,
     matrix: &Matrix,
@@ -37,7 +38,7 @@ pub(crate) fn is_seen_not_to_fit(
 {
     // `cols` is called for what it ensures beside the number: that the matrix is one.
     prove!(matrix.rows() == matrix.cols());
-    if first.minimal.degree() >= matrix.cols() {
+    if first.minimal.degree() > matrix.cols() / 2 {
         return Ok(false);
     }
     let mut found = Echelon::new(alloc, *matrix.field(), matrix.cols());
