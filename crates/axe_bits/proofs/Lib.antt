@@ -12,5 +12,6 @@ pub mod TritWords
 pub mod TritDots
 pub mod TritHalves
 pub mod TritEnds
+pub mod TritMultiples
 pub mod TritEntries
 pub mod TritWordWrites

@@ -5,13 +5,13 @@ ghost use Rattle.axe_algebra.specs.Lists.{listed};
 ghost use Rattle.axe_lane.specs.Bytes.{multiple_modulo, sum_of_products, AreDigits};
 ghost use Rattle.axe_lane.specs.Entries.{IsFirstNonzero, AreZerosBefore, AreZerosFrom, IsNextNonzero};
 ghost use Rattle.axe_layer.specs.Bits.{bits};
-ghost use Rattle.axe_lane.specs.Trits.{AreTrits, AreTritsOf, IsTritSum, IsTritSumOfFive, IsTritSumOfThree};
+ghost use Rattle.axe_lane.specs.Trits.{AreTrits, AreTritsOf, HasMultiplesOfTwo, IsTritSum, IsTritSumOfFive};
 ghost use Rattle.axe_bits.specs.Trits.{trits, first_half, second_half, AreZeroLayersBefore, HoldLayers};
 ghost use Rattle.axe_bits.specs.Combinations.{digits_with_two};
 ghost use Rattle.axe_layer.specs.Digits.{digits_with_four, digits_with_multiple};
 ghost use Rattle.axe_layer.specs.Digits.{AreSmallSums, numbers_with_multiple, numbers_from, number_bound};
 
-use axe_lane::{WORD, add_trits, add2_trits, add4_trits, any_nonzero, dot_trits};
+use axe_lane::{WORD, add_multiple_by_nine, add_trits, add4_trits, any_nonzero, dot_trits};
 use axe_layer::{
     add_digits, bit_in, copy_digits, fill_with_bits, fill_with_part, fill_with_selected,
     next_in_word, numbers_by_digits, set_bit,
@@ -206,27 +206,43 @@ impl TritPlane {
         self.add_layers(start, factor, ones, twos);
     }
 
-    /// Adds multiples of two other planes of the same length, whose digits before an index are 0, modulo 3. The words
-    /// before that of the index are not looked at.
+    /// Adds combinations of two planes to each of two others, all of one length: the multiples of `a` and `b` by the
+    /// factors for it are added to each, modulo 3. Digits of `a` and `b` before an index are 0, and the words before
+    /// that of the index are not looked at. Where the factors are those of a multiple over the field of order 9, the
+    /// words are gone over once.
     #[inline]
-    pub fn add_two_from(&mut self, start: usize, factors: [u8; 2], a: &TritPlane, b: &TritPlane)
-        requires within { start ≤ length self.old }
-        requires factors { AreDigits 3 factors }
-        requires a_fits { length a.now ≡ length self.old }
-        requires b_fits { length b.now ≡ length self.old }
+    pub fn add_to_two(
+        first: &mut TritPlane,
+        second: &mut TritPlane,
+        start: usize,
+        to_first: [u8; 2],
+        to_second: [u8; 2],
+        a: &TritPlane,
+        b: &TritPlane,
+    )
+        requires within { start ≤ length first.old }
+        requires second_fits { length second.old ≡ length first.old }
+        requires a_fits { length a.now ≡ length first.old }
+        requires b_fits { length b.now ≡ length first.old }
+        requires to_first { AreDigits 3 to_first }
+        requires to_second { AreDigits 3 to_second }
         requires a_zeros { AreZerosBefore a.now start }
         requires b_zeros { AreZerosBefore b.now start }
-        ensures { self.new ≡ digits_with_two 3 self.old factors a.now b.now }
+        ensures first { first.new ≡ digits_with_two 3 first.old to_first a.now b.now }
+        ensures second { second.new ≡ digits_with_two 3 second.old to_second a.now b.now }
     {
-        let (to_a, to_b) = (factors[0], factors[1]);
-        if to_a == 0 {
-            self.add_scaled_from(start, to_b, b);
-        } else if to_b == 0 {
-            self.add_scaled_from(start, to_a, a);
+        let (p, q) = (to_first[0], to_first[1]);
+        let (r, s) = (to_second[0], to_second[1]);
+        let sum = (p + q) % 3;
+        if r == q && s == sum {
+            let from = start / WORD;
+            let (a, b) = (a.layers(), b.layers());
+            add_to_two_halves(&mut first.words, &mut second.words, from, p, q, a, b);
         } else {
-            let a = multiple_layers(to_a, a);
-            let b = multiple_layers(to_b, b);
-            add_two_to_halves(&mut self.words, start / WORD, a, b);
+            first.add_scaled_from(start, p, a);
+            first.add_scaled_from(start, q, b);
+            second.add_scaled_from(start, r, a);
+            second.add_scaled_from(start, s, b);
         }
     }
 
@@ -393,43 +409,46 @@ fn add_four_to_halves(
     add4_trits(own_ones, own_twos, a, b, c, d);
 }
 
-/// Adds two rows over the field of order 3, which are 0 in the words before the first that is given, to the one of
-/// which the two halves of a list of words are the ones and the twos.
+/// Adds the multiple by p + q x of a row over the field of order 9, whose coefficients are 0 in the words before the
+/// first that is given, to one of which the halves of two lists of words are the coefficients.
 #[inline(always)]
-fn add_two_to_halves(words: &mut [u64], first: usize, a: (&[u64], &[u64]), b: (&[u64], &[u64]))
-    requires within { first ≤ length words.old / 2 }
-    requires row { AreTrits (first_half words.old) (second_half words.old) }
-    requires a { AreTritsOf (length words.old / 2) a.0.now a.1.now }
-    requires b { AreTritsOf (length words.old / 2) b.0.now b.1.now }
+fn add_to_two_halves(
+    constant: &mut [u64],
+    linear: &mut [u64],
+    first: usize,
+    p: u8,
+    q: u8,
+    a: (&[u64], &[u64]),
+    b: (&[u64], &[u64]),
+)
+    requires p { p < 3 }
+    requires q { q < 3 }
+    requires within { first ≤ length constant.old / 2 }
+    requires fits { length linear.old ≡ length constant.old }
+    requires constant { AreTrits (first_half constant.old) (second_half constant.old) }
+    requires linear { AreTrits (first_half linear.old) (second_half linear.old) }
+    requires a { AreTritsOf (length constant.old / 2) a.0.now a.1.now }
+    requires b { AreTritsOf (length constant.old / 2) b.0.now b.1.now }
     requires a_zeros { AreZeroLayersBefore a.0.now a.1.now first }
     requires b_zeros { AreZeroLayersBefore b.0.now b.1.now first }
-    ensures long { length words.new ≡ length words.old }
-    ensures sum { IsTritSumOfThree (first_half words.old) (second_half words.old) a.entry.0.now a.entry.1.now
-        b.entry.0.now b.entry.1.now (first_half words.new) (second_half words.new) }
+    ensures constant_long { length constant.new ≡ length constant.old }
+    ensures linear_long { length linear.new ≡ length linear.old }
+    ensures constant { HasMultiplesOfTwo p q (first_half constant.old) (second_half constant.old) a.entry.0.now
+        a.entry.1.now b.entry.0.now b.entry.1.now (first_half constant.new) (second_half constant.new) }
+    ensures linear { HasMultiplesOfTwo q ((p + q) % 3) (first_half linear.old) (second_half linear.old) a.entry.0.now
+        a.entry.1.now b.entry.0.now b.entry.1.now (first_half linear.new) (second_half linear.new) }
 {
-    let width = words.len() / 2;
-    let (own_ones, own_twos) = words.split_at_mut(width);
-    add2_trits(
-        &mut own_ones[first..],
-        &mut own_twos[first..],
+    let width = constant.len() / 2;
+    let (ones, twos) = constant.split_at_mut(width);
+    let (linear_ones, linear_twos) = linear.split_at_mut(width);
+    add_multiple_by_nine(
+        &mut ones[first..],
+        &mut twos[first..],
+        &mut linear_ones[first..],
+        &mut linear_twos[first..],
+        p,
+        q,
         (&a.0[first..], &a.1[first..]),
         (&b.0[first..], &b.1[first..]),
     );
-}
-
-/// The layers of the multiple of a plane by 1 or 2: twice a digit is the digit with its layers exchanged.
-#[inline(always)]
-fn multiple_layers(factor: u8, plane: &TritPlane) -> (&[u64], &[u64])
-    requires positive { 0 < factor }
-    requires small { factor < 3 }
-    ensures holds { HoldLayers (length plane.now) result.0.now result.1.now }
-    ensures digits { trits (bits (length plane.now) result.0.now) (bits (length plane.now) result.1.now)
-        ≡ multiple_modulo 3 factor plane.now }
-{
-    let (ones, twos) = plane.layers();
-    if factor == 1 {
-        (ones, twos)
-    } else {
-        (twos, ones)
-    }
 }

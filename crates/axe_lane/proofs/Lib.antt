@@ -8,6 +8,7 @@ pub mod FiveRows
 pub mod MaskedRows
 pub mod TritSums
 pub mod FiveTrits
+pub mod TwoMultiples
 pub mod TritDots
 pub mod MaskLaws
 pub mod RunLaws

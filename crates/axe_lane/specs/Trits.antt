@@ -1,6 +1,6 @@
 -- Pairs of lists of 64-bit words as rows over the field of order 3: an entry is 1 where its bit is set in the list of
 -- ones, 2 where it is set in the list of twos, and else 0. Bit i of a list is bit i mod 64 of its word i / 64.
-use Rattle.std.specs.Prelude.{◌≡◌, ◌⊎◌, ℕ, ◌+◌, ◌*◌, ◌%◌, ◌^◌, ◌<◌, ◌≤◌, List, length, slice_index, bit_or, bit_xor}
+use Rattle.std.specs.Prelude.{◌≡◌, ◌⊎◌, ℕ, ◌+◌, ◌*◌, ◌%◌, ◌^◌, ◌<◌, ◌≤◌, List, cond, eqb, length, replicate, slice_index, bit_or, bit_xor}
 use Rattle.std.specs.Simd.Lanes.{zip2}
 use Rattle.axe_lane.specs.Words.{bit_of, common_bits}
 
@@ -128,3 +128,14 @@ pub record IsTritSumOfThree (ones twos a_ones a_twos b_ones b_twos sum_ones sum_
   pub twos_of_two : List ℕ
   pub first : IsTritSum ones twos a_ones a_twos ones_of_two twos_of_two
   pub second : IsTritSum ones_of_two twos_of_two b_ones b_twos sum_ones sum_twos
+
+-- a layer of the multiple of a row by 0, 1 or 2, where this layer of the row and the other one are given: twice an entry
+-- is the entry with its layers exchanged
+abbrev pub multiple_layer : ℕ → List ℕ → List ℕ → List ℕ
+multiple_layer m own other = cond (eqb m 0) (replicate (length own) 0) (cond (eqb m 1) own other)
+
+-- a row is another plus the multiples of two rows by p and q, which were added one after another
+abbrev pub HasMultiplesOfTwo : ℕ → ℕ → List ℕ → List ℕ → List ℕ → List ℕ → List ℕ → List ℕ → List ℕ → List ℕ → Type 0
+HasMultiplesOfTwo p q ones twos a_ones a_twos b_ones b_twos sum_ones sum_twos =
+    IsTritSumOfThree ones twos (multiple_layer p a_ones a_twos) (multiple_layer p a_twos a_ones)
+    (multiple_layer q b_ones b_twos) (multiple_layer q b_twos b_ones) sum_ones sum_twos

@@ -1,11 +1,11 @@
 //! Kernels on rows over the field of order 3, each of which is two lists of 64-bit words: an entry is 1 where its bit
 //! is set in the first, 2 where it is set in the second, and else 0.
-ghost use Rattle.std.specs.Prelude.{◌≡◌, ◌+◌, ◌*◌, ◌%◌, ◌<◌, ◌≤◌, length};
+ghost use Rattle.std.specs.Prelude.{◌≡◌, ◌+◌, ◌*◌, ◌%◌, ◌<◌, ◌≤◌, length, slice_index};
 ghost use Rattle.axe_lane.specs.Trits.{common_trits, AreTrits, HasSumBetween, IsTritSum};
 ghost use Rattle.axe_lane.specs.Trits.{sum_of_five, sum_of_three, sum_of_words, word_at, AreMadeBetween};
 ghost use Rattle.axe_lane.specs.Trits.{ones_of_sums, twos_of_sums, AreTritsOf, HaveWords};
-ghost use Rattle.axe_lane.specs.Trits.{IsTritSumOfFive, IsTritSumOfThree};
-ghost use Rattle.std.specs.Simd.Lanes.{chunk};
+ghost use Rattle.axe_lane.specs.Trits.{multiple_layer, HasMultiplesOfTwo, IsTritSumOfFive};
+ghost use Rattle.std.specs.Simd.Lanes.{chunk, put_chunk};
 
 use std::simd::prelude::*;
 
@@ -67,21 +67,88 @@ pub fn add4_trits(
     }
 }
 
-/// Adds two rows over the field of order 3 to a third of their length, in one pass, as [`add4_trits`] adds four.
-pub fn add2_trits(ones: &mut [u64], twos: &mut [u64], a: (&[u64], &[u64]), b: (&[u64], &[u64]))
+/// Adds to each of two rows over the field of order 3 a combination of two others, in one pass: the constant and the
+/// linear coefficients of the multiple by p + q x of the row over the field of order 9 with these coefficients, where
+/// x^2 is x + 1.
+pub fn add_multiple_by_nine(
+    ones: &mut [u64],
+    twos: &mut [u64],
+    linear_ones: &mut [u64],
+    linear_twos: &mut [u64],
+    p: u8,
+    q: u8,
+    a: (&[u64], &[u64]),
+    b: (&[u64], &[u64]),
+)
+    requires p { p < 3 }
+    requires q { q < 3 }
     requires row { AreTrits ones.old twos.old }
+    requires linear { AreTritsOf (length ones.old) linear_ones.old linear_twos.old }
     requires a { AreTritsOf (length ones.old) a.0.now a.1.now }
     requires b { AreTritsOf (length ones.old) b.0.now b.1.now }
-    ensures { IsTritSumOfThree ones.old twos.old a.entry.0.now a.entry.1.now b.entry.0.now b.entry.1.now
+    ensures constant { HasMultiplesOfTwo p q ones.old twos.old a.entry.0.now a.entry.1.now b.entry.0.now b.entry.1.now
         ones.new twos.new }
+    ensures linear { HasMultiplesOfTwo q ((p + q) % 3) linear_ones.old linear_twos.old a.entry.0.now a.entry.1.now
+        b.entry.0.now b.entry.1.now linear_ones.new linear_twos.new }
+{
+    let (o, t, lo, lt) = (ones, twos, linear_ones, linear_twos);
+    match 3 * p + q {
+        0 => add_multiples::<0, 0, 0, 0>(o, t, lo, lt, a, b),
+        1 => add_multiples::<0, 1, 1, 1>(o, t, lo, lt, a, b),
+        2 => add_multiples::<0, 2, 2, 2>(o, t, lo, lt, a, b),
+        3 => add_multiples::<1, 0, 0, 1>(o, t, lo, lt, a, b),
+        4 => add_multiples::<1, 1, 1, 2>(o, t, lo, lt, a, b),
+        5 => add_multiples::<1, 2, 2, 0>(o, t, lo, lt, a, b),
+        6 => add_multiples::<2, 0, 0, 2>(o, t, lo, lt, a, b),
+        7 => add_multiples::<2, 1, 1, 0>(o, t, lo, lt, a, b),
+        _ => add_multiples::<2, 2, 2, 1>(o, t, lo, lt, a, b),
+    }
+}
+
+/// Adds multiples of two rows over the field of order 3 to each of two others, in one pass: by P and Q to the first,
+/// and by R and S to the second.
+#[inline(always)]
+fn add_multiples<const P: u8, const Q: u8, const R: u8, const S: u8>(
+    ones: &mut [u64],
+    twos: &mut [u64],
+    second_ones: &mut [u64],
+    second_twos: &mut [u64],
+    a: (&[u64], &[u64]),
+    b: (&[u64], &[u64]),
+)
+    requires p { P < 3 }
+    requires q { Q < 3 }
+    requires r { R < 3 }
+    requires s { S < 3 }
+    requires row { AreTrits ones.old twos.old }
+    requires second { AreTritsOf (length ones.old) second_ones.old second_twos.old }
+    requires a { AreTritsOf (length ones.old) a.0.now a.1.now }
+    requires b { AreTritsOf (length ones.old) b.0.now b.1.now }
+    ensures first { HasMultiplesOfTwo P Q ones.old twos.old a.entry.0.now a.entry.1.now b.entry.0.now b.entry.1.now
+        ones.new twos.new }
+    ensures second { HasMultiplesOfTwo R S second_ones.old second_twos.old a.entry.0.now a.entry.1.now
+        b.entry.0.now b.entry.1.now second_ones.new second_twos.new }
 {
     let whole = ones.len() / PAIR;
     for pair in 0..whole {
-        add2_pair(ones, twos, a, b, pair * PAIR);
+        let at = pair * PAIR;
+        let (p, q) = (multiple_of_pair::<P>(a, at), multiple_of_pair::<Q>(b, at));
+        let (r, s) = (multiple_of_pair::<R>(a, at), multiple_of_pair::<S>(b, at));
+        add_pairs(ones, twos, p, q, at);
+        add_pairs(second_ones, second_twos, r, s, at);
     }
     let rest = whole * PAIR;
     if rest < ones.len() {
-        add2_word(ones, twos, a, b, rest);
+        let (p, q) = (
+            multiple_of_word::<P>(a, rest),
+            multiple_of_word::<Q>(b, rest),
+        );
+        let (r, s) = (
+            multiple_of_word::<R>(a, rest),
+            multiple_of_word::<S>(b, rest),
+        );
+        add_words(ones, twos, p, q, rest);
+        add_words(second_ones, second_twos, r, s, rest);
     }
 }
 
@@ -155,30 +222,72 @@ fn add_word(ones: &mut [u64], twos: &mut [u64], more_ones: &[u64], more_twos: &[
     twos[at] = turned ^ (one | more_ones[at]);
 }
 
-/// Adds the pairs of words of two rows from an index on to that of a third.
+/// Adds two pairs of words to that of a row from an index on.
 #[inline(always)]
-fn add2_pair(
-    ones: &mut [u64],
-    twos: &mut [u64],
-    a: (&[u64], &[u64]),
-    b: (&[u64], &[u64]),
-    at: usize,
-)
+fn add_pairs(ones: &mut [u64], twos: &mut [u64], a: (u64x2, u64x2), b: (u64x2, u64x2), at: usize)
     requires row { HaveWords (at + PAIR) ones.old twos.old }
-    requires a { HaveWords (at + PAIR) a.0.now a.1.now }
-    requires b { HaveWords (at + PAIR) b.0.now b.1.now }
-    ensures { AreMadeBetween at (at + PAIR) (λ k. sum_of_three (word_at ones.old twos.old k)
-        (word_at a.entry.0.now a.entry.1.now k) (word_at b.entry.0.now b.entry.1.now k))
-        ones.old twos.old ones.new twos.new }
+    ensures ones { ones.new ≡ put_chunk at ones.old (ones_of_sums
+        (ones_of_sums (chunk at PAIR ones.old) (chunk at PAIR twos.old) a.0 a.1)
+        (twos_of_sums (chunk at PAIR ones.old) (chunk at PAIR twos.old) a.0 a.1) b.0 b.1) }
+    ensures twos { twos.new ≡ put_chunk at twos.old (twos_of_sums
+        (ones_of_sums (chunk at PAIR ones.old) (chunk at PAIR twos.old) a.0 a.1)
+        (twos_of_sums (chunk at PAIR ones.old) (chunk at PAIR twos.old) a.0 a.1) b.0 b.1) }
 {
-    let row = (
-        u64x2::from_slice(&ones[at..]),
-        u64x2::from_slice(&twos[at..]),
-    );
-    let two = with_pair(row, a, at);
-    let three = with_pair(two, b, at);
-    three.0.copy_to_slice(&mut ones[at..]);
-    three.1.copy_to_slice(&mut twos[at..]);
+    let one = u64x2::from_slice(&ones[at..]);
+    let two = u64x2::from_slice(&twos[at..]);
+    let turned = (one | a.1) ^ (two | a.0);
+    let (one, two) = (turned ^ (two | a.1), turned ^ (one | a.0));
+    let turned = (one | b.1) ^ (two | b.0);
+    (turned ^ (two | b.1)).copy_to_slice(&mut ones[at..]);
+    (turned ^ (one | b.0)).copy_to_slice(&mut twos[at..]);
+}
+
+/// The multiple by M of the pair of words of a row from an index on: twice an entry is the entry with its words
+/// exchanged.
+#[inline(always)]
+fn multiple_of_pair<const M: u8>(row: (&[u64], &[u64]), at: usize) -> (u64x2, u64x2)
+    requires row { HaveWords (at + PAIR) row.0.now row.1.now }
+    requires factor { M < 3 }
+    ensures ones { result.0 ≡ multiple_layer M (chunk at PAIR row.entry.0.now) (chunk at PAIR row.entry.1.now) }
+    ensures twos { result.1 ≡ multiple_layer M (chunk at PAIR row.entry.1.now) (chunk at PAIR row.entry.0.now) }
+{
+    let one = u64x2::from_slice(&row.0[at..]);
+    let two = u64x2::from_slice(&row.1[at..]);
+    match M {
+        0 => (u64x2::splat(0), u64x2::splat(0)),
+        1 => (one, two),
+        _ => (two, one),
+    }
+}
+
+/// The multiple by M of the words of a row at an index.
+#[inline(always)]
+fn multiple_of_word<const M: u8>(row: (&[u64], &[u64]), at: usize) -> (u64, u64)
+    requires row { HaveWords (at + 1) row.0.now row.1.now }
+    requires factor { M < 3 }
+    ensures ones { result.0 ≡ slice_index (multiple_layer M row.entry.0.now row.entry.1.now) at }
+    ensures twos { result.1 ≡ slice_index (multiple_layer M row.entry.1.now row.entry.0.now) at }
+{
+    match M {
+        0 => (0, 0),
+        1 => (row.0[at], row.1[at]),
+        _ => (row.1[at], row.0[at]),
+    }
+}
+
+/// Adds two words of entries to that of a row at an index.
+#[inline(always)]
+fn add_words(ones: &mut [u64], twos: &mut [u64], a: (u64, u64), b: (u64, u64), at: usize)
+    requires row { HaveWords (at + 1) ones.old twos.old }
+    ensures { AreMadeBetween at (at + 1) (λ k. sum_of_three (word_at ones.old twos.old k)
+        (record { ones = a.0; twos = a.1 }) (record { ones = b.0; twos = b.1 })) ones.old twos.old ones.new twos.new }
+{
+    let (one, two) = (ones[at], twos[at]);
+    let turned = (one | a.1) ^ (two | a.0);
+    let (one, two) = (turned ^ (two | a.1), turned ^ (one | a.0));
+    let turned = (one | b.1) ^ (two | b.0);
+    ones[at] = turned ^ (two | b.1);
+    twos[at] = turned ^ (one | b.0);
 }
 
 /// The sum of a pair of words and that of a row from an index on.
@@ -195,28 +304,6 @@ fn with_pair(pair: (u64x2, u64x2), more: (&[u64], &[u64]), at: usize) -> (u64x2,
     let more_two = u64x2::from_slice(&more.1[at..]);
     let turned = (one | more_two) ^ (two | more_one);
     (turned ^ (two | more_two), turned ^ (one | more_one))
-}
-
-/// Adds the words of two rows at an index to that of a third.
-#[inline(always)]
-fn add2_word(
-    ones: &mut [u64],
-    twos: &mut [u64],
-    a: (&[u64], &[u64]),
-    b: (&[u64], &[u64]),
-    at: usize,
-)
-    requires row { HaveWords (at + 1) ones.old twos.old }
-    requires a { HaveWords (at + 1) a.0.now a.1.now }
-    requires b { HaveWords (at + 1) b.0.now b.1.now }
-    ensures { AreMadeBetween at (at + 1) (λ k. sum_of_three (word_at ones.old twos.old k)
-        (word_at a.entry.0.now a.entry.1.now k) (word_at b.entry.0.now b.entry.1.now k))
-        ones.old twos.old ones.new twos.new }
-{
-    let two = with_word((ones[at], twos[at]), a, at);
-    let three = with_word(two, b, at);
-    ones[at] = three.0;
-    twos[at] = three.1;
 }
 
 /// Adds the pairs of words of four rows from an index on to that of a fifth.

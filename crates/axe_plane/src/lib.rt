@@ -246,8 +246,7 @@ impl Plane {
                 BitPlane::add_to_two(first, second, start, to_first, to_second, a, b);
             }
             (Plane::Trits(first), Plane::Trits(second), Plane::Trits(a), Plane::Trits(b)) => {
-                first.add_two_from(start, to_first, a, b);
-                second.add_two_from(start, to_second, a, b);
+                TritPlane::add_to_two(first, second, start, to_first, to_second, a, b);
             }
             // Planes modulo one prime are of one kind.
             _ => unreachable!(),
