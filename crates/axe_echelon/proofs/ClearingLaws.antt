@@ -21,6 +21,7 @@ use Rattle.axe_field.specs.Arithmetic.{field_neg}
 use Rattle.axe_field.specs.NumberFields.{number_field, gf}
 use Rattle.axe_field.proofs.NumberFields.{number_field-neg}
 use Rattle.axe_row.specs.Rows.{RowValue, IsRow}
+use Rattle.axe_row.specs.FoundEntries.{IsNextEntry}
 use Rattle.axe_row.specs.Operations.{sum_with_multiple, row_with_multiple}
 use Rattle.axe_row.proofs.OperationLaws.{get_or-sum_with_multiple}
 use Rattle.axe_echelon.specs.Subspaces.{rows_of, pivots_of, space_of, IsRowOfForm, AreFormRows, AreTabledRows, IsCleared}
@@ -84,13 +85,14 @@ pub record IsClearing (o : Order) (n : ℕ) (p : PivotRow) (row next : RowValue)
   pub field : next.order ≡ o
   pub over : IsVectorOver (number_field o) n next.entries
 
--- as the code clears it
-pub clearing_of : (o q : Order) (n : ℕ) (p : PivotRow) (row next : RowValue) (scalar column : ℕ) → row.order ≡ o → IsVectorOver (number_field o) n row.entries →
-    p.pivot ≡ column → q ≡ o → IsElement q scalar → scalar ≡ field_neg q (get_or row.entries column 0) → next ≡ row_with_multiple row scalar p.row →
-    length next.entries ≡ length row.entries → IsRow next → IsClearing o n p row next scalar
-clearing_of o q n p row next scalar column field over pivot same element value sum long h = record {
+-- as the code clears it, by the negative of the entry that was found
+pub clearing_of : (o q : Order) (n : ℕ) (p : PivotRow) (row next : RowValue) (places : List ℕ) (start column entry scalar : ℕ) → row.order ≡ o →
+    IsVectorOver (number_field o) n row.entries → p.pivot ≡ column → IsNextEntry places row.entries start column entry → q ≡ o → IsElement q scalar →
+    scalar ≡ field_neg q entry → next ≡ row_with_multiple row scalar p.row → length next.entries ≡ length row.entries → IsRow next →
+    IsClearing o n p row next scalar
+clearing_of o q n p row next places start column entry scalar field over pivot found same element value sum long h = record {
   below = subst (λ p. scalar < (number_field p).order) same (below_of_element q scalar element);
-  is = value ∙ ap₂ field_neg same (ap (λ k. get_or row.entries k 0) (sym pivot)) ∙ sym (number_field-neg o (get_or row.entries p.pivot 0));
+  is = value ∙ ap₂ field_neg same (found.entry_is ∙ ap (λ k. get_or row.entries k 0) (sym pivot)) ∙ sym (number_field-neg o (get_or row.entries p.pivot 0));
   sum = sum;
   field = next_field;
   over = over_of_row o n next next_field h (long ∙ over.length_is);

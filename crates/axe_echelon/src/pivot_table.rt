@@ -1,9 +1,11 @@
 //! The pivots of the rows of an echelon form, by their columns.
 
 ghost use Rattle.std.specs.Prelude.{◌≡◌, ◌≢◌, ◌<◌, ◌≤◌, ◌↔◌, [], ℕ, List, length, slice_index, slice_set};
-ghost use Rattle.std.specs.Prelude.{IfOk, IsTrue, MatchOption};
+ghost use Rattle.std.specs.Prelude.{IfOk, IfSome, IsTrue, MatchOption};
+ghost use Rattle.axe_field.specs.Order.{IsElement};
 ghost use Rattle.axe_layer.specs.Supports.{restricted};
-ghost use Rattle.axe_lane.specs.Entries.{AreZerosFrom, IsNextNonzero};
+ghost use Rattle.axe_lane.specs.Entries.{AreZerosFrom};
+ghost use Rattle.axe_row.specs.FoundEntries.{IsNextEntry};
 ghost use Rattle.axe_echelon.specs.PivotTables.{marks_of, FitsColumns, HasRoom, HasPivots};
 
 use axe_matrix::Row;
@@ -77,18 +79,20 @@ impl PivotTable {
         marks.get(column) != 0
     }
 
-    /// The next pivot, from a column on, at which a row is not 0, or `None` where it is 0 at all pivots from there on.
-    #[inline]
-    pub(crate) fn next_pivot(&self, row: &Row, start: usize) -> Option<usize>
+    /// The next pivot, from a column on, at which a row is not 0, and the entry of the row there, or `None` where it is 0
+    /// at all pivots from there on.
+    #[inline(always)]
+    pub(crate) fn next_pivot(&self, row: &Row, start: usize) -> Option<(usize, u8)>
         requires start { start ≤ length row.now.entries }
         requires fits { FitsColumns (length row.now.entries) self.now }
-        ensures { MatchOption result (AreZerosFrom (restricted (marks_of self.now) row.now.entries) start)
-            (IsNextNonzero (restricted (marks_of self.now) row.now.entries) start) }
+        ensures found { MatchOption result (AreZerosFrom (restricted (marks_of self.now) row.now.entries) start)
+            (λ found. IsNextEntry (marks_of self.now) row.now.entries start found.0 found.1) }
+        ensures element { IfSome result (λ found. IsElement row.now.order found.1) }
     {
         let Some(marks) = &self.marks else {
             return None;
         };
-        row.next_nonzero_within(start, marks)
+        row.next_entry_within(start, marks)
     }
 
     /// The index of the row whose pivot a column is.

@@ -184,10 +184,11 @@ impl Subspace {
         // `len` is called for what it ensures beside the number: that the entries are elements.
         prove!(row.len() == self.cols);
         let mut start = 0;
-        while let Some(pivot) = self.pivots.next_pivot(row, start) {
+        while let Some((pivot, entry)) = self.pivots.next_pivot(row, start) {
             // The pivot's row is 0 before it: so what was cleared stays 0, and is not looked at again.
             let pivot_row = &self.rows[self.pivots.row_of(pivot)];
-            row.cancel_from(pivot, &pivot_row.row);
+            let factor = self.field.neg(entry);
+            row.add_scaled_from(pivot, factor, &pivot_row.row);
             start = pivot + 1;
         }
     }
@@ -205,11 +206,12 @@ impl Subspace {
         // `len` is called for what it ensures beside the number: that the entries are elements.
         prove!(row.len() == multipliers.len());
         let mut column = 0;
-        while let Some(pivot) = self.pivots.next_pivot(row, column) {
+        while let Some((pivot, entry)) = self.pivots.next_pivot(row, column) {
             // The pivot's row is 0 before it: so what was cleared stays 0, and is not looked at again.
             let index = self.pivots.row_of(pivot);
             let pivot_row = &self.rows[index];
-            let multiplier = row.cancel_from(pivot, &pivot_row.row);
+            let multiplier = self.field.neg(entry);
+            row.add_scaled_from(pivot, multiplier, &pivot_row.row);
             multipliers.set(index, multiplier);
             column = pivot + 1;
         }

@@ -24,3 +24,4 @@ pub mod TakenEntries
 pub mod EntrySums
 pub mod NegativeEntries
 pub mod RowWords
+pub mod NextEntries

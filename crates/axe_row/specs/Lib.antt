@@ -9,3 +9,4 @@ pub mod ByteDigits
 pub mod Combinations
 pub mod PlaneTables
 pub mod Words
+pub mod FoundEntries

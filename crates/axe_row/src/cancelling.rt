@@ -1,8 +1,7 @@
 //! Multiples of rows that take an entry of another row away, as the elimination of rows does.
-ghost use Rattle.std.specs.Prelude.{◌≡◌, ◌<◌, ◌≤◌, length, slice_index};
+ghost use Rattle.std.specs.Prelude.{◌≡◌, ◌<◌, length, slice_index};
 ghost use Rattle.axe_field.specs.Arithmetic.{field_neg};
 ghost use Rattle.axe_field.specs.Order.{IsElement};
-ghost use Rattle.axe_lane.specs.Entries.{AreZerosBefore};
 ghost use Rattle.axe_row.specs.Operations.{row_with_multiple};
 ghost use Rattle.axe_row.specs.Rows.{IsRow};
 
@@ -26,40 +25,17 @@ impl Row {
         if self.field.degree() == 1 {
             self.constant.cancel(index, &other.constant)
         } else {
-            self.cancel_by_planes(index, 0, other)
+            self.cancel_by_planes(index, other)
         }
     }
 
-    /// Adds a multiple of a row whose entries before the index are 0, as [`Row::cancel`] does: the entries before the
-    /// index stay, and no word or byte before that of the index is looked at.
-    #[inline]
-    pub fn cancel_from(&mut self, index: usize, other: &Row) -> u8
-        requires index { index < length self.old.entries }
-        requires field { other.now.order ≡ self.old.order }
-        requires fits { length other.now.entries ≡ length self.old.entries }
-        requires zeros { AreZerosBefore other.now.entries index }
-        ensures factor { result ≡ field_neg self.old.order (slice_index self.old.entries index) }
-        ensures element { IsElement self.old.order result }
-        ensures sum { self.new ≡ row_with_multiple self.old result other.now }
-        ensures as_long { length self.new.entries ≡ length self.old.entries }
-        ensures well_formed { IsRow self.new }
-    {
-        if self.field.degree() == 1 {
-            self.constant.cancel_from(index, &other.constant)
-        } else {
-            self.cancel_by_planes(index, index, other)
-        }
-    }
-
-    /// Takes the entry at an index away by its coefficients. The other row's entries before `start` are 0. It stands
-    /// apart so that `cancel` is short over prime fields.
+    /// Takes the entry at an index away by its coefficients. It stands apart so that `cancel` is short over prime
+    /// fields.
     #[inline(never)]
-    fn cancel_by_planes(&mut self, index: usize, start: usize, other: &Row) -> u8
+    fn cancel_by_planes(&mut self, index: usize, other: &Row) -> u8
         requires index { index < length self.old.entries }
-        requires within { start ≤ length self.old.entries }
         requires field { other.now.order ≡ self.old.order }
         requires fits { length other.now.entries ≡ length self.old.entries }
-        requires zeros { AreZerosBefore other.now.entries start }
         ensures factor { result ≡ field_neg self.old.order (slice_index self.old.entries index) }
         ensures element { IsElement self.old.order result }
         ensures sum { self.new ≡ row_with_multiple self.old result other.now }
@@ -67,7 +43,7 @@ impl Row {
     {
         let factor = other.field().neg(self.get_by_planes(index));
         if factor != 0 {
-            self.add_by_planes(start, factor, other);
+            self.add_by_planes(0, factor, other);
         }
         factor
     }

@@ -40,7 +40,7 @@ impl Row {
     /// The index of the first entry other than 0 from the word at an index on, among the places where a list of as
     /// many digits modulo 2 has a 1. It stands apart so that a search that ends in its first word is short.
     #[inline(never)]
-    fn next_within_from(&self, first: usize, places: &BitPlane) -> Option<usize>
+    pub(crate) fn next_within_from(&self, first: usize, places: &BitPlane) -> Option<usize>
         requires { length places.now ≡ length self.now.entries }
         ensures { MatchOption result (AreZerosFrom (restricted places.now self.now.entries) (first * 64))
             (IsNextNonzero (restricted places.now self.now.entries) (first * 64)) }

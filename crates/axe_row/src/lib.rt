@@ -18,6 +18,7 @@ mod cancelling;
 mod combos;
 mod dots;
 mod entries;
+mod found;
 mod higher;
 mod packed;
 mod parts;
@@ -228,6 +229,27 @@ impl Row {
             self.constant.add_scaled(scalar, &other.constant);
         } else {
             self.add_by_planes(0, scalar, other);
+        }
+    }
+
+    /// Adds a multiple of another row, whose entries before an index are 0, as [`Row::add_scaled`] does: the entries
+    /// before the index stay, and no word or byte before that of the index is looked at.
+    #[inline]
+    pub fn add_scaled_from(&mut self, start: usize, scalar: u8, other: &Row)
+        requires within { start ≤ length self.old.entries }
+        requires field { other.now.order ≡ self.old.order }
+        requires fits { length other.now.entries ≡ length self.old.entries }
+        requires element { IsElement self.old.order scalar }
+        requires zeros { AreZerosBefore other.now.entries start }
+        ensures sum { self.new ≡ row_with_multiple self.old scalar other.now }
+        ensures as_long { length self.new.entries ≡ length self.old.entries }
+        ensures well_formed { IsRow self.new }
+    {
+        if self.field.degree() == 1 {
+            self.constant
+                .add_scaled_from(start, scalar, &other.constant);
+        } else {
+            self.add_by_planes(start, scalar, other);
         }
     }
 

@@ -2,12 +2,15 @@
 use crate::rows::is_index;
 use crate::tables::{Topic, each_call};
 use axe_row::{BitPlane, Row};
-use axe_test_values::{TableFault, first_field, number_of, row_of, three_fields};
+use axe_test_values::{
+    TableFault, first_field, four_fields, number_of, row_of, small_number_of, three_fields,
+};
 use std::alloc::Global;
 use std::process::Abort;
 
 /// - `next_nonzero_within`: a row, as many digits modulo 2, an index, and that of the first entry from there on that is
-///   not zero and stands where there is a 1.
+///   not zero and stands where there is a 1;
+/// - `next_entry_within`: the same, and the entry there, which is written as 0 where there is none.
 const PLACES: &str = "\
 next_nonzero_within | 2: 10110 | 11010 | 0 | 0
 next_nonzero_within | 2: 10110 | 11010 | 1 | 3
@@ -41,6 +44,59 @@ next_nonzero_within | 7: 0000000000000000000000000000000000000000000000000000000
 next_nonzero_within | 8: 020000000000000000000000000000000000000000000000000000000000000007 | 000000000000000000000000000000000000000000000000000000000000000001 | 2 | 65
 next_nonzero_within | 9: 2000000000000000000000000000000000000000000000000000000000000000030000000000000000000000000000000000000000000000000000000000000008 | 0000000000000000000000000000000000000000000000000000000000000000100000000000000000000000000000000000000000000000000000000000000001 | 0 | 129
 next_nonzero_within | 9: 3000000000000000000000000000000000000000000000000000000000000000030000000000000000000000000000000000000000000000000000000000000001 | 1000000000000000000000000000000000000000000000000000000000000000010000000000000000000000000000000000000000000000000000000000000001 | 130 | none
+# The same with the entries.
+next_entry_within | 2: 10110 | 11010 | 0 | 0 | 1
+next_entry_within | 2: 10110 | 11010 | 1 | 3 | 1
+next_entry_within | 2: 10110 | 11010 | 4 | none | 0
+next_entry_within | 2: 10110 | 01001 | 0 | none | 0
+next_entry_within | 3: 0212 | 1011 | 0 | 2 | 1
+next_entry_within | 3: 0212 | 1011 | 3 | 3 | 2
+next_entry_within | 3: 0212 | 1011 | 4 | none | 0
+next_entry_within | 4: 03120 | 00110 | 0 | 2 | 1
+next_entry_within | 4: 03120 | 00000 | 0 | none | 0
+next_entry_within | 4: 00000 | 11111 | 0 | none | 0
+next_entry_within | 5: 0402 | 1101 | 0 | 1 | 4
+next_entry_within | 5: 0402 | 1101 | 2 | 3 | 2
+next_entry_within | 5: 0402 | 1010 | 0 | none | 0
+next_entry_within | 7: 0060 | 0111 | 1 | 2 | 6
+next_entry_within | 8: 0402 | 0111 | 2 | 3 | 2
+next_entry_within | 9: 1360 | 1010 | 0 | 0 | 1
+next_entry_within | 9: 1360 | 0110 | 0 | 1 | 3
+next_entry_within | 9: 1360 | 0001 | 0 | none | 0
+next_entry_within | 9: 1360 | 1110 | 4 | none | 0
+next_entry_within | 2: 0100000000000000000000000000000000000000000000000000000000000001001000 | 1000000000000000000000000000000000000000000000000000000000000001001000 | 0 | 63 | 1
+next_entry_within | 2: 0100000000000000000000000000000000000000000000000000000000000001001000 | 1000000000000000000000000000000000000000000000000000000000000001001000 | 64 | 66 | 1
+next_entry_within | 2: 0100000000000000000000000000000000000000000000000000000000000001001000 | 1010000000000000000000000000000000000000000000000000000000000000010000 | 1 | none | 0
+next_entry_within | 3: 200000000000000000000000000000000000000000000000000000000000000010 | 000001000000000000000000000000000000000000000000000000000000000010 | 1 | 64 | 1
+next_entry_within | 3: 200000000000000000000000000000000000000000000000000000000000000010 | 000001000000000000000000000000000000000000000000000000000000000001 | 0 | none | 0
+next_entry_within | 4: 0003000000000000000000000000000000000000000000000000000000000000001 | 0000000000000000000000000000000000000000000000000000000000000000001 | 3 | 66 | 1
+next_entry_within | 5: 10000000000000000000000000000000000000000000000000000000000000002 | 01000000000000000000000000000000000000000000000000000000000000001 | 0 | 64 | 2
+next_entry_within | 5: 004000000000000000000000000000000000000000000000000000000000000030 | 001000000000000000000000000000000000000000000000000000000000000001 | 3 | none | 0
+next_entry_within | 7: 0000000000000000000000000000000000000000000000000000000000000000000000200000000000000000000000000000000000000000000000000000000040 | 1000000000000000000000000000000000000000000000000000000000000000000000000000000000000000000000000000000000000000000000000000000010 | 65 | 128 | 4
+next_entry_within | 8: 020000000000000000000000000000000000000000000000000000000000000007 | 000000000000000000000000000000000000000000000000000000000000000001 | 2 | 65 | 7
+next_entry_within | 9: 2000000000000000000000000000000000000000000000000000000000000000030000000000000000000000000000000000000000000000000000000000000008 | 0000000000000000000000000000000000000000000000000000000000000000100000000000000000000000000000000000000000000000000000000000000001 | 0 | 129 | 8
+next_entry_within | 9: 3000000000000000000000000000000000000000000000000000000000000000030000000000000000000000000000000000000000000000000000000000000001 | 1000000000000000000000000000000000000000000000000000000000000000010000000000000000000000000000000000000000000000000000000000000001 | 130 | none | 0
+next_entry_within | 5: 00302 | 11111 | 0 | 2 | 3
+next_entry_within | 7: 0000006 | 1111101 | 1 | 6 | 6
+next_entry_within | 7: 0000006 | 1111110 | 1 | none | 0
+next_entry_within | 9: 011 | 111 | 1 | 1 | 1
+next_entry_within | 9: 021 | 111 | 1 | 1 | 2
+next_entry_within | 9: 031 | 111 | 1 | 1 | 3
+next_entry_within | 9: 041 | 111 | 1 | 1 | 4
+next_entry_within | 9: 051 | 111 | 1 | 1 | 5
+next_entry_within | 9: 061 | 111 | 1 | 1 | 6
+next_entry_within | 9: 071 | 111 | 1 | 1 | 7
+next_entry_within | 9: 081 | 111 | 1 | 1 | 8
+next_entry_within | 8: 011 | 111 | 1 | 1 | 1
+next_entry_within | 8: 021 | 111 | 1 | 1 | 2
+next_entry_within | 8: 031 | 111 | 1 | 1 | 3
+next_entry_within | 8: 041 | 111 | 1 | 1 | 4
+next_entry_within | 8: 051 | 111 | 1 | 1 | 5
+next_entry_within | 8: 061 | 111 | 1 | 1 | 6
+next_entry_within | 8: 071 | 111 | 1 | 1 | 7
+next_entry_within | 4: 011 | 111 | 1 | 1 | 1
+next_entry_within | 4: 021 | 111 | 1 | 1 | 2
+next_entry_within | 4: 031 | 111 | 1 | 1 | 3
 ";
 
 /// The lowest bit of the byte of a digit is the digit modulo 2.
@@ -53,6 +109,24 @@ fn finds_within(rt: &impl Abort, alloc: Global, row: &Row, line: &str) -> Result
     is_index(row.next_nonzero_within(start, &places), wanted)
 }
 
+/// The index that is found, and the entry there.
+fn finds_entry_within(
+    rt: &impl Abort,
+    alloc: Global,
+    row: &Row,
+    line: &str,
+) -> Result<bool, TableFault> {
+    let (places, start, index, entry) = four_fields(line)?;
+    let (start, entry) = (number_of(start)?, small_number_of(entry)?);
+    let places = BitPlane::of_numbers(alloc, places.as_bytes(), 0)?;
+    assert!(rt; start <= row.len());
+    assert!(rt; places.len() == row.len());
+    match row.next_entry_within(start, &places) {
+        Some((at, found)) => Ok(is_index(Some(at), index)? && found == entry),
+        None => is_index(None, index),
+    }
+}
+
 /// Whether a call answers what its line says.
 pub(crate) fn answers(
     rt: &impl Abort,
@@ -60,11 +134,13 @@ pub(crate) fn answers(
     call: &str,
     line: &str,
 ) -> Result<bool, TableFault> {
-    if call != "next_nonzero_within" {
-        return Err(TableFault::NotWritten);
-    }
     let (row, line) = first_field(line)?;
-    finds_within(rt, alloc, &row_of(alloc, row)?, line)
+    let row = row_of(alloc, row)?;
+    match call {
+        "next_nonzero_within" => finds_within(rt, alloc, &row, line),
+        "next_entry_within" => finds_entry_within(rt, alloc, &row, line),
+        _ => Err(TableFault::NotWritten),
+    }
 }
 
 #[test]

@@ -1,10 +1,7 @@
-use Rattle.std.proofs.Common.{List, Option, ℕ, get_or, ap, rules}
+use Rattle.std.proofs.Common.{List, Option, ℕ, get_or, ap}
 use Rattle.axe_layer.proofs.SupportLaws.{restricted_away}
 use Rattle.axe_echelon.specs.PivotTables.{marks_in}
 use Rattle.axe_echelon.proofs.pivot_table.PivotTable.next_pivot.Goals as goal
 
-pub returns-in_default : goal.returns-in_default
-returns-in_default c = λ j from. restricted_away _ c.args.row.now.entries j (ap (λ (m : Option (List ℕ)). get_or (marks_in m) j 0) c.in_default.is)
-
-pub returns : goal.returns
-returns c = search rules
+pub returns-in_default-clause-found : goal.returns-in_default-clause-found
+returns-in_default-clause-found c = λ j from. restricted_away _ c.args.row.now.entries j (ap (λ (m : Option (List ℕ)). get_or (marks_in m) j 0) c.in_default.is)

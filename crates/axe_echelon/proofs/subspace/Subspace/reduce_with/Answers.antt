@@ -1,4 +1,5 @@
-use Rattle.std.proofs.Common.{◌<◌, replicate, sym, ◌∙◌, ap, arith}
+use Rattle.std.proofs.Common.{◌<◌, replicate, subst, refl, sym, ◌∙◌, ap, arith}
+use Rattle.axe_field.specs.Order.{IsElement}
 use Rattle.axe_echelon.specs.Echelons.{EchelonValue}
 use Rattle.axe_echelon.specs.Subspaces.{IsRowOfForm}
 use Rattle.axe_echelon.proofs.PivotRowLaws.{form_row_at, pivot_at, rows_fit, echelon_of_rows}
@@ -18,15 +19,15 @@ loop-pivot-init c =
     }
 
 place : (c : goal.In-Some) → c.in-Some.pivot < c.self.inside.cols
-place c = omega (arith, place_of_found _ c.loop-pivot.row.entries _ _ c.in-Some.ensures, c.loop-pivot.invariant.so_far.clear.over.length_is)
+place c = omega (arith, place_of_found _ c.loop-pivot.row.entries _ _ c.in-Some.ensures.found.next, c.loop-pivot.invariant.so_far.clear.over.length_is)
 
 pub row_of-index-requires : goal.row_of-index-requires
 row_of-index-requires c =
-    let room = room_of_found _ _ _ _ c.loop-pivot.row.entries _ _ c.self.invariant c.in-Some.ensures in
+    let room = room_of_found _ _ _ _ c.loop-pivot.row.entries _ _ c.self.invariant c.in-Some.ensures.found.next in
     omega (arith, place (goal.at.row_of-index-requires c).In-Some, room.rows)
 
 found : (c : goal.After-row_of-index) → IsFoundRow c.self.inside.rows.items c.in-Some.pivot c.row_of-index.result
-found c = found_row _ _ c.self.inside.rows.items c.self.inside.pivots c.loop-pivot.row.entries _ _ _ c.self.invariant c.in-Some.ensures c.row_of-index.ensures
+found c = found_row _ _ c.self.inside.rows.items c.self.inside.pivots c.loop-pivot.row.entries _ _ _ c.self.invariant c.in-Some.ensures.found.next c.row_of-index.ensures
 
 pub index-pivot_row-requires : goal.index-pivot_row-requires
 index-pivot_row-requires c = omega (arith, (found (goal.at.index-pivot_row-requires c).After-row_of-index).within, c.self.inside.rows.ok.0)
@@ -35,20 +36,20 @@ at : (c : goal.After-index-pivot_row) → IsRowOfForm c.self.inside.field c.self
 at c = form_row_at _ _ c.self.inside.rows.items c.row_of-index.result c.index-pivot_row.result.now c.self.invariant.are_rows (found c.before).within
     c.index-pivot_row.ensures
 
-pub cancel_from-multiplier-requires-clause-index : goal.cancel_from-multiplier-requires-clause-index
-cancel_from-multiplier-requires-clause-index c = place_of_found _ c.loop-pivot.row.entries _ _ c.in-Some.ensures
+pub add_scaled_from-requires-clause-within : goal.add_scaled_from-requires-clause-within
+add_scaled_from-requires-clause-within c = omega (arith, place_of_found _ c.loop-pivot.row.entries _ _ c.in-Some.ensures.found.next)
 
-pub cancel_from-multiplier-requires-clause-field : goal.cancel_from-multiplier-requires-clause-field
-cancel_from-multiplier-requires-clause-field c =
-    (at (goal.at.cancel_from-multiplier-requires-clause-field c).After-index-pivot_row).row_field ∙ sym c.loop-pivot.invariant.so_far.clear.field
+pub add_scaled_from-requires-clause-field : goal.add_scaled_from-requires-clause-field
+add_scaled_from-requires-clause-field c =
+    (at (goal.at.add_scaled_from-requires-clause-field c).After-index-pivot_row).row_field ∙ sym c.loop-pivot.invariant.so_far.clear.field
 
-pub cancel_from-multiplier-requires-clause-fits : goal.cancel_from-multiplier-requires-clause-fits
-cancel_from-multiplier-requires-clause-fits c =
-    (at (goal.at.cancel_from-multiplier-requires-clause-fits c).After-index-pivot_row).row_over.length_is ∙ sym c.loop-pivot.invariant.so_far.clear.over.length_is
+pub add_scaled_from-requires-clause-fits : goal.add_scaled_from-requires-clause-fits
+add_scaled_from-requires-clause-fits c =
+    (at (goal.at.add_scaled_from-requires-clause-fits c).After-index-pivot_row).row_over.length_is ∙ sym c.loop-pivot.invariant.so_far.clear.over.length_is
 
-pub cancel_from-multiplier-requires-clause-zeros : goal.cancel_from-multiplier-requires-clause-zeros
-cancel_from-multiplier-requires-clause-zeros c =
-    let there = found (goal.at.cancel_from-multiplier-requires-clause-zeros c).After-row_of-index in
+pub add_scaled_from-requires-clause-zeros : goal.add_scaled_from-requires-clause-zeros
+add_scaled_from-requires-clause-zeros c =
+    let there = found (goal.at.add_scaled_from-requires-clause-zeros c).After-row_of-index in
     zeros_before_pivot _ _ c.self.inside.rows.items c.row_of-index.result c.index-pivot_row.result.now c.self.invariant.are_rows there.within
     c.index-pivot_row.ensures c.in-Some.pivot there.pivot
 
@@ -57,34 +58,41 @@ set-requires-clause-index c =
     let fit = rows_fit _ _ _ c.self.invariant.are_rows in
     omega (arith, fit, (found (goal.at.set-requires-clause-index c).After-row_of-index).within, c.loop-pivot.invariant.so_far.multipliers_over.length_is)
 
+pub neg-multiplier-requires : goal.neg-multiplier-requires
+neg-multiplier-requires c = subst (λ o. IsElement o c.in-Some.entry) c.loop-pivot.invariant.so_far.clear.field c.in-Some.ensures.element
+
+pub add_scaled_from-requires-clause-element : goal.add_scaled_from-requires-clause-element
+add_scaled_from-requires-clause-element c =
+    subst (λ o. IsElement o c.neg-multiplier.result) (sym c.loop-pivot.invariant.so_far.clear.field) c.neg-multiplier.ensures.element
+
 pub overflow_add-column : goal.overflow_add-column
 overflow_add-column c = omega (arith, place (goal.at.overflow_add-column c).In-Some, c.self.invariant.are_rows.columns_fit)
 
 pub loop-pivot-smaller : goal.loop-pivot-smaller
 loop-pivot-smaller c =
-    omega (arith, place (goal.at.loop-pivot-smaller c).In-Some, c.in-Some.ensures.not_before, c.requires.fits, ap (λ (e : EchelonValue). e.cols) c.self.view_is)
+    omega (arith, place (goal.at.loop-pivot-smaller c).In-Some, c.in-Some.ensures.found.next.not_before, c.requires.fits, ap (λ (e : EchelonValue). e.cols) c.self.view_is)
 
 pub loop-pivot-preserved : goal.loop-pivot-preserved
 loop-pivot-preserved c =
     let there : IsFoundRow c.self.inside.rows.items c.in-Some.pivot c.row_of-index.result = found (goal.at.loop-pivot-preserved c).After-row_of-index in
     let pivot = sym (pivot_at c.self.inside.rows.items c.row_of-index.result c.index-pivot_row.result.now there.within c.index-pivot_row.ensures) ∙ there.pivot in
     let so_far = c.loop-pivot.invariant.so_far in
-    let clearing : IsClearing c.self.inside.field c.self.inside.cols c.index-pivot_row.result.now c.loop-pivot.row c.cancel_from-multiplier.new.self
-    c.cancel_from-multiplier.result =
-    clearing_of _ c.loop-pivot.row.order _ c.index-pivot_row.result.now _ _ _ c.in-Some.pivot so_far.clear.field so_far.clear.over pivot so_far.clear.field
-    c.cancel_from-multiplier.ensures.element c.cancel_from-multiplier.ensures.factor c.cancel_from-multiplier.ensures.sum
-    c.cancel_from-multiplier.ensures.as_long c.cancel_from-multiplier.ensures.well_formed in
+    let clearing : IsClearing c.self.inside.field c.self.inside.cols c.index-pivot_row.result.now c.loop-pivot.row c.add_scaled_from.new.self
+    c.neg-multiplier.result =
+    clearing_of _ c.self.inside.field _ c.index-pivot_row.result.now _ _ _ _ c.in-Some.pivot c.in-Some.entry _ so_far.clear.field so_far.clear.over pivot
+    c.in-Some.ensures.found refl c.neg-multiplier.ensures.element c.neg-multiplier.ensures.value c.add_scaled_from.ensures.sum
+    c.add_scaled_from.ensures.as_long c.add_scaled_from.ensures.well_formed in
     record {
-      fits = omega (arith, place_of_found _ c.loop-pivot.row.entries _ _ c.in-Some.ensures, c.cancel_from-multiplier.ensures.as_long);
+      fits = omega (arith, place_of_found _ c.loop-pivot.row.entries _ _ c.in-Some.ensures.found.next, c.add_scaled_from.ensures.as_long);
       so_far = clear_next _ _ c.self.inside.rows.items c.self.inside.pivots c.loop-pivot.column c.in-Some.pivot c.row_of-index.result
-          c.index-pivot_row.result.now c.args.row.now c.loop-pivot.row c.cancel_from-multiplier.new.self c.loop-pivot.multipliers c.set.new.self
-          c.cancel_from-multiplier.result c.self.invariant so_far c.in-Some.ensures there c.index-pivot_row.ensures clearing c.set.ensures.replaced
+          c.index-pivot_row.result.now c.args.row.now c.loop-pivot.row c.add_scaled_from.new.self c.loop-pivot.multipliers c.set.new.self
+          c.neg-multiplier.result c.self.invariant so_far c.in-Some.ensures.found.next there c.index-pivot_row.ensures clearing c.set.ensures.replaced
           c.set.ensures.well_formed;
     }
 
 pub returns-clause-cleared : goal.returns-clause-cleared
 returns-clause-cleared c = rw (← c.self.view_is) (
-    cleared_by_all _ _ c.self.inside.rows.items c.self.inside.pivots c.loop-pivot.column _ _ _ c.self.invariant c.loop-pivot.invariant.so_far c.in_default.ensures)
+    cleared_by_all _ _ c.self.inside.rows.items c.self.inside.pivots c.loop-pivot.column _ _ _ c.self.invariant c.loop-pivot.invariant.so_far c.in_default.ensures.found)
 
 pub returns-clause-well_formed : goal.returns-clause-well_formed
 returns-clause-well_formed c = rw (← c.self.view_is) (echelon_of_rows _ _ _ c.self.invariant.are_rows)
