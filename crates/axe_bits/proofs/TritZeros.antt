@@ -121,16 +121,6 @@ module _ (a b x : List ℕ) (h : HoldTrits a b) (is : trits a b ≡ x) where
       twice : (e : ℕ) → get_or b e 0 + 2 * get_or a e 0 ≡ (2 * get_or x e 0) % 3
       twice e = omega (arith, trit_of a b x h is e, h.apart e)
 
-multiple_of_zero : (m d : ℕ) → d ≡ 0 → (m * d) % 3 ≡ 0
-multiple_of_zero m d zero = rw zero (omega arith)
-
--- a multiple of digits that are 0 before an index
-pub zeros_of_multiple : (m n : ℕ) (a : List ℕ) → AreZerosBefore a n → AreZerosBefore (multiple_modulo 3 m a) n
-zeros_of_multiple m n a zero e before = elim (cases_lt e (length a)) [
-  | inl inside ↦ get_or-map (λ y. (m * y) % 3) a e 0 0 inside ∙ multiple_of_zero m (get_or a e 0) (zero e before)
-  | inr past ↦ get_or_past (multiple_modulo 3 m a) e 0 (omega (arith, length-map a (λ y. (m * y) % 3)))
-]
-
 reduced_sum : (x y : ℕ) → (x + 1 * (y % 3)) % 3 ≡ (x + y) % 3
 reduced_sum x y = omega arith
 
@@ -144,21 +134,3 @@ added_multiple m x a same =
     ∙ ap (λ y. (get_or x e 0 + 1 * y) % 3) (get_or-map (λ y. (m * y) % 3) a e 0 0 there)
     ∙ reduced_sum (get_or x e 0) (m * get_or a e 0)
     ∙ sym (get_or-digits_with_multiple 3 x m a e here))
-
-reduced_first : (x y : ℕ) → (x + y) % 3 ≡ (x % 3 + y) % 3
-reduced_first x y = omega arith
-
-plus_none : (k x y : ℕ) → k ≡ 0 → (x + k * y) % 3 ≡ x % 3
-plus_none k x y none = rw none (omega arith)
-
--- a multiple by 0 that is added first
-pub none_first : (k m : ℕ) (x a b : List ℕ) → k ≡ 0 → digits_with_multiple 3 x m b ≡ digits_with_multiple 3 (digits_with_multiple 3 x k a) m b
-none_first k m x a b none =
-    ext_get_or 0 _ _
-    (length-digits_with_multiple 3 x m b ∙ sym (length-digits_with_multiple 3 (digits_with_multiple 3 x k a) m b ∙ length-digits_with_multiple 3 x k a)) (λ e inside.
-    let here : e < length x = omega (arith, length-digits_with_multiple 3 x m b) in
-    let there : e < length (digits_with_multiple 3 x k a) = omega (arith, length-digits_with_multiple 3 x k a) in
-    let nothing : (get_or x e 0 + k * get_or a e 0) % 3 ≡ get_or x e 0 % 3 = plus_none k (get_or x e 0) (get_or a e 0) none in
-    get_or-digits_with_multiple 3 x m b e here ∙ reduced_first (get_or x e 0) (m * get_or b e 0)
-    ∙ sym (get_or-digits_with_multiple 3 (digits_with_multiple 3 x k a) m b e there
-    ∙ ap (λ y. (y + m * get_or b e 0) % 3) (get_or-digits_with_multiple 3 x k a e here ∙ nothing)))

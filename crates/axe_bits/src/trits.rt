@@ -11,7 +11,7 @@ ghost use Rattle.axe_bits.specs.Combinations.{digits_with_two};
 ghost use Rattle.axe_layer.specs.Digits.{digits_with_four, digits_with_multiple};
 ghost use Rattle.axe_layer.specs.Digits.{AreSmallSums, numbers_with_multiple, numbers_from, number_bound};
 
-use axe_lane::{WORD, add_multiple_by_nine, add_trits, add4_trits, any_nonzero, dot_trits};
+use axe_lane::{WORD, add_multiple_over_nine, add_trits, add4_trits, any_nonzero, dot_trits};
 use axe_layer::{
     add_digits, bit_in, copy_digits, fill_with_bits, fill_with_part, fill_with_selected,
     next_in_word, numbers_by_digits, set_bit,
@@ -441,7 +441,7 @@ fn add_to_two_halves(
     let width = constant.len() / 2;
     let (ones, twos) = constant.split_at_mut(width);
     let (linear_ones, linear_twos) = linear.split_at_mut(width);
-    add_multiple_by_nine(
+    add_multiple_over_nine(
         &mut ones[first..],
         &mut twos[first..],
         &mut linear_ones[first..],

@@ -1,6 +1,6 @@
 use Rattle.std.proofs.Common.{◌≡◌, arith}
-use Rattle.axe_lane.proofs.trits.add_multiple_by_nine.Goals.{in-0, in-1, in-2, in-3, in-4, in-5, in-6, in-7, in_default}
-use Rattle.axe_lane.proofs.trits.add_multiple_by_nine.Goals as goal
+use Rattle.axe_lane.proofs.trits.add_multiple_over_nine.Goals.{in-0, in-1, in-2, in-3, in-4, in-5, in-6, in-7, in_default}
+use Rattle.axe_lane.proofs.trits.add_multiple_over_nine.Goals as goal
 
 pub returns-clause-constant : goal.returns-clause-constant
 returns-clause-constant c =
