@@ -47,9 +47,9 @@ impl Row {
         self.entry_by_planes(start, places)
     }
 
-    /// The next entry among places over a prime field, by the word in which the index stands. It stands apart, as the
-    /// search over the other fields does, so that a caller is short.
-    #[inline(never)]
+    /// The next entry among places over a prime field, by the word in which the index stands: mostly it is found in fewer
+    /// instructions than a call takes.
+    #[inline(always)]
     fn entry_of_plane(&self, start: usize, places: &BitPlane) -> (usize, u8)
         requires start { start ≤ length self.now.entries }
         requires fits { length places.now ≡ length self.now.entries }
@@ -69,7 +69,7 @@ impl Row {
     }
 
     /// The next entry among places over a field that is not prime, by the words of its planes in which the index
-    /// stands.
+    /// stands. It stands apart so that a caller is short.
     #[inline(never)]
     fn entry_by_planes(&self, start: usize, places: &BitPlane) -> (usize, u8)
         requires start { start ≤ length self.now.entries }
