@@ -7,7 +7,7 @@
 
 ghost use Rattle.std.specs.Cmp.{partial_equiv_from_equiv};
 ghost use Rattle.std.specs.Ordering.{on};
-ghost use Rattle.std.specs.Prelude.{◌≡◌, ◌≢◌, ℕ, ◌↔◌, ◌^◌, ◌<◌, ◌≤◌, ◌+◌, ◌%◌, nat_eq, IfOk, OnErr, IsTrue};
+ghost use Rattle.std.specs.Prelude.{◌≡◌, ◌≢◌, ℕ, ◌↔◌, ◌^◌, ◌<◌, ◌≤◌, ◌+◌, ◌%◌, nat_eq, slice_index, IfOk, OnErr, IsTrue};
 ghost use Rattle.std.proofs.lemmas.Cmp.{nat_eq_equiv, on_equiv};
 ghost use Rattle.axe_field.specs.Order.{Order, order_number, prime_of, degree_of, conway, IsElement};
 ghost use Rattle.axe_field.specs.Arithmetic.{polynomial_of, polynomial_product, IsRemainder, field_add, field_neg};
@@ -166,6 +166,16 @@ impl Field {
         ensures element { result < order_number self.now }
     {
         self.tables().negatives[usize::from(element)]
+    }
+
+    /// The negatives of the elements, by their numbers, so that a loop looks a table up once.
+    #[inline]
+    pub fn negatives(&self) -> &'static [u8; 9]
+        ensures values { (a : ℕ) → IsElement self.now a → slice_index result.now a ≡ field_neg self.now a }
+        ensures elements { (a : ℕ) → IsElement self.now a → IsElement self.now (slice_index result.now a) }
+        ensures at_most_nine { order_number self.now ≤ 9 }
+    {
+        &self.tables().negatives
     }
 
     /// The product of two elements.
