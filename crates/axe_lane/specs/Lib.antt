@@ -3,3 +3,4 @@ pub mod Bytes
 pub mod Entries
 pub mod Trits
 pub mod Runs
+pub mod Multiples

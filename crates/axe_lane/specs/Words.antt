@@ -1,6 +1,6 @@
 -- Lists of 64-bit words as rows of bits: bit i of a list is bit i mod 64 of its word i / 64, the lowest bit being bit
 -- 0.
-use Rattle.std.specs.Prelude.{◌≡◌, ℕ, ◌/◌, ◌%◌, ◌<◌, List, length, map, slice_index, sum, bit_and, bit_xor, count_ones}
+use Rattle.std.specs.Prelude.{◌≡◌, ℕ, ◌*◌, ◌-◌, ◌/◌, ◌%◌, ◌^◌, ◌<◌, List, length, map, slice_index, sum, bit_and, bit_xor, count_ones}
 use Rattle.std.specs.Int.{bit_at}
 use Rattle.std.specs.Simd.Lanes.{zip2}
 
@@ -19,6 +19,14 @@ masked_sum_of_two masks a b = xor_of_words (masked (slice_index masks 0) a) (mas
 -- the sum of three such rows
 abbrev pub masked_sum_of_three : List ℕ → List ℕ → List ℕ → List ℕ → List ℕ
 masked_sum_of_three masks a b c = xor_of_words (masked_sum_of_two masks a b) (masked (slice_index masks 2) c)
+
+-- the word of which all 64 bits are a digit modulo 2
+abbrev pub mask_of : ℕ → ℕ
+mask_of digit = digit * (2 ^ 64 - 1)
+
+-- the masks of factors modulo 2
+abbrev pub masks_of : List ℕ → List ℕ
+masks_of factors = map mask_of factors
 
 -- bit e of a list of words: bit e mod 64 of word e / 64, where bit 0 is the lowest
 unfoldable pub bit_of : List ℕ → ℕ → ℕ

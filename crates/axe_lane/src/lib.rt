@@ -17,6 +17,6 @@ pub use digits::{add_bits, add_to_each, end_of_run};
 pub use masks::{bits_of_bytes, support_of_bytes};
 pub use trits::{add_multiple_over_nine, add_trits, add4_trits, dot_trits};
 pub use words::{
-    WORD, any_nonzero, first_set, parity_and, put_xor, xor_into, xor_masked_into_three,
-    xor_masked_into_two, xor4_into,
+    WORD, any_nonzero, first_set, parity_and, put_xor, xor_into, xor_multiple_over_eight,
+    xor_multiple_over_four, xor4_into,
 };

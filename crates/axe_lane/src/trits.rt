@@ -70,6 +70,7 @@ pub fn add4_trits(
 /// Adds to each of two rows over the field of order 3 a combination of two others, in one pass: the constant and the
 /// linear coefficients of the multiple by p + q x of the row over the field of order 9 with these coefficients, where
 /// x^2 is x + 1.
+#[inline(always)]
 pub fn add_multiple_over_nine(
     ones: &mut [u64],
     twos: &mut [u64],

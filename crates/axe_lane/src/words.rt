@@ -4,7 +4,9 @@ ghost use Rattle.std.specs.Prelude.{MatchOption, slice_index, slice_set};
 ghost use Rattle.std.specs.Simd.Lanes.{chunk, put_chunk, zip2};
 ghost use Rattle.axe_lane.specs.Entries.{AreZerosBefore, HasNonzero, IsFirstNonzero};
 ghost use Rattle.axe_lane.specs.Words.{common_bits, xor_of_words, HasNoSetBitBefore, IsFirstSetBit};
-ghost use Rattle.axe_lane.specs.Words.{masked_sum_of_two, masked_sum_of_three};
+ghost use Rattle.axe_lane.specs.Words.{masked_sum_of_two, masked_sum_of_three, masks_of};
+ghost use Rattle.axe_lane.specs.Multiples.{to_constant_of_two, to_linear_of_two};
+ghost use Rattle.axe_lane.specs.Multiples.{to_constant_of_three, to_linear_of_three, to_quadratic_of_three};
 
 use std::simd::prelude::*;
 
@@ -20,6 +22,9 @@ const SUM_BLOCK: usize = 4;
 
 /// How many words a pair has.
 const PAIR: usize = 2;
+
+/// The mask of all bits of a word.
+const ALL: u64 = u64::MAX;
 
 /// Makes each word of `dst` its exclusive or with the word of `src` at the same index: the sum of two rows over the
 /// field of order 2.
@@ -87,7 +92,8 @@ pub fn xor4_into(dst: &mut [u64], a: &[u64], b: &[u64], c: &[u64], d: &[u64])
 /// Adds combinations of two rows over the field of order 2 to each of two others, in one pass: each word of `first`
 /// becomes its exclusive or with those bits of the words of `a` and `b` at the same index that the masks for it have,
 /// and each word of `second` by its own masks.
-pub fn xor_masked_into_two(
+#[inline(always)]
+fn xor_masked_into_two(
     first: &mut [u64],
     second: &mut [u64],
     to_first: [u64; 2],
@@ -118,7 +124,8 @@ pub fn xor_masked_into_two(
 
 /// Adds combinations of three rows over the field of order 2 to each of three others, in one pass, as
 /// [`xor_masked_into_two`] does.
-pub fn xor_masked_into_three(
+#[inline(always)]
+fn xor_masked_into_three(
     first: &mut [u64],
     second: &mut [u64],
     third: &mut [u64],
@@ -153,6 +160,80 @@ pub fn xor_masked_into_three(
         xor_masked_word_of_three(first, to_first, a, b, c, rest);
         xor_masked_word_of_three(second, to_second, a, b, c, rest);
         xor_masked_word_of_three(third, to_third, a, b, c, rest);
+    }
+}
+
+/// Adds to a row over the field of order 4 the multiple by p + q x of another, in one pass, where x^2 is x + 1: to its
+/// constant coefficients, `first`, and to its linear ones, `second`, where `a` and `b` are those of the other row. The
+/// masks of each factor are constants, so that each has a loop without masks.
+#[inline]
+pub fn xor_multiple_over_four(
+    first: &mut [u64],
+    second: &mut [u64],
+    p: u8,
+    q: u8,
+    a: &[u64],
+    b: &[u64],
+)
+    requires p { p < 2 }
+    requires q { q < 2 }
+    requires second_fits { length second.old ≡ length first.old }
+    requires a_fits { length a.now ≡ length first.old }
+    requires b_fits { length b.now ≡ length first.old }
+    ensures constant { first.new
+        ≡ xor_of_words first.old (masked_sum_of_two (masks_of (to_constant_of_two p q)) a.now b.now) }
+    ensures linear { second.new
+        ≡ xor_of_words second.old (masked_sum_of_two (masks_of (to_linear_of_two 2 p q)) a.now b.now) }
+{
+    let m = ALL;
+    match p + 2 * q {
+        0 => {}
+        1 => xor_masked_into_two(first, second, [m, 0], [0, m], a, b),
+        2 => xor_masked_into_two(first, second, [0, m], [m, m], a, b),
+        _ => xor_masked_into_two(first, second, [m, m], [m, 0], a, b),
+    }
+}
+
+/// Adds to a row over the field of order 8 the multiple by p + q x + r x^2 of another, in one pass, where x^3 is x + 1,
+/// as [`xor_multiple_over_four`] does over that of order 4.
+#[inline]
+pub fn xor_multiple_over_eight(
+    first: &mut [u64],
+    second: &mut [u64],
+    third: &mut [u64],
+    p: u8,
+    q: u8,
+    r: u8,
+    a: &[u64],
+    b: &[u64],
+    c: &[u64],
+)
+    requires p { p < 2 }
+    requires q { q < 2 }
+    requires r { r < 2 }
+    requires second_fits { length second.old ≡ length first.old }
+    requires third_fits { length third.old ≡ length first.old }
+    requires a_fits { length a.now ≡ length first.old }
+    requires b_fits { length b.now ≡ length first.old }
+    requires c_fits { length c.now ≡ length first.old }
+    ensures constant { first.new
+        ≡ xor_of_words first.old (masked_sum_of_three (masks_of (to_constant_of_three p q r)) a.now b.now c.now) }
+    ensures linear { second.new
+        ≡ xor_of_words second.old (masked_sum_of_three (masks_of (to_linear_of_three p q r)) a.now b.now c.now) }
+    ensures quadratic { third.new
+        ≡ xor_of_words third.old (masked_sum_of_three (masks_of (to_quadratic_of_three p q r)) a.now b.now c.now) }
+{
+    let (s, t, u) = (first, second, third);
+    let m = ALL;
+    match p + 2 * q + 4 * r {
+        0 => {}
+        1 => xor_masked_into_three(s, t, u, [m, 0, 0], [0, m, 0], [0, 0, m], a, b, c),
+        2 => xor_masked_into_three(s, t, u, [0, 0, m], [m, 0, m], [0, m, 0], a, b, c),
+        3 => xor_masked_into_three(s, t, u, [m, 0, m], [m, m, m], [0, m, m], a, b, c),
+        4 => xor_masked_into_three(s, t, u, [0, m, 0], [0, m, m], [m, 0, m], a, b, c),
+        5 => xor_masked_into_three(s, t, u, [m, m, 0], [0, 0, m], [m, 0, 0], a, b, c),
+        6 => xor_masked_into_three(s, t, u, [0, m, m], [m, m, 0], [m, m, m], a, b, c),
+        _ => xor_masked_into_three(s, t, u, [m, m, m], [m, 0, 0], [m, m, 0], a, b, c),
     }
 }
 
