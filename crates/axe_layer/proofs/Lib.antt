@@ -18,3 +18,5 @@ pub mod BlockBits
 pub mod SupportLaws
 pub mod LowestBits
 pub mod FourPlaces
+pub mod LaneBits
+pub mod LaneSums

@@ -4,3 +4,4 @@ pub mod Packed
 pub mod Words
 pub mod Earlier
 pub mod Supports
+pub mod Lanes

@@ -4,6 +4,7 @@
 
 mod base_three;
 mod blocks;
+mod lanes;
 mod layer;
 mod packed;
 mod parts;
@@ -11,6 +12,7 @@ mod places;
 mod supports;
 
 pub use blocks::transposed_block;
+pub use lanes::packed_numbers;
 pub use layer::{
     add_digits, bit_in, copy_digits, fill_with_bits, fill_with_part, fill_with_selected, next_in,
     number_in, numbers_by_digits, numbers_in, set_bit,
