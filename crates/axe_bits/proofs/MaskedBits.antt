@@ -4,21 +4,20 @@ use Rattle.std.specs.Int.Bits.{xor_assoc}
 use Rattle.std.specs.Int.RustNames.{bit_and, bit_xor}
 use Rattle.std.specs.Simd.Lanes.{zip2}
 use Rattle.std.proofs.lemmas.Bool.{cases_eq}
-use Rattle.std.proofs.lemmas.List.{ext_get_or, length-replicate}
+use Rattle.std.proofs.lemmas.List.{ext_get_or, get_or-map, length-replicate}
 use Rattle.std.proofs.lemmas.Nat.{and_le_l, and_le_r, and_mask}
 use Rattle.std.proofs.Math.Nat.{mod-eq_of_lt}
-use Rattle.axe_lane.specs.Bytes.{AreDigits}
 use Rattle.axe_lane.specs.Entries.{AreZerosBefore}
-use Rattle.axe_lane.specs.Words.{masked, masked_sum_of_two, masked_sum_of_three}
+use Rattle.axe_lane.specs.Words.{mask_of, masked, masked_sum_of_two, masked_sum_of_three, masks_of}
 use Rattle.axe_lane.proofs.FiveRows.{associative}
 use Rattle.axe_lane.proofs.MaskedRows.{length-masked, get_or-masked, two_long, three_long, chunk-two, chunk-three, get_or-two, get_or-three}
 use Rattle.axe_layer.specs.Bits.{bits, HoldsBits}
 use Rattle.axe_layer.specs.Digits.{digits_with_multiple}
 use Rattle.axe_layer.proofs.BitLaws.{zeros, get_or-zeros, bits-zeros, HoldsBits-zeros, bits-xor, HoldsBits-xor}
-use Rattle.axe_layer.proofs.DigitLaws.{length-digits_with_multiple, digit-below, get_or-digits_with_multiple}
+use Rattle.axe_layer.proofs.DigitLaws.{length-digits_with_multiple, get_or-digits_with_multiple}
 use Rattle.axe_layer.proofs.EndLaws.{zero_words_before, word_within}
 use Rattle.axe_bits.proofs.EndSums.{HoldsDigits, added}
-use Rattle.axe_bits.specs.Combinations.{digits_with_two, digits_with_multiples, mask_of}
+use Rattle.axe_bits.specs.Combinations.{digits_with_two, digits_with_multiples}
 
 -- no bit of a word, and all 64
 and_none : (x : ℕ) → bit_and x 0 ≡ 0
@@ -84,8 +83,8 @@ pub record Masks (factors masks : List ℕ) (k : ℕ) : Type 0 where
   pub small : get_or factors k 0 < 2
   pub is : get_or masks k 0 ≡ mask_of (get_or factors k 0)
 
-pub mask_stands : (factors masks : List ℕ) (k : ℕ) → AreDigits 2 factors → get_or masks k 0 ≡ mask_of (get_or factors k 0) → Masks factors masks k
-mask_stands factors masks k digits is = record { small = digit-below 2 factors k (omega arith) digits; is = is }
+pub mask_stands : (factors : List ℕ) (k : ℕ) → k < length factors → get_or factors k 0 < 2 → Masks factors (masks_of factors) k
+mask_stands factors k inside small = record { small = small; is = get_or-map mask_of factors k 0 0 inside }
 
 module _ (n : ℕ) (factors masks a b : List ℕ) (ha : HoldsBits n a) (hb : HoldsBits n b) (m0 : Masks factors masks 0) (m1 : Masks factors masks 1) where
   left : HoldsBits n (masked (get_or masks 0 0) a)

@@ -1,7 +1,10 @@
 -- The numbers that have digits modulo 3 of a list, from those of its two layers.
-use Rattle.std.proofs.Common.{◌≡◌, ℕ, ◌+◌, ◌*◌, ◌<◌, ◌≤◌, List, [], ◌∷◌, length, get_or, sym, ap, ap₂, subst, ◌∙◌, arith}
+use Rattle.std.proofs.Common.{◌≡◌, ℕ, ◌+◌, ◌*◌, ◌<◌, ◌≤◌, List, [], ◌∷◌, length, get_or, refl, sym, ap, ap₂, subst, ◌∙◌, arith}
 use Rattle.axe_layer.specs.Digits.{number_bound, number_from, numbers_from}
-use Rattle.axe_bits.specs.Trits.{trits, HoldTrits}
+use Rattle.axe_layer.specs.Bits.{bits}
+use Rattle.axe_layer.specs.Lanes.{in_lanes}
+use Rattle.axe_bits.specs.Trits.{trits, HoldLayers, HoldTrits}
+use Rattle.axe_layer.proofs.LaneSums.{lanes_sum}
 use Rattle.axe_layer.proofs.PieceDigits.{with_values, with_values-same, with_values-small, with_values-sum, count_from, number_from-values, same_four, four_small}
 use Rattle.axe_bits.proofs.TritPlaneLaws.{trits_long, trits_at}
 
@@ -51,3 +54,19 @@ four_numbers_small q size at a b x ones twos h is left right base short i =
   where
     small : (at : ℕ) → number_from q size at x < number_bound
     small at = number_small q size at a b x h is base short
+
+-- ---- in the lanes of a word
+
+-- a word of the numbers of a layer of words
+abbrev pub ArePackedNumbers : ℕ → ℕ → ℕ → List ℕ → ℕ → Type 0
+ArePackedNumbers q size at words packed = (n : ℕ) → at + 4 * size ≤ n → packed ≡ in_lanes (numbers_from q size at (bits n words))
+
+pub packed_layers : (q size at ones twos : ℕ) (a b x : List ℕ) → HoldLayers (length x) a b →
+    trits (bits (length x) a) (bits (length x) b) ≡ x → at + 4 * size ≤ length x →
+    ArePackedNumbers q size at a ones → ArePackedNumbers q size at b twos →
+    ones + 2 * twos ≡ in_lanes (numbers_from q size at x)
+packed_layers q size at ones twos a b x h is inside left right =
+    let n = length x in
+    ap₂ (λ u v. u + 2 * v) (left n inside) (right n inside)
+    ∙ lanes_sum 2 _ _ _ _ _ _ _ _
+    ∙ ap in_lanes (four_numbers q size at (bits n a) (bits n b) x _ _ h.together is refl refl)

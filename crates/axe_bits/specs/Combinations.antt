@@ -1,5 +1,5 @@
 -- Lists of digits modulo a prime plus multiples of a few others.
-use Rattle.std.specs.Prelude.{ℕ, ◌*◌, ◌-◌, ◌^◌, List, slice_index}
+use Rattle.std.specs.Prelude.{ℕ, List, slice_index}
 use Rattle.axe_layer.specs.Digits.{digits_with_multiple}
 
 -- a list of digits plus multiples of two others, modulo p, digit by digit
@@ -13,7 +13,3 @@ digits_with_multiples p x factors a b c =
     digits_with_multiple p
     (digits_with_multiple p (digits_with_multiple p x (slice_index factors 0) a) (slice_index factors 1) b)
     (slice_index factors 2) c
-
--- the word of which all 64 bits are a digit modulo 2
-abbrev pub mask_of : ℕ → ℕ
-mask_of digit = digit * (2 ^ 64 - 1)

@@ -8,17 +8,20 @@ ghost use Rattle.axe_layer.specs.Bits.{bits, HoldsBits};
 ghost use Rattle.axe_layer.specs.Digits.{digits_at, digits_with_four, digits_with_multiple};
 ghost use Rattle.axe_layer.specs.Digits.{AreSmallSums, numbers_with_multiple};
 ghost use Rattle.axe_layer.specs.Digits.{number_from, numbers_from, number_bound};
-ghost use Rattle.axe_bits.specs.Combinations.{digits_with_two, digits_with_multiples, mask_of};
+ghost use Rattle.axe_layer.specs.Lanes.{in_lanes};
+ghost use Rattle.axe_lane.specs.Multiples.{to_constant_of_two, to_linear_of_two};
+ghost use Rattle.axe_lane.specs.Multiples.{to_constant_of_three, to_linear_of_three, to_quadratic_of_three};
+ghost use Rattle.axe_bits.specs.Combinations.{digits_with_two, digits_with_multiples};
 ghost use Rattle.axe_layer.specs.Packed.{packed_bit};
 
 use axe_lane::{
-    WORD, any_nonzero, first_set, parity_and, xor_into, xor_masked_into_three, xor_masked_into_two,
-    xor4_into,
+    WORD, any_nonzero, first_set, parity_and, xor_into, xor_multiple_over_eight,
+    xor_multiple_over_four, xor4_into,
 };
 use axe_layer::{
     WORD_BYTES, add_digits, bit_in, copy_digits, fill_with_bits, fill_with_part,
-    fill_with_selected, lowest, next_in, number_in, numbers_in, packed_word, set_bit,
-    word_of_packed,
+    fill_with_selected, lowest, next_in, number_in, numbers_in, packed_numbers, packed_word,
+    set_bit, word_of_packed,
 };
 use std::alloc::{AllocError, Global};
 use std::marker::Model;
@@ -124,6 +127,20 @@ impl BitPlane {
         numbers_in(&self.words, self.len, base, size, at)
     }
 
+    /// Four numbers in a base up to 9, each in a lane of 16 bits of a word, the digits of each being one or two of the
+    /// plane's, most significant first: those of the pieces of `size` digits one after another from an index on.
+    #[inline(always)]
+    pub fn packed_numbers(&self, base: u64, size: usize, at: usize) -> u64
+        requires base { base ≤ 9 }
+        requires some { 1 ≤ size }
+        requires few { size ≤ 2 }
+        requires within { at + 4 * size ≤ length self.now }
+        ensures value { result ≡ in_lanes (numbers_from base size at self.now) }
+        ensures small { result < 2 ^ 52 }
+    {
+        packed_numbers(&self.words, base, size, at)
+    }
+
     /// Makes a digit the one at an index; all others stay. From the length on there is none to be changed.
     pub fn set(&mut self, index: usize, digit: u8)
         requires { digit < 2 }
@@ -219,79 +236,83 @@ impl BitPlane {
         xor_into(&mut self.words[first..], &other.words[first..]);
     }
 
-    /// Adds combinations of two planes to each of two others, all of one length: the multiples of `a` and `b` by the
-    /// factors for it are added to each, modulo 2. Digits of `a` and `b` before an index are 0, and the words before
-    /// that of the index are not looked at.
-    #[inline]
-    pub fn add_to_two(
+    /// Adds to a row over the field of order 4 the multiple by p + q x of another of its length, where x^2 is x + 1: to
+    /// the planes of its coefficients of 1 and of x, by those of the other row, `a` and `b`. Digits of `a` and `b`
+    /// before an index are 0, and the words before that of the index are not looked at.
+    #[inline(always)]
+    pub fn add_multiple_of_two(
         first: &mut BitPlane,
         second: &mut BitPlane,
         start: usize,
-        to_first: [u8; 2],
-        to_second: [u8; 2],
+        p: u8,
+        q: u8,
         a: &BitPlane,
         b: &BitPlane,
     )
         requires within { start ≤ length first.old }
+        requires p { p < 2 }
+        requires q { q < 2 }
         requires second_fits { length second.old ≡ length first.old }
         requires a_fits { length a.now ≡ length first.old }
         requires b_fits { length b.now ≡ length first.old }
-        requires to_first { AreDigits 2 to_first }
-        requires to_second { AreDigits 2 to_second }
         requires a_zeros { AreZerosBefore a.now start }
         requires b_zeros { AreZerosBefore b.now start }
-        ensures first { first.new ≡ digits_with_two 2 first.old to_first a.now b.now }
-        ensures second { second.new ≡ digits_with_two 2 second.old to_second a.now b.now }
+        ensures first { first.new ≡ digits_with_two 2 first.old (to_constant_of_two p q) a.now b.now }
+        ensures second { second.new ≡ digits_with_two 2 second.old (to_linear_of_two 2 p q) a.now b.now }
     {
         let from = start / WORD;
-        xor_masked_into_two(
+        xor_multiple_over_four(
             &mut first.words[from..],
             &mut second.words[from..],
-            masks_of_two(to_first),
-            masks_of_two(to_second),
+            p,
+            q,
             &a.words[from..],
             &b.words[from..],
         );
     }
 
-    /// Adds combinations of three planes to each of three others, as [`BitPlane::add_to_two`] does of two.
-    #[inline]
-    pub fn add_to_three(
+    /// Adds to a row over the field of order 8 the multiple by p + q x + r x^2 of another of its length, where x^3 is
+    /// x + 1, as [`BitPlane::add_multiple_of_two`] does over that of order 4.
+    #[inline(always)]
+    pub fn add_multiple_of_three(
         first: &mut BitPlane,
         second: &mut BitPlane,
         third: &mut BitPlane,
         start: usize,
-        to_first: [u8; 3],
-        to_second: [u8; 3],
-        to_third: [u8; 3],
+        p: u8,
+        q: u8,
+        r: u8,
         a: &BitPlane,
         b: &BitPlane,
         c: &BitPlane,
     )
         requires within { start ≤ length first.old }
+        requires p { p < 2 }
+        requires q { q < 2 }
+        requires r { r < 2 }
         requires second_fits { length second.old ≡ length first.old }
         requires third_fits { length third.old ≡ length first.old }
         requires a_fits { length a.now ≡ length first.old }
         requires b_fits { length b.now ≡ length first.old }
         requires c_fits { length c.now ≡ length first.old }
-        requires to_first { AreDigits 2 to_first }
-        requires to_second { AreDigits 2 to_second }
-        requires to_third { AreDigits 2 to_third }
         requires a_zeros { AreZerosBefore a.now start }
         requires b_zeros { AreZerosBefore b.now start }
         requires c_zeros { AreZerosBefore c.now start }
-        ensures first { first.new ≡ digits_with_multiples 2 first.old to_first a.now b.now c.now }
-        ensures second { second.new ≡ digits_with_multiples 2 second.old to_second a.now b.now c.now }
-        ensures third { third.new ≡ digits_with_multiples 2 third.old to_third a.now b.now c.now }
+        ensures first { first.new
+            ≡ digits_with_multiples 2 first.old (to_constant_of_three p q r) a.now b.now c.now }
+        ensures second { second.new
+            ≡ digits_with_multiples 2 second.old (to_linear_of_three p q r) a.now b.now c.now }
+        ensures third { third.new
+            ≡ digits_with_multiples 2 third.old (to_quadratic_of_three p q r) a.now b.now c.now }
     {
         let from = start / WORD;
-        xor_masked_into_three(
+        xor_multiple_over_eight(
             &mut first.words[from..],
             &mut second.words[from..],
             &mut third.words[from..],
-            masks_of_three(to_first),
-            masks_of_three(to_second),
-            masks_of_three(to_third),
+            p,
+            q,
+            r,
             &a.words[from..],
             &b.words[from..],
             &c.words[from..],
@@ -375,34 +396,4 @@ impl BitPlane {
     {
         self.len == other.len && self.words == other.words
     }
-}
-
-/// The mask of all bits where a factor modulo 2 is 1, and of none where it is 0.
-#[inline(always)]
-fn mask(factor: u8) -> u64
-    requires { factor < 2 }
-    ensures { result ≡ mask_of factor }
-{
-    0u64.wrapping_sub(u64::from(factor))
-}
-
-/// The masks of two factors.
-#[inline(always)]
-fn masks_of_two(factors: [u8; 2]) -> [u64; 2]
-    requires { AreDigits 2 factors }
-    ensures first { slice_index result 0 ≡ mask_of (slice_index factors 0) }
-    ensures second { slice_index result 1 ≡ mask_of (slice_index factors 1) }
-{
-    [mask(factors[0]), mask(factors[1])]
-}
-
-/// The masks of three factors.
-#[inline(always)]
-fn masks_of_three(factors: [u8; 3]) -> [u64; 3]
-    requires { AreDigits 2 factors }
-    ensures first { slice_index result 0 ≡ mask_of (slice_index factors 0) }
-    ensures second { slice_index result 1 ≡ mask_of (slice_index factors 1) }
-    ensures third { slice_index result 2 ≡ mask_of (slice_index factors 2) }
-{
-    [mask(factors[0]), mask(factors[1]), mask(factors[2])]
 }

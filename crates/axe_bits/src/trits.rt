@@ -7,14 +7,16 @@ ghost use Rattle.axe_lane.specs.Entries.{IsFirstNonzero, AreZerosBefore, AreZero
 ghost use Rattle.axe_layer.specs.Bits.{bits};
 ghost use Rattle.axe_lane.specs.Trits.{AreTrits, AreTritsOf, HasMultiplesOfTwo, IsTritSum, IsTritSumOfFive};
 ghost use Rattle.axe_bits.specs.Trits.{trits, first_half, second_half, AreZeroLayersBefore, HoldLayers};
+ghost use Rattle.axe_lane.specs.Multiples.{to_constant_of_two, to_linear_of_two};
 ghost use Rattle.axe_bits.specs.Combinations.{digits_with_two};
 ghost use Rattle.axe_layer.specs.Digits.{digits_with_four, digits_with_multiple};
 ghost use Rattle.axe_layer.specs.Digits.{AreSmallSums, numbers_with_multiple, numbers_from, number_bound};
+ghost use Rattle.axe_layer.specs.Lanes.{in_lanes};
 
 use axe_lane::{WORD, add_multiple_over_nine, add_trits, add4_trits, any_nonzero, dot_trits};
 use axe_layer::{
     add_digits, bit_in, copy_digits, fill_with_bits, fill_with_part, fill_with_selected,
-    next_in_word, numbers_by_digits, set_bit,
+    next_in_word, numbers_by_digits, packed_numbers, set_bit,
 };
 use std::alloc::{AllocError, Global};
 use std::marker::Model;
@@ -104,6 +106,21 @@ impl TritPlane {
             ones[2] + 2 * twos[2],
             ones[3] + 2 * twos[3],
         ]
+    }
+
+    /// Four numbers in a base up to 9, each in a lane of 16 bits of a word, the digits of each being one or two of the
+    /// plane's, most significant first: those of the pieces of `size` digits one after another from an index on.
+    #[inline(always)]
+    pub fn packed_numbers(&self, base: u64, size: usize, at: usize) -> u64
+        requires base { base ≤ 9 }
+        requires some { 1 ≤ size }
+        requires few { size ≤ 2 }
+        requires within { at + 4 * size ≤ length self.now }
+        ensures value { result ≡ in_lanes (numbers_from base size at self.now) }
+        ensures small { result < 2 ^ 54 }
+    {
+        let (ones, twos) = self.layers();
+        packed_numbers(ones, base, size, at) + 2 * packed_numbers(twos, base, size, at)
     }
 
     /// Makes a digit the one at an index; all others stay. From the length on there is none to be changed.
@@ -206,44 +223,33 @@ impl TritPlane {
         self.add_layers(start, factor, ones, twos);
     }
 
-    /// Adds combinations of two planes to each of two others, all of one length: the multiples of `a` and `b` by the
-    /// factors for it are added to each, modulo 3. Digits of `a` and `b` before an index are 0, and the words before
-    /// that of the index are not looked at. Where the factors are those of a multiple over the field of order 9, the
-    /// words are gone over once.
-    #[inline]
-    pub fn add_to_two(
+    /// Adds to a row over the field of order 9 the multiple by p + q x of another of its length, where x^2 is x + 1: to
+    /// the planes of its coefficients of 1 and of x, by those of the other row, `a` and `b`. Digits of `a` and `b`
+    /// before an index are 0, and the words before that of the index are not looked at.
+    #[inline(always)]
+    pub fn add_multiple_of_two(
         first: &mut TritPlane,
         second: &mut TritPlane,
         start: usize,
-        to_first: [u8; 2],
-        to_second: [u8; 2],
+        p: u8,
+        q: u8,
         a: &TritPlane,
         b: &TritPlane,
     )
         requires within { start ≤ length first.old }
+        requires p { p < 3 }
+        requires q { q < 3 }
         requires second_fits { length second.old ≡ length first.old }
         requires a_fits { length a.now ≡ length first.old }
         requires b_fits { length b.now ≡ length first.old }
-        requires to_first { AreDigits 3 to_first }
-        requires to_second { AreDigits 3 to_second }
         requires a_zeros { AreZerosBefore a.now start }
         requires b_zeros { AreZerosBefore b.now start }
-        ensures first { first.new ≡ digits_with_two 3 first.old to_first a.now b.now }
-        ensures second { second.new ≡ digits_with_two 3 second.old to_second a.now b.now }
+        ensures first { first.new ≡ digits_with_two 3 first.old (to_constant_of_two p q) a.now b.now }
+        ensures second { second.new ≡ digits_with_two 3 second.old (to_linear_of_two 3 p q) a.now b.now }
     {
-        let (p, q) = (to_first[0], to_first[1]);
-        let (r, s) = (to_second[0], to_second[1]);
-        let sum = (p + q) % 3;
-        if r == q && s == sum {
-            let from = start / WORD;
-            let (a, b) = (a.layers(), b.layers());
-            add_to_two_halves(&mut first.words, &mut second.words, from, p, q, a, b);
-        } else {
-            first.add_scaled_from(start, p, a);
-            first.add_scaled_from(start, q, b);
-            second.add_scaled_from(start, r, a);
-            second.add_scaled_from(start, s, b);
-        }
+        let from = start / WORD;
+        let (a, b) = (a.layers(), b.layers());
+        add_to_two_halves(&mut first.words, &mut second.words, from, p, q, a, b);
     }
 
     /// Adds a multiple of the digits that two layers of as many bits hold, which are 0 before an index. Twice a digit

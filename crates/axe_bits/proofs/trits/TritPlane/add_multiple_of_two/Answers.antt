@@ -1,15 +1,13 @@
-use Rattle.std.proofs.Common.{◌+◌, ◌%◌, ◌∙◌, List, ℕ, length, slice_index, subst, sym, ap, ap₂, lit<, arith}
+use Rattle.std.proofs.Common.{◌+◌, ◌%◌, ◌∙◌, List, ℕ, length, subst, sym, ap, arith}
 use Rattle.axe_lane.specs.Entries.{AreZerosBefore}
 use Rattle.axe_lane.specs.Trits.{AreTrits}
-use Rattle.axe_layer.specs.Digits.{digits_with_multiple}
 use Rattle.axe_bits.specs.Combinations.{digits_with_two}
 use Rattle.axe_bits.specs.Trits.{first_half, second_half}
-use Rattle.axe_layer.proofs.DigitLaws.{digit-below, length-digits_with_multiple}
 use Rattle.axe_bits.proofs.TritEnds.{zero_layers_before}
 use Rattle.axe_bits.proofs.TritHalves.{halves_long, halves_wide}
 use Rattle.axe_bits.proofs.TritMultiples.{half_trits-multiples, HalvesHold-multiples}
 use Rattle.axe_bits.proofs.TritWords.{layers_are_trits}
-use Rattle.axe_bits.proofs.trits.TritPlane.add_to_two.Goals as goal
+use Rattle.axe_bits.proofs.trits.TritPlane.add_multiple_of_two.Goals as goal
 
 pub add_to_two_halves-requires-clause-within : goal.add_to_two_halves-requires-clause-within
 add_to_two_halves-requires-clause-within c =
@@ -25,7 +23,7 @@ add_to_two_halves-requires-clause-fits c =
       ap length c.deref_mut.ensures.value,
       halves_wide _ _ c.second.invariant,
       halves_long _ _ _ c.second.view_is,
-      ap length c.deref_mut-then-s-sum.ensures.value,
+      ap length c.deref_mut-2.ensures.value,
     )
 
 pub add_to_two_halves-requires-clause-constant : goal.add_to_two_halves-requires-clause-constant
@@ -34,7 +32,7 @@ add_to_two_halves-requires-clause-constant c =
 
 pub add_to_two_halves-requires-clause-linear : goal.add_to_two_halves-requires-clause-linear
 add_to_two_halves-requires-clause-linear c =
-    subst (λ (v : List ℕ). AreTrits (first_half v) (second_half v)) (sym c.deref_mut-then-s-sum.ensures.value)
+    subst (λ (v : List ℕ). AreTrits (first_half v) (second_half v)) (sym c.deref_mut-2.ensures.value)
     (layers_are_trits _ _ _ c.second.invariant)
 
 pub add_to_two_halves-requires-clause-a : goal.add_to_two_halves-requires-clause-a
@@ -77,80 +75,34 @@ add_to_two_halves-requires-clause-b_zeros c =
 
 pub invariant_of-first : goal.invariant_of-first
 invariant_of-first c =
-    HalvesHold-multiples _ _ (slice_index c.args.to_first 0) (slice_index c.args.to_first 1) _ _ _ _ _ _ _ _ _ _ c.first.invariant c.first.view_is
+    HalvesHold-multiples _ _ c.args.p c.args.q _ _ _ _ _ _ _ _ _ _ c.first.invariant c.first.view_is
     c.deref_mut.ensures.value c.first.inside.words.ok.0 c.add_to_two_halves.ensures.constant_long
-    (digit-below 3 c.args.to_first 0 (lit< tt) c.requires.to_first) (digit-below 3 c.args.to_first 1 (lit< tt) c.requires.to_first)
+    c.requires.p c.requires.q
     c.requires.a_fits c.requires.b_fits c.layers-a.ensures.holds c.layers-b.ensures.holds
     c.layers-a.ensures.digits c.layers-b.ensures.digits c.add_to_two_halves.ensures.constant
 
-pub returns-then-s-sum-clause-first : goal.returns-then-s-sum-clause-first
+pub returns-clause-first : goal.returns-clause-first
 unfolding digits_with_two
-returns-then-s-sum-clause-first c =
-    half_trits-multiples _ _ (slice_index c.args.to_first 0) (slice_index c.args.to_first 1) _ _ _ _ _ _ _ _ _ _ c.first.invariant c.first.view_is
+returns-clause-first c =
+    half_trits-multiples _ _ c.args.p c.args.q _ _ _ _ _ _ _ _ _ _ c.first.invariant c.first.view_is
     c.deref_mut.ensures.value c.first.inside.words.ok.0 c.add_to_two_halves.ensures.constant_long
-    (digit-below 3 c.args.to_first 0 (lit< tt) c.requires.to_first) (digit-below 3 c.args.to_first 1 (lit< tt) c.requires.to_first)
+    c.requires.p c.requires.q
     c.requires.a_fits c.requires.b_fits c.layers-a.ensures.holds c.layers-b.ensures.holds
     c.layers-a.ensures.digits c.layers-b.ensures.digits c.add_to_two_halves.ensures.constant
 
 pub invariant_of-second : goal.invariant_of-second
 invariant_of-second c =
-    let p = slice_index c.args.to_first 0 in
-    let q = slice_index c.args.to_first 1 in
-    HalvesHold-multiples _ _ q ((p + q) % 3) _ _ _ _ _ _ _ _ _ _ c.second.invariant c.second.view_is
-    c.deref_mut-then-s-sum.ensures.value c.second.inside.words.ok.0 c.add_to_two_halves.ensures.linear_long
-    (digit-below 3 c.args.to_first 1 (lit< tt) c.requires.to_first) (omega arith)
+    HalvesHold-multiples _ _ c.args.q ((c.args.p + c.args.q) % 3) _ _ _ _ _ _ _ _ _ _ c.second.invariant c.second.view_is
+    c.deref_mut-2.ensures.value c.second.inside.words.ok.0 c.add_to_two_halves.ensures.linear_long
+    c.requires.q (omega arith)
     (c.requires.a_fits ∙ sym c.requires.second_fits) (c.requires.b_fits ∙ sym c.requires.second_fits) c.layers-a.ensures.holds c.layers-b.ensures.holds
     c.layers-a.ensures.digits c.layers-b.ensures.digits c.add_to_two_halves.ensures.linear
 
-pub returns-then-s-sum-clause-second : goal.returns-then-s-sum-clause-second
+pub returns-clause-second : goal.returns-clause-second
 unfolding digits_with_two
-returns-then-s-sum-clause-second c =
-    let p = slice_index c.args.to_first 0 in
-    let q = slice_index c.args.to_first 1 in
-    half_trits-multiples _ _ q ((p + q) % 3) _ _ _ _ _ _ _ _ _ _ c.second.invariant c.second.view_is
-    c.deref_mut-then-s-sum.ensures.value c.second.inside.words.ok.0 c.add_to_two_halves.ensures.linear_long
-    (digit-below 3 c.args.to_first 1 (lit< tt) c.requires.to_first) (omega arith)
+returns-clause-second c =
+    half_trits-multiples _ _ c.args.q ((c.args.p + c.args.q) % 3) _ _ _ _ _ _ _ _ _ _ c.second.invariant c.second.view_is
+    c.deref_mut-2.ensures.value c.second.inside.words.ok.0 c.add_to_two_halves.ensures.linear_long
+    c.requires.q (omega arith)
     (c.requires.a_fits ∙ sym c.requires.second_fits) (c.requires.b_fits ∙ sym c.requires.second_fits) c.layers-a.ensures.holds c.layers-b.ensures.holds
     c.layers-a.ensures.digits c.layers-b.ensures.digits c.add_to_two_halves.ensures.linear
-    ∙ ap₂ (λ i j. digits_with_multiple 3 (digits_with_multiple 3 c.args.second.now i c.args.a.now) j c.args.b.now)
-    (sym c.if-r-q.true) (sym c.if-s-sum.true)
-
-pub add_scaled_from-requires-else-r-q-clause-within : goal.add_scaled_from-requires-else-r-q-clause-within
-add_scaled_from-requires-else-r-q-clause-within c =
-    omega (arith, c.requires.within, ap length c.add_scaled_from.ensures, length-digits_with_multiple 3 c.args.first.now (slice_index c.args.to_first 0) c.args.a.now)
-
-pub add_scaled_from-requires-else-r-q-clause-fits : goal.add_scaled_from-requires-else-r-q-clause-fits
-add_scaled_from-requires-else-r-q-clause-fits c =
-    omega (arith, c.requires.b_fits, ap length c.add_scaled_from.ensures, length-digits_with_multiple 3 c.args.first.now (slice_index c.args.to_first 0) c.args.a.now)
-
-pub add_scaled_from-requires-else-r-q-3-clause-within : goal.add_scaled_from-requires-else-r-q-3-clause-within
-add_scaled_from-requires-else-r-q-3-clause-within c =
-    omega (
-      arith,
-      c.requires.within,
-      c.requires.second_fits,
-      ap length c.add_scaled_from-else-r-q-2.ensures,
-      length-digits_with_multiple 3 c.args.second.now (slice_index c.args.to_second 0) c.args.a.now,
-    )
-
-pub add_scaled_from-requires-else-r-q-3-clause-fits : goal.add_scaled_from-requires-else-r-q-3-clause-fits
-add_scaled_from-requires-else-r-q-3-clause-fits c =
-    omega (
-      arith,
-      c.requires.b_fits,
-      c.requires.second_fits,
-      ap length c.add_scaled_from-else-r-q-2.ensures,
-      length-digits_with_multiple 3 c.args.second.now (slice_index c.args.to_second 0) c.args.a.now,
-    )
-
-pub returns-else-r-q-clause-first : goal.returns-else-r-q-clause-first
-unfolding digits_with_two
-returns-else-r-q-clause-first c =
-    c.add_scaled_from-else-r-q.ensures
-    ∙ ap (λ (l : List ℕ). digits_with_multiple 3 l (slice_index c.args.to_first 1) c.args.b.now) c.add_scaled_from.ensures
-
-pub returns-else-r-q-clause-second : goal.returns-else-r-q-clause-second
-unfolding digits_with_two
-returns-else-r-q-clause-second c =
-    c.add_scaled_from-else-r-q-3.ensures
-    ∙ ap (λ (l : List ℕ). digits_with_multiple 3 l (slice_index c.args.to_second 1) c.args.b.now) c.add_scaled_from-else-r-q-2.ensures
