@@ -3,3 +3,4 @@ pub mod Planes
 pub mod Addends
 pub mod FlatTables
 pub mod Tables
+pub mod NumberWords

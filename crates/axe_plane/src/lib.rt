@@ -24,6 +24,7 @@ pub use tables::PlaneTable;
 mod byte_table;
 mod bytes;
 mod digits;
+mod number_words;
 mod numbers;
 mod primes;
 mod supports;
@@ -43,6 +44,8 @@ pub enum Plane {
 
 impl Plane {
     ghost use Rattle.axe_bits.specs.Combinations.{digits_with_two, digits_with_multiples};
+    ghost use Rattle.axe_lane.specs.Multiples.{to_constant_of_two, to_linear_of_two};
+    ghost use Rattle.axe_lane.specs.Multiples.{to_constant_of_three, to_linear_of_three, to_quadratic_of_three};
     ghost use Rattle.axe_plane.specs.Addends.{IsAddend};
     ghost use Rattle.axe_bits.specs.Trits.{trits, HoldLayers};
     ghost use Rattle.axe_layer.specs.Bits.{bits, HoldsBits};
@@ -214,79 +217,80 @@ impl Plane {
         }
     }
 
-    /// Adds combinations of two planes to each of two others, all modulo one prime, 2 or 3, and of one length: the
-    /// multiples of `a` and `b` by the factors for it are added to each. Digits of `a` and `b` before an index are 0,
-    /// and no word before that of the index is looked at.
-    #[inline]
-    pub fn add_to_two(
+    /// Adds to a row over the field of order 4 or 9 the multiple by p + q x of another of its length, where x^2 is
+    /// x + 1: to the planes of its coefficients of 1 and of x, by those of the other row, `a` and `b`. Digits of `a`
+    /// and `b` before an index are 0, and no word before that of the index is looked at.
+    #[inline(always)]
+    pub fn add_multiple_of_two(
         first: &mut Plane,
         second: &mut Plane,
         start: usize,
-        to_first: [u8; 2],
-        to_second: [u8; 2],
+        p: u8,
+        q: u8,
         a: &Plane,
         b: &Plane,
     )
         requires small { prime_of_plane first.old ≤ 3 }
         requires within { start ≤ length (digits_of first.old) }
+        requires p { p < prime_of_plane first.old }
+        requires q { q < prime_of_plane first.old }
         requires second { IsAddend first.old second.old }
         requires a { IsAddend first.old a.now }
         requires b { IsAddend first.old b.now }
-        requires to_first { AreDigits (prime_of_plane first.old) to_first }
-        requires to_second { AreDigits (prime_of_plane first.old) to_second }
         requires a_zeros { AreZerosBefore (digits_of a.now) start }
         requires b_zeros { AreZerosBefore (digits_of b.now) start }
         ensures first { IsPlane (prime_of_plane first.old) (digits_with_two (prime_of_plane first.old)
-            (digits_of first.old) to_first (digits_of a.now) (digits_of b.now)) first.new }
+            (digits_of first.old) (to_constant_of_two p q) (digits_of a.now) (digits_of b.now)) first.new }
         ensures second { IsPlane (prime_of_plane first.old) (digits_with_two (prime_of_plane first.old)
-            (digits_of second.old) to_second (digits_of a.now) (digits_of b.now)) second.new }
+            (digits_of second.old) (to_linear_of_two (prime_of_plane first.old) p q) (digits_of a.now)
+            (digits_of b.now)) second.new }
     {
         match (first, second, a, b) {
             (Plane::Bits(first), Plane::Bits(second), Plane::Bits(a), Plane::Bits(b)) => {
-                BitPlane::add_to_two(first, second, start, to_first, to_second, a, b);
+                BitPlane::add_multiple_of_two(first, second, start, p, q, a, b);
             }
             (Plane::Trits(first), Plane::Trits(second), Plane::Trits(a), Plane::Trits(b)) => {
-                TritPlane::add_to_two(first, second, start, to_first, to_second, a, b);
+                TritPlane::add_multiple_of_two(first, second, start, p, q, a, b);
             }
             // Planes modulo one prime are of one kind.
             _ => unreachable!(),
         }
     }
 
-    /// Adds combinations of three planes to each of three others, all modulo 2 and of one length, as
-    /// [`Plane::add_to_two`] does of two.
-    #[inline]
-    pub fn add_to_three(
+    /// Adds to a row over the field of order 8 the multiple by p + q x + r x^2 of another of its length, where x^3 is
+    /// x + 1, as [`Plane::add_multiple_of_two`] does over that of order 4.
+    #[inline(always)]
+    pub fn add_multiple_of_three(
         first: &mut Plane,
         second: &mut Plane,
         third: &mut Plane,
         start: usize,
-        to_first: [u8; 3],
-        to_second: [u8; 3],
-        to_third: [u8; 3],
+        p: u8,
+        q: u8,
+        r: u8,
         a: &Plane,
         b: &Plane,
         c: &Plane,
     )
         requires even { prime_of_plane first.old ≡ 2 }
         requires within { start ≤ length (digits_of first.old) }
+        requires p { p < 2 }
+        requires q { q < 2 }
+        requires r { r < 2 }
         requires second { IsAddend first.old second.old }
         requires third { IsAddend first.old third.old }
         requires a { IsAddend first.old a.now }
         requires b { IsAddend first.old b.now }
         requires c { IsAddend first.old c.now }
-        requires to_first { AreDigits 2 to_first }
-        requires to_second { AreDigits 2 to_second }
-        requires to_third { AreDigits 2 to_third }
         requires a_zeros { AreZerosBefore (digits_of a.now) start }
         requires b_zeros { AreZerosBefore (digits_of b.now) start }
         requires c_zeros { AreZerosBefore (digits_of c.now) start }
-        ensures first { IsPlane 2 (digits_with_multiples 2 (digits_of first.old) to_first (digits_of a.now)
-            (digits_of b.now) (digits_of c.now)) first.new }
-        ensures second { IsPlane 2 (digits_with_multiples 2 (digits_of second.old) to_second (digits_of a.now)
-            (digits_of b.now) (digits_of c.now)) second.new }
-        ensures third { IsPlane 2 (digits_with_multiples 2 (digits_of third.old) to_third (digits_of a.now)
-            (digits_of b.now) (digits_of c.now)) third.new }
+        ensures first { IsPlane 2 (digits_with_multiples 2 (digits_of first.old) (to_constant_of_three p q r)
+            (digits_of a.now) (digits_of b.now) (digits_of c.now)) first.new }
+        ensures second { IsPlane 2 (digits_with_multiples 2 (digits_of second.old) (to_linear_of_three p q r)
+            (digits_of a.now) (digits_of b.now) (digits_of c.now)) second.new }
+        ensures third { IsPlane 2 (digits_with_multiples 2 (digits_of third.old) (to_quadratic_of_three p q r)
+            (digits_of a.now) (digits_of b.now) (digits_of c.now)) third.new }
     {
         match (first, second, third, a, b, c) {
             (
@@ -296,9 +300,9 @@ impl Plane {
                 Plane::Bits(a),
                 Plane::Bits(b),
                 Plane::Bits(c),
-            ) => BitPlane::add_to_three(
-                first, second, third, start, to_first, to_second, to_third, a, b, c,
-            ),
+            ) => {
+                BitPlane::add_multiple_of_three(first, second, third, start, p, q, r, a, b, c);
+            }
             // Planes modulo 2 are of one kind.
             _ => unreachable!(),
         }

@@ -1,6 +1,7 @@
 //! The numbers of pieces of planes.
-ghost use Rattle.std.specs.Prelude.{ℕ, ◌≡◌, ◌≢◌, ◌+◌, ◌*◌, ◌^◌, ◌<◌, ◌≤◌, slice_index};
+ghost use Rattle.std.specs.Prelude.{ℕ, ◌≡◌, ◌≢◌, ◌+◌, ◌*◌, ◌^◌, ◌<◌, ◌≤◌, length, slice_index};
 ghost use Rattle.axe_layer.specs.Digits.{number_bound, numbers_from};
+ghost use Rattle.axe_layer.specs.Lanes.{in_lanes};
 ghost use Rattle.axe_plane.specs.Planes.{prime_of_plane, digits_of};
 
 use crate::Plane;
@@ -19,6 +20,26 @@ impl Plane {
         match self {
             Plane::Bits(plane) => plane.numbers_from(base, size, at),
             Plane::Trits(_) | Plane::Bytes(_) => self.numbers_modulo_odd(base, size, at),
+        }
+    }
+
+    /// Four numbers in a base up to 9, each in a lane of 16 bits of a word, the digits of each being one or two of the
+    /// plane's, most significant first: those of the pieces of `size` digits one after another from an index on. The
+    /// plane is one modulo 2 or 3.
+    #[inline(always)]
+    pub fn packed_numbers(&self, base: u64, size: usize, at: usize) -> u64
+        requires prime { prime_of_plane self.now ≤ 3 }
+        requires base { base ≤ 9 }
+        requires some { 1 ≤ size }
+        requires few { size ≤ 2 }
+        requires within { at + 4 * size ≤ length (digits_of self.now) }
+        ensures value { result ≡ in_lanes (numbers_from base size at (digits_of self.now)) }
+        ensures small { result < 2 ^ 54 }
+    {
+        match self {
+            Plane::Bits(plane) => plane.packed_numbers(base, size, at),
+            Plane::Trits(plane) => plane.packed_numbers(base, size, at),
+            Plane::Bytes(_) => unreachable!(),
         }
     }
 
