@@ -1,94 +1,136 @@
--- Planes to which combinations of the planes of another row are added at once.
-use Rattle.std.proofs.Common.{◌≡◌, ◌≢◌, ℕ, ◌<◌, ◌≤◌, List, [], ◌∷◌, cond, ltb, refl, sym, ap, subst, ◌∙◌, arith, lit<}
-use Rattle.std.proofs.lemmas.List.Elements.{All-nil, All-cons}
-use native.Mathlib.Decide.{dec_lt}
+-- Planes to which the planes of a multiple of another row are added at once.
+use Rattle.std.proofs.Common.{◌≡◌, ◌≢◌, ℕ, ◌+◌, ◌/◌, ◌%◌, ◌<◌, Bool, true, ◌&&◌, eqb, List, [], ◌∷◌, length, get_or, refl, sym, ap, subst, ◌∙◌, arith}
+use Rattle.std.proofs.lemmas.Bool.{and_parts, eqb-true}
 use Rattle.axe_algebra.specs.Lists.{entry}
 use Rattle.axe_bits.specs.Combinations.{digits_with_two, digits_with_multiples}
-use Rattle.axe_field.specs.Order.{Order, Two, Three, Four, Five, Seven, Eight, Nine, prime_of, degree_of, IsElement}
-use Rattle.axe_field.specs.Planes.{matrix_of_multiplication}
-use Rattle.axe_field.proofs.CoefficientLaws.{matrix_of_multiplication-below, matrix_of_multiplication-outside}
-use Rattle.axe_lane.specs.Bytes.{AreDigits}
+use Rattle.axe_field.specs.Arithmetic.{coefficients, polynomial_sum, polynomial_multiple, polynomial_negative, polynomial_product, without_leading, polynomial_remainder, polynomial_of}
+use Rattle.axe_field.specs.CheckedLaws.{passes_below, at_one, from_one}
+use Rattle.axe_field.specs.Order.{Order, Two, Three, Four, Five, Seven, Eight, Nine, order_number, prime_of, degree_of, IsElement}
+use Rattle.axe_field.specs.Planes.{monomial, coefficients_of_multiple, matrix_of_multiplication}
+use Rattle.axe_lane.specs.Multiples.{to_constant_of_two, to_linear_of_two, to_constant_of_three, to_linear_of_three, to_quadratic_of_three}
 use Rattle.axe_layer.proofs.DigitLaws.{AreDigits-sum, digits_with_multiple-none}
 use Rattle.axe_plane.specs.Planes.{prime_of_plane, digits_of, IsPlane, IsPlaneOf}
 use Rattle.axe_plane.specs.declared.Plane.{Plane}
 use Rattle.axe_plane.proofs.PlaneLaws.{prime_of_plane-positive}
-use Rattle.axe_row.specs.Planes.{column}
-use Rattle.axe_row.proofs.PlaneSums.{IsSummed, present}
+use Rattle.axe_row.specs.MadePlanes.{row_of_planes}
+use Rattle.axe_row.specs.Operations.{row_with_multiple}
+use Rattle.axe_row.specs.Planes.{column, ArePlanes}
+use Rattle.axe_row.proofs.PlaneSums.{column_is, summed_planes, summed_row_of_planes, AreSummands, IsColumn, IsSummed, IsSummed-none}
+use Rattle.axe_row.proofs.RowPlanes.{no_quadratic}
 
--- ---- the degree of the field
+-- ---- the fields of degree 2 and 3, by their orders
 
-pub prime_of_square : (o : Order) → degree_of o ≡ 2 → prime_of o ≤ 3
-prime_of_square Two two = omega arith
-prime_of_square Three two = omega arith
-prime_of_square Four two = omega arith
-prime_of_square Five two = absurd (omega arith)
-prime_of_square Seven two = absurd (omega arith)
-prime_of_square Eight two = omega arith
-prime_of_square Nine two = omega arith
+pub degree_of_four : (o : Order) → order_number o ≡ 4 → degree_of o ≡ 2
+degree_of_four Two four = absurd (omega arith)
+degree_of_four Three four = absurd (omega arith)
+degree_of_four Four four = refl
+degree_of_four Five four = absurd (omega arith)
+degree_of_four Seven four = absurd (omega arith)
+degree_of_four Eight four = absurd (omega arith)
+degree_of_four Nine four = absurd (omega arith)
 
-pub prime_of_cube : (o : Order) → degree_of o ≡ 3 → prime_of o ≡ 2
-prime_of_cube Two three = refl
+pub prime_of_four : (o : Order) → order_number o ≡ 4 → prime_of o ≡ 2
+prime_of_four Two four = absurd (omega arith)
+prime_of_four Three four = absurd (omega arith)
+prime_of_four Four four = refl
+prime_of_four Five four = absurd (omega arith)
+prime_of_four Seven four = absurd (omega arith)
+prime_of_four Eight four = absurd (omega arith)
+prime_of_four Nine four = absurd (omega arith)
+
+pub degree_of_nine : (o : Order) → order_number o ≡ 9 → degree_of o ≡ 2
+degree_of_nine Two nine = absurd (omega arith)
+degree_of_nine Three nine = absurd (omega arith)
+degree_of_nine Four nine = absurd (omega arith)
+degree_of_nine Five nine = absurd (omega arith)
+degree_of_nine Seven nine = absurd (omega arith)
+degree_of_nine Eight nine = absurd (omega arith)
+degree_of_nine Nine nine = refl
+
+pub prime_of_nine : (o : Order) → order_number o ≡ 9 → prime_of o ≡ 3
+prime_of_nine Two nine = absurd (omega arith)
+prime_of_nine Three nine = absurd (omega arith)
+prime_of_nine Four nine = absurd (omega arith)
+prime_of_nine Five nine = absurd (omega arith)
+prime_of_nine Seven nine = absurd (omega arith)
+prime_of_nine Eight nine = absurd (omega arith)
+prime_of_nine Nine nine = refl
+
+-- the one that is left has degree 3
+pub degree_of_eight : (o : Order) → degree_of o ≢ 1 → order_number o ≢ 4 → order_number o ≢ 9 → degree_of o ≡ 3
+degree_of_eight Two not_one not_four not_nine = absurd (not_one refl)
+degree_of_eight Three not_one not_four not_nine = absurd (not_one refl)
+degree_of_eight Four not_one not_four not_nine = absurd (not_four refl)
+degree_of_eight Five not_one not_four not_nine = absurd (not_one refl)
+degree_of_eight Seven not_one not_four not_nine = absurd (not_one refl)
+degree_of_eight Eight not_one not_four not_nine = refl
+degree_of_eight Nine not_one not_four not_nine = absurd (not_nine refl)
+
+prime_of_cube : (o : Order) → degree_of o ≡ 3 → prime_of o ≡ 2
+prime_of_cube Two three = absurd (omega arith)
 prime_of_cube Three three = absurd (omega arith)
-prime_of_cube Four three = refl
+prime_of_cube Four three = absurd (omega arith)
 prime_of_cube Five three = absurd (omega arith)
 prime_of_cube Seven three = absurd (omega arith)
 prime_of_cube Eight three = refl
 prime_of_cube Nine three = absurd (omega arith)
 
-pub degree_is_three : (o : Order) → degree_of o ≢ 1 → degree_of o ≢ 2 → degree_of o ≡ 3
-degree_is_three Two not_one not_two = absurd (not_one refl)
-degree_is_three Three not_one not_two = absurd (not_one refl)
-degree_is_three Four not_one not_two = absurd (not_two refl)
-degree_is_three Five not_one not_two = absurd (not_one refl)
-degree_is_three Seven not_one not_two = absurd (not_one refl)
-degree_is_three Eight not_one not_two = refl
-degree_is_three Nine not_one not_two = absurd (not_two refl)
+-- ---- the columns of the matrix of the multiplication by an element are the factors of a multiple by it
 
--- a plane of a power of x below the degree is as long as the row
-pub of_degree : (o : Order) (n i : ℕ) (plane : Plane) → i < degree_of o →
-    IsPlaneOf (prime_of o) (cond (ltb i (degree_of o)) n 0) plane → IsPlaneOf (prime_of o) n plane
-of_degree o n i plane below h = subst (λ r. IsPlaneOf (prime_of o) r plane) (present i (degree_of o) n below) h
+has_column : Order → ℕ → ℕ → List ℕ → Bool
+has_column o k j f =
+    eqb (get_or f 0 0) (entry (matrix_of_multiplication o k) 0 j)
+    && (eqb (get_or f 1 0) (entry (matrix_of_multiplication o k) 1 j) && eqb (get_or f 2 0) (entry (matrix_of_multiplication o k) 2 j))
 
--- ---- the factors
+is_column : (o : Order) (k j : ℕ) (f : List ℕ) → has_column o k j f ≡ true → IsColumn o k j f
+unfolding has_column
+is_column o k j f e =
+    let all = and_parts (eqb (get_or f 0 0) (entry (matrix_of_multiplication o k) 0 j)) _ e in
+    let rest = and_parts (eqb (get_or f 1 0) (entry (matrix_of_multiplication o k) 1 j)) _ all.1 in
+    record { first = eqb-true _ _ all.0; second = eqb-true _ _ rest.0; third = eqb-true _ _ rest.1 }
 
-module _ (o : Order) (k j : ℕ) (m : List (List ℕ)) (element : IsElement o k) (is : m ≡ matrix_of_multiplication o k) (power : j < 3) where
-  digit_of_matrix : (p i : ℕ) → p ≡ prime_of o → i < 3 → entry m i j < p
-  digit_of_matrix p i ep below =
-      subst (λ r. entry m i j < r) (sym ep)
-      (subst (λ (x : List (List ℕ)). entry x i j < prime_of o) (sym is) (matrix_of_multiplication-below o k i j element below power))
+-- over a field of degree 2 an element k is p + q x, where p and q are its digits, and x^2 has factor 0
+has_columns_of_two : Order → ℕ → Bool
+has_columns_of_two o k =
+    has_column o k 0 (k % prime_of o ∷ k / prime_of o ∷ 0 ∷ [])
+    && has_column o k 1 (k / prime_of o ∷ (k % prime_of o + k / prime_of o) % prime_of o ∷ 0 ∷ [])
 
-  pub two_are_digits : (p : ℕ) → p ≡ prime_of o → AreDigits p (entry m 0 j ∷ entry m 1 j ∷ [])
-  two_are_digits p ep =
-      All-cons (λ x. x < p) (entry m 0 j) (entry m 1 j ∷ []) (digit_of_matrix p 0 ep (lit< tt))
-      (All-cons (λ x. x < p) (entry m 1 j) [] (digit_of_matrix p 1 ep (lit< tt)) (All-nil (λ x. x < p)))
+has_columns_of_two-all : (o : Order) → degree_of o ≡ 2 → at_one has_columns_of_two o ≡ true
+unfolding at_one passes_below has_columns_of_two has_column monomial coefficients_of_multiple matrix_of_multiplication coefficients polynomial_sum polynomial_multiple polynomial_negative polynomial_product without_leading polynomial_remainder polynomial_of
+has_columns_of_two-all Two two = absurd (omega arith)
+has_columns_of_two-all Three two = absurd (omega arith)
+has_columns_of_two-all Four two = refl
+has_columns_of_two-all Five two = absurd (omega arith)
+has_columns_of_two-all Seven two = absurd (omega arith)
+has_columns_of_two-all Eight two = absurd (omega arith)
+has_columns_of_two-all Nine two = refl
 
-  pub three_are_digits : (p : ℕ) → p ≡ prime_of o → AreDigits p (column m j)
-  three_are_digits p ep =
-      All-cons (λ x. x < p) (entry m 0 j) (entry m 1 j ∷ entry m 2 j ∷ []) (digit_of_matrix p 0 ep (lit< tt))
-      (All-cons (λ x. x < p) (entry m 1 j) (entry m 2 j ∷ []) (digit_of_matrix p 1 ep (lit< tt))
-      (All-cons (λ x. x < p) (entry m 2 j) [] (digit_of_matrix p 2 ep (lit< tt)) (All-nil (λ x. x < p))))
+-- over the field of degree 3 it is p + q x + r x^2
+has_columns_of_three : Order → ℕ → Bool
+has_columns_of_three o k =
+    has_column o k 0 (to_constant_of_three (k % 2) (k / 2 % 2) (k / 4))
+    && (has_column o k 1 (to_linear_of_three (k % 2) (k / 2 % 2) (k / 4))
+    && has_column o k 2 (to_quadratic_of_three (k % 2) (k / 2 % 2) (k / 4)))
 
-  -- over a field of degree 2 the coefficients of x^2 have factor 0
-  pub third_is_zero : degree_of o ≡ 2 → entry m 2 j ≡ 0
-  third_is_zero two = ap (λ (x : List (List ℕ)). entry x 2 j) is ∙ none
-    where
-      none : entry (matrix_of_multiplication o k) 2 j ≡ 0
-      none = elim (dec_lt 0 (entry (matrix_of_multiplication o k) 2 j)) [
-        | yes positive ↦
-            let both = matrix_of_multiplication-outside o k 2 j element (lit< tt) power (λ nothing. omega (arith, positive, nothing)) in
-            absurd (omega (arith, both.0, two))
-        | no nothing ↦ omega arith
-      ]
+has_columns_of_three-all : (o : Order) → degree_of o ≡ 3 → at_one has_columns_of_three o ≡ true
+unfolding at_one passes_below has_columns_of_three has_column monomial coefficients_of_multiple matrix_of_multiplication coefficients polynomial_sum polynomial_multiple polynomial_negative polynomial_product without_leading polynomial_remainder polynomial_of
+has_columns_of_three-all Two three = absurd (omega arith)
+has_columns_of_three-all Three three = absurd (omega arith)
+has_columns_of_three-all Four three = absurd (omega arith)
+has_columns_of_three-all Five three = absurd (omega arith)
+has_columns_of_three-all Seven three = absurd (omega arith)
+has_columns_of_three-all Eight three = refl
+has_columns_of_three-all Nine three = absurd (omega arith)
 
 -- ---- the sums
 
 -- multiples of two lists are those of three, where the third has factor 0
-pub two_of_three : (p : ℕ) (x a b c : List ℕ) (f g h : ℕ) → 0 < p → h ≡ 0 →
+two_of_three : (p : ℕ) (x a b c : List ℕ) (f g h : ℕ) → 0 < p → h ≡ 0 →
     digits_with_two p x (f ∷ g ∷ []) a b ≡ digits_with_multiples p x (f ∷ g ∷ h ∷ []) a b c
 unfolding digits_with_two digits_with_multiples
 two_of_three p x a b c f g h positive none = digits_with_multiple-none p _ h c positive none (AreDigits-sum p _ g b positive)
 
-pub summed_of_two : (p f g h : ℕ) (plane c l q after : Plane) → h ≡ 0 → p ≡ prime_of_plane plane →
+summed_of_two : (p f g h : ℕ) (plane c l q after : Plane) → h ≡ 0 → p ≡ prime_of_plane plane →
     IsPlane p (digits_with_two p (digits_of plane) (f ∷ g ∷ []) (digits_of c) (digits_of l)) after →
     IsSummed plane (f ∷ g ∷ h ∷ []) c l q after
 summed_of_two p f g h plane c l q after none ep e = record {
@@ -100,7 +142,7 @@ summed_of_two p f g h plane c l q after none ep e = record {
       (prime_of_plane-positive plane) none;
 }
 
-pub summed_of_three : (p : ℕ) (f : List ℕ) (plane c l q after : Plane) → p ≡ prime_of_plane plane →
+summed_of_three : (p : ℕ) (f : List ℕ) (plane c l q after : Plane) → p ≡ prime_of_plane plane →
     IsPlane p (digits_with_multiples p (digits_of plane) f (digits_of c) (digits_of l) (digits_of q)) after →
     IsSummed plane f c l q after
 summed_of_three p f plane c l q after ep e = record {
@@ -108,3 +150,77 @@ summed_of_three p f plane c l q after ep e = record {
   digits_are =
       e.digits_are ∙ ap (λ r. digits_with_multiples r (digits_of plane) f (digits_of c) (digits_of l) (digits_of q)) ep;
 }
+
+-- ---- a row to which a multiple by p + q x was added, over a field of degree 2
+
+module _ (o : Order) (k p q : ℕ) (two : degree_of o ≡ 2) (element : IsElement o k) (p_is : p ≡ k % prime_of o) (q_is : q ≡ k / prime_of o) where
+  columns_of_two : IsColumn o k 0 (p ∷ q ∷ 0 ∷ []) × IsColumn o k 1 (q ∷ (p + q) % prime_of o ∷ 0 ∷ [])
+  unfolding has_columns_of_two
+  columns_of_two =
+      let parts = and_parts (has_column o k 0 (k % prime_of o ∷ k / prime_of o ∷ 0 ∷ [])) _
+      (from_one has_columns_of_two o (has_columns_of_two-all o two) k element) in
+      rw (p_is, q_is) (is_column o k 0 _ parts.0, is_column o k 1 _ parts.1)
+
+  module _ (c l s c' l' s' c2 l2 : Plane) (h : ArePlanes o (length (digits_of c)) c l s) (h' : ArePlanes o (length (digits_of c)) c' l' s')
+      (first : IsPlane (prime_of_plane c) (digits_with_two (prime_of_plane c) (digits_of c) (to_constant_of_two p q) (digits_of c') (digits_of l')) c2)
+      (second : IsPlane (prime_of_plane c) (digits_with_two (prime_of_plane c) (digits_of l) (to_linear_of_two (prime_of_plane c) p q) (digits_of c') (digits_of l')) l2) where
+    summands_of_two : AreSummands o (length (digits_of c)) k c l s c' l' s' (p ∷ q ∷ 0 ∷ []) (q ∷ (p + q) % prime_of_plane c ∷ 0 ∷ []) (column (matrix_of_multiplication o k) 2)
+    summands_of_two = record {
+      planes = h;
+      others = h';
+      scalar = element;
+      to_constant = columns_of_two.0;
+      to_linear = subst (λ r. IsColumn o k 1 (q ∷ (p + q) % r ∷ 0 ∷ [])) (sym h.constant.prime) columns_of_two.1;
+      to_quadratic = column_is o k 2 _ refl;
+    }
+
+    first_summed : IsSummed c (p ∷ q ∷ 0 ∷ []) c' l' s' c2
+    first_summed = summed_of_two _ p q 0 c c' l' s' c2 refl refl first
+
+    second_summed : IsSummed l (q ∷ (p + q) % prime_of_plane c ∷ 0 ∷ []) c' l' s' l2
+    second_summed = summed_of_two _ q _ 0 l c' l' s' l2 refl (h.constant.prime ∙ sym h.linear.prime) second
+
+    third_summed : IsSummed s (column (matrix_of_multiplication o k) 2) c' l' s' s
+    third_summed = IsSummed-none s c' l' s' _ (no_quadratic o _ s h.quadratic (λ three. omega (arith, three, two)))
+
+    pub planes_with_two : ArePlanes o (length (digits_of c)) c2 l2 s
+    planes_with_two = summed_planes o _ k c l s c' l' s' c2 l2 s _ _ _ summands_of_two first_summed second_summed third_summed
+
+    pub row_with_two : row_of_planes o c2 l2 s ≡ row_with_multiple (row_of_planes o c l s) k (row_of_planes o c' l' s')
+    row_with_two = summed_row_of_planes o _ k c l s c' l' s' c2 l2 s _ _ _ summands_of_two first_summed second_summed third_summed
+
+-- ---- a row to which a multiple by p + q x + r x^2 was added, over the field of degree 3
+
+module _ (o : Order) (k : ℕ) (three : degree_of o ≡ 3) (element : IsElement o k) (c l s c' l' s' c2 l2 s2 : Plane)
+    (h : ArePlanes o (length (digits_of c)) c l s) (h' : ArePlanes o (length (digits_of c)) c' l' s')
+    (first : IsPlane 2 (digits_with_multiples 2 (digits_of c) (to_constant_of_three (k % 2) (k / 2 % 2) (k / 4)) (digits_of c') (digits_of l') (digits_of s')) c2)
+    (second : IsPlane 2 (digits_with_multiples 2 (digits_of l) (to_linear_of_three (k % 2) (k / 2 % 2) (k / 4)) (digits_of c') (digits_of l') (digits_of s')) l2)
+    (third : IsPlane 2 (digits_with_multiples 2 (digits_of s) (to_quadratic_of_three (k % 2) (k / 2 % 2) (k / 4)) (digits_of c') (digits_of l') (digits_of s')) s2) where
+  summands_of_three : AreSummands o (length (digits_of c)) k c l s c' l' s' (to_constant_of_three (k % 2) (k / 2 % 2) (k / 4))
+      (to_linear_of_three (k % 2) (k / 2 % 2) (k / 4)) (to_quadratic_of_three (k % 2) (k / 2 % 2) (k / 4))
+  unfolding has_columns_of_three
+  summands_of_three =
+      let all = and_parts (has_column o k 0 (to_constant_of_three (k % 2) (k / 2 % 2) (k / 4))) _
+      (from_one has_columns_of_three o (has_columns_of_three-all o three) k element) in
+      let rest = and_parts (has_column o k 1 (to_linear_of_three (k % 2) (k / 2 % 2) (k / 4))) _ all.1 in
+      record {
+        planes = h;
+        others = h';
+        scalar = element;
+        to_constant = is_column o k 0 _ all.0;
+        to_linear = is_column o k 1 _ rest.0;
+        to_quadratic = is_column o k 2 _ rest.1;
+      }
+
+  even : (m : ℕ) (plane : Plane) → IsPlaneOf (prime_of o) m plane → 2 ≡ prime_of_plane plane
+  even m plane own = sym (own.prime ∙ prime_of_cube o three)
+
+  pub planes_with_three : ArePlanes o (length (digits_of c)) c2 l2 s2
+  planes_with_three =
+      summed_planes o _ k c l s c' l' s' c2 l2 s2 _ _ _ summands_of_three (summed_of_three 2 _ c c' l' s' c2 (even _ c h.constant) first)
+      (summed_of_three 2 _ l c' l' s' l2 (even _ l h.linear) second) (summed_of_three 2 _ s c' l' s' s2 (even _ s h.quadratic) third)
+
+  pub row_with_three : row_of_planes o c2 l2 s2 ≡ row_with_multiple (row_of_planes o c l s) k (row_of_planes o c' l' s')
+  row_with_three =
+      summed_row_of_planes o _ k c l s c' l' s' c2 l2 s2 _ _ _ summands_of_three (summed_of_three 2 _ c c' l' s' c2 (even _ c h.constant) first)
+      (summed_of_three 2 _ l c' l' s' l2 (even _ l h.linear) second) (summed_of_three 2 _ s c' l' s' s2 (even _ s h.quadratic) third)

@@ -150,6 +150,14 @@ kept_view o c higher kept x y self self_is is ex ey =
     (subst (λ (z : Higher). record { order = o; entries = entries_of o c z.linear kept.value.quadratic } ≡ self) (sym ex)
     (subst (λ (z : HigherPlanes). record { order = o; entries = entries_of o c (linear_of o z) (quadratic_of o z) } ≡ self) is self_is))
 
+-- over a prime field the first plane has the entries as its digits
+pub prime_entries : (o : Order) (c : Plane) (higher : HigherPlanes) (self : RowValue) → AreKeptPlanes o (length (digits_of c)) c higher →
+    record { order = o; entries = entries_of o c (linear_of o higher) (quadratic_of o higher) } ≡ self → degree_of self.order ≡ 1 →
+    digits_of c ≡ self.entries
+prime_entries o c higher self h self_is prime =
+    one_plane_entries o (degree_of o) c (linear_of o higher) (quadratic_of o higher) self refl
+    (ap (λ (r : RowValue). degree_of r.order) self_is ∙ prime) h.planes self_is
+
 -- one plane alone has the entries as its digits
 pub alone_entries : (o : Order) (c : Plane) (higher : HigherPlanes) (self : RowValue) → AreKeptPlanes o (length (digits_of c)) c higher →
     record { order = o; entries = entries_of o c (linear_of o higher) (quadratic_of o higher) } ≡ self → higher ≡ None →

@@ -25,3 +25,5 @@ pub mod EntrySums
 pub mod NegativeEntries
 pub mod RowWords
 pub mod NextEntries
+pub mod PackedNumbers
+pub mod EntryWordLaws

@@ -15,7 +15,7 @@ use Rattle.axe_layer.proofs.SupportLaws.{restricted_away, restricted_to, stands_
 use Rattle.axe_plane.specs.Planes.{prime_of_plane, digits_of}
 use Rattle.axe_plane.specs.declared.Plane.{Plane}
 use Rattle.axe_plane.specs.declared.Plane.TheVariants.{Bits, Trits}
-use Rattle.axe_row.specs.FoundEntries.{IsNextEntry, TellsNextEntry, HoldBits, HoldTrits}
+use Rattle.axe_row.specs.FoundEntries.{IsNextEntry, TellsNextEntry, HoldBitWords, HoldTritWords}
 use Rattle.axe_row.specs.Planes.{ArePlanes}
 use Rattle.axe_row.specs.Rows.{RowValue}
 use Rattle.axe_row.proofs.FirstEntries.{digits_past}
@@ -84,13 +84,13 @@ module _ (places entries : List ℕ) (start support marks : ℕ) (of_entries : I
 
 -- ---- words of coefficients
 
-pub support_of_held_bits : (entries : List ℕ) (k c l q : ℕ) → HoldBits entries k c l q → IsSupportWord entries k (bit_or (bit_or c l) q)
+pub support_of_held_bits : (entries : List ℕ) (k c l q : ℕ) → HoldBitWords entries k c l q → IsSupportWord entries k (bit_or (bit_or c l) q)
 support_of_held_bits entries k c l q held = λ i low.
     let two = bit_at_or c l i in
     let three = bit_at_or (bit_or c l) q i in
     (λ none. omega (arith, none, held i low, two, three), λ none. omega (arith, none, held i low, two, three))
 
-pub support_of_held_trits : (entries : List ℕ) (k : ℕ) (c l : List ℕ) → HoldTrits entries k c l →
+pub support_of_held_trits : (entries : List ℕ) (k : ℕ) (c l : List ℕ) → HoldTritWords entries k c l →
     IsSupportWord entries k (bit_or (bit_or (bit_or (get_or c 0 0) (get_or c 1 0)) (get_or l 0 0)) (get_or l 1 0))
 support_of_held_trits entries k c l held = λ i low.
     let two = bit_at_or (get_or c 0 0) (get_or c 1 0) i in
@@ -99,13 +99,13 @@ support_of_held_trits entries k c l held = λ i low.
     (λ none. omega (arith, none, held i low, two, three, four), λ none. omega (arith, none, held i low, two, three, four))
 
 -- the entry that the words have at a place
-pub entry_of_held_bits : (entries : List ℕ) (start c l q index entry : ℕ) → HoldBits entries (start / 64) c l q →
+pub entry_of_held_bits : (entries : List ℕ) (start c l q index entry : ℕ) → HoldBitWords entries (start / 64) c l q →
     entry ≡ bit_at c (index % 64) + 2 * bit_at l (index % 64) + 4 * bit_at q (index % 64) → start / 64 * 64 + index % 64 ≡ index →
     entry ≡ get_or entries index 0
 entry_of_held_bits entries start c l q index entry held is there =
     is ∙ sym (held (index % 64) (omega arith)) ∙ ap (λ j. get_or entries j 0) there
 
-pub entry_of_held_trits : (entries : List ℕ) (start : ℕ) (c l : List ℕ) (index entry : ℕ) → HoldTrits entries (start / 64) c l →
+pub entry_of_held_trits : (entries : List ℕ) (start : ℕ) (c l : List ℕ) (index entry : ℕ) → HoldTritWords entries (start / 64) c l →
     entry ≡ digit_of_words c (index % 64) + 3 * digit_of_words l (index % 64) → start / 64 * 64 + index % 64 ≡ index →
     entry ≡ get_or entries index 0
 entry_of_held_trits entries start c l index entry held is there =
@@ -149,7 +149,7 @@ module _ (o : Order) (c l q : Plane) (self : RowValue) (h : ArePlanes o (length 
 
   pub planes_hold_bits : (x y z : List ℕ) (k u v w : ℕ) → c ≡ Bits x → l ≡ Bits y → q ≡ Bits z →
       ((i : ℕ) → i < 64 → bit_at u i ≡ get_or x (k * 64 + i) 0) → ((i : ℕ) → i < 64 → bit_at v i ≡ get_or y (k * 64 + i) 0) →
-      ((i : ℕ) → i < 64 → bit_at w i ≡ get_or z (k * 64 + i) 0) → HoldBits self.entries k u v w
+      ((i : ℕ) → i < 64 → bit_at w i ≡ get_or z (k * 64 + i) 0) → HoldBitWords self.entries k u v w
   planes_hold_bits x y z k u v w c_is l_is q_is hu hv hw = λ i low.
       let e = k * 64 + i in
       let first = ap (λ (p : Plane). get_or (digits_of p) e 0) c_is in
@@ -159,7 +159,7 @@ module _ (o : Order) (c l q : Plane) (self : RowValue) (h : ArePlanes o (length 
 
   pub planes_hold_trits : (x y : List ℕ) (k : ℕ) (u v : List ℕ) → c ≡ Trits x → l ≡ Trits y →
       ((i : ℕ) → i < 64 → digit_of_words u i ≡ get_or x (k * 64 + i) 0) →
-      ((i : ℕ) → i < 64 → digit_of_words v i ≡ get_or y (k * 64 + i) 0) → HoldTrits self.entries k u v
+      ((i : ℕ) → i < 64 → digit_of_words v i ≡ get_or y (k * 64 + i) 0) → HoldTritWords self.entries k u v
   planes_hold_trits x y k u v c_is l_is hu hv = λ i low.
       let e = k * 64 + i in
       let prime = ap prime_of_plane c_is in
@@ -170,14 +170,14 @@ module _ (o : Order) (c l q : Plane) (self : RowValue) (h : ArePlanes o (length 
 
 -- one plane alone
 pub bits_hold_alone : (c : Plane) (x entries : List ℕ) (k u : ℕ) → digits_of c ≡ entries → c ≡ Bits x →
-    ((i : ℕ) → i < 64 → bit_at u i ≡ get_or x (k * 64 + i) 0) → HoldBits entries k u 0 0
+    ((i : ℕ) → i < 64 → bit_at u i ≡ get_or x (k * 64 + i) 0) → HoldBitWords entries k u 0 0
 bits_hold_alone c x entries k u alone c_is hu = λ i low.
     let first = ap (λ (p : Plane). get_or (digits_of p) (k * 64 + i) 0) c_is in
     let same = ap (λ (d : List ℕ). get_or d (k * 64 + i) 0) alone in
     omega (arith, first, same, hu i low, bit_at-zero i)
 
 pub trits_hold_alone : (c : Plane) (x entries : List ℕ) (k : ℕ) (u : List ℕ) → digits_of c ≡ entries → c ≡ Trits x →
-    ((i : ℕ) → i < 64 → digit_of_words u i ≡ get_or x (k * 64 + i) 0) → HoldTrits entries k u (0 ∷ 0 ∷ [])
+    ((i : ℕ) → i < 64 → digit_of_words u i ≡ get_or x (k * 64 + i) 0) → HoldTritWords entries k u (0 ∷ 0 ∷ [])
 trits_hold_alone c x entries k u alone c_is hu = λ i low.
     let first = ap (λ (p : Plane). get_or (digits_of p) (k * 64 + i) 0) c_is in
     let same = ap (λ (d : List ℕ). get_or d (k * 64 + i) 0) alone in

@@ -20,7 +20,7 @@ use Rattle.axe_row.proofs.OperationLaws.{length-multiple, get_or-multiple}
 use Rattle.axe_row.proofs.RowPlanes.{entries_of, length-entries, entries-at, element_value, IsRow-of_planes}
 
 -- the entries of a piece, each once, are the digits of its number
-once_each : (row : RowValue) (size at : ℕ) → IsRow row →
+pub once_each : (row : RowValue) (size at : ℕ) → IsRow row →
     piece_number row 1 size at ≡ number_from (order_number row.order) size at row.entries
 unfolding number_field
 once_each row size at h = ap (number_with_digits (order_number row.order)) same
@@ -109,6 +109,18 @@ number_of_plane o d q size at c l k self h self_is base is one =
   where
     sum_of_none : (p x y z : ℕ) → y ≡ 0 → z ≡ 0 → x ≡ x + p * (y + p * z)
     sum_of_none p x y z ey ez = sym (ap₂ (λ a b. x + p * (a + p * b)) ey ez ∙ omega arith)
+
+-- over a field of degree 2 there are two
+pub number_of_two_planes : (o : Order) (q size at : ℕ) (c l k : Plane) (self : RowValue) → ArePlanes o (length (digits_of c)) c l k →
+    record { order = o; entries = entries_of o c l k } ≡ self → q ≡ order_number o → degree_of o ≡ 2 →
+    number_from q size at (digits_of c) + prime_of o * number_from q size at (digits_of l) ≡ piece_number self 1 size at
+number_of_two_planes o q size at c l k self h self_is base two =
+    let quadratic = number_of_none _ q size at _ (digits_of k) (ap (ltb 2) two) h.quadratic.long in
+    with_none (prime_of o) (number_from q size at (digits_of c)) (number_from q size at (digits_of l)) _ quadratic
+    ∙ number_of_planes o q size at c l k self h self_is base
+  where
+    with_none : (p x y z : ℕ) → z ≡ 0 → x + p * y ≡ x + p * (y + p * z)
+    with_none p x y z none = sym (ap (λ a. x + p * (y + p * a)) none ∙ omega arith)
 
 -- the same, where the numbers and the prime are known by what they equal
 pub number_is : (a b e p r : ℕ) (a' b' e' wanted : ℕ) → a ≡ a' → b ≡ b' → e ≡ e' → p ≡ r → a' + r * (b' + r * e') ≡ wanted → a + p * (b + p * e) ≡ wanted

@@ -294,7 +294,7 @@ row_after o r k c l q c' l' q' after self other self_is other_is same e =
     ∙ ap (λ (x : List ℕ). record { order = self.order; entries = sum_with_multiple (number_field self.order) self.entries k x })
     (ap (λ w. entries_of w c' l' q') (sym same) ∙ ap (λ (t : RowValue). t.entries) other_is)
 
-column_is : (o : Order) (k j : ℕ) (m : List (List ℕ)) → m ≡ matrix_of_multiplication o k → IsColumn o k j (column m j)
+pub column_is : (o : Order) (k j : ℕ) (m : List (List ℕ)) → m ≡ matrix_of_multiplication o k → IsColumn o k j (column m j)
 column_is o k j m em = record {
   first = ap (λ (x : List (List ℕ)). entry x 0 j) em;
   second = ap (λ (x : List (List ℕ)). entry x 1 j) em;

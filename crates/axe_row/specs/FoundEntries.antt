@@ -17,11 +17,11 @@ pub record TellsNextEntry (places entries : List ℕ) (start index entry : ℕ) 
   pub found : entry ≢ 0 → IsNextEntry places entries start index entry
 
 -- three words have the coefficients modulo 2 of the 64 entries from 64 k on: those of 1, of x and of x^2, a bit for each
-abbrev pub HoldBits : List ℕ → ℕ → ℕ → ℕ → ℕ → Type 0
-HoldBits entries k c l q = (i : ℕ) → i < 64 →
+abbrev pub HoldBitWords : List ℕ → ℕ → ℕ → ℕ → ℕ → Type 0
+HoldBitWords entries k c l q = (i : ℕ) → i < 64 →
     slice_index entries (k * 64 + i) ≡ bit_at c i + 2 * bit_at l i + 4 * bit_at q i
 
 -- two pairs of words have the coefficients modulo 3 of the 64 entries from 64 k on: those of 1 and of x
-abbrev pub HoldTrits : List ℕ → ℕ → List ℕ → List ℕ → Type 0
-HoldTrits entries k c l = (i : ℕ) → i < 64 →
+abbrev pub HoldTritWords : List ℕ → ℕ → List ℕ → List ℕ → Type 0
+HoldTritWords entries k c l = (i : ℕ) → i < 64 →
     slice_index entries (k * 64 + i) ≡ digit_of_words c i + 3 * digit_of_words l i

@@ -10,3 +10,4 @@ pub mod Combinations
 pub mod PlaneTables
 pub mod Words
 pub mod FoundEntries
+pub mod EntryWords

@@ -21,22 +21,6 @@ impl Row {
         self.next_by_words(start)
     }
 
-    /// The index of the first entry other than 0 from an index on, among the places where a list of as many digits
-    /// modulo 2 has a 1; `None` where there is none.
-    #[inline]
-    pub fn next_nonzero_within(&self, start: usize, places: &BitPlane) -> Option<usize>
-        requires start { start ≤ length self.now.entries }
-        requires fits { length places.now ≡ length self.now.entries }
-        ensures { MatchOption result (AreZerosFrom (restricted places.now self.now.entries) start)
-            (IsNextNonzero (restricted places.now self.now.entries) start) }
-    {
-        let at = start / WORD;
-        if let Some(index) = next_in_word(self.support_within(at, places), start) {
-            return Some(index);
-        }
-        self.next_within_from(at + 1, places)
-    }
-
     /// The index of the first entry other than 0 from the word at an index on, among the places where a list of as
     /// many digits modulo 2 has a 1. It stands apart so that a search that ends in its first word is short.
     #[inline(never)]

@@ -1,11 +1,11 @@
 //! The entries of a row other than 0 among chosen places, each with its index.
 ghost use Rattle.std.specs.Int.{bit_at};
 ghost use Rattle.std.specs.Prelude.{ℕ, ◌≡◌, ◌≢◌, ◌+◌, ◌*◌, ◌/◌, ◌<◌, ◌≤◌, IfSome, MatchOption, length, slice_index};
-ghost use Rattle.axe_field.specs.Order.{IsElement};
+ghost use Rattle.axe_field.specs.Order.{degree_of, IsElement};
 ghost use Rattle.axe_lane.specs.Entries.{AreZerosFrom};
 ghost use Rattle.axe_layer.specs.Supports.{restricted, IsSupportWord};
 ghost use Rattle.axe_layer.specs.Words.{digit_of_words};
-ghost use Rattle.axe_row.specs.FoundEntries.{IsNextEntry, TellsNextEntry, HoldBits, HoldTrits};
+ghost use Rattle.axe_row.specs.FoundEntries.{IsNextEntry, TellsNextEntry, HoldBitWords, HoldTritWords};
 ghost use Rattle.axe_row.specs.Rows.{IsRow};
 
 use crate::{BitPlane, Row};
@@ -41,24 +41,22 @@ impl Row {
         ensures told { TellsNextEntry places.now self.now.entries start result.0 result.1 }
         ensures well_formed { IsRow self.now }
     {
-        if self.field.degree() == 1 {
+        let Some(_) = &self.higher else {
             return self.entry_of_plane(start, places);
-        }
+        };
         self.entry_by_planes(start, places)
     }
 
-    /// The next entry among places over a prime field, by the word in which the index stands: mostly it is found in fewer
-    /// instructions than a call takes.
+    /// The next entry among places over a prime field, whose rows keep one plane, by the word in which the index stands:
+    /// mostly it is found in fewer instructions than a call takes.
     #[inline(always)]
     fn entry_of_plane(&self, start: usize, places: &BitPlane) -> (usize, u8)
+        requires prime { degree_of self.now.order ≡ 1 }
         requires start { start ≤ length self.now.entries }
         requires fits { length places.now ≡ length self.now.entries }
         ensures { TellsNextEntry places.now self.now.entries start result.0 result.1 }
     {
         let at = start / WORD;
-        let None = &self.higher else {
-            return self.entry_in_support(self.support_word(at), start, places);
-        };
         match &self.constant {
             Plane::Bits(plane) => self.entry_in_bits(plane.word(at), 0, 0, start, places),
             Plane::Trits(plane) => {
@@ -78,7 +76,7 @@ impl Row {
     {
         let at = start / WORD;
         let Some(higher) = &self.higher else {
-            return self.entry_in_support(self.support_word(at), start, places);
+            return self.entry_by_support(start, places);
         };
         match (&self.constant, &higher.linear, &higher.quadratic) {
             (Plane::Bits(constant), Plane::Bits(linear), Plane::Bits(quadratic)) => {
@@ -90,8 +88,19 @@ impl Row {
                 let (c, l) = (words_of_trits(constant, at), words_of_trits(linear, at));
                 self.entry_in_trits(c, l, start, places)
             }
-            _ => self.entry_in_support(self.support_word(at), start, places),
+            _ => self.entry_by_support(start, places),
         }
+    }
+
+    /// The next entry among places, by the word of the row's support in which the index stands. It stands apart so that
+    /// `entry_by_planes` keeps no frame for the bytes that a support is made of.
+    #[inline(never)]
+    fn entry_by_support(&self, start: usize, places: &BitPlane) -> (usize, u8)
+        requires start { start ≤ length self.now.entries }
+        requires fits { length places.now ≡ length self.now.entries }
+        ensures { TellsNextEntry places.now self.now.entries start result.0 result.1 }
+    {
+        self.entry_in_support(self.support_word(start / WORD), start, places)
     }
 
     /// The next entry among places over a field of characteristic 2, by the words of its coefficients in which the
@@ -105,7 +114,7 @@ impl Row {
         start: usize,
         places: &BitPlane,
     ) -> (usize, u8)
-        requires words { HoldBits self.now.entries (start / 64) constant linear quadratic }
+        requires words { HoldBitWords self.now.entries (start / 64) constant linear quadratic }
         requires start { start ≤ length self.now.entries }
         requires fits { length places.now ≡ length self.now.entries }
         ensures { TellsNextEntry places.now self.now.entries start result.0 result.1 }
@@ -130,7 +139,7 @@ impl Row {
         start: usize,
         places: &BitPlane,
     ) -> (usize, u8)
-        requires words { HoldTrits self.now.entries (start / 64) constant linear }
+        requires words { HoldTritWords self.now.entries (start / 64) constant linear }
         requires start { start ≤ length self.now.entries }
         requires fits { length places.now ≡ length self.now.entries }
         ensures { TellsNextEntry places.now self.now.entries start result.0 result.1 }
@@ -192,7 +201,7 @@ impl Row {
 
 /// The number of the element whose coefficients of 1, x and x^2 modulo 2 three words have at a place.
 #[inline(always)]
-fn entry_of_bits(constant: u64, linear: u64, quadratic: u64, place: usize) -> u8
+pub(crate) fn entry_of_bits(constant: u64, linear: u64, quadratic: u64, place: usize) -> u8
     requires { place < 64 }
     ensures { result ≡ bit_at constant place + 2 * bit_at linear place + 4 * bit_at quadratic place }
 {

@@ -18,8 +18,10 @@ mod cancelling;
 mod combos;
 mod dots;
 mod entries;
+mod entry_word;
 mod found;
 mod higher;
+mod lanes;
 mod packed;
 mod parts;
 mod pieces;
@@ -34,6 +36,7 @@ use axe_layer::earlier;
 pub use axe_plane::BitPlane;
 use axe_plane::Plane;
 pub use combos::{Combos, digits_per_byte};
+pub use entry_word::EntryWord;
 use higher::Higher;
 use planes::{add_planes, digits_in_plane, element, plane_of, quadratic_at};
 pub use refusals::Refusal;
@@ -245,12 +248,12 @@ impl Row {
         ensures as_long { length self.new.entries ≡ length self.old.entries }
         ensures well_formed { IsRow self.new }
     {
-        if self.field.degree() == 1 {
+        let Some(_) = &other.higher else {
             self.constant
                 .add_scaled_from(start, scalar, &other.constant);
-        } else {
-            self.add_by_planes(start, scalar, other);
-        }
+            return;
+        };
+        self.add_by_planes(start, scalar, other);
     }
 
     /// Multiplies the row by an element: each entry d becomes c d, where c is the scalar.

@@ -6,6 +6,7 @@ ghost use Rattle.axe_field.specs.Order.{IsElement};
 ghost use Rattle.axe_row.specs.Combinations.{piece_number, piece_numbers};
 
 use crate::Row;
+use crate::lanes::numbers_in_lanes;
 
 impl Row {
     /// The numbers of four pieces of a row of so many entries each, one after another from an index on: the entries of
@@ -45,18 +46,22 @@ impl Row {
         number
     }
 
-    /// The numbers of four pieces of a row, by the numbers that the planes have of their digits.
+    /// The numbers of four pieces of a row, by the numbers that the planes have of their digits. Those of one or two
+    /// entries, which are most over 8 and 9 elements, are made at once where the row has so many.
     fn numbers_by_planes(&self, size: usize, at: usize) -> [usize; 4]
         requires short { size ≤ 8 }
         requires counted { at + 4 * size < 2 ^ 64 }
         ensures { result ≡ piece_numbers self.now 1 size at }
     {
         let order = usize::from(self.field.order());
-        let constant = self.constant.numbers_from(order, size, at);
         let Some(higher) = &self.higher else {
-            return constant;
+            return self.constant.numbers_from(order, size, at);
         };
+        if size > 0 && size <= 2 && at + 4 * size <= self.constant.len() {
+            return numbers_in_lanes(&self.field, &self.constant, higher, size, at);
+        }
         let prime = self.field.prime();
+        let constant = self.constant.numbers_from(order, size, at);
         let linear = higher.linear.numbers_from(order, size, at);
         let quadratic = higher.quadratic.numbers_from(order, size, at);
         [

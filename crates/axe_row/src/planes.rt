@@ -90,26 +90,20 @@ pub(crate) fn add_planes(
         ≡ row_with_multiple (row_of_planes field.now constant.old higher.old.linear higher.old.quadratic) scalar
         (row_of_planes field.now other.now others.now.linear others.now.quadratic) }
 {
-    let m = field.plane_matrix(scalar);
     let Higher { linear, quadratic } = higher;
-    // Over a field of degree 2 there are no coefficients of x^2.
-    let without_squares = field.degree() == 2;
-    if without_squares {
-        let (to_constant, to_linear) = ([m[0][0], m[1][0]], [m[0][1], m[1][1]]);
-        let l = &others.linear;
-        Plane::add_to_two(constant, linear, start, to_constant, to_linear, other, l);
-        return;
+    match field.order() {
+        4 => {
+            let (p, q) = (scalar % 2, scalar / 2);
+            Plane::add_multiple_of_two(constant, linear, start, p, q, other, &others.linear);
+        }
+        9 => {
+            let (p, q) = (scalar % 3, scalar / 3);
+            Plane::add_multiple_of_two(constant, linear, start, p, q, other, &others.linear);
+        }
+        _ => {
+            let (p, q, r) = (scalar % 2, scalar / 2 % 2, scalar / 4);
+            let (l, s) = (&others.linear, &others.quadratic);
+            Plane::add_multiple_of_three(constant, linear, quadratic, start, p, q, r, other, l, s);
+        }
     }
-    Plane::add_to_three(
-        constant,
-        linear,
-        quadratic,
-        start,
-        [m[0][0], m[1][0], m[2][0]],
-        [m[0][1], m[1][1], m[2][1]],
-        [m[0][2], m[1][2], m[2][2]],
-        other,
-        &others.linear,
-        &others.quadratic,
-    );
 }

@@ -1,7 +1,9 @@
 use Rattle.std.proofs.Common.{◌≡◌, ◌+◌, ◌*◌, ℕ, List, get_or, refl, ap, ◌∙◌}
 use Rattle.axe_field.specs.Order.{order_number, degree_of}
 use Rattle.axe_layer.proofs.PieceDigits.{same_four}
+use Rattle.axe_row.specs.Combinations.{piece_numbers}
 use Rattle.axe_row.specs.HigherPlanes.{linear_of, quadratic_of}
+use Rattle.axe_row.specs.Rows.{RowValue}
 use Rattle.axe_row.proofs.KeptPlanes.{alone_is_prime, kept_planes, kept_view}
 use Rattle.axe_row.proofs.PlaneNumbers.{number_of_plane, number_of_planes, number_is}
 use Rattle.axe_row.proofs.Row.numbers_by_planes.Goals as goal
@@ -10,12 +12,18 @@ pub returns-in_default : goal.returns-in_default
 returns-in_default c =
     let base : c.from-order.result ≡ order_number c.self.inside.field = c.from-order.ensures ∙ c.order.ensures.value in
     let one : degree_of c.self.inside.field ≡ 1 = alone_is_prime _ _ _ _ c.self.invariant c.in_default.is in
-    c.numbers_from-constant.ensures.value
+    c.numbers_from.ensures.value
     ∙ same_four _ _ _ _ _ _ _ _
     (number_of_plane _ _ _ _ _ _ (linear_of c.self.inside.field c.self.inside.higher) (quadratic_of c.self.inside.field c.self.inside.higher) _ c.self.invariant.planes c.self.view_is base refl one)
     (number_of_plane _ _ _ _ _ _ (linear_of c.self.inside.field c.self.inside.higher) (quadratic_of c.self.inside.field c.self.inside.higher) _ c.self.invariant.planes c.self.view_is base refl one)
     (number_of_plane _ _ _ _ _ _ (linear_of c.self.inside.field c.self.inside.higher) (quadratic_of c.self.inside.field c.self.inside.higher) _ c.self.invariant.planes c.self.view_is base refl one)
     (number_of_plane _ _ _ _ _ _ (linear_of c.self.inside.field c.self.inside.higher) (quadratic_of c.self.inside.field c.self.inside.higher) _ c.self.invariant.planes c.self.view_is base refl one)
+
+pub returns-then-at-size : goal.returns-then-at-size
+returns-then-at-size c =
+    c.numbers_in_lanes.ensures
+    ∙ ap (λ (row : RowValue). piece_numbers row 1 c.args.size c.args.at)
+    (kept_view _ c.self.inside.constant _ _ _ _ _ c.self.view_is c.in-Some.is c.deref.ensures c.deref.ensures)
 
 pub returns : goal.returns
 returns c =
@@ -23,8 +31,8 @@ returns c =
     let size = c.args.size in
     let at = c.args.at in
     let base : q ≡ order_number c.self.inside.field = c.from-order.ensures ∙ c.order.ensures.value in
-    let planes = (kept_planes _ _ _ _ c.self.invariant _ _ _ c.in-Some.is c.deref.ensures c.deref-2.ensures) in
-    let view_is = (kept_view _ c.self.inside.constant _ _ _ _ _ c.self.view_is c.in-Some.is c.deref.ensures c.deref-2.ensures) in
+    let planes = (kept_planes _ _ _ _ c.self.invariant _ _ _ c.in-Some.is c.deref-2.ensures c.deref-3.ensures) in
+    let view_is = (kept_view _ c.self.inside.constant _ _ _ _ _ c.self.view_is c.in-Some.is c.deref-2.ensures c.deref-3.ensures) in
     let constant = c.numbers_from-constant.ensures.value in
     let linear = c.numbers_from-linear.ensures.value in
     let quadratic = c.numbers_from-quadratic.ensures.value in
