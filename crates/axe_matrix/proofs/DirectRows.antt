@@ -15,9 +15,35 @@ field_mul-is : (o : Order) (a b : ℕ) → field_mul o a b ≡ (number_field o).
 unfolding number_field
 field_mul-is o a b = refl
 
+-- the row with n terms from number `at` on of its sum with c times a product
+abbrev pub terms_from : MatrixValue → List ℕ → ℕ → List ℕ → ℕ → ℕ → List ℕ
+terms_from b r c v at n = row_with_terms (number_field b.order) b.cols r c v b.rows at n
+
+module _ (b : MatrixValue) (r : List ℕ) (c : ℕ) (v : List ℕ) (at : ℕ) (hb : IsMatrix b) (over_v : All (IsElement b.order) v) where
+  pub no_terms_from : IsElement b.order c → All (IsElement b.order) r → length r ≡ b.cols → r ≡ terms_from b r c v at 0
+  no_terms_from small over_r long =
+      row_with_no_terms (number_field b.order) b.cols r c v b.rows at (element-below b.order c small) (elements-below b.order r over_r) long
+
+  -- a multiple of row k of the matrix was added
+  pub one_more_from : (n k factor : ℕ) (before row : RowValue) → at + n ≡ k → IsElement b.order c → All (IsElement b.order) r →
+      before.order ≡ b.order → before.entries ≡ terms_from b r c v at n → factor ≡ field_mul b.order c (get_or v k 0) → row ≡ row_of b k →
+      sum_with_multiple (number_field before.order) before.entries factor row.entries ≡ terms_from b r c v at (n + 1)
+  one_more_from n k factor before row is small over_r order so_far factor_is row_is =
+      ap (λ o. sum_with_multiple (number_field o) before.entries factor row.entries) order
+      ∙ ap (λ xs. sum_with_multiple (number_field b.order) xs factor row.entries) so_far
+      ∙ ap (λ x. sum_with_multiple (number_field b.order) (terms_from b r c v at n) x row.entries) (factor_is ∙ field_mul-is b.order c (get_or v k 0))
+      ∙ ap (λ (x : RowValue). sum_with_multiple (number_field b.order) (terms_from b r c v at n) ((number_field b.order).mul c (get_or v k 0)) x.entries) row_is
+      ∙ row_with_next_term (number_field b.order) b.cols r c v b.rows at n k is (element-below b.order c small)
+      (elements-below b.order r over_r) (elements-below b.order v over_v) (entries-below b.order b hb refl)
+
+  -- entries of the vector that are 0
+  pub zeros_from : (m n : ℕ) → m ≤ n → ((t : ℕ) → m ≤ t → t < n → get_or v (at + t) 0 ≡ 0) → terms_from b r c v at m ≡ terms_from b r c v at n
+  zeros_from m n more zeros =
+      row_with_zero_terms (number_field b.order) b.cols r c v b.rows at m n more (elements-below b.order v over_v) (entries-below b.order b hb refl) zeros
+
 -- the row with the first n terms of its sum with c times a product
 abbrev pub so_many_terms : MatrixValue → List ℕ → ℕ → List ℕ → ℕ → List ℕ
-so_many_terms b r c v n = row_with_terms (number_field b.order) b.cols r c v b.rows 0 n
+so_many_terms b r c v n = terms_from b r c v 0 n
 
 pub no_terms : (b : MatrixValue) (r : List ℕ) (c : ℕ) (v : List ℕ) → IsElement b.order c → All (IsElement b.order) r → length r ≡ b.cols → r ≡ so_many_terms b r c v 0
 no_terms b r c v small over_r long =
@@ -31,20 +57,13 @@ pub one_more_term : (b : MatrixValue) (r : List ℕ) (c : ℕ) (v : List ℕ) (n
     All (IsElement b.order) r → All (IsElement b.order) v → before.order ≡ b.order → before.entries ≡ so_many_terms b r c v n →
     factor ≡ field_mul b.order c (get_or v n 0) → row ≡ row_of b n →
     sum_with_multiple (number_field before.order) before.entries factor row.entries ≡ so_many_terms b r c v (n + 1)
-one_more_term b r c v n factor before row hb small over_r over_v order so_far factor_is row_is =
-    ap (λ o. sum_with_multiple (number_field o) before.entries factor row.entries) order
-    ∙ ap (λ xs. sum_with_multiple (number_field b.order) xs factor row.entries) so_far
-    ∙ ap (λ x. sum_with_multiple (number_field b.order) (so_many_terms b r c v n) x row.entries) (factor_is ∙ field_mul-is b.order c (get_or v n 0))
-    ∙ ap (λ (x : RowValue). sum_with_multiple (number_field b.order) (so_many_terms b r c v n) ((number_field b.order).mul c (get_or v n 0)) x.entries) row_is
-    ∙ row_with_next_term (number_field b.order) b.cols r c v b.rows 0 n n (at_first n) (element-below b.order c small)
-    (elements-below b.order r over_r) (elements-below b.order v over_v) (entries-below b.order b hb refl)
+one_more_term b r c v n factor before row hb small over_r over_v = one_more_from b r c v 0 hb over_v n n factor before row (at_first n) small over_r
 
 -- entries of the vector from n on that are 0
 pub zero_terms : (b : MatrixValue) (r : List ℕ) (c : ℕ) (v : List ℕ) (n m : ℕ) → IsMatrix b → All (IsElement b.order) v → n ≤ m →
     ((t : ℕ) → n ≤ t → t < m → get_or v t 0 ≡ 0) → so_many_terms b r c v n ≡ so_many_terms b r c v m
 zero_terms b r c v n m hb over_v more zeros =
-    row_with_zero_terms (number_field b.order) b.cols r c v b.rows 0 n m more (elements-below b.order v over_v) (entries-below b.order b hb refl)
-    (λ t past below. ap (λ k. get_or v k 0) (at_first t) ∙ zeros t past below)
+    zeros_from b r c v 0 hb over_v n m more (λ t past below. ap (λ k. get_or v k 0) (at_first t) ∙ zeros t past below)
 
 -- zeros plus 1 times a product
 pub zeros_with_product : (o : Order) (n : ℕ) (v : RowValue) (b : MatrixValue) → IsMatrix b → o ≡ b.order → n ≡ b.cols → v.order ≡ b.order → All (IsElement v.order) v.entries →

@@ -26,3 +26,4 @@ mod EntryWrites
 mod CoefficientWrites
 mod TransposedBlocks
 mod StripLaws
+mod WordTerms

@@ -1,12 +1,13 @@
 //! Products of a row vector and a matrix, row by row.
 
-ghost use Rattle.std.specs.Prelude.{◌≡◌, ◌+◌, ◌/◌, ◌≤◌, IfSome, MatchOption, length};
+ghost use Rattle.std.specs.Prelude.{◌≡◌, ◌+◌, ◌*◌, ◌/◌, ◌<◌, ◌≤◌, IfSome, MatchOption, length};
 ghost use Rattle.axe_layer.specs.Supports.{AreNextFour, IsSupportWord};
+ghost use Rattle.axe_field.specs.Arithmetic.{field_mul};
 ghost use Rattle.axe_field.specs.Order.{IsElement};
 ghost use Rattle.axe_lane.specs.Entries.{AreZerosFrom, IsNextNonzero};
 ghost use Rattle.axe_row.specs.Rows.{IsRow};
 ghost use Rattle.axe_matrix.specs.Products.{row_with_product};
-ghost use Rattle.axe_matrix.specs.VectorTerms.{row_with_first_terms};
+ghost use Rattle.axe_matrix.specs.VectorTerms.{row_with_first_terms, row_with_terms_between};
 
 use super::{Matrix, Row};
 use axe_lane::WORD;
@@ -30,12 +31,55 @@ impl Matrix {
         // `len` is called for what it ensures beside the length: that the entries are elements of the field.
         prove!(row.len() == self.cols());
         prove!(vector.len() == self.rows());
-        let mut at = self.add_fours(scalar, vector, row);
-        let mut word = vector.support_word(at / WORD);
-        while let Some(index) = next_entry(vector, at, &mut word) {
-            let factor = self.field().mul(scalar, vector.get(index));
-            row.add_scaled(factor, self.row(index));
-            at = index + 1;
+        let at = self.add_fours(scalar, vector, row);
+        let mut place = at % WORD;
+        for word in at / WORD..vector.len().div_ceil(WORD) {
+            self.add_terms_of_word(scalar, vector, word, place, row);
+            place = 0;
+        }
+    }
+
+    /// Adds the terms of a multiple of a row vector times this matrix that belong to the entries of the vector in one
+    /// word of 64, from a place of the word on. The word is read once for all its entries.
+    #[inline(always)]
+    fn add_terms_of_word(&self, scalar: u8, vector: &Row, word: usize, start: usize, row: &mut Row)
+        requires vector_field { vector.now.order ≡ self.now.order }
+        requires row_field { row.old.order ≡ self.now.order }
+        requires inner_fit { length vector.now.entries ≡ length self.now.rows }
+        requires columns_fit { length row.old.entries ≡ self.now.cols }
+        requires element { IsElement self.now.order scalar }
+        requires word { word * 64 < length vector.now.entries }
+        requires start { start ≤ 64 }
+        ensures sum { row.new ≡ row_with_terms_between row.old scalar vector.now self.now (word * 64 + start)
+            (word * 64 + 64) }
+        ensures as_long { length row.new.entries ≡ length row.old.entries }
+        ensures well_formed { IsRow row.new }
+    {
+        // `len` is called for what it ensures beside the length: that the entries are elements of the field.
+        prove!(row.len() == self.cols());
+        prove!(vector.len() == self.rows());
+        let entries = vector.entry_word(word);
+        let mut place = start;
+        while let Some((found, entry)) = entries.next(place) {
+            let factor = self.factor(scalar, entry);
+            row.add_scaled(factor, self.row(word * WORD + found));
+            place = found + 1;
+        }
+    }
+
+    /// The product of a scalar and an entry. Nothing is multiplied by 1, which most scalars are.
+    #[inline(always)]
+    fn factor(&self, scalar: u8, entry: u8) -> u8
+        requires scalar { IsElement self.now.order scalar }
+        requires entry { IsElement self.now.order entry }
+        ensures value { result ≡ field_mul self.now.order scalar entry }
+        ensures element { IsElement self.now.order result }
+    {
+        let one = scalar == 1;
+        if one {
+            entry
+        } else {
+            self.field().mul(scalar, entry)
         }
     }
 
