@@ -85,6 +85,18 @@ pub record IsClearing (o : Order) (n : ℕ) (p : PivotRow) (row next : RowValue)
   pub field : next.order ≡ o
   pub over : IsVectorOver (number_field o) n next.entries
 
+-- what a table of negatives has at the place of an element
+pub record IsNegative (q : Order) (entry scalar : ℕ) : Type 0 where
+  pub element : IsElement q scalar
+  pub value : scalar ≡ field_neg q entry
+
+pub negative_at : (o q : Order) (table : List ℕ) (entry index : ℕ) → ((a : ℕ) → IsElement q a → get_or table a 0 ≡ field_neg q a) →
+    ((a : ℕ) → IsElement q a → IsElement q (get_or table a 0)) → o ≡ q → IsElement o entry → index ≡ entry →
+    IsNegative q entry (get_or table index 0)
+negative_at o q table entry index values elements same element is =
+    let there : IsElement q index = subst (IsElement q) (sym is) (subst (λ r. IsElement r entry) same element) in
+    record { element = elements index there; value = values index there ∙ ap (field_neg q) is }
+
 -- as the code clears it, by the negative of the entry that was found
 pub clearing_of : (o q : Order) (n : ℕ) (p : PivotRow) (row next : RowValue) (places : List ℕ) (start column entry scalar : ℕ) → row.order ≡ o →
     IsVectorOver (number_field o) n row.entries → p.pivot ≡ column → IsNextEntry places row.entries start column entry → q ≡ o → IsElement q scalar →

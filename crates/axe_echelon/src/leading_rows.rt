@@ -32,11 +32,12 @@ pub(crate) fn clear_after(row: &mut Row, column: usize, rows: &[PivotRow], pivot
 {
     // `len` is called for what it ensures beside the number: that the entries are elements.
     prove!(column < row.len());
+    let negatives = row.field().negatives();
     let mut start = column + 1;
     while let Some((pivot, entry)) = pivots.next_pivot(row, start) {
         // The pivot's row is 0 before it: so what was cleared stays 0, and is not looked at again.
         let pivot_row = &rows[pivots.row_of(pivot)];
-        let factor = row.field().neg(entry);
+        let factor = negatives[usize::from(entry)];
         row.add_scaled_from(pivot, factor, &pivot_row.row);
         start = pivot + 1;
     }

@@ -183,11 +183,12 @@ impl Subspace {
     {
         // `len` is called for what it ensures beside the number: that the entries are elements.
         prove!(row.len() == self.cols);
+        let negatives = self.field.negatives();
         let mut start = 0;
         while let Some((pivot, entry)) = self.pivots.next_pivot(row, start) {
             // The pivot's row is 0 before it: so what was cleared stays 0, and is not looked at again.
             let pivot_row = &self.rows[self.pivots.row_of(pivot)];
-            let factor = self.field.neg(entry);
+            let factor = negatives[usize::from(entry)];
             row.add_scaled_from(pivot, factor, &pivot_row.row);
             start = pivot + 1;
         }
@@ -205,12 +206,13 @@ impl Subspace {
     {
         // `len` is called for what it ensures beside the number: that the entries are elements.
         prove!(row.len() == multipliers.len());
+        let negatives = self.field.negatives();
         let mut column = 0;
         while let Some((pivot, entry)) = self.pivots.next_pivot(row, column) {
             // The pivot's row is 0 before it: so what was cleared stays 0, and is not looked at again.
             let index = self.pivots.row_of(pivot);
             let pivot_row = &self.rows[index];
-            let multiplier = self.field.neg(entry);
+            let multiplier = negatives[usize::from(entry)];
             row.add_scaled_from(pivot, multiplier, &pivot_row.row);
             multipliers.set(index, multiplier);
             column = pivot + 1;

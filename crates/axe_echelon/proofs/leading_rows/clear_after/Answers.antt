@@ -1,12 +1,12 @@
-use Rattle.std.proofs.Common.{◌≡◌, ◌<◌, length, refl, subst, sym, ◌∙◌, arith}
+use Rattle.std.proofs.Common.{◌≡◌, ◌<◌, ℕ, get_or, length, refl, subst, sym, ◌∙◌, arith}
 use Rattle.axe_field.specs.Order.{IsElement}
 use Rattle.axe_echelon.specs.LeadingRows.{IsLeadingRow, HasPivotAt}
 use Rattle.axe_echelon.specs.declared.subspace.PivotRow.{PivotRow}
 use Rattle.axe_echelon.proofs.StepLaws.{over_of_row}
 use Rattle.axe_echelon.proofs.PivotTableLaws.{found_is_marked}
-use Rattle.axe_echelon.proofs.ClearingLaws.{IsClearing, clearing_of, place_of_found}
+use Rattle.axe_echelon.proofs.ClearingLaws.{IsClearing, IsNegative, negative_at, clearing_of, place_of_found}
 use Rattle.axe_echelon.proofs.LeadingRowLaws.{cleared_none, cleared_next, cleared_after, leading_zeros, leads_at}
-use Rattle.axe_echelon.proofs.leading_rows.clear_after.Goals.{In-Some, After-row_of, After-index-rows-row_of}
+use Rattle.axe_echelon.proofs.leading_rows.clear_after.Goals.{In-Some, After-row_of, After-index-rows-row_of, After-from}
 use Rattle.axe_echelon.proofs.leading_rows.clear_after.Goals as goal
 
 pub loop-pivot-init : goal.loop-pivot-init
@@ -53,11 +53,10 @@ add_scaled_from-requires-clause-zeros c =
     let at_row = (goal.at.add_scaled_from-requires-clause-zeros c).After-index-rows-row_of in
     leading_zeros _ _ c.index-rows-row_of.result c.in-Some.pivot (leads at_row) (pivot at_row)
 
-pub neg-factor-requires : goal.neg-factor-requires
-neg-factor-requires c = subst (λ o. IsElement o c.in-Some.entry) (sym c.field.ensures.order) c.in-Some.ensures.element
-
-pub add_scaled_from-requires-clause-element : goal.add_scaled_from-requires-clause-element
-add_scaled_from-requires-clause-element c = subst (λ o. IsElement o c.neg-factor.result) c.field.ensures.order c.neg-factor.ensures.element
+negative : (c : goal.After-from) → IsNegative c.field.result.now c.in-Some.entry (get_or c.negatives-negatives.result.now c.from.result 0)
+negative c =
+    negative_at _ _ _ _ _ c.negatives-negatives.ensures.values c.negatives-negatives.ensures.elements (c.loop-pivot.invariant.so_far.field ∙ sym c.field.ensures.order)
+    c.in-Some.ensures.element c.from.ensures
 
 pub overflow_add-start-in-Some : goal.overflow_add-start-in-Some
 overflow_add-start-in-Some c = omega (arith, place (goal.at.overflow_add-start-in-Some c).In-Some, c.len.ensures.count, c.len.type_inv)
@@ -70,17 +69,24 @@ loop-pivot-preserved c =
     let at_row = (goal.at.loop-pivot-preserved c).After-index-rows-row_of in
     let so_far = c.loop-pivot.invariant.so_far in
     let p : PivotRow = c.index-rows-row_of.result in
+    let factor : ℕ = get_or c.negatives-negatives.result.now c.from.result 0 in
+    let negated = negative (goal.at.loop-pivot-preserved c).After-from in
     let clearing : IsClearing c.args.row.now.order (length c.args.row.now.entries) p c.loop-pivot.row
-    c.add_scaled_from.new.self c.neg-factor.result =
+    c.add_scaled_from.new.self factor =
     clearing_of _ c.field.result.now _ p _ _ _ _ c.in-Some.pivot c.in-Some.entry _ so_far.field so_far.over (pivot at_row)
-    c.in-Some.ensures.found (c.field.ensures.order ∙ so_far.field) c.neg-factor.ensures.element c.neg-factor.ensures.value
+    c.in-Some.ensures.found c.field.ensures.order negated.element negated.value
     c.add_scaled_from.ensures.sum c.add_scaled_from.ensures.as_long c.add_scaled_from.ensures.well_formed in
     record {
       fits = omega (arith, place_of_found _ c.loop-pivot.row.entries _ _ c.in-Some.ensures.found.next, c.add_scaled_from.ensures.as_long);
       so_far = cleared_next _ _ c.args.column c.args.rows.now c.args.pivots.now c.loop-pivot.start c.args.row.now c.loop-pivot.row so_far c.in-Some.pivot
-          c.row_of.result p c.add_scaled_from.new.self c.neg-factor.result c.in-Some.ensures.found.next (leads at_row) (found at_row.before).within c.index-rows-row_of.is
+          c.row_of.result p c.add_scaled_from.new.self factor c.in-Some.ensures.found.next (leads at_row) (found at_row.before).within c.index-rows-row_of.is
           (pivot at_row) clearing;
     }
+
+pub add_scaled_from-requires-clause-element : goal.add_scaled_from-requires-clause-element
+add_scaled_from-requires-clause-element c =
+    subst (λ o. IsElement o (get_or c.negatives-negatives.result.now c.from.result 0)) (c.field.ensures.order ∙ sym c.loop-pivot.invariant.so_far.field)
+    (negative (goal.at.add_scaled_from-requires-clause-element c).After-from).element
 
 pub returns : goal.returns
 returns c = cleared_after _ _ c.args.column c.args.rows.now c.args.pivots.now c.loop-pivot.start c.args.row.now c.loop-pivot.row c.loop-pivot.invariant.so_far

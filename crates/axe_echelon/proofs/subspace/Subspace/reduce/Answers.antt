@@ -1,11 +1,11 @@
-use Rattle.std.proofs.Common.{◌<◌, subst, refl, sym, ◌∙◌, ap, arith}
+use Rattle.std.proofs.Common.{◌<◌, ℕ, get_or, subst, refl, sym, ◌∙◌, ap, arith}
 use Rattle.axe_field.specs.Order.{IsElement}
 use Rattle.axe_echelon.specs.Echelons.{EchelonValue}
 use Rattle.axe_echelon.specs.Subspaces.{IsRowOfForm}
 use Rattle.axe_echelon.proofs.PivotRowLaws.{form_row_at, pivot_at, echelon_of_rows}
 use Rattle.axe_echelon.proofs.StepLaws.{over_of_row, is_row_of_over}
-use Rattle.axe_echelon.proofs.ClearingLaws.{IsFoundRow, IsClearing, reduced_before_none, found_row, room_of_found, place_of_found, clearing_of, zeros_before_pivot, reduce_next, reduced_all}
-use Rattle.axe_echelon.proofs.subspace.Subspace.reduce.Goals.{In-Some, After-row_of, After-index-pivot_row}
+use Rattle.axe_echelon.proofs.ClearingLaws.{IsFoundRow, IsClearing, IsNegative, negative_at, reduced_before_none, found_row, room_of_found, place_of_found, clearing_of, zeros_before_pivot, reduce_next, reduced_all}
+use Rattle.axe_echelon.proofs.subspace.Subspace.reduce.Goals.{In-Some, After-row_of, After-index-pivot_row, After-from}
 use Rattle.axe_echelon.proofs.subspace.Subspace.reduce.Goals as goal
 
 pub loop-pivot-init : goal.loop-pivot-init
@@ -51,12 +51,10 @@ add_scaled_from-requires-clause-zeros c =
     zeros_before_pivot _ _ c.self.inside.rows.items c.row_of.result c.index-pivot_row.result.now c.self.invariant.are_rows
     there.within c.index-pivot_row.ensures c.in-Some.pivot there.pivot
 
-pub neg-factor-requires : goal.neg-factor-requires
-neg-factor-requires c = subst (λ o. IsElement o c.in-Some.entry) c.loop-pivot.invariant.so_far.clear.field c.in-Some.ensures.element
-
-pub add_scaled_from-requires-clause-element : goal.add_scaled_from-requires-clause-element
-add_scaled_from-requires-clause-element c =
-    subst (λ o. IsElement o c.neg-factor.result) (sym c.loop-pivot.invariant.so_far.clear.field) c.neg-factor.ensures.element
+negative : (c : goal.After-from) → IsNegative c.self.inside.field c.in-Some.entry (get_or c.negatives-negatives.result.now c.from.result 0)
+negative c =
+    negative_at _ _ _ _ _ c.negatives-negatives.ensures.values c.negatives-negatives.ensures.elements c.loop-pivot.invariant.so_far.clear.field c.in-Some.ensures.element
+    c.from.ensures
 
 pub overflow_add-start : goal.overflow_add-start
 overflow_add-start c = omega (arith, place (goal.at.overflow_add-start c).In-Some, c.self.invariant.are_rows.columns_fit)
@@ -70,15 +68,22 @@ loop-pivot-preserved c =
     let there : IsFoundRow c.self.inside.rows.items c.in-Some.pivot c.row_of.result = found (goal.at.loop-pivot-preserved c).After-row_of in
     let pivot = sym (pivot_at c.self.inside.rows.items c.row_of.result c.index-pivot_row.result.now there.within c.index-pivot_row.ensures) ∙ there.pivot in
     let so_far = c.loop-pivot.invariant.so_far in
-    let clearing : IsClearing c.self.inside.field c.self.inside.cols c.index-pivot_row.result.now c.loop-pivot.row c.add_scaled_from.new.self c.neg-factor.result =
+    let factor : ℕ = get_or c.negatives-negatives.result.now c.from.result 0 in
+    let negated = negative (goal.at.loop-pivot-preserved c).After-from in
+    let clearing : IsClearing c.self.inside.field c.self.inside.cols c.index-pivot_row.result.now c.loop-pivot.row c.add_scaled_from.new.self factor =
     clearing_of _ c.self.inside.field _ c.index-pivot_row.result.now _ _ _ _ c.in-Some.pivot c.in-Some.entry _ so_far.clear.field so_far.clear.over pivot
-    c.in-Some.ensures.found refl c.neg-factor.ensures.element c.neg-factor.ensures.value c.add_scaled_from.ensures.sum c.add_scaled_from.ensures.as_long
+    c.in-Some.ensures.found refl negated.element negated.value c.add_scaled_from.ensures.sum c.add_scaled_from.ensures.as_long
     c.add_scaled_from.ensures.well_formed in
     record {
       fits = omega (arith, place_of_found _ c.loop-pivot.row.entries _ _ c.in-Some.ensures.found.next, c.add_scaled_from.ensures.as_long);
       so_far = reduce_next _ _ c.self.inside.rows.items c.self.inside.pivots c.loop-pivot.start c.in-Some.pivot c.row_of.result c.index-pivot_row.result.now c.args.row.now c.loop-pivot.row
-          c.add_scaled_from.new.self c.neg-factor.result c.self.invariant so_far c.in-Some.ensures.found.next there c.index-pivot_row.ensures clearing;
+          c.add_scaled_from.new.self factor c.self.invariant so_far c.in-Some.ensures.found.next there c.index-pivot_row.ensures clearing;
     }
+
+pub add_scaled_from-requires-clause-element : goal.add_scaled_from-requires-clause-element
+add_scaled_from-requires-clause-element c =
+    subst (λ o. IsElement o (get_or c.negatives-negatives.result.now c.from.result 0)) (sym c.loop-pivot.invariant.so_far.clear.field)
+    (negative (goal.at.add_scaled_from-requires-clause-element c).After-from).element
 
 pub returns-clause-representative : goal.returns-clause-representative
 returns-clause-representative c =

@@ -1,11 +1,11 @@
-use Rattle.std.proofs.Common.{◌<◌, replicate, subst, refl, sym, ◌∙◌, ap, arith}
+use Rattle.std.proofs.Common.{◌<◌, ℕ, get_or, replicate, subst, refl, sym, ◌∙◌, ap, arith}
 use Rattle.axe_field.specs.Order.{IsElement}
 use Rattle.axe_echelon.specs.Echelons.{EchelonValue}
 use Rattle.axe_echelon.specs.Subspaces.{IsRowOfForm}
 use Rattle.axe_echelon.proofs.PivotRowLaws.{form_row_at, pivot_at, rows_fit, echelon_of_rows}
 use Rattle.axe_echelon.proofs.StepLaws.{over_of_row}
-use Rattle.axe_echelon.proofs.ClearingLaws.{IsFoundRow, IsClearing, cleared_by_none, found_row, room_of_found, place_of_found, clearing_of, zeros_before_pivot, clear_next, cleared_by_all}
-use Rattle.axe_echelon.proofs.subspace.Subspace.reduce_with.Goals.{In-Some, After-row_of-index, After-index-pivot_row}
+use Rattle.axe_echelon.proofs.ClearingLaws.{IsFoundRow, IsClearing, IsNegative, negative_at, cleared_by_none, found_row, room_of_found, place_of_found, clearing_of, zeros_before_pivot, clear_next, cleared_by_all}
+use Rattle.axe_echelon.proofs.subspace.Subspace.reduce_with.Goals.{In-Some, After-row_of-index, After-index-pivot_row, After-from}
 use Rattle.axe_echelon.proofs.subspace.Subspace.reduce_with.Goals as goal
 
 pub loop-pivot-init : goal.loop-pivot-init
@@ -58,12 +58,10 @@ set-requires-clause-index c =
     let fit = rows_fit _ _ _ c.self.invariant.are_rows in
     omega (arith, fit, (found (goal.at.set-requires-clause-index c).After-row_of-index).within, c.loop-pivot.invariant.so_far.multipliers_over.length_is)
 
-pub neg-multiplier-requires : goal.neg-multiplier-requires
-neg-multiplier-requires c = subst (λ o. IsElement o c.in-Some.entry) c.loop-pivot.invariant.so_far.clear.field c.in-Some.ensures.element
-
-pub add_scaled_from-requires-clause-element : goal.add_scaled_from-requires-clause-element
-add_scaled_from-requires-clause-element c =
-    subst (λ o. IsElement o c.neg-multiplier.result) (sym c.loop-pivot.invariant.so_far.clear.field) c.neg-multiplier.ensures.element
+negative : (c : goal.After-from) → IsNegative c.self.inside.field c.in-Some.entry (get_or c.negatives-negatives.result.now c.from.result 0)
+negative c =
+    negative_at _ _ _ _ _ c.negatives-negatives.ensures.values c.negatives-negatives.ensures.elements c.loop-pivot.invariant.so_far.clear.field c.in-Some.ensures.element
+    c.from.ensures
 
 pub overflow_add-column : goal.overflow_add-column
 overflow_add-column c = omega (arith, place (goal.at.overflow_add-column c).In-Some, c.self.invariant.are_rows.columns_fit)
@@ -77,18 +75,25 @@ loop-pivot-preserved c =
     let there : IsFoundRow c.self.inside.rows.items c.in-Some.pivot c.row_of-index.result = found (goal.at.loop-pivot-preserved c).After-row_of-index in
     let pivot = sym (pivot_at c.self.inside.rows.items c.row_of-index.result c.index-pivot_row.result.now there.within c.index-pivot_row.ensures) ∙ there.pivot in
     let so_far = c.loop-pivot.invariant.so_far in
+    let multiplier : ℕ = get_or c.negatives-negatives.result.now c.from.result 0 in
+    let negated = negative (goal.at.loop-pivot-preserved c).After-from in
     let clearing : IsClearing c.self.inside.field c.self.inside.cols c.index-pivot_row.result.now c.loop-pivot.row c.add_scaled_from.new.self
-    c.neg-multiplier.result =
+    multiplier =
     clearing_of _ c.self.inside.field _ c.index-pivot_row.result.now _ _ _ _ c.in-Some.pivot c.in-Some.entry _ so_far.clear.field so_far.clear.over pivot
-    c.in-Some.ensures.found refl c.neg-multiplier.ensures.element c.neg-multiplier.ensures.value c.add_scaled_from.ensures.sum
+    c.in-Some.ensures.found refl negated.element negated.value c.add_scaled_from.ensures.sum
     c.add_scaled_from.ensures.as_long c.add_scaled_from.ensures.well_formed in
     record {
       fits = omega (arith, place_of_found _ c.loop-pivot.row.entries _ _ c.in-Some.ensures.found.next, c.add_scaled_from.ensures.as_long);
       so_far = clear_next _ _ c.self.inside.rows.items c.self.inside.pivots c.loop-pivot.column c.in-Some.pivot c.row_of-index.result
           c.index-pivot_row.result.now c.args.row.now c.loop-pivot.row c.add_scaled_from.new.self c.loop-pivot.multipliers c.set.new.self
-          c.neg-multiplier.result c.self.invariant so_far c.in-Some.ensures.found.next there c.index-pivot_row.ensures clearing c.set.ensures.replaced
+          multiplier c.self.invariant so_far c.in-Some.ensures.found.next there c.index-pivot_row.ensures clearing c.set.ensures.replaced
           c.set.ensures.well_formed;
     }
+
+pub add_scaled_from-requires-clause-element : goal.add_scaled_from-requires-clause-element
+add_scaled_from-requires-clause-element c =
+    subst (λ o. IsElement o (get_or c.negatives-negatives.result.now c.from.result 0)) (sym c.loop-pivot.invariant.so_far.clear.field)
+    (negative (goal.at.add_scaled_from-requires-clause-element c).After-from).element
 
 pub returns-clause-cleared : goal.returns-clause-cleared
 returns-clause-cleared c = rw (← c.self.view_is) (
