@@ -3,6 +3,7 @@ use crate::tables::{Topic, each_call};
 use axe_field::Field;
 use axe_test_values::{
     TableFault, element_in, field_of, four_fields, small_number_of, three_fields, truth_of,
+    two_fields,
 };
 use std::process::Abort;
 
@@ -19,6 +20,7 @@ fn seven_orders_have_a_field(rt: HostRuntime) {
 /// - `is_element`: a number, and whether it is an element;
 /// - `add`, `mul`: two elements, and their sum or product;
 /// - `neg`, `inv`: an element, and its negative or its inverse;
+/// - `negatives`: those of all elements, a digit for each;
 /// - `==`: the order of a field, and whether the two are equal.
 const NINE: &str = "\
 field | 9 | 3 | 2
@@ -30,6 +32,17 @@ mul | 9 | 8 | 5 | 6
 add | 9 | 8 | 5 | 1
 neg | 9 | 5 | 7
 inv | 9 | 5 | 3
+";
+
+/// The same calls.
+const NEGATIVES: &str = "\
+negatives | 2 | 01
+negatives | 3 | 021
+negatives | 4 | 0123
+negatives | 5 | 04321
+negatives | 7 | 0654321
+negatives | 8 | 01234567
+negatives | 9 | 021687354
 ";
 
 /// The same calls.
@@ -82,6 +95,24 @@ fn turns(rt: &impl Abort, call: &str, line: &str) -> Result<bool, TableFault> {
     Ok(answer == wanted)
 }
 
+/// Whether each element has the negative that its digit says.
+fn lists_negatives(line: &str) -> Result<bool, TableFault> {
+    let (order, wanted) = two_fields(line)?;
+    let field = field_of(order)?;
+    let wanted = wanted.as_bytes();
+    if wanted.len() != usize::from(field.order()) {
+        return Err(TableFault::NotWritten);
+    }
+    let negatives = field.negatives();
+    for element in 0..field.order() {
+        let place = usize::from(element);
+        if wanted[place].wrapping_sub(b'0') != negatives[place] {
+            return Ok(false);
+        }
+    }
+    Ok(true)
+}
+
 fn compares(line: &str) -> Result<bool, TableFault> {
     let (left, right, wanted) = three_fields(line)?;
     let wanted = truth_of(wanted)?;
@@ -97,6 +128,7 @@ pub(crate) fn answers(rt: &impl Abort, call: &str, line: &str) -> Result<bool, T
         "is_element" => tells_elements(line),
         "add" | "mul" => combines(call, line),
         "neg" | "inv" => turns(rt, call, line),
+        "negatives" => lists_negatives(line),
         "==" => compares(line),
         _ => Err(TableFault::NotWritten),
     }
@@ -105,6 +137,11 @@ pub(crate) fn answers(rt: &impl Abort, call: &str, line: &str) -> Result<bool, T
 #[test]
 fn nine_elements_multiply_modulo_the_conway_polynomial(rt: HostRuntime) -> Result<(), TableFault> {
     each_call(&rt, rt.alloc(), Topic::Fields, NINE)
+}
+
+#[test]
+fn each_field_lists_its_negatives(rt: HostRuntime) -> Result<(), TableFault> {
+    each_call(&rt, rt.alloc(), Topic::Fields, NEGATIVES)
 }
 
 #[test]

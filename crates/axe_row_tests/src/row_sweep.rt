@@ -261,6 +261,42 @@ fn entries_are_taken_away_at_each_length(rt: HostRuntime) -> Result<(), Refusal>
     Ok(())
 }
 
+/// Asserts that a word has a row's entries, and 0 past their end: one that is not zero is found at its place, and from a
+/// zero on the same is found as from the next place on.
+fn assert_word(rt: &impl Abort, row: &Row, at: usize) {
+    assert!(rt; at < 64);
+    let word = row.entry_word(at);
+    for place in 0..64 {
+        let index = at * 64 + place;
+        let found = word.next(place);
+        let wanted = if index < row.len() {
+            entry_of(rt, row, index)
+        } else {
+            0
+        };
+        if wanted == 0 {
+            assert!(rt; found == word.next(place + 1));
+        } else {
+            assert!(rt; found == Some((place, wanted)));
+        }
+    }
+    assert!(rt; word.next(64).is_none());
+}
+
+#[test]
+fn entries_are_found_word_by_word(rt: HostRuntime) -> Result<(), Refusal> {
+    for order in ORDERS {
+        for len in LENGTHS {
+            let field = field_of_order(&rt, order);
+            let row = row_of_seed(&rt, rt.alloc(), field, len, order)?;
+            for at in 0..len / 64 + 2 {
+                assert_word(&rt, &row, at);
+            }
+        }
+    }
+    Ok(())
+}
+
 #[test]
 fn a_row_without_entries_is_zero(rt: HostRuntime) -> Result<(), Refusal> {
     let row = Row::from_elements(rt.alloc(), field_of_order(&rt, 3), &[])?;
