@@ -1,10 +1,9 @@
--- Sums with multiples and multiples of rows of bytes: which bytes they have, and what they are at the factors 0 and 1.
+-- Sums with multiples and multiples of rows of bytes: which bytes they have, and what multiples by 0 and by 1 are.
 use Rattle.std.proofs.Common.{◌≡◌, ℕ, ◌+◌, ◌*◌, ◌%◌, ◌<◌, List, [], ◌∷◌, length, replicate, refl, sym, ap, ap₂, subst, ◌∙◌, arith}
 use Rattle.std.proofs.lemmas.List.Elements.{All-map, All-head, All-tail}
 use Rattle.std.proofs.Math.Nat.{mod-eq_of_lt}
 use Rattle.axe_lane.specs.Bytes.{AreDigits, sum_with_multiple_modulo, multiple_modulo}
 use Rattle.axe_lane.proofs.Progress.{All-zip2}
-use Rattle.axe_lane.proofs.VectorLaws.{zip2-agree, zip2-first, map-same}
 use Rattle.axe_lane.proofs.ResidueLaws.{below_mod}
 
 module _ (p q m : ℕ) (some : 1 < q) (same : p ≡ q) (new : List ℕ) where
@@ -19,13 +18,6 @@ module _ (p q m : ℕ) (some : 1 < q) (same : p ≡ q) (new : List ℕ) where
       (subst (AreDigits q) (sym is) (All-map (λ x. x < q) (λ x. (m * x) % q) a (λ k d h. below_mod q _ some)))
 
 module _ (p m : ℕ) where
-  pub sum_with_none : m ≡ 0 → (a b : List ℕ) → length b ≡ length a → AreDigits p a → a ≡ sum_with_multiple_modulo p a m b
-  sum_with_none none a b fits below =
-      map-same a ∙ sym (zip2-first (λ x. x) a b fits)
-      ∙ sym (zip2-agree (λ x. x < p) (λ _. Unit {0}) (λ x y. (x + m * y) % p) (λ x y. x)
-      (λ x y h _. let product : m * y ≡ 0 * y = ap (λ k. k * y) none in let sum : x + m * y ≡ x = omega arith in ap (λ z. z % p) sum ∙ mod-eq_of_lt h)
-      a b below (λ k d h. tt))
-
   pub multiple_by_one : m ≡ 1 → (a : List ℕ) → AreDigits p a → a ≡ multiple_modulo p m a
   multiple_by_one one [] below = refl
   multiple_by_one one (x ∷ a) below =

@@ -3,7 +3,7 @@ use Rattle.std.proofs.Common.{◌≡◌, ℕ, zero, suc, ◌+◌, ◌*◌, ◌%�
 use Rattle.std.specs.Simd.Lanes.{chunk, zip2}
 use Rattle.std.specs.List.{All}
 use Rattle.std.proofs.lemmas.List.Elements.{All-head, All-tail, All-get_or}
-use Rattle.std.proofs.lemmas.Simd.{get_or-zip2, length-zip2}
+use Rattle.std.proofs.lemmas.Simd.{get_or-zip2, length-zip2, map-map}
 use Rattle.axe_lane.specs.Bytes.{IsSmallPrime, less_where_not_below}
 use Rattle.axe_lane.proofs.ResidueLaws.{small_primes, thrice}
 
@@ -96,20 +96,28 @@ lane p prime x a b c d hx ha hb hc hd =
     let whole : wrapped x (wrapped (wrapped (wrapped a b) c) d) ≡ x + a + b + c + d = omega (arith, few.1) in
     ap (λ z. L p (L (2 * p) (L (4 * p) z))) whole ∙ thrice p (x + a + b + c + d) (omega arith) ∙ sum_of_five p prime x a b c d
 
--- the lanes of five vectors
+-- the lanes of five vectors, where r takes a sum by f to one by g
+module _ (f g : ℕ → ℕ → ℕ) (r : ℕ → ℕ) (P Q : ℕ → Type 0)
+    (lane : (x a b c d : ℕ) → P x → Q a → Q b → Q c → Q d → r (f x (f (f (f a b) c) d)) ≡ g x (g (g (g a b) c) d)) where
+  pub lanes_by : (x a b c d : List ℕ) → All P x → All Q a → All Q b → All Q c → All Q d →
+      map r (zip2 f x (four f a b c d)) ≡ zip2 g x (four g a b c d)
+  lanes_by [] a b c d hx ha hb hc hd = refl
+  lanes_by (x ∷ xs) [] b c d hx ha hb hc hd = refl
+  lanes_by (x ∷ xs) (a ∷ al) [] c d hx ha hb hc hd = refl
+  lanes_by (x ∷ xs) (a ∷ al) (b ∷ bs) [] d hx ha hb hc hd = refl
+  lanes_by (x ∷ xs) (a ∷ al) (b ∷ bs) (c ∷ cs) [] hx ha hb hc hd = refl
+  lanes_by (x ∷ xs) (a ∷ al) (b ∷ bs) (c ∷ cs) (d ∷ ds) hx ha hb hc hd =
+      ap₂ (λ v rest. v ∷ rest)
+      (lane x a b c d (All-head P x xs hx) (All-head Q a al ha) (All-head Q b bs hb) (All-head Q c cs hc) (All-head Q d ds hd))
+      (lanes_by xs al bs cs ds (All-tail P x xs hx) (All-tail Q a al ha) (All-tail Q b bs hb) (All-tail Q c cs hc) (All-tail Q d ds hd))
+
 pub lanes : (p : ℕ) → IsSmallPrime p → (x a b c d : List ℕ) → All (λ k. k < p) x → All (λ k. k < p) a → All (λ k. k < p) b →
     All (λ k. k < p) c → All (λ k. k < p) d →
     map (L p) (map (L (2 * p)) (map (L (4 * p)) (zip2 wrapped x (four wrapped a b c d)))) ≡ zip2 (plus p) x (four (plus p) a b c d)
-lanes p prime [] a b c d hx ha hb hc hd = refl
-lanes p prime (x ∷ xs) [] b c d hx ha hb hc hd = refl
-lanes p prime (x ∷ xs) (a ∷ al) [] c d hx ha hb hc hd = refl
-lanes p prime (x ∷ xs) (a ∷ al) (b ∷ bs) [] d hx ha hb hc hd = refl
-lanes p prime (x ∷ xs) (a ∷ al) (b ∷ bs) (c ∷ cs) [] hx ha hb hc hd = refl
-lanes p prime (x ∷ xs) (a ∷ al) (b ∷ bs) (c ∷ cs) (d ∷ ds) hx ha hb hc hd =
-    let P = λ (k : ℕ). k < p in
-    ap₂ (λ v rest. v ∷ rest)
-    (lane p prime x a b c d (All-head P x xs hx) (All-head P a al ha) (All-head P b bs hb) (All-head P c cs hc) (All-head P d ds hd))
-    (lanes p prime xs al bs cs ds (All-tail P x xs hx) (All-tail P a al ha) (All-tail P b bs hb) (All-tail P c cs hc) (All-tail P d ds hd))
+lanes p prime x a b c d hx ha hb hc hd =
+    let sums : List ℕ = zip2 wrapped x (four wrapped a b c d) in
+    ap (map (L p)) (map-map (L (2 * p)) (L (4 * p)) sums) ∙ map-map (L p) (λ z. L (2 * p) (L (4 * p) z)) sums
+    ∙ lanes_by wrapped (plus p) (λ z. L p (L (2 * p) (L (4 * p) z))) (λ k. k < p) (λ k. k < p) (lane p prime) x a b c d hx ha hb hc hd
 
 -- the sum of five bytes at an index, before it is reduced
 pub sum_bound : (p n m : ℕ) (x a b c d : List ℕ) → n < m → length x ≡ m → length a ≡ m → length b ≡ m → length c ≡ m → length d ≡ m →

@@ -5,6 +5,7 @@ pub mod ByteLaws
 pub mod ZeroLaws
 pub mod SumLaws
 pub mod FiveRows
+pub mod FourMultiples
 pub mod MaskedRows
 pub mod TritSums
 pub mod FiveTrits

@@ -1,10 +1,8 @@
 -- Sums of rows of words of which masks take some bits: their blocks and words, and what they are added to so far.
-use Rattle.std.proofs.Common.{◌≡◌, ℕ, ◌+◌, ◌<◌, ◌≤◌, List, [], ◌∷◌, length, get_or, set, take, drop, sym, ap, ap₂, ◌∙◌, arith}
+use Rattle.std.proofs.Common.{◌≡◌, ℕ, ◌+◌, ◌<◌, ◌≤◌, List, length, get_or, set, take, drop, sym, ap, ap₂, ◌∙◌, arith}
 use Rattle.std.specs.Int.RustNames.{bit_and, bit_xor}
 use Rattle.std.specs.Simd.Lanes.{chunk, put_chunk, zip2}
-use Rattle.std.specs.Int.Bits.{xor_zero_r}
-use Rattle.std.proofs.lemmas.List.{drop-map, ext_get_or, get_or-map, length-map, take-map}
-use Rattle.std.proofs.lemmas.Nat.{and_le_r}
+use Rattle.std.proofs.lemmas.List.{drop-map, get_or-map, length-map, take-map}
 use Rattle.std.proofs.lemmas.Simd.{get_or-zip2, length-zip2}
 use Rattle.axe_lane.specs.Words.{masked, masked_sum_of_two, masked_sum_of_three}
 use Rattle.axe_lane.proofs.FiveRows.{chunk-zip2}
@@ -84,28 +82,3 @@ module _ (n : ℕ) (x sum now next : List ℕ) (so_far : now ≡ combined_to bit
       next ≡ set now n (bit_xor (get_or now n 0) word) → next ≡ zip2 bit_xor x sum
   word_added word of_sum end is =
       is ∙ ap (λ s. set now n (bit_xor (get_or now n 0) s)) (sym of_sum) ∙ last_one bit_xor n x sum now so_far e end
-
--- ---- a row to which nothing is added
-
-nothing_added : (x sum : List ℕ) → length sum ≡ length x → ((i : ℕ) → i < length x → get_or sum i 0 ≡ 0) → x ≡ zip2 bit_xor x sum
-nothing_added x sum long zero =
-    let same : length (zip2 bit_xor x sum) ≡ length x = length-zip2 bit_xor x sum (sym long) in
-    ext_get_or 0 x (zip2 bit_xor x sum) (sym same) (λ i inside.
-    sym (get_or-zip2 bit_xor x sum i 0 0 0 inside (omega (arith, inside, long)) ∙ ap (bit_xor (get_or x i 0)) (zero i inside) ∙ xor_zero_r (get_or x i 0)))
-
-masked_by_none : (x : ℕ) → bit_and x 0 ≡ 0
-masked_by_none x = omega (arith, and_le_r x 0)
-
-pub none_of_two : (x a b : List ℕ) → length a ≡ length x → length b ≡ length x →
-    x ≡ zip2 bit_xor x (masked_sum_of_two (0 ∷ 0 ∷ []) a b)
-none_of_two x a b a_long b_long =
-    nothing_added x _ (two_long (0 ∷ 0 ∷ []) (length x) a b a_long b_long) (λ i inside.
-    get_or-two (0 ∷ 0 ∷ []) (length x) a b a_long b_long i inside
-    ∙ ap₂ bit_xor (masked_by_none (get_or a i 0)) (masked_by_none (get_or b i 0)))
-
-pub none_of_three : (x a b c : List ℕ) → length a ≡ length x → length b ≡ length x → length c ≡ length x →
-    x ≡ zip2 bit_xor x (masked_sum_of_three (0 ∷ 0 ∷ 0 ∷ []) a b c)
-none_of_three x a b c a_long b_long c_long =
-    nothing_added x _ (three_long (0 ∷ 0 ∷ 0 ∷ []) (length x) a b a_long b_long c c_long) (λ i inside.
-    get_or-three (0 ∷ 0 ∷ 0 ∷ []) (length x) a b a_long b_long c c_long i inside
-    ∙ ap₂ bit_xor (ap₂ bit_xor (masked_by_none (get_or a i 0)) (masked_by_none (get_or b i 0))) (masked_by_none (get_or c i 0)))

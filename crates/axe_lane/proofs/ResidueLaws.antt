@@ -1,4 +1,4 @@
--- How conditional subtractions of multiples of a prime reduce a number below 8 times the prime.
+-- How conditional subtractions of multiples of a prime reduce a number below 8 times the prime, or below 32 times it.
 use Rattle.std.proofs.Common.{◌≡◌, ℕ, ◌+◌, ◌-◌, ◌*◌, ◌%◌, ◌<◌, ◌≤◌, cond, ltb, refl, sym, ap, ◌∙◌, arith, inl, inr}
 use Rattle.std.proofs.lemmas.Bool.{le-leb, lt-leb, lt-ltb, le-ltb, cases_lt}
 use Rattle.std.proofs.lemmas.Nat.{mul-le}
@@ -43,55 +43,30 @@ twice p z h = once p (L (2 * p) z) (less_below (2 * p) z (omega arith)) ∙ less
 pub thrice : (p z : ℕ) → z < 8 * p → L p (L (2 * p) (L (4 * p) z)) ≡ z % p
 thrice p z h = twice p (L (4 * p) z) (less_below (4 * p) z (omega arith)) ∙ less_mod (4 * p) 4 p z refl
 
--- x and y are entries over the field of order p, and bytes hold the sums
-module _ (p m x y : ℕ) (few : p < 8) (x_below : x < p) (y_below : y < p) where
-  pub plain_sum : m ≡ 1 → L p ((x + y) % 256) ≡ (x + m * y) % p
-  plain_sum e =
-      let fits : (x + y) % 256 ≡ x + y = omega arith in
-      let product : m * y ≡ 1 * y = ap (λ k. k * y) e in
-      let same : x + y ≡ x + m * y = omega arith in
-      ap (L p) fits ∙ once p (x + y) (omega arith) ∙ ap (λ z. z % p) same
+four_times : (p z : ℕ) → z < 16 * p → L p (L (2 * p) (L (4 * p) (L (8 * p) z))) ≡ z % p
+four_times p z h = thrice p (L (8 * p) z) (less_below (8 * p) z (omega arith)) ∙ less_mod (8 * p) 8 p z refl
 
-  -- a sum before its reduction
-  wide : (k : ℕ) → m ≤ k → x + m * y < p + k * p
-  wide k h = omega (arith, mul-le m (y + 1) m p (omega arith) (omega arith), mul-le m p k p h (omega arith))
+pub five_times : (p z : ℕ) → z < 32 * p → L p (L (2 * p) (L (4 * p) (L (8 * p) (L (16 * p) z)))) ≡ z % p
+five_times p z h = four_times p (L (16 * p) z) (less_below (16 * p) z (omega arith)) ∙ less_mod (16 * p) 16 p z refl
 
-  held : m < 7 → (x + (m * y) % 256) % 256 ≡ x + m * y
-  held h = let bound = wide 6 (omega arith) in omega arith
+-- x, y and a factor m are below p
+module _ (p m x y : ℕ) (few : p < 8) (m_below : m < p) (x_below : x < p) (y_below : y < p) where
+  unreduced : x + m * y < 7 * p
+  unreduced =
+      let multiple = mul-le m (y + 1) m p (omega arith) (omega arith) in
+      omega (arith, multiple, mul-le m p 6 p (omega arith) (omega arith))
 
-  pub short_sum : m < 4 → L p (L (2 * p) ((x + (m * y) % 256) % 256)) ≡ (x + m * y) % p
-  short_sum h =
-      let bound = wide 3 (omega arith) in
-      ap (λ z. L p (L (2 * p) z)) (held (omega arith)) ∙ twice p (x + m * y) (omega arith)
+  pub sum_is_byte : x + m * y < 256
+  sum_is_byte = omega (arith, unreduced)
 
-  pub long_sum : m < 7 → L p (L (2 * p) (L (4 * p) ((x + (m * y) % 256) % 256))) ≡ (x + m * y) % p
-  long_sum h =
-      let bound = wide 6 (omega arith) in
-      ap (λ z. L p (L (2 * p) (L (4 * p) z))) (held h) ∙ thrice p (x + m * y) (omega arith)
+  pub reduced_sum : L p (L (2 * p) (L (4 * p) ((x + m * y) % 256))) ≡ (x + m * y) % p
+  reduced_sum =
+      ap (λ z. L p (L (2 * p) (L (4 * p) z))) (mod-eq_of_lt sum_is_byte)
+      ∙ thrice p (x + m * y) (omega (arith, unreduced))
 
-  abbrev wrapped : ℕ
-  wrapped = (x + (256 - y)) % 256
-
-  -- p - 1 times y is what is missing from y to a multiple of p
-  pub difference : m + 1 ≡ p → cond (ltb wrapped ((wrapped + p) % 256)) wrapped ((wrapped + p) % 256) ≡ (x + m * y) % p
-  difference e =
-      let opposite : (m + 1) * y ≡ p * y = ap (λ k. k * y) e in
-      elim (cases_lt x y) [
-        | inl l ↦
-            let predecessor : y ≡ (y - 1) + 1 = omega arith in
-            let multiple : y * p ≡ ((y - 1) + 1) * p = ap (λ k. k * p) predecessor in
-            let whole : x + m * y ≡ (x + p - y) + (y - 1) * p = omega arith in
-            let low : (wrapped + p) % 256 ≡ x + p - y = omega arith in
-            let less : (wrapped + p) % 256 ≤ wrapped = omega arith in
-            ap (λ t. cond t wrapped ((wrapped + p) % 256)) (le-ltb wrapped ((wrapped + p) % 256) less) ∙ low
-            ∙ sym (ap (λ z. z % p) whole ∙ add-mul-mod_self_right (x + p - y) (y - 1) p ∙ mod-eq_of_lt (omega arith))
-        | inr g ↦
-            let whole : x + m * y ≡ (x - y) + y * p = omega arith in
-            let low : wrapped ≡ x - y = omega arith in
-            let more : wrapped < (wrapped + p) % 256 = omega arith in
-            ap (λ t. cond t wrapped ((wrapped + p) % 256)) (lt-ltb wrapped ((wrapped + p) % 256) more) ∙ low
-            ∙ sym (ap (λ z. z % p) whole ∙ add-mul-mod_self_right (x - y) y p ∙ mod-eq_of_lt (omega arith))
-      ]
+-- a multiple alone
+pub multiple_is_byte : (p m y : ℕ) → p < 8 → m < p → y < p → m * y < 256
+multiple_is_byte p m y few m_below y_below = omega (arith, sum_is_byte p m 0 y few m_below (omega arith) y_below)
 
 -- a difference of bytes wraps where it would be negative, and is then the greater number
 pub min_is_less : (by x : ℕ) → by < 256 → x < 256 → cond (ltb x ((x + (256 - by)) % 256)) x ((x + (256 - by)) % 256) ≡ L by x
@@ -106,10 +81,6 @@ min_is_less by x b h =
           let low : w ≡ x - by = omega arith in
           ap (λ t. cond t x w) (le-ltb x w less) ∙ low ∙ sym (falls by x g)
     ]
-
--- the sum of an entry and a multiple of another is a byte
-pub sum_is_byte : (p m x y : ℕ) → p < 8 → m < p → x < p → y < p → x + m * y < 256
-sum_is_byte p m x y few h a b = let bound = wide p m x y few a b 6 (omega arith) in omega arith
 
 -- a residue is below the modulus
 pub below_mod : (p z : ℕ) → 1 < p → z % p < p

@@ -1,9 +1,9 @@
 -- What the operations on vectors make of lists that were made lane by lane.
-use Rattle.std.proofs.Common.{◌≡◌, ℕ, zero, suc, ◌+◌, ◌-◌, ◌*◌, ◌%◌, ◌^◌, List, [], ◌∷◌, Bool, cond, map, length, ltb, refl, ap, ap₂, ◌∙◌, arith, w8}
-use Rattle.std.specs.Simd.Lanes.{zip2, sel_l, Each1, top}
+use Rattle.std.proofs.Common.{◌≡◌, ℕ, zero, suc, ◌+◌, ◌-◌, ◌*◌, ◌/◌, ◌%◌, ◌^◌, ◌<◌, List, [], ◌∷◌, Bool, cond, map, length, ltb, refl, ap, ap₂, ◌∙◌, arith, Fits, w8}
+use Rattle.std.specs.Simd.Lanes.{zip2, sel_l, Each1, top, digits_l, number_l}
 use Rattle.std.specs.List.{All}
 use Rattle.std.proofs.lemmas.List.Elements.{All-head, All-tail}
-use Rattle.std.proofs.lemmas.Simd.{tops_compared, zip2_of_maps, Each1-all}
+use Rattle.std.proofs.lemmas.Simd.{tops_compared}
 use mir.Val.{bits, hbits}
 
 module _ {A B C : Type 0} where
@@ -41,21 +41,12 @@ module _ {A : Type 0} where
   sel_l-map t h [] = refl
   sel_l-map t h (x ∷ xs) = ap (λ rest. cond (t x (h x)) x (h x) ∷ rest) (sel_l-map t h xs)
 
-  sel_l-zip2 : {B C : Type 0} (t : C → C → Bool) (f g : A → B → C) (xs : List A) (ys : List B)
-      → sel_l (zip2 t (zip2 f xs ys) (zip2 g xs ys)) (zip2 f xs ys) (zip2 g xs ys) ≡ zip2 (λ x y. cond (t (f x y) (g x y)) (f x y) (g x y)) xs ys
-  sel_l-zip2 t f g [] ys = refl
-  sel_l-zip2 t f g (x ∷ xs) [] = refl
-  sel_l-zip2 t f g (x ∷ xs) (y ∷ ys) = ap (λ rest. cond (t (f x y) (g x y)) (f x y) (g x y) ∷ rest) (sel_l-zip2 t f g xs ys)
-
 -- `simd_min` on bytes
 abbrev pub mins : List ℕ → List ℕ → List ℕ
 mins xs ys = sel_l (map (top (hbits w8)) (zip2 (λ a b. cond (ltb a b) (2 ^ bits w8 - 1) 0) xs ys)) xs ys
 
 pub mins-map : (h : ℕ → ℕ) (xs : List ℕ) → mins xs (map h xs) ≡ map (λ x. cond (ltb x (h x)) x (h x)) xs
 mins-map h xs = ap (λ ms. sel_l ms xs (map h xs)) (tops_compared w8 ltb xs (map h xs)) ∙ sel_l-map ltb h xs
-
-pub mins-zip2 : (f g : ℕ → ℕ → ℕ) (xs ys : List ℕ) → mins (zip2 f xs ys) (zip2 g xs ys) ≡ zip2 (λ x y. cond (ltb (f x y) (g x y)) (f x y) (g x y)) xs ys
-mins-zip2 f g xs ys = ap (λ ms. sel_l ms (zip2 f xs ys) (zip2 g xs ys)) (tops_compared w8 ltb (zip2 f xs ys) (zip2 g xs ys)) ∙ sel_l-zip2 ltb f g xs ys
 
 pub length-zip2_of : {A B C : Type 0} (f : A → B → C) (xs : List A) (ys : List B) (n : ℕ) → length xs ≡ n → length ys ≡ n → length (zip2 f xs ys) ≡ n
 length-zip2_of f [] ys n e h = e
@@ -67,35 +58,46 @@ pub map-same : (v : List ℕ) → v ≡ map (λ x. x) v
 map-same [] = refl
 map-same (x ∷ v) = ap (λ rest. x ∷ rest) (map-same v)
 
--- what `times` adds, lane by lane
-abbrev add : ℕ → ℕ → ℕ
-add x y = (x + y) % 256
+-- ---- bytes, two of which are multiplied as one number of 16 bits
 
-abbrev double : ℕ → ℕ
-double x = add x x
+digits_of_pair : (k a b rest : ℕ) → a < 256 → b < 256
+    → digits_l 256 (suc (suc k)) (a + 256 * b + 65536 * rest) ≡ a ∷ b ∷ digits_l 256 k rest
+digits_of_pair k a b rest a_byte b_byte =
+    let number : ℕ = a + 256 * b + 65536 * rest in
+    let lower : number % 256 ≡ a = omega arith in
+    let higher : number / 256 % 256 ≡ b = omega arith in
+    let others : number / 256 / 256 ≡ rest = omega arith in
+    λ i. lower i ∷ higher i ∷ digits_l 256 k (others i)
 
-module _ (m : ℕ) (v : List ℕ) where
-  doubles : zip2 add v v ≡ map double v
-  doubles = zip2_of_maps add (λ x. x) (λ x. x) v (map-same v) (map-same v)
+module _ (m : ℕ) where
+  -- where the products are bytes, none is carried from the lower one to the higher one
+  product_of_pair : (a b rest : ℕ) → a < 256 → b < 256 → m * a < 256 → m * b < 256
+      → ((a + 256 * (b + 256 * rest)) % 65536 * m) % 65536 ≡ m * a + 256 * (m * b)
+  product_of_pair a b rest a_byte b_byte low high =
+      let pair : (a + 256 * (b + 256 * rest)) % 65536 ≡ a + 256 * b = omega arith in
+      let product : (a + 256 * b) * m ≡ m * a + 256 * (m * b) = omega arith in
+      ap (λ x. (x * m) % 65536) pair ∙ ap (λ x. x % 65536) product ∙ omega arith
 
-  fours : zip2 add (zip2 add v v) (zip2 add v v) ≡ map (λ x. add (double x) (double x)) v
-  fours = zip2_of_maps add double double v doubles doubles
+  -- the products of n numbers of 16 bits with m, where the bytes of the numbers are the digits of x
+  abbrev pub pair_products : ℕ → ℕ → List ℕ
+  pair_products n x = map (λ y. (y * m) % 65536) (digits_l 65536 n x)
 
-  multiples : (f : ℕ → ℕ) → ((x : ℕ) → f x ≡ (m * x) % 256) → map f v ≡ map (λ x. (m * x) % 256) v
-  multiples f same = map-agree (λ _. Unit {0}) f (λ x. (m * x) % 256) (λ x _. same x) v (Each1-all (λ _. Unit {0}) (λ _. tt) v)
-
-  pub times_two : m ≡ 2 → zip2 add v v ≡ map (λ x. (m * x) % 256) v
-  times_two e = doubles ∙ multiples double (λ x. let e' : m * x ≡ 2 * x = ap (λ k. k * x) e in omega arith)
-
-  pub times_three : m ≡ 3 → zip2 add (zip2 add v v) v ≡ map (λ x. (m * x) % 256) v
-  times_three e =
-      zip2_of_maps add double (λ x. x) v doubles (map-same v)
-      ∙ multiples (λ x. add (double x) x) (λ x. let e' : m * x ≡ 3 * x = ap (λ k. k * x) e in omega arith)
-
-  pub times_four : m ≡ 4 → zip2 add (zip2 add v v) (zip2 add v v) ≡ map (λ x. (m * x) % 256) v
-  times_four e = fours ∙ multiples (λ x. add (double x) (double x)) (λ x. let e' : m * x ≡ 4 * x = ap (λ k. k * x) e in omega arith)
-
-  pub times_five : m ≡ 5 → zip2 add (zip2 add (zip2 add v v) (zip2 add v v)) v ≡ map (λ x. (m * x) % 256) v
-  times_five e =
-      zip2_of_maps add (λ x. add (double x) (double x)) (λ x. x) v fours (map-same v)
-      ∙ multiples (λ x. add (add (double x) (double x)) x) (λ x. let e' : m * x ≡ 5 * x = ap (λ k. k * x) e in omega arith)
+  pub products_of_pairs : (n : ℕ) (v : List ℕ) → length v ≡ 2 * n → Each1 (Fits w8) v → All (λ x. m * x < 256) v
+      → digits_l 256 (length v) (number_l 65536 (pair_products n (number_l 256 v))) ≡ map (λ x. m * x) v
+  products_of_pairs zero [] long bytes small = refl
+  products_of_pairs zero (a ∷ v) long bytes small = absurd (omega arith)
+  products_of_pairs (suc n) [] long bytes small = absurd (omega arith)
+  products_of_pairs (suc n) (a ∷ []) long bytes small = absurd (omega arith)
+  products_of_pairs (suc n) (a ∷ b ∷ v) long bytes small =
+      let a_byte : a < 256 = bytes.0.fits in
+      let b_byte : b < 256 = bytes.1.0.fits in
+      let after : All (λ x. m * x < 256) (b ∷ v) = All-tail (λ x. m * x < 256) a (b ∷ v) small in
+      let low : m * a < 256 = All-head (λ x. m * x < 256) a (b ∷ v) small in
+      let high : m * b < 256 = All-head (λ x. m * x < 256) b v after in
+      let rest : ℕ = number_l 256 v in
+      let others : (a + 256 * (b + 256 * rest)) / 65536 ≡ rest = omega arith in
+      let lowest = product_of_pair a b rest a_byte b_byte low high in
+      ap (digits_l 256 (length (a ∷ b ∷ v))) (ap₂ (λ x y. x + 65536 * number_l 65536 (pair_products n y)) lowest others)
+      ∙ digits_of_pair (length v) (m * a) (m * b) (number_l 65536 (pair_products n rest)) low high
+      ∙ ap (λ xs. m * a ∷ m * b ∷ xs)
+      (products_of_pairs n v (omega arith) bytes.1.1 (All-tail (λ x. m * x < 256) b v after))

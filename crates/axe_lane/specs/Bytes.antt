@@ -1,5 +1,5 @@
 -- Lists of bytes as rows over a prime field of order below 8: each byte is a number below the prime.
-use Rattle.std.specs.Prelude.{◌≡◌, ◌⊎◌, ℕ, ◌+◌, ◌-◌, ◌*◌, ◌%◌, ◌<◌, List, map, sum, All, if◌then◌else◌, nat_le}
+use Rattle.std.specs.Prelude.{◌≡◌, ◌⊎◌, ℕ, ◌+◌, ◌-◌, ◌*◌, ◌%◌, ◌<◌, List, map, slice_index, sum, All, if◌then◌else◌, nat_le}
 use Rattle.std.specs.Simd.Lanes.{zip2}
 
 -- the primes below 8
@@ -17,6 +17,13 @@ sum_modulo p a b = zip2 (λ x y. (x + y) % p) a b
 -- a row plus m times another, modulo p, entry by entry
 abbrev pub sum_with_multiple_modulo : ℕ → List ℕ → ℕ → List ℕ → List ℕ
 sum_with_multiple_modulo p a m b = zip2 (λ x y. (x + m * y) % p) a b
+
+-- a row plus multiples of four others, modulo p, entry by entry
+abbrev pub sum_with_four_multiples : ℕ → List ℕ → List ℕ → List ℕ → List ℕ → List ℕ → List ℕ → List ℕ
+sum_with_four_multiples p factors x a b c d =
+    sum_with_multiple_modulo p (sum_with_multiple_modulo p (sum_with_multiple_modulo p
+    (sum_with_multiple_modulo p x (slice_index factors 0) a) (slice_index factors 1) b)
+    (slice_index factors 2) c) (slice_index factors 3) d
 
 -- m times a row, modulo p, entry by entry
 abbrev pub multiple_modulo : ℕ → ℕ → List ℕ → List ℕ

@@ -12,7 +12,9 @@ mod masks;
 mod trits;
 mod words;
 
-pub use bytes::{add_scaled_bytes, add4_bytes, dot_bytes, first_byte, scale_bytes};
+pub use bytes::{
+    add_scaled_bytes, add4_bytes, add4_scaled_bytes, dot_bytes, first_byte, scale_bytes,
+};
 pub use digits::{add_bits, add_to_each, end_of_run};
 pub use masks::{bits_of_bytes, support_of_bytes};
 pub use trits::{add_multiple_over_nine, add_trits, add4_trits, dot_trits};

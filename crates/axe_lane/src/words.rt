@@ -4,7 +4,7 @@ ghost use Rattle.std.specs.Prelude.{MatchOption, slice_index, slice_set};
 ghost use Rattle.std.specs.Simd.Lanes.{chunk, put_chunk, zip2};
 ghost use Rattle.axe_lane.specs.Entries.{AreZerosBefore, HasNonzero, IsFirstNonzero};
 ghost use Rattle.axe_lane.specs.Words.{common_bits, xor_of_words, HasNoSetBitBefore, IsFirstSetBit};
-ghost use Rattle.axe_lane.specs.Words.{masked_sum_of_two, masked_sum_of_three, masks_of};
+ghost use Rattle.axe_lane.specs.Words.{mask_of, masked_sum_of_two, masked_sum_of_three, masks_of};
 ghost use Rattle.axe_lane.specs.Multiples.{to_constant_of_two, to_linear_of_two};
 ghost use Rattle.axe_lane.specs.Multiples.{to_constant_of_three, to_linear_of_three, to_quadratic_of_three};
 
@@ -22,9 +22,6 @@ const SUM_BLOCK: usize = 4;
 
 /// How many words a pair has.
 const PAIR: usize = 2;
-
-/// The mask of all bits of a word.
-const ALL: u64 = u64::MAX;
 
 /// Makes each word of `dst` its exclusive or with the word of `src` at the same index: the sum of two rows over the
 /// field of order 2.
@@ -165,7 +162,7 @@ fn xor_masked_into_three(
 
 /// Adds to a row over the field of order 4 the multiple by p + q x of another, in one pass, where x^2 is x + 1: to its
 /// constant coefficients, `first`, and to its linear ones, `second`, where `a` and `b` are those of the other row. The
-/// masks of each factor are constants, so that each has a loop without masks.
+/// masks are made of the factor's digits, so that no branch depends on the factor.
 #[inline]
 pub fn xor_multiple_over_four(
     first: &mut [u64],
@@ -185,13 +182,8 @@ pub fn xor_multiple_over_four(
     ensures linear { second.new
         ≡ xor_of_words second.old (masked_sum_of_two (masks_of (to_linear_of_two 2 p q)) a.now b.now) }
 {
-    let m = ALL;
-    match p + 2 * q {
-        0 => {}
-        1 => xor_masked_into_two(first, second, [m, 0], [0, m], a, b),
-        2 => xor_masked_into_two(first, second, [0, m], [m, m], a, b),
-        _ => xor_masked_into_two(first, second, [m, m], [m, 0], a, b),
-    }
+    let (p, q) = (mask_of(p), mask_of(q));
+    xor_masked_into_two(first, second, [p, q], [q, p ^ q], a, b);
 }
 
 /// Adds to a row over the field of order 8 the multiple by p + q x + r x^2 of another, in one pass, where x^3 is x + 1,
@@ -223,18 +215,9 @@ pub fn xor_multiple_over_eight(
     ensures quadratic { third.new
         ≡ xor_of_words third.old (masked_sum_of_three (masks_of (to_quadratic_of_three p q r)) a.now b.now c.now) }
 {
-    let (s, t, u) = (first, second, third);
-    let m = ALL;
-    match p + 2 * q + 4 * r {
-        0 => {}
-        1 => xor_masked_into_three(s, t, u, [m, 0, 0], [0, m, 0], [0, 0, m], a, b, c),
-        2 => xor_masked_into_three(s, t, u, [0, 0, m], [m, 0, m], [0, m, 0], a, b, c),
-        3 => xor_masked_into_three(s, t, u, [m, 0, m], [m, m, m], [0, m, m], a, b, c),
-        4 => xor_masked_into_three(s, t, u, [0, m, 0], [0, m, m], [m, 0, m], a, b, c),
-        5 => xor_masked_into_three(s, t, u, [m, m, 0], [0, 0, m], [m, 0, 0], a, b, c),
-        6 => xor_masked_into_three(s, t, u, [0, m, m], [m, m, 0], [m, m, m], a, b, c),
-        _ => xor_masked_into_three(s, t, u, [m, m, m], [m, 0, 0], [m, m, 0], a, b, c),
-    }
+    let (p, q, r) = (mask_of(p), mask_of(q), mask_of(r));
+    let (to_first, to_second, to_third) = ([p, r, q], [q, p ^ r, q ^ r], [r, q, p ^ r]);
+    xor_masked_into_three(first, second, third, to_first, to_second, to_third, a, b, c);
 }
 
 /// Whether some word is other than zero: some bit is set.
@@ -272,6 +255,15 @@ pub fn parity_and(a: &[u64], b: &[u64]) -> u8
         sum ^= a[at] & b[at];
     }
     (sum.count_ones() % 2) as u8
+}
+
+/// The word of which all bits are a digit modulo 2: zeros for 0, and ones for 1.
+#[inline(always)]
+fn mask_of(digit: u8) -> u64
+    requires { digit < 2 }
+    ensures { result ≡ mask_of digit }
+{
+    u64::from(digit).wrapping_neg()
 }
 
 /// Adds those bits of two pairs of words that the masks have to the pair of a row from an index on.

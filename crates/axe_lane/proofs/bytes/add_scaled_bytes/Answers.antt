@@ -4,15 +4,18 @@ use Rattle.axe_lane.proofs.bytes.add_scaled_bytes.Goals as goal
 
 pub returns-in-2-clause-below : goal.returns-in-2-clause-below
 returns-in-2-clause-below c =
-    sum_is_below c.args.p 2 c.args.m (omega arith) c.in-2.is c.add_multiple_over.new.dst c.args.dst.now c.args.src.now c.add_multiple_over.ensures
+    sum_is_below c.args.p 2 c.args.m (omega arith) c.in-2.is c.add_multiple.new.dst c.args.dst.now c.args.src.now
+    c.add_multiple.ensures
 
 pub returns-in-3-clause-below : goal.returns-in-3-clause-below
 returns-in-3-clause-below c =
-    sum_is_below c.args.p 3 c.args.m (omega arith) c.in-3.is c.add_multiple_over-in-3.new.dst c.args.dst.now c.args.src.now c.add_multiple_over-in-3.ensures
+    sum_is_below c.args.p 3 c.args.m (omega arith) c.in-3.is c.add_multiple-in-3.new.dst c.args.dst.now c.args.src.now
+    c.add_multiple-in-3.ensures
 
 pub returns-in-5-clause-below : goal.returns-in-5-clause-below
 returns-in-5-clause-below c =
-    sum_is_below c.args.p 5 c.args.m (omega arith) c.in-5.is c.add_multiple_over-in-5.new.dst c.args.dst.now c.args.src.now c.add_multiple_over-in-5.ensures
+    sum_is_below c.args.p 5 c.args.m (omega arith) c.in-5.is c.add_multiple-in-5.new.dst c.args.dst.now c.args.src.now
+    c.add_multiple-in-5.ensures
 
 pub returns-in_default-clause-below : goal.returns-in_default-clause-below
 returns-in_default-clause-below c =
@@ -21,4 +24,5 @@ returns-in_default-clause-below c =
       | inl e ↦ omega arith
       | inr r ↦ elim r [ inl e ↦ omega arith | inr r' ↦ elim r' [ inl e ↦ omega arith | inr e ↦ e ] ]
     ] in
-    sum_is_below c.args.p 7 c.args.m (omega arith) last c.add_multiple_over-in_default.new.dst c.args.dst.now c.args.src.now c.add_multiple_over-in_default.ensures
+    sum_is_below c.args.p 7 c.args.m (omega arith) last c.add_multiple-in_default.new.dst c.args.dst.now c.args.src.now
+    c.add_multiple-in_default.ensures

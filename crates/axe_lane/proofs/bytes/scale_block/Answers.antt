@@ -17,11 +17,12 @@ sum_of-product-requires-clause-s_below g c =
 
 pub returns : goal.returns
 returns g c =
-    let m = g.row.M in
+    let m = c.args.m in
     let p = g.row.P in
     let at = c.args.at in
     let lanes = chunk at 32 c.args.dst.now in
     ap (put_chunk at c.args.dst.now)
     (c.sum_of-product.ensures
     ∙ zip2_splat_left (λ x y. (x + m * y) % p) 0 32 lanes (length-chunk at 32 c.args.dst.now c.requires.dst_has_block)
-    ∙ map-agree (λ _. Unit {0}) (λ y. (0 + m * y) % p) (λ y. (m * y) % p) (λ y _. ap (λ z. z % p) (omega arith)) lanes (Each1-all (λ _. Unit {0}) (λ _. tt) lanes))
+    ∙ map-agree (λ _. Unit {0}) (λ y. (0 + m * y) % p) (λ y. (m * y) % p) (λ y _. ap (λ z. z % p) (omega arith))
+    lanes (Each1-all (λ _. Unit {0}) (λ _. tt) lanes))

@@ -4,15 +4,17 @@ use Rattle.axe_lane.proofs.bytes.scale_bytes.Goals as goal
 
 pub returns-in-2-clause-below : goal.returns-in-2-clause-below
 returns-in-2-clause-below c =
-    multiple_is_below c.args.p 2 c.args.m (omega arith) c.in-2.is c.scale_over.new.dst c.args.dst.now c.scale_over.ensures
+    multiple_is_below c.args.p 2 c.args.m (omega arith) c.in-2.is c.scale.new.dst c.args.dst.now c.scale.ensures
 
 pub returns-in-3-clause-below : goal.returns-in-3-clause-below
 returns-in-3-clause-below c =
-    multiple_is_below c.args.p 3 c.args.m (omega arith) c.in-3.is c.scale_over-in-3.new.dst c.args.dst.now c.scale_over-in-3.ensures
+    multiple_is_below c.args.p 3 c.args.m (omega arith) c.in-3.is c.scale-in-3.new.dst c.args.dst.now
+    c.scale-in-3.ensures
 
 pub returns-in-5-clause-below : goal.returns-in-5-clause-below
 returns-in-5-clause-below c =
-    multiple_is_below c.args.p 5 c.args.m (omega arith) c.in-5.is c.scale_over-in-5.new.dst c.args.dst.now c.scale_over-in-5.ensures
+    multiple_is_below c.args.p 5 c.args.m (omega arith) c.in-5.is c.scale-in-5.new.dst c.args.dst.now
+    c.scale-in-5.ensures
 
 pub returns-in_default-clause-below : goal.returns-in_default-clause-below
 returns-in_default-clause-below c =
@@ -21,4 +23,5 @@ returns-in_default-clause-below c =
       | inl e ↦ omega arith
       | inr r ↦ elim r [ inl e ↦ omega arith | inr r' ↦ elim r' [ inl e ↦ omega arith | inr e ↦ e ] ]
     ] in
-    multiple_is_below c.args.p 7 c.args.m (omega arith) last c.scale_over-in_default.new.dst c.args.dst.now c.scale_over-in_default.ensures
+    multiple_is_below c.args.p 7 c.args.m (omega arith) last c.scale-in_default.new.dst c.args.dst.now
+    c.scale-in_default.ensures
