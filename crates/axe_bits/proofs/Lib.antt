@@ -15,3 +15,6 @@ pub mod TritEnds
 pub mod TritMultiples
 pub mod TritEntries
 pub mod TritWordWrites
+pub mod EntrySums
+pub mod CopiedPieces
+pub mod EarlierEntries

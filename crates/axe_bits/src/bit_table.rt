@@ -1,7 +1,8 @@
 //! Tables of planes of digits modulo 2.
-ghost use Rattle.std.specs.Prelude.{ℕ, List, ◌≡◌, ◌<◌, IfOk, [], length, replicate, slice_index_or, slice_set};
+ghost use Rattle.std.specs.Prelude.{ℕ, List, ◌≡◌, ◌+◌, ◌<◌, ◌≤◌, IfOk, [], length, replicate, slice_index_or, slice_set};
 ghost use Rattle.axe_layer.specs.Bits.{bits, HoldsBits};
 ghost use Rattle.axe_layer.specs.Digits.{digits_with_multiple};
+ghost use Rattle.axe_bits.specs.Combinations.{HaveEntryCopies, HaveEntrySums};
 ghost use Rattle.axe_bits.specs.Trits.{trits, trit_entries, HoldLayers, HoldTritEntries};
 
 use crate::BitPlane;
@@ -98,6 +99,96 @@ impl BitTable {
             plane.words(),
         );
     }
+}
+
+impl BitTable {
+    /// Makes entry `start` + i, for each i from 1 on that is below `count`, the sum of entry i and entry `start`.
+    pub fn put_sums(&mut self, start: usize, count: usize)
+        requires some { 1 ≤ count }
+        requires earlier { count ≤ start }
+        requires within { start + count ≤ length self.old }
+        ensures { HaveEntrySums 2 start count self.old self.new }
+    {
+        for index in 1..count {
+            self.put_entry_sum(start, index);
+        }
+    }
+
+    /// Makes entry `start` + `index` the sum of entry `index` and entry `start`, in one pass.
+    #[inline]
+    fn put_entry_sum(&mut self, start: usize, index: usize)
+        requires some { 1 ≤ index }
+        requires earlier { index < start }
+        requires within { start + index < length self.old }
+        ensures { self.new ≡ slice_set self.old (start + index)
+            (digits_with_multiple 2 (slice_index_or self.old index []) 1 (slice_index_or self.old start [])) }
+    {
+        let width = self.width;
+        let one = start_of(index, width, self.count);
+        let other = start_of(start, width, self.count);
+        let to = start_of(start + index, width, self.count);
+        let (before, after) = self.words.split_at_mut(to);
+        put_xor(
+            &mut after[..width],
+            &before[one..one + width],
+            &before[other..other + width],
+        );
+    }
+
+    /// Makes entry `start` + i, for each i from 1 on that is below `count`, a copy of entry i.
+    fn copy_entries(&mut self, start: usize, count: usize)
+        requires some { 1 ≤ count }
+        requires earlier { count ≤ start }
+        requires within { start + count ≤ length self.old }
+        ensures { HaveEntryCopies start count self.old self.new }
+    {
+        let width = self.width;
+        let first = start_of(start, width, self.count);
+        self.words.copy_within(width..count * width, first + width);
+    }
+}
+
+/// Makes the digits modulo 3 of entry `start` + i of two tables of layers, for each i from 1 on that is below `count`,
+/// the sums of those of entry i and entry `start`.
+pub(crate) fn put_layer_sums(ones: &mut BitTable, twos: &mut BitTable, start: usize, count: usize)
+    requires some { 1 ≤ count }
+    requires earlier { count ≤ start }
+    requires within { start + count ≤ length ones.old }
+    requires entries { HoldTritEntries ones.old twos.old }
+    ensures holds { HoldTritEntries ones.new twos.new }
+    ensures sums { HaveEntrySums 3 start count (trit_entries ones.old twos.old) (trit_entries ones.new twos.new) }
+{
+    ones.copy_entries(start, count);
+    twos.copy_entries(start, count);
+    for index in 1..count {
+        add_layers_to_later(ones, twos, start, index);
+    }
+}
+
+/// Adds the digits modulo 3 of entry `start` of two tables of layers to those of entry `start` + `index`.
+#[inline]
+fn add_layers_to_later(ones: &mut BitTable, twos: &mut BitTable, start: usize, index: usize)
+    requires some { 1 ≤ index }
+    requires within { start + index < length ones.old }
+    requires entries { HoldTritEntries ones.old twos.old }
+    ensures holds { HoldTritEntries ones.new twos.new }
+    ensures digits { trit_entries ones.new twos.new ≡ slice_set (trit_entries ones.old twos.old) (start + index)
+        (digits_with_multiple 3 (slice_index_or (trit_entries ones.old twos.old) (start + index) []) 1
+        (slice_index_or (trit_entries ones.old twos.old) start [])) }
+{
+    let (width, wide) = (ones.width, twos.width);
+    let one = start_of(start, width, ones.count);
+    let two = start_of(start, wide, twos.count);
+    let to_one = start_of(start + index, width, ones.count);
+    let to_two = start_of(start + index, wide, twos.count);
+    let (ones_before, ones_after) = ones.words.split_at_mut(to_one);
+    let (twos_before, twos_after) = twos.words.split_at_mut(to_two);
+    add_trits(
+        &mut ones_after[..width],
+        &mut twos_after[..wide],
+        &ones_before[one..one + width],
+        &twos_before[two..two + wide],
+    );
 }
 
 /// Adds the digits modulo 3 that two layers hold to those of the entries at one index of two tables: each digit becomes

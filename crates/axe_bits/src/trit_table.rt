@@ -1,10 +1,11 @@
 //! Tables of planes of digits modulo 3.
-ghost use Rattle.std.specs.Prelude.{◌≡◌, ◌<◌, IfOk, [], length, replicate, slice_index_or, slice_set};
+ghost use Rattle.std.specs.Prelude.{◌≡◌, ◌+◌, ◌<◌, ◌≤◌, IfOk, [], length, replicate, slice_index_or, slice_set};
+ghost use Rattle.axe_bits.specs.Combinations.{HaveEntrySums};
 ghost use Rattle.axe_bits.specs.Trits.{trits, HoldLayers};
 ghost use Rattle.axe_layer.specs.Bits.{bits};
 ghost use Rattle.axe_layer.specs.Digits.{digits_with_multiple};
 
-use crate::bit_table::add_layers_to_entry;
+use crate::bit_table::{add_layers_to_entry, put_layer_sums};
 use crate::{BitTable, TritPlane};
 use std::alloc::{AllocError, Global};
 use std::marker::Model;
@@ -46,6 +47,16 @@ impl TritTable {
     {
         self.ones.copy_entry(to, from);
         self.twos.copy_entry(to, from);
+    }
+
+    /// Makes entry `start` + i, for each i from 1 on that is below `count`, the sum of entry i and entry `start`.
+    pub fn put_sums(&mut self, start: usize, count: usize)
+        requires some { 1 ≤ count }
+        requires earlier { count ≤ start }
+        requires within { start + count ≤ length self.old }
+        ensures { HaveEntrySums 3 start count self.old self.new }
+    {
+        put_layer_sums(&mut self.ones, &mut self.twos, start, count);
     }
 
     /// Adds a multiple of a plane to an entry of its length.
