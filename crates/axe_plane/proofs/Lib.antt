@@ -1,3 +1,4 @@
 pub mod PlaneLaws
+pub mod FourMultiples
 pub mod TableLaws
 pub mod PlaneWords

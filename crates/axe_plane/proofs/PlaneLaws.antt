@@ -3,10 +3,10 @@ use Rattle.std.proofs.Common.{◌≡◌, ℕ, ◌<◌, List, length, set, replic
 use Rattle.axe_lane.specs.Bytes.{AreDigits}
 use Rattle.axe_bits.specs.Trits.{trits, HoldLayers}
 use Rattle.axe_layer.specs.Bits.{bits}
-use Rattle.axe_layer.specs.Digits.{digits_with_four, digits_with_multiple}
+use Rattle.axe_layer.specs.Digits.{digits_with_four}
 use Rattle.axe_plane.specs.Primes.{byte_prime}
 use Rattle.axe_plane.specs.Planes.{prime_of_plane, digits_of, IsPlane, IsPlaneOf}
-use Rattle.axe_layer.proofs.DigitLaws.{AreDigits-zeros, AreDigits-set, length-digits_with_multiple}
+use Rattle.axe_layer.proofs.DigitLaws.{AreDigits-zeros, AreDigits-set}
 use Rattle.std.proofs.lemmas.List.{length-replicate, length-set}
 use Rattle.axe_plane.specs.declared.Plane.{Plane}
 use Rattle.axe_plane.specs.declared.Plane.TheVariants.{Bits, Trits, Bytes}
@@ -70,19 +70,27 @@ pub layers_fit : (n : ℕ) (plane : Plane) (digits ones twos : List ℕ) → pla
 layers_fit n plane digits ones twos is long held =
     subst (λ m. HoldLayers m ones twos) (long ∙ ap (λ (p : Plane). length (digits_of p)) is) held
 
+-- the sum with four lists of digits, by the layers that hold them: they have as many digits as four planes
+pub four_held : (x oa ta ob tb oc tc od td a b c d a' b' c' d' new : List ℕ) → length a ≡ length x → length b ≡ length x → length c ≡ length x →
+    length d ≡ length x → trits (bits (length a) oa) (bits (length a) ta) ≡ a' → trits (bits (length b) ob) (bits (length b) tb) ≡ b' →
+    trits (bits (length c) oc) (bits (length c) tc) ≡ c' → trits (bits (length d) od) (bits (length d) td) ≡ d' →
+    new ≡ digits_with_four 3 x (trits (bits (length x) oa) (bits (length x) ta)) (trits (bits (length x) ob) (bits (length x) tb))
+    (trits (bits (length x) oc) (bits (length x) tc)) (trits (bits (length x) od) (bits (length x) td)) → new ≡ digits_with_four 3 x a' b' c' d'
+four_held x oa ta ob tb oc tc od td a b c d a' b' c' d' new la lb lc ld ea eb ec ed e =
+    let held : (o t l l' : List ℕ) → length l ≡ length x → trits (bits (length l) o) (bits (length l) t) ≡ l' → trits (bits (length x) o) (bits (length x) t) ≡ l' =
+    λ o t l l' long is. ap (λ n. trits (bits n o) (bits n t)) (sym long) ∙ is in
+    let same : digits_with_four 3 x (trits (bits (length x) oa) (bits (length x) ta)) (trits (bits (length x) ob) (bits (length x) tb))
+    (trits (bits (length x) oc) (bits (length x) tc)) (trits (bits (length x) od) (bits (length x) td)) ≡ digits_with_four 3 x a' b' c' d' =
+    λ i. digits_with_four 3 x (held oa ta a a' la ea i) (held ob tb b b' lb eb i) (held oc tc c c' lc ec i) (held od td d d' ld ed i) in
+    e ∙ same
+
 -- the sum with four planes, by the layers that hold their digits
 pub four_layers : (x oa ta ob tb oc tc od td a b c d new : List ℕ) → length a ≡ length x → length b ≡ length x → length c ≡ length x →
     length d ≡ length x → trits (bits (length a) oa) (bits (length a) ta) ≡ a → trits (bits (length b) ob) (bits (length b) tb) ≡ b →
     trits (bits (length c) oc) (bits (length c) tc) ≡ c → trits (bits (length d) od) (bits (length d) td) ≡ d →
     new ≡ digits_with_four 3 x (trits (bits (length x) oa) (bits (length x) ta)) (trits (bits (length x) ob) (bits (length x) tb))
     (trits (bits (length x) oc) (bits (length x) tc)) (trits (bits (length x) od) (bits (length x) td)) → new ≡ digits_with_four 3 x a b c d
-four_layers x oa ta ob tb oc tc od td a b c d new la lb lc ld ea eb ec ed e =
-    let held : (o t l : List ℕ) → length l ≡ length x → trits (bits (length l) o) (bits (length l) t) ≡ l → trits (bits (length x) o) (bits (length x) t) ≡ l =
-    λ o t l long is. ap (λ n. trits (bits n o) (bits n t)) (sym long) ∙ is in
-    let same : digits_with_four 3 x (trits (bits (length x) oa) (bits (length x) ta)) (trits (bits (length x) ob) (bits (length x) tb))
-    (trits (bits (length x) oc) (bits (length x) tc)) (trits (bits (length x) od) (bits (length x) td)) ≡ digits_with_four 3 x a b c d =
-    λ i. digits_with_four 3 x (held oa ta a la ea i) (held ob tb b lb eb i) (held oc tc c lc ec i) (held od td d ld ed i) in
-    e ∙ same
+four_layers x oa ta ob tb oc tc od td a b c d = four_held x oa ta ob tb oc tc od td a b c d a b c d
 
 -- ---- planes modulo 2
 

@@ -1,5 +1,6 @@
 //! Tables of planes of digits modulo 5 or 7.
-ghost use Rattle.std.specs.Prelude.{◌≡◌, ◌<◌, IfOk, [], length, replicate, slice_index_or, slice_set};
+ghost use Rattle.std.specs.Prelude.{◌≡◌, ◌+◌, ◌<◌, ◌≤◌, IfOk, [], length, replicate, slice_index_or, slice_set};
+ghost use Rattle.axe_bits.specs.Combinations.{HaveEntryCopies, HaveEntrySums};
 ghost use Rattle.axe_lane.specs.Bytes.{AreDigits};
 ghost use Rattle.axe_layer.specs.Digits.{digits_with_multiple};
 ghost use Rattle.axe_plane.specs.Primes.{byte_prime, ByteEntries};
@@ -74,6 +75,20 @@ impl ByteTable {
         self.bytes.copy_within(source..source + self.len, start);
     }
 
+    /// Makes entry `start` + i, for each i from 1 on that is below `count`, the sum of entry i and entry `start`.
+    pub fn put_sums(&mut self, start: usize, count: usize)
+        requires some { 1 ≤ count }
+        requires earlier { count ≤ start }
+        requires within { start + count ≤ length self.old.entries }
+        ensures prime { self.new.prime ≡ self.old.prime }
+        ensures sums { HaveEntrySums (byte_prime self.old.prime) start count self.old.entries self.new.entries }
+    {
+        self.copy_entries(start, count);
+        for index in 1..count {
+            self.add_to_later(start, index);
+        }
+    }
+
     /// Adds a multiple of a plane to an entry of its length.
     pub fn add_to_entry(&mut self, to: usize, factor: u8, plane: &BytePlane)
         requires to { to < length self.old.entries }
@@ -94,5 +109,38 @@ impl ByteTable {
             factor,
             prime,
         );
+    }
+}
+
+impl ByteTable {
+    /// Makes entry `start` + i, for each i from 1 on that is below `count`, a copy of entry i.
+    fn copy_entries(&mut self, start: usize, count: usize)
+        requires some { 1 ≤ count }
+        requires earlier { count ≤ start }
+        requires within { start + count ≤ length self.old.entries }
+        ensures prime { self.new.prime ≡ self.old.prime }
+        ensures copies { HaveEntryCopies start count self.old.entries self.new.entries }
+    {
+        let len = self.len;
+        let first = start_of(start, len, self.count);
+        self.bytes.copy_within(len..count * len, first + len);
+    }
+
+    /// Adds entry `start` to entry `start` + `index`.
+    #[inline]
+    fn add_to_later(&mut self, start: usize, index: usize)
+        requires some { 1 ≤ index }
+        requires within { start + index < length self.old.entries }
+        ensures prime { self.new.prime ≡ self.old.prime }
+        ensures sum { self.new.entries ≡ slice_set self.old.entries (start + index)
+            (digits_with_multiple (byte_prime self.old.prime) (slice_index_or self.old.entries (start + index) []) 1
+            (slice_index_or self.old.entries start [])) }
+    {
+        let modulus = self.prime.number();
+        let len = self.len;
+        let from = start_of(start, len, self.count);
+        let to = start_of(start + index, len, self.count);
+        let (before, after) = self.bytes.split_at_mut(to);
+        add_scaled_bytes(&mut after[..len], &before[from..from + len], 1, modulus);
     }
 }

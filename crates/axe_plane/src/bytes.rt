@@ -1,5 +1,5 @@
 //! Planes of digits modulo 5 or 7.
-ghost use Rattle.std.specs.Prelude.{map, replicate, slice_index, slice_set, All, MatchOption, ◌≡◌, ◌+◌, ◌/◌, ◌%◌};
+ghost use Rattle.std.specs.Prelude.{ℕ, map, replicate, slice_index, slice_set, All, MatchOption, ◌≡◌, ◌+◌, ◌/◌, ◌%◌};
 ghost use Rattle.std.specs.Prelude.{◌<◌, ◌≤◌, ◌↔◌, IsTrue, IfOk, length, ◌^◌};
 ghost use Rattle.axe_algebra.specs.Lists.{listed};
 ghost use Rattle.axe_lane.specs.Bytes.{multiple_modulo, sum_of_products, AreDigits};
@@ -10,7 +10,9 @@ ghost use Rattle.axe_plane.specs.Planes.{negative_modulo};
 ghost use Rattle.axe_plane.specs.Primes.{byte_prime, ByteDigits};
 
 use crate::primes::BytePrime;
-use axe_lane::{add_scaled_bytes, add4_bytes, dot_bytes, first_byte, scale_bytes};
+use axe_lane::{
+    add_scaled_bytes, add4_bytes, add4_scaled_bytes, dot_bytes, first_byte, scale_bytes,
+};
 use std::alloc::{AllocError, Global};
 use std::marker::Model;
 
@@ -274,6 +276,39 @@ impl BytePlane {
     {
         let prime = self.prime.number();
         add4_bytes(&mut self.bytes, a, b, c, d, prime);
+    }
+
+    /// Adds multiples of four lists of as many digits.
+    #[inline]
+    pub(crate) fn add_four_multiples(
+        &mut self,
+        factors: [u8; 4],
+        a: &[u8],
+        b: &[u8],
+        c: &[u8],
+        d: &[u8],
+    )
+        requires factors { (i : ℕ) → i < 4 → slice_index factors i < byte_prime self.old.prime }
+        requires fits { (length a.now ≡ length self.old.digits) × (length b.now ≡ length self.old.digits)
+            × (length c.now ≡ length self.old.digits) × (length d.now ≡ length self.old.digits) }
+        requires a { AreDigits (byte_prime self.old.prime) a.now }
+        requires b { AreDigits (byte_prime self.old.prime) b.now }
+        requires c { AreDigits (byte_prime self.old.prime) c.now }
+        requires d { AreDigits (byte_prime self.old.prime) d.now }
+        ensures { self.new ≡ record {
+          prime = self.old.prime;
+          digits =
+              digits_with_multiple (byte_prime self.old.prime)
+              (digits_with_multiple (byte_prime self.old.prime)
+              (digits_with_multiple (byte_prime self.old.prime)
+              (digits_with_multiple (byte_prime self.old.prime) self.old.digits (slice_index factors 0) a.now)
+              (slice_index factors 1) b.now)
+              (slice_index factors 2) c.now)
+              (slice_index factors 3) d.now;
+        } }
+    {
+        let prime = self.prime.number();
+        add4_scaled_bytes(&mut self.bytes, a, b, c, d, factors, prime);
     }
 
     /// Multiplies each digit by a factor modulo the prime.

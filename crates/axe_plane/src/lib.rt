@@ -423,6 +423,51 @@ impl Plane {
         }
     }
 
+    /// Adds multiples of four other planes modulo the same prime and of the same length, by factors other than 0, in
+    /// one pass.
+    #[inline]
+    pub fn add_four_multiples(
+        &mut self,
+        factors: [u8; 4],
+        a: &Plane,
+        b: &Plane,
+        c: &Plane,
+        d: &Plane,
+    )
+        requires a { IsAddend self.old a.now }
+        requires b { IsAddend self.old b.now }
+        requires c { IsAddend self.old c.now }
+        requires d { IsAddend self.old d.now }
+        requires factors { (i : ℕ) → i < 4 →
+            (0 < slice_index factors i) × (slice_index factors i < prime_of_plane self.old) }
+        ensures { IsPlane (prime_of_plane self.old)
+            (digits_with_multiple (prime_of_plane self.old)
+            (digits_with_multiple (prime_of_plane self.old)
+            (digits_with_multiple (prime_of_plane self.old)
+            (digits_with_multiple (prime_of_plane self.old)
+            (digits_of self.old) (slice_index factors 0) (digits_of a.now))
+            (slice_index factors 1) (digits_of b.now))
+            (slice_index factors 2) (digits_of c.now))
+            (slice_index factors 3) (digits_of d.now))
+            self.new }
+    {
+        match self {
+            Plane::Bits(plane) => {
+                let (a, b) = (a.words(), b.words());
+                let (c, d) = (c.words(), d.words());
+                plane.add_four(a, b, c, d);
+            }
+            Plane::Trits(plane) => {
+                let (a, b) = (a.multiple_layers(factors[0]), b.multiple_layers(factors[1]));
+                let (c, d) = (c.multiple_layers(factors[2]), d.multiple_layers(factors[3]));
+                plane.add_four(a, b, c, d);
+            }
+            Plane::Bytes(plane) => {
+                plane.add_four_multiples(factors, a.bytes(), b.bytes(), c.bytes(), d.bytes());
+            }
+        }
+    }
+
     /// The words of a plane modulo 2.
     #[inline]
     fn words(&self) -> &[u64]
@@ -448,6 +493,22 @@ impl Plane {
             Plane::Trits(plane) => plane.layers(),
             Plane::Bits(_) | Plane::Bytes(_) => unreachable!(),
         }
+    }
+
+    /// The words of the two layers of a multiple of a plane modulo 3 by 1 or 2, those of the ones first. Twice a digit
+    /// is the digit with its layers exchanged.
+    #[inline(always)]
+    fn multiple_layers(&self, factor: u8) -> (&[u64], &[u64])
+        requires three { prime_of_plane self.now ≡ 3 }
+        requires some { 0 < factor }
+        requires factor { factor < 3 }
+        ensures holds { HoldLayers (length (digits_of self.now)) result.0.now result.1.now }
+        ensures digits { trits (bits (length (digits_of self.now)) result.0.now)
+            (bits (length (digits_of self.now)) result.1.now) ≡ multiple_modulo 3 factor (digits_of self.now) }
+    {
+        let (ones, twos) = self.layers();
+        let is_twice = factor == 2;
+        if is_twice { (twos, ones) } else { (ones, twos) }
     }
 
     /// The bytes of a plane modulo 5 or 7.

@@ -1,6 +1,7 @@
 //! Tables of planes: flat lists of many planes of one prime and one length.
-ghost use Rattle.std.specs.Prelude.{◌≡◌, ◌≢◌, ◌⊎◌, ◌<◌, IfOk, length, replicate, slice_index_or, slice_set, []};
+ghost use Rattle.std.specs.Prelude.{◌≡◌, ◌≢◌, ◌⊎◌, ◌+◌, ◌<◌, ◌≤◌, IfOk, length, replicate, slice_index_or, slice_set, []};
 ghost use Rattle.axe_layer.specs.Bits.{bits, HoldsBits};
+ghost use Rattle.axe_bits.specs.Combinations.{HaveEntrySums};
 ghost use Rattle.axe_bits.specs.Trits.{trits, HoldLayers};
 ghost use Rattle.axe_lane.specs.Bytes.{AreDigits};
 ghost use Rattle.axe_layer.specs.Digits.{digits_with_multiple};
@@ -54,6 +55,22 @@ impl PlaneTable {
             PlaneTable::Bits(table) => table.copy_entry(to, from),
             PlaneTable::Trits(table) => table.copy_entry(to, from),
             PlaneTable::Bytes(table) => table.copy_entry(to, from),
+        }
+    }
+
+    /// Makes entry `start` + i, for each i from 1 on that is below `count`, the sum of entry i and entry `start`.
+    pub fn put_sums(&mut self, start: usize, count: usize)
+        requires some { 1 ≤ count }
+        requires earlier { count ≤ start }
+        requires within { start + count ≤ length (entries_of_table self.old) }
+        ensures prime { prime_of_table self.new ≡ prime_of_table self.old }
+        ensures sums { HaveEntrySums (prime_of_table self.old) start count
+            (entries_of_table self.old) (entries_of_table self.new) }
+    {
+        match self {
+            PlaneTable::Bits(table) => table.put_sums(start, count),
+            PlaneTable::Trits(table) => table.put_sums(start, count),
+            PlaneTable::Bytes(table) => table.put_sums(start, count),
         }
     }
 
