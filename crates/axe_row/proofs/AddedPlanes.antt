@@ -8,9 +8,11 @@ use Rattle.axe_field.specs.CheckedLaws.{passes_below, at_one, from_one}
 use Rattle.axe_field.specs.Order.{Order, Two, Three, Four, Five, Seven, Eight, Nine, order_number, prime_of, degree_of, IsElement}
 use Rattle.axe_field.specs.Planes.{monomial, coefficients_of_multiple, matrix_of_multiplication}
 use Rattle.axe_lane.specs.Multiples.{to_constant_of_two, to_linear_of_two, to_constant_of_three, to_linear_of_three, to_quadratic_of_three}
+use Rattle.axe_layer.specs.Digits.{digits_with_multiple}
 use Rattle.axe_layer.proofs.DigitLaws.{AreDigits-sum, digits_with_multiple-none}
 use Rattle.axe_plane.specs.Planes.{prime_of_plane, digits_of, IsPlane, IsPlaneOf}
 use Rattle.axe_plane.specs.declared.Plane.{Plane}
+use Rattle.axe_plane.specs.declared.Plane.TheVariants.{Bits}
 use Rattle.axe_plane.proofs.PlaneLaws.{prime_of_plane-positive}
 use Rattle.axe_row.specs.MadePlanes.{row_of_planes}
 use Rattle.axe_row.specs.Operations.{row_with_multiple}
@@ -18,7 +20,16 @@ use Rattle.axe_row.specs.Planes.{column, ArePlanes}
 use Rattle.axe_row.proofs.PlaneSums.{column_is, summed_planes, summed_row_of_planes, AreSummands, IsColumn, IsSummed, IsSummed-none}
 use Rattle.axe_row.proofs.RowPlanes.{no_quadratic}
 
--- ---- the fields of degree 2 and 3, by their orders
+-- ---- the fields by their orders
+
+pub degree_of_two : (o : Order) → order_number o ≡ 2 → degree_of o ≡ 1
+degree_of_two Two two = refl
+degree_of_two Three two = absurd (omega arith)
+degree_of_two Four two = absurd (omega arith)
+degree_of_two Five two = absurd (omega arith)
+degree_of_two Seven two = absurd (omega arith)
+degree_of_two Eight two = absurd (omega arith)
+degree_of_two Nine two = absurd (omega arith)
 
 pub degree_of_four : (o : Order) → order_number o ≡ 4 → degree_of o ≡ 2
 degree_of_four Two four = absurd (omega arith)
@@ -224,3 +235,41 @@ module _ (o : Order) (k : ℕ) (three : degree_of o ≡ 3) (element : IsElement 
   row_with_three =
       summed_row_of_planes o _ k c l s c' l' s' c2 l2 s2 _ _ _ summands_of_three (summed_of_three 2 _ c c' l' s' c2 (even _ c h.constant) first)
       (summed_of_three 2 _ l c' l' s' l2 (even _ l h.linear) second) (summed_of_three 2 _ s c' l' s' s2 (even _ s h.quadratic) third)
+
+-- ---- planes modulo 2, by their digits
+
+-- where the other digits are added
+pub bits_with_one : {c a : Plane} {x y z : List ℕ} → c ≡ Bits x → a ≡ Bits y → z ≡ digits_with_multiple 2 x 1 y →
+    IsPlane 2 (digits_with_multiple 2 (digits_of c) 1 (digits_of a)) (Bits z)
+bits_with_one ec ea is = record {
+  prime = refl;
+  digits_are = is ∙ (λ i. digits_with_multiple 2 (digits_of (sym ec i)) 1 (digits_of (sym ea i)));
+}
+
+-- that is their multiple by 1
+pub summed_by_one : (k : ℕ) (c a after : Plane) → prime_of_plane c ≡ 2 → k ≡ 1 →
+    IsPlane 2 (digits_with_multiple 2 (digits_of c) 1 (digits_of a)) after →
+    IsPlane (prime_of_plane c) (digits_with_multiple (prime_of_plane c) (digits_of c) k (digits_of a)) after
+summed_by_one k c a after two one h = record {
+  prime = h.prime ∙ sym two;
+  digits_are = h.digits_are ∙ (λ i. digits_with_multiple (sym two i) (digits_of c) (sym one i) (digits_of a));
+}
+
+-- where multiples of two other lists are added, by factors that are given by the prime
+pub bits_with_two : {c d a b : Plane} {x y u v z : List ℕ} (factors : ℕ → List ℕ) → c ≡ Bits x → d ≡ Bits y → a ≡ Bits u → b ≡ Bits v →
+    z ≡ digits_with_two 2 y (factors 2) u v →
+    IsPlane (prime_of_plane c) (digits_with_two (prime_of_plane c) (digits_of d) (factors (prime_of_plane c)) (digits_of a) (digits_of b)) (Bits z)
+bits_with_two {c} {d} {a} {b} factors ec ed ea eb is = record {
+  prime = sym (ap prime_of_plane ec);
+  digits_are =
+      is ∙ (λ i. digits_with_two (prime_of_plane (sym ec i)) (digits_of (sym ed i)) (factors (prime_of_plane (sym ec i))) (digits_of (sym ea i)) (digits_of (sym eb i)));
+}
+
+-- and of three
+pub bits_with_three : {d a b e : Plane} {y u v w z : List ℕ} (factors : List ℕ) → d ≡ Bits y → a ≡ Bits u → b ≡ Bits v → e ≡ Bits w →
+    z ≡ digits_with_multiples 2 y factors u v w →
+    IsPlane 2 (digits_with_multiples 2 (digits_of d) factors (digits_of a) (digits_of b) (digits_of e)) (Bits z)
+bits_with_three factors ed ea eb ee is = record {
+  prime = refl;
+  digits_are = is ∙ (λ i. digits_with_multiples 2 (digits_of (sym ed i)) factors (digits_of (sym ea i)) (digits_of (sym eb i)) (digits_of (sym ee i)));
+}

@@ -1,5 +1,5 @@
 -- The rows of a table as combinations: those with one row more, by the rows of the table that are there.
-use Rattle.std.proofs.Common.{◌≡◌, ◌≢◌, ℕ, zero, suc, ◌+◌, ◌-◌, ◌*◌, ◌/◌, ◌%◌, ◌^◌, ◌<◌, ◌≤◌, List, [], ◌∷◌, length, get_or, set, map, drop, replicate, refl, sym, ap, ap₂, subst, ◌∙◌, arith, get_or-set_other, get_or-set_same}
+use Rattle.std.proofs.Common.{◌≡◌, ℕ, zero, suc, ◌+◌, ◌-◌, ◌*◌, ◌/◌, ◌%◌, ◌^◌, ◌<◌, ◌≤◌, List, [], ◌∷◌, length, get_or, map, drop, replicate, refl, sym, ap, ap₂, subst, ◌∙◌, arith}
 use Rattle.std.specs.List.{All}
 use Rattle.std.proofs.lemmas.List.{ext_get_or, get_or-replicate, length-replicate, drop_more, drop_all, length-drop, get_or-map, length-map}
 use Rattle.std.proofs.lemmas.List.Elements.{All-nil, All-cons}
@@ -86,50 +86,6 @@ sum_with_none o a b a_below b_below =
     get_or-sum_with_multiple (number_field o) a 0 b j inside
     ∙ ap ((number_field o).add (get_or a j 0)) (field_zero-mul o (get_or b j 0) (entry-below (number_field o) b j b_below))
     ∙ (number_field o).add-zero (get_or a j 0) (entry-below (number_field o) a j a_below))
-
--- ---- one multiple of a row
-
--- the first n rows from number c times `filled` on are sums of the first rows and of c times another
-pub record AreSumsBelow (n filled c : ℕ) (b : List ℕ) (before table : CombosValue) : Type 0 where
-  pub kind : AreOfOneKind table before
-  pub kept : (x : ℕ) → x < c * filled → get_or table.rows x [] ≡ get_or before.rows x []
-  pub summed : (i : ℕ) → i < n → get_or table.rows (c * filled + i) [] ≡ sum_with_multiple (number_field before.order) (get_or before.rows i []) c b
-  pub well_formed : IsTableOfRows table
-
--- tables of one kind have as many rows
-pub as_many : (a b : CombosValue) → AreOfOneKind a b → IsTableOfRows a → IsTableOfRows b → length a.rows ≡ length b.rows
-as_many a b kind ha hb = ha.counted ∙ ap₂ (λ (o : Order) (s : ℕ). order_number o ^ s) kind.order kind.size ∙ sym hb.counted
-
-pub AreSumsBelow-more : (n filled c to : ℕ) (b : List ℕ) (before table next : CombosValue) → AreSumsBelow n filled c b before table →
-    to ≡ c * filled + n → n < c * filled → to < length table.rows →
-    next ≡ record table { rows = set table.rows to (sum_with_multiple (number_field table.order) (get_or table.rows n []) c b) } →
-    IsTableOfRows next → AreSumsBelow (n + 1) filled c b before next
-AreSumsBelow-more n filled c to b before table next h place earlier within is well_formed = record {
-  kind = record {
-    order = ap (λ (t : CombosValue). t.order) is ∙ h.kind.order;
-    size = ap (λ (t : CombosValue). t.size) is ∙ h.kind.size;
-    len = ap (λ (t : CombosValue). t.len) is ∙ h.kind.len;
-  };
-  kept = λ x below. let other : x ≢ to = omega arith in
-      ap (λ (t : CombosValue). get_or t.rows x []) is ∙ get_or-set_other table.rows to x _ [] other ∙ h.kept x below;
-  summed = λ i below. ap (λ (t : CombosValue). get_or t.rows (c * filled + i) []) is ∙ at i below (dec_lt i n);
-  well_formed = well_formed;
-}
-  where
-    sum : List ℕ
-    sum = sum_with_multiple (number_field table.order) (get_or table.rows n []) c b
-
-    at : (i : ℕ) → i < n + 1 → Dec (i < n) →
-        get_or (set table.rows to sum) (c * filled + i) [] ≡ sum_with_multiple (number_field before.order) (get_or before.rows i []) c b
-    at i below (yes inside) =
-        let other : c * filled + i ≢ to = omega arith in
-        get_or-set_other table.rows to (c * filled + i) sum [] other ∙ h.summed i inside
-    at i below (no past) =
-        let here : c * filled + i ≡ to = omega arith in
-        let last : n ≡ i = omega arith in
-        ap (λ x. get_or (set table.rows to sum) x []) here ∙ get_or-set_same table.rows to sum [] within
-        ∙ ap₂ (λ (o : Order) (a : List ℕ). sum_with_multiple (number_field o) a c b) h.kind.order
-        (h.kept n earlier ∙ ap (λ x. get_or before.rows x []) last)
 
 -- ---- all multiples of a row
 

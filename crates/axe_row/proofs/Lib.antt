@@ -27,3 +27,7 @@ pub mod RowWords
 pub mod NextEntries
 pub mod PackedNumbers
 pub mod EntryWordLaws
+pub mod BitBlockLaws
+pub mod BlockLaws
+pub mod FourMultiples
+pub mod SummedTables

@@ -102,7 +102,7 @@ IsPut table to from f c l q after =
 
 -- ---- over a prime field the tables of x and x^2 have no digits
 
-same_empty : (xs ys : List ℕ) → length xs ≡ 0 → length ys ≡ 0 → xs ≡ ys
+pub same_empty : (xs ys : List ℕ) → length xs ≡ 0 → length ys ≡ 0 → xs ≡ ys
 same_empty xs ys none none' = ext_get_or 0 xs ys (none ∙ sym none') (λ e inside. absurd (omega (arith, none)))
 
 pub empty_put : (p count n to from : ℕ) (table : PlaneTable) (f : List ℕ) (c l q : Plane) → IsPlaneTable p count n table → n ≡ 0 → from < to →

@@ -149,12 +149,12 @@ plane_plus (TritsOf digits) other = TritsOf (digits_with_multiple 3 digits 1 (di
 plane_plus (BytesOf plane) other =
     BytesOf (record { prime = plane.prime; digits = digits_with_multiple (byte_prime plane.prime) plane.digits 1 (digits_of other) })
 
-prime-plane_plus : (a b : Plane) → prime_of_plane (plane_plus a b) ≡ prime_of_plane a
+pub prime-plane_plus : (a b : Plane) → prime_of_plane (plane_plus a b) ≡ prime_of_plane a
 prime-plane_plus (BitsOf digits) b = refl
 prime-plane_plus (TritsOf digits) b = refl
 prime-plane_plus (BytesOf plane) b = refl
 
-digits-plane_plus : (a b : Plane) → digits_of (plane_plus a b) ≡ digits_with_multiple (prime_of_plane a) (digits_of a) 1 (digits_of b)
+pub digits-plane_plus : (a b : Plane) → digits_of (plane_plus a b) ≡ digits_with_multiple (prime_of_plane a) (digits_of a) 1 (digits_of b)
 digits-plane_plus (BitsOf digits) b = refl
 digits-plane_plus (TritsOf digits) b = refl
 digits-plane_plus (BytesOf plane) b = refl
@@ -162,7 +162,7 @@ digits-plane_plus (BytesOf plane) b = refl
 plus_digits : (p n : ℕ) (a b : Plane) → IsPlaneOf p n a → digits_of (plane_plus a b) ≡ digits_with_multiple p (digits_of a) 1 (digits_of b)
 plus_digits p n a b h = digits-plane_plus a b ∙ ap (λ r. digits_with_multiple r (digits_of a) 1 (digits_of b)) h.prime
 
-plus_plane : (p n : ℕ) (a b : Plane) → 0 < p → IsPlaneOf p n a → IsPlaneOf p n (plane_plus a b)
+pub plus_plane : (p n : ℕ) (a b : Plane) → 0 < p → IsPlaneOf p n a → IsPlaneOf p n (plane_plus a b)
 plus_plane p n a b positive h = record {
   prime = prime-plane_plus a b ∙ h.prime;
   long = ap length (plus_digits p n a b h) ∙ length-digits_with_multiple p (digits_of a) 1 (digits_of b) ∙ h.long;
@@ -193,7 +193,7 @@ plus_at p n a b e positive ha hb = elim (dec_lt e (length (digits_of a))) [
       (get_or_past (digits_of b) e 0 (omega (arith, outside, ha.long, hb.long))) ∙ mod-eq_of_lt positive)
 ]
 
-plus_entries : (o : Order) (n : ℕ) (c l q c' l' q' : Plane) → ArePlanes o n c l q → ArePlanes o n c' l' q' →
+pub plus_entries : (o : Order) (n : ℕ) (c l q c' l' q' : Plane) → ArePlanes o n c l q → ArePlanes o n c' l' q' →
     entries_of o (plane_plus c c') (plane_plus l l') (plane_plus q q')
     ≡ sum_with_multiple (number_field o) (entries_of o c l q) 1 (entries_of o c' l' q')
 plus_entries o n c l q c' l' q' h h' =

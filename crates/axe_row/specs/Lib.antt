@@ -11,3 +11,4 @@ pub mod PlaneTables
 pub mod Words
 pub mod FoundEntries
 pub mod EntryWords
+pub mod BitBlocks

@@ -158,12 +158,14 @@ impl Combos {
     /// Makes the rows of the table from number c `filled` on, as many as `filled`, the sums of its first `filled` rows
     /// and of c times another row, where c is the scalar, an element other than 0.
     fn add_multiple_of(&mut self, filled: usize, scalar: u8, row: &Row)
+        requires some { 1 ≤ filled }
         requires nonzero { 1 ≤ scalar }
         requires element { IsElement self.old.order scalar }
         requires room { filled * order_number self.old.order ≤ length self.old.rows }
         requires field { row.now.order ≡ self.old.order }
         requires fits { length row.now.entries ≡ self.old.len }
         requires table { IsTableOfRows self.old }
+        requires row { IsRow row.now }
         ensures kept { (x : ℕ) → x < scalar * filled →
             slice_index_or self.new.rows x [] ≡ slice_index_or self.old.rows x [] }
         ensures sums { (i : ℕ) → i < filled →
@@ -173,10 +175,40 @@ impl Combos {
         ensures kind { AreOfOneKind self.new self.old }
         ensures well_formed { IsTableOfRows self.new }
     {
+        // row 0 is zero, so that the sum with it is c times the other row
         let start = usize::from(scalar) * filled;
-        for index in 0..filled {
-            self.put_sum(start + index, index, scalar, row);
+        self.put_sum(start, 0, scalar, row);
+        self.put_sums(start, filled);
+    }
+
+    /// Makes row `start` + i of the table, for each i from 1 on that is below `count`, the sum of row i and row `start`.
+    fn put_sums(&mut self, start: usize, count: usize)
+        requires some { 1 ≤ count }
+        requires earlier { count ≤ start }
+        requires within { start + count ≤ length self.old.rows }
+        requires table { IsTableOfRows self.old }
+        ensures kept { (x : ℕ) → x ≤ start →
+            slice_index_or self.new.rows x [] ≡ slice_index_or self.old.rows x [] }
+        ensures sums { (i : ℕ) → 1 ≤ i → i < count →
+            let earlier = slice_index_or self.old.rows i [] in
+            slice_index_or self.new.rows (start + i) []
+            ≡ sum_with_multiple (number_field self.old.order) earlier 1 (slice_index_or self.old.rows start []) }
+        ensures kind { AreOfOneKind self.new self.old }
+        ensures well_formed { IsTableOfRows self.new }
+    {
+        if count == 1 {
+            return;
         }
+        let degree = self.field.degree();
+        self.constant.put_sums(start, count);
+        if degree == 1 {
+            return;
+        }
+        self.linear.put_sums(start, count);
+        if degree == 2 {
+            return;
+        }
+        self.quadratic.put_sums(start, count);
     }
 
     /// Makes a row of the table an earlier row of it plus a multiple of another row.

@@ -14,6 +14,7 @@ ghost use Rattle.axe_row.specs.Planes.{ArePlanes};
 ghost use Rattle.axe_row.specs.Rows.{RowValue, IsRow};
 ghost use Rattle.axe_row.specs.Refusals.{Answers};
 
+mod bit_block;
 mod cancelling;
 mod combos;
 mod dots;
@@ -35,6 +36,7 @@ use axe_field::Field;
 use axe_layer::earlier;
 pub use axe_plane::BitPlane;
 use axe_plane::Plane;
+pub use bit_block::BitBlock;
 pub use combos::{Combos, digits_per_byte};
 pub use entry_word::EntryWord;
 use higher::Higher;

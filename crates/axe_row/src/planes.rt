@@ -1,15 +1,17 @@
 //! The planes of a row: the coefficients of 1, of x and of x^2 of its entries.
 ghost use Rattle.std.specs.Prelude.{◌≡◌, ◌≢◌, ◌<◌, ◌≤◌, IfOk, cond, length, ltb, slice_index};
-ghost use Rattle.axe_field.specs.Order.{prime_of, degree_of, IsElement};
+ghost use Rattle.axe_field.specs.Order.{order_number, prime_of, degree_of, IsElement};
 ghost use Rattle.axe_field.specs.Planes.{IsCoefficient, element_of};
-ghost use Rattle.axe_plane.specs.Planes.{digits_of, IsPlane};
+ghost use Rattle.axe_lane.specs.Entries.{AreZerosBefore};
+ghost use Rattle.axe_layer.specs.Digits.{digits_with_multiple};
+ghost use Rattle.axe_plane.specs.Planes.{prime_of_plane, digits_of, IsPlane};
 ghost use Rattle.axe_row.specs.MadePlanes.{row_of_planes};
 ghost use Rattle.axe_row.specs.Operations.{row_with_multiple};
 ghost use Rattle.axe_row.specs.Planes.{coefficients_at, ArePlanes, HaveZerosBefore};
 
 use crate::higher::Higher;
 use axe_field::Field;
-use axe_plane::Plane;
+use axe_plane::{BitPlane, Plane};
 use std::alloc::{AllocError, Global};
 
 /// How many digits the plane of the coefficients of a power of x has in a row of `len` entries: none from the degree
@@ -105,5 +107,77 @@ pub(crate) fn add_planes(
             let (l, s) = (&others.linear, &others.quadratic);
             Plane::add_multiple_of_three(constant, linear, quadratic, start, p, q, r, other, l, s);
         }
+    }
+}
+
+/// Adds a plane modulo 2, whose digits before an index are 0, to another of its length.
+#[inline(always)]
+pub(crate) fn add_bits(start: usize, plane: &mut Plane, other: &Plane)
+    requires two { prime_of_plane plane.old ≡ 2 }
+    requires other { prime_of_plane other.now ≡ 2 }
+    requires fits { length (digits_of other.now) ≡ length (digits_of plane.old) }
+    requires within { start ≤ length (digits_of plane.old) }
+    requires zeros { AreZerosBefore (digits_of other.now) start }
+    ensures { IsPlane 2 (digits_with_multiple 2 (digits_of plane.old) 1 (digits_of other.now)) plane.new }
+{
+    match (plane, other) {
+        (Plane::Bits(plane), Plane::Bits(other)) => plane.add_from(start, other),
+        _ => unreachable!(),
+    }
+}
+
+/// Adds a multiple of planes as [`add_planes`] does, over a field of Q elements, of characteristic 2. The field is known
+/// where it is called, so that no order is told apart here.
+#[inline(always)]
+pub(crate) fn add_planes_in<const Q: u8>(
+    field: &Field,
+    start: usize,
+    scalar: u8,
+    constant: &mut Plane,
+    higher: &mut Higher,
+    other: &Plane,
+    others: &Higher,
+)
+    requires order { order_number field.now ≡ Q }
+    requires characteristic { prime_of field.now ≡ 2 }
+    requires planes { ArePlanes field.now (length (digits_of constant.old)) constant.old higher.old.linear
+        higher.old.quadratic }
+    requires others { ArePlanes field.now (length (digits_of constant.old)) other.now others.now.linear
+        others.now.quadratic }
+    requires within { start ≤ length (digits_of constant.old) }
+    requires not_prime { degree_of field.now ≢ 1 }
+    requires element { IsElement field.now scalar }
+    requires zeros { HaveZerosBefore start other.now others.now.linear others.now.quadratic }
+    ensures planes { ArePlanes field.now (length (digits_of constant.old)) constant.new higher.new.linear
+        higher.new.quadratic }
+    ensures sum { row_of_planes field.now constant.new higher.new.linear higher.new.quadratic
+        ≡ row_with_multiple (row_of_planes field.now constant.old higher.old.linear higher.old.quadratic) scalar
+        (row_of_planes field.now other.now others.now.linear others.now.quadratic) }
+{
+    let Higher { linear, quadratic } = higher;
+    if Q == 4 {
+        let (q, p) = (scalar / 2, scalar % 2);
+        match (constant, linear, other, &others.linear) {
+            (Plane::Bits(c), Plane::Bits(l), Plane::Bits(a), Plane::Bits(b)) => {
+                BitPlane::add_multiple_of_two(c, l, start, p, q, a, b);
+            }
+            _ => unreachable!(),
+        }
+        return;
+    }
+    let (r, q, p) = (scalar / 4, scalar / 2 % 2, scalar % 2);
+    let (b, d) = (&others.linear, &others.quadratic);
+    match (constant, linear, quadratic, other, b, d) {
+        (
+            Plane::Bits(c),
+            Plane::Bits(l),
+            Plane::Bits(s),
+            Plane::Bits(a),
+            Plane::Bits(b),
+            Plane::Bits(d),
+        ) => {
+            BitPlane::add_multiple_of_three(c, l, s, start, p, q, r, a, b, d);
+        }
+        _ => unreachable!(),
     }
 }
