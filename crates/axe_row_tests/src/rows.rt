@@ -126,6 +126,7 @@ copy_to | 3: 2200000100111002211211221110011110200221212012210202211112111212211
 
 /// - `add_scaled`: a row, a scalar, another row, and the sum of the first and of the multiple of the other;
 /// - `add_scaled_from`: a row, an index, a scalar, another row that is 0 before the index, and that sum;
+/// - `add_scaled_in`: the same over a field of characteristic 2, where the scalar is not zero;
 /// - `add_two_twice`: a row, two others, and the sum of the first and of twice the two;
 /// - `cancel`: a row, an index, another row, the negative of the first row's element there, and the sum of the first
 ///   and of that multiple of the other;
@@ -212,6 +213,23 @@ add_scaled_from | 3: 12112102211220210222022111120122012102010022121001111100200
 add_scaled_from | 5: 01331441311101001131043332120130002102110430012303443220333304410043 | 65 | 0 | 5: 00000000000000000000000000000000000000000000000000000000000000000124 | 5: 01331441311101001131043332120130002102110430012303443220333304410043
 add_scaled_from | 9: 75850213727156848145036245226248176313206677501003364213575814761020 | 65 | 0 | 9: 00000000000000000000000000000000000000000000000000000000000000000177 | 9: 75850213727156848145036245226248176313206677501003364213575814761020
 add_scaled_from | 2: 000111101101000110001010111001010011000001011001011001000001010110110000100000011111110111000011110011010001001000110101101111101 | 128 | 1 | 2: 000000000000000000000000000000000000000000000000000000000000000000000000000000000000000000000000000000000000000000000000000000001 | 2: 000111101101000110001010111001010011000001011001011001000001010110110000100000011111110111000011110011010001001000110101101111100
+# The field is known at the call.
+add_scaled_in | 2: 010001 | 2 | 1 | 2: 001000 | 2: 011001
+add_scaled_in | 4: 301030 | 3 | 1 | 4: 000301 | 4: 301331
+add_scaled_in | 4: 301012 | 0 | 2 | 4: 210210 | 4: 021332
+add_scaled_in | 4: 200013 | 1 | 3 | 4: 033233 | 4: 222131
+add_scaled_in | 8: 432314 | 2 | 1 | 8: 005757 | 8: 437443
+add_scaled_in | 8: 116252 | 2 | 2 | 8: 004601 | 8: 115550
+add_scaled_in | 8: 557711 | 2 | 3 | 8: 003710 | 8: 552521
+add_scaled_in | 8: 746507 | 2 | 4 | 8: 003217 | 8: 741646
+add_scaled_in | 8: 342366 | 0 | 5 | 8: 771276 | 8: 527205
+add_scaled_in | 8: 264656 | 2 | 6 | 8: 002212 | 8: 263131
+add_scaled_in | 8: 330724 | 1 | 7 | 8: 030265 | 8: 310262
+add_scaled_in | 2: 1001111101100001001000001000101111001111100011100010010110101000100110 | 67 | 1 | 2: 0000000000000000000000000000000000000000000000000000000000000000000111 | 2: 1001111101100001001000001000101111001111100011100010010110101000100001
+add_scaled_in | 4: 2123220101312130320031313203330111013132110001311021212231023311031011 | 63 | 2 | 4: 0000000000000000000000000000000000000000000000000000000000000001300230 | 4: 2123220101312130320031313203330111013132110001311021212231023313131301
+add_scaled_in | 4: 0112003003212331213130332013012012121310331113323122020233032200100220 | 64 | 3 | 4: 0000000000000000000000000000000000000000000000000000000000000000121323 | 4: 0112003003212331213130332013012012121310331113323122020233032200213032
+add_scaled_in | 8: 2751402614014131417056420312402344347245040003737167643353265020146201 | 0 | 6 | 8: 6643407224704555304352056174330141260604431265724206203100251670037407 | 8: 0500106161411202512161412557512512467040556720342665142553553260152705
+add_scaled_in | 8: 1117414333776174031254420707413744777134170471746331124524153776020776 | 65 | 5 | 8: 0000000000000000000000000000000000000000000000000000000000000000032656 | 8: 1117414333776174031254420707413744777134170471746331124524153776061405
 ";
 
 fn makes_zero(alloc: Global, line: &str) -> Result<bool, TableFault> {
@@ -374,6 +392,31 @@ fn adds_multiple_from(
     is_row(alloc, row, wanted)
 }
 
+/// Adds a multiple of a row that is 0 before an index, by a scalar other than 0, where the field is known.
+fn adds_multiple_in(
+    rt: &impl Abort,
+    alloc: Global,
+    row: &mut Row,
+    line: &str,
+) -> Result<bool, TableFault> {
+    let (start, scalar, other, wanted) = four_fields(line)?;
+    let start = number_of(start)?;
+    let scalar = element_in(row.field(), scalar)?;
+    let other = row_of_shape(alloc, other, row.field(), row.len())?;
+    let Some(first) = other.first_nonzero() else {
+        return Err(TableFault::NotWritten);
+    };
+    assert!(rt; start <= first);
+    assert!(rt; scalar != 0);
+    match row.field().order() {
+        2 => row.add_scaled_in::<2>(start, scalar, &other),
+        4 => row.add_scaled_in::<4>(start, scalar, &other),
+        8 => row.add_scaled_in::<8>(start, scalar, &other),
+        _ => return Err(TableFault::NotWritten),
+    }
+    is_row(alloc, row, wanted)
+}
+
 /// Takes an entry of a row away.
 fn cancels(rt: &impl Abort, alloc: Global, row: &mut Row, line: &str) -> Result<bool, TableFault> {
     let (index, other, factor, wanted) = four_fields(line)?;
@@ -403,6 +446,7 @@ fn answers_of_row(
         "copy" => copies(alloc, row, line),
         "add_scaled" => adds_multiple(alloc, row, line),
         "add_scaled_from" => adds_multiple_from(rt, alloc, row, line),
+        "add_scaled_in" => adds_multiple_in(rt, alloc, row, line),
         "cancel" => cancels(rt, alloc, row, line),
         "scale" => scales(alloc, row, line),
         "add_two_twice" => adds_two_twice(alloc, row, line),
