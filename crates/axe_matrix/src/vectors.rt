@@ -3,7 +3,7 @@
 ghost use Rattle.std.specs.Prelude.{◌≡◌, ◌+◌, ◌*◌, ◌/◌, ◌<◌, ◌≤◌, IfSome, MatchOption, length};
 ghost use Rattle.axe_layer.specs.Supports.{AreNextFour, IsSupportWord};
 ghost use Rattle.axe_field.specs.Arithmetic.{field_mul};
-ghost use Rattle.axe_field.specs.Order.{IsElement};
+ghost use Rattle.axe_field.specs.Order.{degree_of, order_number, IsElement};
 ghost use Rattle.axe_lane.specs.Entries.{AreZerosFrom, IsNextNonzero};
 ghost use Rattle.axe_row.specs.Rows.{IsRow};
 ghost use Rattle.axe_matrix.specs.Products.{row_with_product};
@@ -84,8 +84,8 @@ impl Matrix {
     }
 
     /// Adds the first terms of a multiple of a row vector times this matrix to a row over its field, and answers how
-    /// many they are. Where the multiple is that by 1 over the field of two elements, they go as far as there are four
-    /// more entries of the vector that are not 0: four rows are added in one pass. Else there are none.
+    /// many they are. Where the multiple is that by 1 over a prime field, they go as far as there are four more entries
+    /// of the vector that are not 0: multiples of four rows are added in one pass. Else there are none.
     fn add_fours(&self, scalar: u8, vector: &Row, row: &mut Row) -> usize
         requires vector_field { vector.now.order ≡ self.now.order }
         requires row_field { row.old.order ≡ self.now.order }
@@ -99,17 +99,65 @@ impl Matrix {
     {
         // `len` is called for what it ensures beside the length: that the entries are elements of the field.
         prove!(row.len() == self.cols());
+        if scalar != 1 || self.field().degree() != 1 {
+            return 0;
+        }
+        if self.field().order() == 2 {
+            self.add_fours_of_ones(vector, row)
+        } else {
+            self.add_fours_with_factors(vector, row)
+        }
+    }
+
+    /// Adds the first terms of a row vector times this matrix over two elements to a row, four rows at a time, and
+    /// answers how many they are: they go as far as there are four more entries of the vector that are not 0.
+    fn add_fours_of_ones(&self, vector: &Row, row: &mut Row) -> usize
+        requires vector_field { vector.now.order ≡ self.now.order }
+        requires row_field { row.old.order ≡ self.now.order }
+        requires inner_fit { length vector.now.entries ≡ length self.now.rows }
+        requires columns_fit { length row.old.entries ≡ self.now.cols }
+        requires two { order_number self.now.order ≡ 2 }
+        ensures within { result ≤ length vector.now.entries }
+        ensures sum { row.new ≡ row_with_first_terms row.old 1 vector.now self.now result }
+        ensures as_long { length row.new.entries ≡ length row.old.entries }
+        ensures well_formed { IsRow row.new }
+    {
+        // `len` is called for what it ensures beside the length: that the entries are elements of the field.
+        prove!(row.len() == self.cols());
         prove!(vector.len() == self.rows());
         let mut at = 0;
-        if self.field().order() != 2 || scalar != 1 {
-            return at;
-        }
         while let Some(four) = next_four(vector, at) {
             let (first, second) = (self.row(four[0]), self.row(four[1]));
             row.add_four_rows(first, second, self.row(four[2]), self.row(four[3]));
             at = four[3] + 1;
         }
         at
+    }
+
+    /// Adds the first terms of a row vector times this matrix over a prime field to a row, multiples of four rows at a
+    /// time, and answers how many they are: they go as far as there are four more entries of the vector that are not 0.
+    fn add_fours_with_factors(&self, vector: &Row, row: &mut Row) -> usize
+        requires vector_field { vector.now.order ≡ self.now.order }
+        requires row_field { row.old.order ≡ self.now.order }
+        requires inner_fit { length vector.now.entries ≡ length self.now.rows }
+        requires columns_fit { length row.old.entries ≡ self.now.cols }
+        requires prime { degree_of self.now.order ≡ 1 }
+        ensures within { result ≤ length vector.now.entries }
+        ensures sum { row.new ≡ row_with_first_terms row.old 1 vector.now self.now result }
+        ensures as_long { length row.new.entries ≡ length row.old.entries }
+        ensures well_formed { IsRow row.new }
+    {
+        // `len` is called for what it ensures beside the length: that the entries are elements of the field.
+        prove!(row.len() == self.cols());
+        prove!(vector.len() == self.rows());
+        let mut start = 0;
+        while let Some(four) = next_four(vector, start) {
+            let factors = vector.entries_at(four);
+            let (first, second) = (self.row(four[0]), self.row(four[1]));
+            row.add_four_multiples(factors, first, second, self.row(four[2]), self.row(four[3]));
+            start = four[3] + 1;
+        }
+        start
     }
 }
 

@@ -1,0 +1,16 @@
+use Rattle.std.proofs.Common.{◌≡◌, ◌≤◌, ◌-◌, length}
+use Rattle.axe_field.specs.NumberFields.{number_field}
+use Rattle.axe_row.specs.Rows.{IsRow}
+use Rattle.axe_matrix.specs.Products.{row_with_terms}
+use Rattle.axe_matrix.proofs.Matrix.add_fours_of_ones.Given as goal
+
+abbrev pub invariant-loop-four : goal.invariant-loop-four
+invariant-loop-four l = record {
+  fits : l.at ≤ length l.vector.entries;
+  field : l.row.order ≡ l.self.order;
+  so_far : l.row.entries ≡ row_with_terms (number_field l.self.order) l.self.cols l.fn.row.entries 1 l.vector.entries l.self.rows 0 l.at;
+  well_formed : IsRow l.row;
+}
+
+abbrev pub decreases-loop-four : goal.decreases-loop-four
+decreases-loop-four l = length l.vector.entries - l.at
