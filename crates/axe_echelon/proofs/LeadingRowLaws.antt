@@ -128,7 +128,7 @@ module _ (rows after : List PivotRow) (table told : PivotTable) (column : ℕ) (
               ap length (out.noted moved within (get_or_default after index some_row moved within)) ∙ length-set table.rows.items moved.pivot index
 
       room_told : HasRoom cols table → HasRoom cols told
-      room_told room = record { marks = ap length out.marks ∙ room.marks; rows = rows_told ∙ room.rows }
+      room_told room = record { marks = ap length out.marks ∙ room.marks; rows = rows_told ∙ room.rows; blocks = ap length out.blocks ∙ room.blocks }
 
   -- the row that was taken leads at the column
   pub taken_leads : (order : Order) (cols : ℕ) → HasRowsFrom order cols column rows table → get_or (marks_of table) column 0 ≢ 0 →
@@ -168,10 +168,10 @@ module _ (rows after : List PivotRow) (table told : PivotTable) (column index n 
     (below : index < n) (counted : n ≡ length rows) (is : first ≡ get_or rows index first) (count : length after + 1 ≡ length rows)
     (moved : (p : PivotRow) → index + 1 < n → get_or after index p ≡ get_or rows (n - 1) p)
     (others : (k : ℕ) (p : PivotRow) → k ≢ index → k + 1 < n → get_or after k p ≡ get_or rows k p) where
-  pub taken_out_of : marks_of told ≡ marks_of table →
+  pub taken_out_of : marks_of told ≡ marks_of table → told.blocks.items ≡ table.blocks.items →
       ((p : PivotRow) → index < length after → p ≡ get_or after index p → told.rows.items ≡ set table.rows.items p.pivot index) →
       (length after ≤ index → told.rows.items ≡ table.rows.items) → IsTakenOut rows table column after told first.row
-  taken_out_of marks noted kept = subst (λ i. (marks_of told ≡ marks_of table) →
+  taken_out_of marks blocks noted kept = subst (λ i. (marks_of told ≡ marks_of table) →
       ((p : PivotRow) → i < length after → p ≡ get_or after i p → told.rows.items ≡ set table.rows.items p.pivot i) →
       (length after ≤ i → told.rows.items ≡ table.rows.items) → IsTakenOut rows table column after told first.row) (sym place) at marks noted kept
     where
@@ -186,14 +186,16 @@ module _ (rows after : List PivotRow) (table told : PivotTable) (column index n 
         moved = λ p inside. ap (λ i. get_or after i p) (sym place) ∙ moved p (omega (arith, inside, place, count, counted))
             ∙ ap (λ i. get_or rows i p) (let last : n - 1 ≡ length after = omega (arith, count, counted) in last);
         marks = same_marks;
+        blocks = blocks;
         noted = told_noted;
         kept = told_kept;
       }
 
   pub taken_out_moved : (other : PivotRow) → index < length after → other ≡ get_or after index other → told.marks ≡ table.marks →
+      told.blocks.items ≡ table.blocks.items →
       told.rows.items ≡ set table.rows.items other.pivot index → IsTakenOut rows table column after told first.row
-  taken_out_moved other inside other_is marks noted =
-      taken_out_of (ap marks_in marks)
+  taken_out_moved other inside other_is marks blocks noted =
+      taken_out_of (ap marks_in marks) blocks
       (λ p within p_is. noted ∙ ap (λ (q : PivotRow). set table.rows.items q.pivot index) (other_is ∙ get_or_default after index other p within ∙ sym p_is))
       (λ past. absurd (omega (arith, past, inside)))
 

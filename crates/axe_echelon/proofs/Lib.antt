@@ -29,3 +29,4 @@ pub mod OrthogonalSpaces
 pub mod Transposes
 pub mod OrthogonalPoints
 pub mod ZeroMatrices
+pub mod WordsOfPivots

@@ -1,5 +1,5 @@
 -- The pivots of the rows of an echelon form, and the table that has them.
-use Rattle.std.specs.Prelude.{◌≡◌, ◌≢◌, ℕ, ◌<◌, ◌≤◌, List, [], ◌∷◌, ◌++◌, length, get_or, set}
+use Rattle.std.specs.Prelude.{◌≡◌, ◌≢◌, ℕ, ◌/◌, ◌<◌, ◌≤◌, List, [], ◌∷◌, ◌++◌, length, get_or, set}
 use Rattle.std.proofs.lemmas.List.{length-map, map-append}
 use Rattle.axe_algebra.specs.Bridge.{matrix_of}
 use Rattle.axe_algebra.specs.SpansOfLists.{IsPivot}
@@ -7,11 +7,13 @@ use Rattle.axe_field.specs.Order.{Order}
 use Rattle.axe_field.specs.NumberFields.{number_field, gf}
 use Rattle.axe_matrix.specs.Limits.{most_columns}
 use Rattle.axe_echelon.specs.Subspaces.{rows_of, pivots_of, AreFormRows, AreTabledRows}
-use Rattle.axe_echelon.specs.PivotTables.{marks_of, HasRoom, IsPivotAt, HasPivots}
+use Rattle.axe_row.specs.BitBlocks.{IsBlockOf}
+use Rattle.axe_row.specs.declared.bit_block.BitBlock.{BitBlock}
+use Rattle.axe_echelon.specs.PivotTables.{marks_of, HasRoom, IsPivotAt, HasPivots, HasBlocks}
 use Rattle.axe_echelon.specs.declared.subspace.PivotRow.{PivotRow}
 use Rattle.axe_echelon.specs.declared.pivot_table.PivotTable.{PivotTable}
 use Rattle.axe_echelon.proofs.FormLaws.{form_of_none, place_of_pivot, pivot_of_place}
-use Rattle.axe_echelon.proofs.PivotTableLaws.{pivots_more}
+use Rattle.axe_echelon.proofs.PivotTableLaws.{pivots_more, blocks_more}
 use Rattle.axe_echelon.proofs.PivotRowLaws.{length-rows_of}
 use mathlib.Core.Path.{sym, ◌∙◌, ap, subst}
 use native.Mathlib.Omega.{arith}
@@ -50,8 +52,8 @@ marked_if_pivot o n rows table j tabled pivot = from (row_of_pivot o n rows j ta
 
 -- no rows
 pub tabled_none : (o : Order) (n : ℕ) (rows : List PivotRow) (table : PivotTable) → rows ≡ [] → 1 ≤ n → n ≤ most_columns → HasPivots n [] table →
-    AreTabledRows o n rows table
-tabled_none o n rows table none some fit has = subst (λ (l : List PivotRow). AreTabledRows o n l table) (sym none) (record {
+    HasBlocks [] table → AreTabledRows o n rows table
+tabled_none o n rows table none some fit has blocks = subst (λ (l : List PivotRow). AreTabledRows o n l table) (sym none) (record {
   are_rows = record {
     some_column = some;
     columns_fit = fit;
@@ -59,19 +61,30 @@ tabled_none o n rows table none some fit has = subst (λ (l : List PivotRow). Ar
     form = form_of_none (gf o) n _ _;
   };
   tabled = has;
+  has_blocks = blocks;
 })
 
 -- the pivot of one more row is marked
 pub pivots_by_row : (n : ℕ) (rows next : List PivotRow) (p : PivotRow) (table after : PivotTable) (index : ℕ) → next ≡ rows ++ p ∷ [] →
     HasPivots n (pivots_of rows) table → HasRoom n table → p.pivot < n → index ≡ length rows → marks_of after ≡ set (marks_of table) p.pivot 1 →
-    after.rows.items ≡ set table.rows.items p.pivot index → HasPivots n (pivots_of next) after
-pivots_by_row n rows next p table after index pushed has room inside counted marks items =
+    after.rows.items ≡ set table.rows.items p.pivot index → (block : BitBlock) → after.blocks.items ≡ set table.blocks.items p.pivot block →
+    HasPivots n (pivots_of next) after
+pivots_by_row n rows next p table after index pushed has room inside counted marks items block blocks =
     subst (λ (l : List ℕ). HasPivots n l after) (sym (ap pivots_of pushed ∙ map-append (λ (p : PivotRow). p.pivot) rows (p ∷ [])))
     (pivots_more n (pivots_of rows) p.pivot table after has room inside marks
-    (items ∙ ap (set table.rows.items p.pivot) (counted ∙ sym (length-map rows (λ (p : PivotRow). p.pivot)))))
+    (items ∙ ap (set table.rows.items p.pivot) (counted ∙ sym (length-map rows (λ (p : PivotRow). p.pivot)))) block blocks)
+
+pub blocks_by_row : (n : ℕ) (rows next : List PivotRow) (p : PivotRow) (table after : PivotTable) (index : ℕ) → next ≡ rows ++ p ∷ [] →
+    HasPivots n (pivots_of rows) table → HasRoom n table → p.pivot < n → index ≡ length rows → marks_of after ≡ set (marks_of table) p.pivot 1 →
+    after.rows.items ≡ set table.rows.items p.pivot index → (block : BitBlock) → after.blocks.items ≡ set table.blocks.items p.pivot block →
+    HasBlocks rows table → IsBlockOf p.row (p.pivot / 64) block → HasBlocks next after
+blocks_by_row n rows next p table after index pushed has room inside counted marks items block blocks before is =
+    subst (λ (l : List PivotRow). HasBlocks l after) (sym pushed)
+    (blocks_more n rows (pivots_of rows) p table after block has room before (length-map rows (λ (p : PivotRow). p.pivot)) inside is marks
+    (items ∙ ap (set table.rows.items p.pivot) (counted ∙ sym (length-map rows (λ (p : PivotRow). p.pivot)))) blocks)
 
 -- rows that are equal to these, and another table that has their pivots
 pub tabled_as : (o : Order) (n : ℕ) (rows next : List PivotRow) (table after : PivotTable) → next ≡ rows → AreTabledRows o n rows table →
-    HasPivots n (pivots_of rows) after → AreTabledRows o n next after
-tabled_as o n rows next table after same tabled has =
-    subst (λ (l : List PivotRow). AreTabledRows o n l after) (sym same) (record { are_rows = tabled.are_rows; tabled = has })
+    HasPivots n (pivots_of rows) after → HasBlocks rows after → AreTabledRows o n next after
+tabled_as o n rows next table after same tabled has blocks =
+    subst (λ (l : List PivotRow). AreTabledRows o n l after) (sym same) (record { are_rows = tabled.are_rows; tabled = has; has_blocks = blocks })

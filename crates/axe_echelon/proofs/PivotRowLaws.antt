@@ -11,7 +11,7 @@ use Rattle.axe_field.specs.Order.{Order}
 use Rattle.axe_field.specs.NumberFields.{number_field, gf}
 use Rattle.axe_echelon.specs.Echelons.{EchelonValue, IsEchelon}
 use Rattle.axe_echelon.specs.Forms.{IsEchelonForm}
-use Rattle.axe_echelon.specs.PivotTables.{HasPivots}
+use Rattle.axe_echelon.specs.PivotTables.{HasPivots, HasBlocks}
 use Rattle.axe_echelon.specs.Subspaces.{rows_of, pivots_of, space_of, IsRowOfForm, AreFormRows, AreTabledRows, IsNextRow}
 use Rattle.axe_echelon.specs.declared.pivot_table.PivotTable.{PivotTable}
 use Rattle.axe_echelon.specs.declared.subspace.PivotRow.{PivotRow}
@@ -123,10 +123,12 @@ form_rows_more o n rows p are next = record {
         ∙ get_or-append-add (pivots_of rows) (p.pivot ∷ []) 0 0
 
 pub tabled_more : (o : Order) (n : ℕ) (rows next : List PivotRow) (p : PivotRow) (e : EchelonValue) (table after : PivotTable) → next ≡ rows ++ p ∷ [] →
-    AreTabledRows o n rows table → space_of o n rows ≡ e → IsNextRow e p → HasPivots n (pivots_of next) after → AreTabledRows o n next after
-tabled_more o n rows next p e table after pushed tabled view given has = record {
+    AreTabledRows o n rows table → space_of o n rows ≡ e → IsNextRow e p → HasPivots n (pivots_of next) after →
+    HasBlocks next after → AreTabledRows o n next after
+tabled_more o n rows next p e table after pushed tabled view given has blocks = record {
   are_rows = subst (AreFormRows o n) (sym pushed) (form_rows_more o n rows p tabled.are_rows (subst (λ (x : EchelonValue). IsNextRow x p) (sym view) given));
   tabled = has;
+  has_blocks = blocks;
 }
 
 pub space_of_more : (o : Order) (n : ℕ) (rows next : List PivotRow) (p : PivotRow) (e : EchelonValue) → next ≡ rows ++ p ∷ [] → space_of o n rows ≡ e →

@@ -1,5 +1,5 @@
 -- Tables of pivots: one more pivot, and the entries of a row at the columns that a table marks.
-use Rattle.std.specs.Prelude.{◌≡◌, ◌≢◌, ℕ, suc, ◌+◌, ◌<◌, ◌≤◌, List, [], ◌∷◌, ◌++◌, length, get_or, set, cond, eqb, Bool, true, false}
+use Rattle.std.specs.Prelude.{◌≡◌, ◌≢◌, ℕ, suc, ◌+◌, ◌/◌, ◌<◌, ◌≤◌, List, [], ◌∷◌, ◌++◌, length, get_or, set, cond, eqb, Bool, true, false}
 use Rattle.std.specs.Prelude.{Option, Some, None, MatchOption, replicate, is_some, not}
 use Rattle.std.proofs.Common.{true≢false}
 use Rattle.std.proofs.lemmas.Bool.{ne_eqb}
@@ -8,10 +8,13 @@ use Rattle.axe_algebra.proofs.ListEntries.{listed_at, listed_length}
 use Rattle.axe_layer.specs.Supports.{restricted}
 use Rattle.axe_layer.proofs.SupportLaws.{restricted_away}
 use Rattle.axe_lane.specs.Entries.{IsNextNonzero}
-use Rattle.axe_echelon.specs.PivotTables.{marks_in, marks_of, HasRoom, IsPivotAt, HasPivots}
+use Rattle.axe_row.specs.BitBlocks.{IsBlockOf}
+use Rattle.axe_echelon.specs.PivotTables.{marks_in, marks_of, HasRoom, IsPivotAt, HasPivots, HasBlocks}
+use Rattle.axe_echelon.specs.declared.subspace.PivotRow.{PivotRow}
 use Rattle.axe_echelon.specs.declared.pivot_table.PivotTable.{PivotTable}
+use Rattle.axe_row.specs.declared.bit_block.BitBlock.{BitBlock}
 use Rattle.axe_echelon.proofs.StepLaws.{get_or_copies}
-use mathlib.Core.Path.{refl, sym, ◌∙◌, ap, subst}
+use mathlib.Core.Path.{refl, sym, ◌∙◌, ap, ap₂, subst}
 use native.Mathlib.Omega.{arith}
 use native.Mathlib.Decide.{ℕ_discrete, dec_lt}
 
@@ -21,7 +24,7 @@ cond_same : (b : Bool) (a : ℕ) → cond b a a ≡ a
 cond_same true a = refl
 cond_same false a = refl
 
-restricted_at : (marks entries : List ℕ) (j : ℕ) → get_or (restricted marks entries) j 0 ≡ cond (eqb (get_or marks j 0) 0) 0 (get_or entries j 0)
+pub restricted_at : (marks entries : List ℕ) (j : ℕ) → get_or (restricted marks entries) j 0 ≡ cond (eqb (get_or marks j 0) 0) 0 (get_or entries j 0)
 unfolding restricted
 restricted_at marks entries j = at (dec_lt j (length entries))
   where
@@ -35,6 +38,10 @@ restricted_at marks entries j = at (dec_lt j (length entries))
 pub zero_where_marked : (marks entries : List ℕ) (j : ℕ) → get_or marks j 0 ≢ 0 → get_or (restricted marks entries) j 0 ≡ 0 → get_or entries j 0 ≡ 0
 zero_where_marked marks entries j marked none =
     sym (restricted_at marks entries j ∙ ap (λ b. cond b 0 (get_or entries j 0)) (ne_eqb (get_or marks j 0) 0 marked)) ∙ none
+
+pub restricted_zero : (marks entries : List ℕ) (j : ℕ) → get_or entries j 0 ≡ 0 → get_or (restricted marks entries) j 0 ≡ 0
+restricted_zero marks entries j none =
+    restricted_at marks entries j ∙ ap (cond (eqb (get_or marks j 0) 0) 0) none ∙ cond_same (eqb (get_or marks j 0) 0) 0
 
 -- what a search finds is marked
 pub found_is_marked : (marks entries : List ℕ) (start column : ℕ) → IsNextNonzero (restricted marks entries) start column → get_or marks column 0 ≢ 0
@@ -55,6 +62,9 @@ pub room_if_marked : (cols : ℕ) (pivots : List ℕ) (table : PivotTable) (colu
     HasRoom cols table
 room_if_marked cols pivots table column h marked = room_of_marks table.marks (length pivots ≡ 0) (HasRoom cols table) column h.room marked
 
+pub room_for_block : (cols : ℕ) (table : PivotTable) (column : ℕ) → HasRoom cols table → column < cols → column < length table.blocks.items
+room_for_block cols table column room inside = omega (arith, inside, room.blocks)
+
 -- there are no marks
 pub no_marks : (m : Option (List ℕ)) (none : Bool) → is_some m ≡ not none → none ≡ true → m ≡ None
 no_marks None none is so = refl
@@ -62,9 +72,10 @@ no_marks (Some marks) none is so = absurd (true≢false (is ∙ ap not so))
 
 -- a table that had no room, and has only zeros since
 module _ (cols : ℕ) (pivots : List ℕ) (old next : PivotTable) (h : HasPivots cols pivots old) (marks : List ℕ) (unmarked : old.marks ≡ None)
-    (marked : next.marks ≡ Some marks) (zeros : marks ≡ replicate cols 0) (long : length next.rows.items ≡ cols) where
+    (marked : next.marks ≡ Some marks) (zeros : marks ≡ replicate cols 0) (long : length next.rows.items ≡ cols)
+    (blocks : length next.blocks.items ≡ cols) where
   pub room_made : HasRoom cols next
-  room_made = record { marks = ap (λ m. length (marks_in m)) marked ∙ ap length zeros ∙ length-replicate cols 0; rows = long }
+  room_made = record { marks = ap (λ m. length (marks_in m)) marked ∙ ap length zeros ∙ length-replicate cols 0; rows = long; blocks = blocks }
 
   pub pivots_stay : HasPivots cols pivots next
   pivots_stay = record {
@@ -79,7 +90,8 @@ module _ (cols : ℕ) (pivots : List ℕ) (old next : PivotTable) (h : HasPivots
 -- ---- one more pivot
 
 module _ (cols : ℕ) (pivots : List ℕ) (column : ℕ) (old next : PivotTable) (h : HasPivots cols pivots old) (room : HasRoom cols old) (inside : column < cols)
-    (marks : marks_of next ≡ set (marks_of old) column 1) (rows : next.rows.items ≡ set old.rows.items column (length pivots)) where
+    (marks : marks_of next ≡ set (marks_of old) column 1) (rows : next.rows.items ≡ set old.rows.items column (length pivots))
+    (block : BitBlock) (blocks : next.blocks.items ≡ set old.blocks.items column block) where
   mark_there : (j : ℕ) → j ≡ column → get_or (marks_of next) j 0 ≡ 1
   mark_there j e = ap (λ k. get_or (marks_of next) k 0) e ∙ ap (λ (l : List ℕ). get_or l column 0) marks
       ∙ get_or-set_same (marks_of old) column 1 0 (omega (arith, inside, room.marks))
@@ -137,4 +149,44 @@ module _ (cols : ℕ) (pivots : List ℕ) (column : ℕ) (old next : PivotTable)
       long = ap length marks ∙ length-set (marks_of old) column 1 ∙ room.marks
 
       room_after : HasRoom cols next
-      room_after = record { marks = long; rows = ap length rows ∙ length-set old.rows.items column (length pivots) ∙ room.rows }
+      room_after = record {
+        marks = long;
+        rows = ap length rows ∙ length-set old.rows.items column (length pivots) ∙ room.rows;
+        blocks = ap length blocks ∙ length-set old.blocks.items column block ∙ room.blocks;
+      }
+
+-- ---- the blocks
+
+-- one more row, whose pivot is marked with its block
+module _ (cols : ℕ) (rows : List PivotRow) (pivots : List ℕ) (q : PivotRow) (old next : PivotTable) (given : BitBlock) (h : HasPivots cols pivots old)
+    (room : HasRoom cols old) (has : HasBlocks rows old) (counted : length pivots ≡ length rows) (inside : q.pivot < cols)
+    (is_block : IsBlockOf q.row (q.pivot / 64) given) (marks : marks_of next ≡ set (marks_of old) q.pivot 1)
+    (items : next.rows.items ≡ set old.rows.items q.pivot (length pivots)) (blocks : next.blocks.items ≡ set old.blocks.items q.pivot given) where
+  pub blocks_more : HasBlocks (rows ++ q ∷ []) next
+  blocks_more column p block marked is block_is = at (ℕ_discrete column q.pivot)
+    where
+      at : Dec (column ≡ q.pivot) → IsBlockOf p.row (column / 64) block
+      at (yes e) = subst (λ k. IsBlockOf p.row (k / 64) block) (sym e)
+          (subst (λ (r : PivotRow). IsBlockOf r.row (q.pivot / 64) block) (sym row)
+          (subst (λ (b : BitBlock). IsBlockOf q.row (q.pivot / 64) b) (sym same) is_block))
+        where
+          index : get_or next.rows.items column 0 ≡ length rows + 0
+          index = ap₂ (λ (l : List ℕ) (k : ℕ). get_or l k 0) items e
+              ∙ get_or-set_same old.rows.items q.pivot (length pivots) 0 (omega (arith, inside, room.rows)) ∙ omega (arith, counted)
+
+          row : p ≡ q
+          row = is ∙ ap (λ k. get_or (rows ++ q ∷ []) k p) index ∙ get_or-append-add rows (q ∷ []) 0 p
+
+          same : block ≡ given
+          same = block_is ∙ ap₂ (λ (l : List BitBlock) (k : ℕ). get_or l k block) blocks e
+              ∙ get_or-set_same old.blocks.items q.pivot given block (omega (arith, inside, room.blocks))
+      at (no other) = has column p block still
+          (is ∙ ap (λ k. get_or (rows ++ q ∷ []) k p) index
+          ∙ get_or_append_left rows (q ∷ []) p (get_or old.rows.items column 0) (omega (arith, (h.row column still).within, counted)))
+          (block_is ∙ ap (λ (l : List BitBlock). get_or l column block) blocks ∙ get_or-set_other old.blocks.items q.pivot column given block other)
+        where
+          still : get_or (marks_of old) column 0 ≢ 0
+          still none = marked (ap (λ (l : List ℕ). get_or l column 0) marks ∙ get_or-set_other (marks_of old) q.pivot column 1 0 other ∙ none)
+
+          index : get_or next.rows.items column 0 ≡ get_or old.rows.items column 0
+          index = ap (λ (l : List ℕ). get_or l column 0) items ∙ get_or-set_other old.rows.items q.pivot column (length pivots) 0 other

@@ -34,7 +34,7 @@ pub record HasRowsFrom (order : Order) (cols column : ℕ) (rows : List PivotRow
       HasPivotAt rows j (slice_index table.rows.items j)
 
 -- the row at the index that the table has for a column was taken out, and the last one put into its place; the table
--- then has that index for the pivot of the latter
+-- then has that index for the pivot of the latter, and its marks and blocks stay
 pub record IsTakenOut (rows : List PivotRow) (table : PivotTable) (column : ℕ)
     (after : List PivotRow) (told : PivotTable) (row : RowValue) : Type 0 where
   pub taken : (p : PivotRow) → p ≡ slice_index_or rows (slice_index table.rows.items column) p → row ≡ p.row
@@ -44,6 +44,7 @@ pub record IsTakenOut (rows : List PivotRow) (table : PivotTable) (column : ℕ)
   pub moved : (p : PivotRow) → slice_index table.rows.items column < length after →
       slice_index_or after (slice_index table.rows.items column) p ≡ slice_index_or rows (length after) p
   pub marks : marks_of told ≡ marks_of table
+  pub blocks : told.blocks.items ≡ table.blocks.items
   pub noted : (p : PivotRow) → slice_index table.rows.items column < length after →
       p ≡ slice_index_or after (slice_index table.rows.items column) p →
       told.rows.items ≡ slice_set table.rows.items p.pivot (slice_index table.rows.items column)

@@ -1,5 +1,9 @@
 -- Tables of pivots by their columns.
-use Rattle.std.specs.Prelude.{◌≡◌, ◌≢◌, ℕ, ◌<◌, List, [], length, slice_index, Option, Some, None, IfSome, MatchOption}
+use Rattle.std.specs.Prelude.{◌≡◌, ◌≢◌, ℕ, ◌/◌, ◌<◌, List, [], length, slice_index, slice_index_or}
+use Rattle.std.specs.Prelude.{Option, Some, None, IfSome, MatchOption}
+use Rattle.axe_row.specs.BitBlocks.{IsBlockOf}
+use Rattle.axe_row.specs.declared.bit_block.BitBlock.{BitBlock}
+use Rattle.axe_echelon.specs.declared.subspace.PivotRow.{PivotRow}
 use Rattle.axe_echelon.specs.declared.pivot_table.PivotTable.{PivotTable}
 
 -- the marks that there are
@@ -15,10 +19,11 @@ marks_of table = marks_in table.marks
 abbrev pub FitsColumns : ℕ → PivotTable → Type 0
 FitsColumns cols table = IfSome table.marks (λ marks. length marks ≡ cols)
 
--- there are a mark and the index of a row for each of so many columns
+-- there are a mark, the index of a row and a block for each of so many columns
 pub record HasRoom (cols : ℕ) (table : PivotTable) : Type 0 where
   pub marks : length (marks_of table) ≡ cols
   pub rows : length table.rows.items ≡ cols
+  pub blocks : length table.blocks.items ≡ cols
 
 -- the column is the pivot at this index
 pub record IsPivotAt (pivots : List ℕ) (index column : ℕ) : Type 0 where
@@ -31,3 +36,9 @@ pub record HasPivots (cols : ℕ) (pivots : List ℕ) (table : PivotTable) : Typ
   pub marked : (index : ℕ) → index < length pivots → slice_index (marks_of table) (slice_index pivots index) ≢ 0
   pub row : (column : ℕ) → slice_index (marks_of table) column ≢ 0 →
       IsPivotAt pivots (slice_index table.rows.items column) column
+
+-- at each column that the table marks, its block is that of the row there: of the word in which the column stands
+abbrev pub HasBlocks : List PivotRow → PivotTable → Type 0
+HasBlocks rows table = (column : ℕ) (p : PivotRow) (block : BitBlock) → slice_index (marks_of table) column ≢ 0 →
+    p ≡ slice_index_or rows (slice_index table.rows.items column) p →
+    block ≡ slice_index_or table.blocks.items column block → IsBlockOf p.row (column / 64) block

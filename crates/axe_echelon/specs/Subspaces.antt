@@ -1,7 +1,8 @@
 -- Subspaces, each by the rows of an echelon form of it.
 use Rattle.std.specs.Prelude.{◌≡◌, ◌≢◌, ℕ, suc, ◌<◌, ◌≤◌, List, All, ◌++◌, ◌∷◌, [], length, get_or, map}
 use Rattle.std.specs.Prelude.{Bool, if◌then◌else◌}
-use Rattle.axe_algebra.specs.Vectors.{HasLength, add_vectors, times}
+use Rattle.axe_algebra.specs.Vectors.{HasLength, add_vectors, subtract, times}
+use Rattle.axe_algebra.specs.Spans.{InSpan}
 use Rattle.axe_algebra.specs.Reduced.{IsZeroAtPivots}
 use Rattle.axe_algebra.specs.Bridge.{vector_of, matrix_of}
 use Rattle.axe_algebra.specs.Lists.{IsVectorOver}
@@ -15,7 +16,7 @@ use Rattle.axe_row.specs.Rows.{RowValue, IsRow}
 use Rattle.axe_matrix.specs.Limits.{most_columns}
 use Rattle.axe_echelon.specs.Echelons.{EchelonValue}
 use Rattle.axe_echelon.specs.Forms.{IsEchelonForm}
-use Rattle.axe_echelon.specs.PivotTables.{HasPivots}
+use Rattle.axe_echelon.specs.PivotTables.{HasPivots, HasBlocks}
 use Rattle.axe_echelon.specs.declared.pivot_table.PivotTable.{PivotTable}
 use Rattle.axe_echelon.specs.declared.subspace.PivotRow.{PivotRow}
 use Rattle.axe_echelon.specs.declared.subspace.ScaledRow.{ScaledRow}
@@ -54,10 +55,11 @@ pub record AreFormRows (order : Order) (cols : ℕ) (rows : List PivotRow) : Typ
   pub form : IsEchelonForm (gf order) cols (length (rows_of rows)) (matrix_of (number_field order) (rows_of rows))
       (λ t. get_or (pivots_of rows) t 0)
 
--- the table has the pivots of the rows
+-- the table has the pivots of the rows, and at each the block of its row
 pub record AreTabledRows (order : Order) (cols : ℕ) (rows : List PivotRow) (table : PivotTable) : Type 0 where
   pub are_rows : AreFormRows order cols rows
   pub tabled : HasPivots cols (pivots_of rows) table
+  pub has_blocks : HasBlocks rows table
 
 -- a row that the echelon form of the space can have after its others: 1 at its pivot, 0 before it and at the pivots of the
 -- space
@@ -68,6 +70,16 @@ pub record IsNextRow (e : EchelonValue) (p : PivotRow) : Type 0 where
   pub before : (i : ℕ) → i < p.pivot → vector_of (number_field e.order) p.row.entries i ≡ (gf e.order).zero
   pub at_pivots : IsZeroAtPivots (gf e.order) (length e.rows) (matrix_of (number_field e.order) e.rows)
       (vector_of (number_field e.order) p.row.entries)
+
+-- a row that is 0 at the pivots of the space before a column, in the coset of the first row
+pub record IsReducedBelow (e : EchelonValue) (column : ℕ) (first row : RowValue) : Type 0 where
+  pub field : row.order ≡ e.order
+  pub over : IsVectorOver (number_field e.order) e.cols row.entries
+  pub in_coset : InSpan (gf e.order) (length e.rows) (matrix_of (number_field e.order) e.rows)
+      (subtract (gf e.order) (vector_of (number_field e.order) first.entries)
+      (vector_of (number_field e.order) row.entries))
+  pub zeros : (j : ℕ) → IsPivot (number_field e.order) e.rows j → j < column →
+      vector_of (number_field e.order) row.entries j ≡ (gf e.order).zero
 
 -- a row from which all pivots were cleared: it is the first row plus the combination of the space's rows with these
 -- multipliers

@@ -1,21 +1,24 @@
 //! Subspaces, each by an echelon form of it.
 
-ghost use Rattle.std.specs.Prelude.{⊤, ◌≡◌, ◌<◌, ◌≤◌, ◌↔◌, ◌++◌, ◌∷◌, [], length, get_or, replicate};
+ghost use Rattle.std.specs.Prelude.{⊤, ◌≡◌, ◌+◌, ◌*◌, ◌<◌, ◌≤◌, ◌↔◌, ◌++◌, ◌∷◌, [], length, get_or, replicate};
 ghost use Rattle.std.specs.Prelude.{IsTrue, true, None, IfOk, MatchOption, OnErr};
 ghost use Rattle.axe_algebra.specs.SpansOfLists.{IsPivot, IsRepresentative, IsSpanned};
 ghost use Rattle.axe_field.specs.NumberFields.{number_field};
+ghost use Rattle.axe_field.specs.Order.{order_number, prime_of};
 ghost use Rattle.axe_row.specs.Operations.{IsZeroVector};
 ghost use Rattle.axe_row.specs.Refusals.{Answers};
-ghost use Rattle.axe_row.specs.Rows.{IsRow};
+ghost use Rattle.axe_row.specs.Rows.{IsRow, RowValue};
 ghost use Rattle.axe_matrix.specs.Limits.{most_columns};
 ghost use Rattle.axe_matrix.specs.Matrices.{IsMatrix};
 ghost use Rattle.axe_echelon.specs.Echelons.{IsEchelon, IsReducedMatrix, with_row_where};
 ghost use Rattle.axe_echelon.specs.Orthogonal.{IsPivotOfRow};
-ghost use Rattle.axe_echelon.specs.Subspaces.{IsCleared, IsNextRow, IsPivotRow, IsScaledRest, SpansOneMore};
+ghost use Rattle.axe_echelon.specs.Subspaces.{IsCleared, IsNextRow, IsPivotRow, IsReducedBelow};
+ghost use Rattle.axe_echelon.specs.Subspaces.{IsScaledRest, SpansOneMore};
 
 use crate::leading_rows::{clear_after, take_row};
 use crate::pivot_table::PivotTable;
 use axe_field::Field;
+use axe_lane::WORD;
 use axe_matrix::{Matrix, Refusal, Row};
 use std::alloc::Global;
 use std::marker::Model;
@@ -163,10 +166,11 @@ impl Subspace {
         ensures well_formed { IsEchelon self.new }
     {
         let (pivot, index) = (row.pivot, self.rows.len());
+        let block = row.row.bit_block(pivot / WORD);
         // The table has room first, and tells the same: so where the push finds no memory nothing has changed.
         self.pivots.make_room(self.cols)?;
         self.rows.push(row)?;
-        self.pivots.mark(pivot, index);
+        self.pivots.mark(pivot, index, block);
         Ok(())
     }
 
@@ -183,6 +187,66 @@ impl Subspace {
     {
         // `len` is called for what it ensures beside the number: that the entries are elements.
         prove!(row.len() == self.cols);
+        match self.field.order() {
+            2 => self.reduce_in::<2>(row),
+            4 => self.reduce_in::<4>(row),
+            8 => self.reduce_in::<8>(row),
+            _ => self.reduce_by_entries(row),
+        }
+    }
+
+    /// What [`Subspace::reduce`] does, over a field of Q elements, of characteristic 2: word by word.
+    #[inline(never)]
+    fn reduce_in<const Q: u8>(&self, row: &mut Row)
+        requires order { order_number self.now.order ≡ Q }
+        requires characteristic { prime_of self.now.order ≡ 2 }
+        requires field { row.old.order ≡ self.now.order }
+        requires fits { length row.old.entries ≡ self.now.cols }
+        requires elements { IsRow row.old }
+        ensures representative { IsRepresentative (number_field self.now.order) self.now.rows
+            row.old.entries row.new.entries }
+        ensures same_field { row.new.order ≡ self.now.order }
+        ensures as_long { length row.new.entries ≡ self.now.cols }
+        ensures row_well_formed { IsRow row.new }
+    {
+        for at in 0..self.cols.div_ceil(WORD) {
+            self.reduce_word_in::<Q>(row, at);
+        }
+    }
+
+    /// Clears the pivots in one word of 64 columns from a row that is 0 at those before. The word's entries are kept in
+    /// registers, and changed with the row: so the next of them is known before the row is written.
+    #[inline(always)]
+    fn reduce_word_in<const Q: u8>(&self, row: &mut Row, at: usize)
+        requires order { order_number self.now.order ≡ Q }
+        requires characteristic { prime_of self.now.order ≡ 2 }
+        requires within { at * 64 < self.now.cols }
+        requires field { row.old.order ≡ self.now.order }
+        requires fits { length row.old.entries ≡ self.now.cols }
+        ensures { (first : RowValue) → IsReducedBelow self.now (at * 64) first row.old →
+            IsReducedBelow self.now (at * 64 + 64) first row.new }
+    {
+        let mut places = self.pivots.word(at);
+        let mut block = row.bit_block(at);
+        while let Some((place, entry)) = block.next_within(&mut places) {
+            let pivot = at * WORD + place;
+            // An element is its own negative.
+            block.add_scaled_in::<Q>(entry, self.pivots.block_of(pivot));
+            row.add_scaled_in::<Q>(pivot, entry, &self.rows[self.pivots.row_of(pivot)].row);
+        }
+    }
+
+    /// What [`Subspace::reduce`] does, over any field: entry by entry.
+    fn reduce_by_entries(&self, row: &mut Row)
+        requires field { row.old.order ≡ self.now.order }
+        requires fits { length row.old.entries ≡ self.now.cols }
+        requires elements { IsRow row.old }
+        ensures representative { IsRepresentative (number_field self.now.order) self.now.rows
+            row.old.entries row.new.entries }
+        ensures same_field { row.new.order ≡ self.now.order }
+        ensures as_long { length row.new.entries ≡ self.now.cols }
+        ensures row_well_formed { IsRow row.new }
+    {
         let negatives = self.field.negatives();
         let mut start = 0;
         while let Some((pivot, entry)) = self.pivots.next_pivot(row, start) {

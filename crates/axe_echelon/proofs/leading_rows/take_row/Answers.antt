@@ -17,7 +17,8 @@ returns-then-index-len c =
     (omega (arith, c.args.rows.now.ok.0)) c.swap_remove-taken.ensures.value
     (omega (arith, c.swap_remove-taken.ensures.len, c.args.rows.now.ok.0, c.swap_remove-taken.new.self.ok.0))
     c.swap_remove-taken.ensures.by_index.0 c.swap_remove-taken.ensures.by_index.1 c.index.result.now
-    (omega (arith, c.if-index-len.true, c.len.ensures, c.swap_remove-taken.new.self.ok.0)) c.index.ensures c.move_row.ensures.marks c.move_row.ensures.rows
+    (omega (arith, c.if-index-len.true, c.len.ensures, c.swap_remove-taken.new.self.ok.0)) c.index.ensures c.move_row.ensures.marks c.move_row.ensures.blocks
+    c.move_row.ensures.rows
 
 pub returns-else-index-len : goal.returns-else-index-len
 returns-else-index-len c =
@@ -25,5 +26,5 @@ returns-else-index-len c =
     (vec_len c.args.rows.now) c.swap_remove-taken.result c.row_of-index.ensures (omega (arith, c.row_of-index.ensures, c.requires.within, c.args.rows.now.ok.0))
     (omega (arith, c.args.rows.now.ok.0)) c.swap_remove-taken.ensures.value
     (omega (arith, c.swap_remove-taken.ensures.len, c.args.rows.now.ok.0, c.swap_remove-taken.new.self.ok.0))
-    c.swap_remove-taken.ensures.by_index.0 c.swap_remove-taken.ensures.by_index.1 refl
+    c.swap_remove-taken.ensures.by_index.0 c.swap_remove-taken.ensures.by_index.1 refl refl
     (λ p within p_is. absurd (omega (arith, within, c.if-index-len.false, c.len.ensures, c.swap_remove-taken.new.self.ok.0))) (λ past. refl)

@@ -6,3 +6,6 @@ returns-clause-marks c = search rules
 
 pub returns-clause-rows : goal.returns-clause-rows
 returns-clause-rows c = search rules
+
+pub returns-clause-block : goal.returns-clause-block
+returns-clause-block c = search rules

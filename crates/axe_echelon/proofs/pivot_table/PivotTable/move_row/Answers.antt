@@ -6,3 +6,6 @@ returns-clause-marks c = search rules
 
 pub returns-clause-rows : goal.returns-clause-rows
 returns-clause-rows c = search rules
+
+pub returns-clause-blocks : goal.returns-clause-blocks
+returns-clause-blocks c = search rules

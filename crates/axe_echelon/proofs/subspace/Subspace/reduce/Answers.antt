@@ -1,102 +1,14 @@
-use Rattle.std.proofs.Common.{◌<◌, ℕ, get_or, subst, refl, sym, ◌∙◌, ap, arith}
-use Rattle.axe_field.specs.Order.{IsElement}
-use Rattle.axe_echelon.specs.Echelons.{EchelonValue}
-use Rattle.axe_echelon.specs.Subspaces.{IsRowOfForm}
-use Rattle.axe_echelon.proofs.PivotRowLaws.{form_row_at, pivot_at, echelon_of_rows}
-use Rattle.axe_echelon.proofs.StepLaws.{over_of_row, is_row_of_over}
-use Rattle.axe_echelon.proofs.ClearingLaws.{IsFoundRow, IsClearing, IsNegative, negative_at, reduced_before_none, found_row, room_of_found, place_of_found, clearing_of, zeros_before_pivot, reduce_next, reduced_all}
-use Rattle.axe_echelon.proofs.subspace.Subspace.reduce.Goals.{In-Some, After-row_of, After-index-pivot_row, After-from}
+use Rattle.axe_echelon.proofs.PivotRowLaws.{echelon_of_rows}
 use Rattle.axe_echelon.proofs.subspace.Subspace.reduce.Goals as goal
 
-pub loop-pivot-init : goal.loop-pivot-init
-loop-pivot-init c =
-    let field = c.requires.field ∙ sym (ap (λ (e : EchelonValue). e.order) c.self.view_is) in
-    let fits = c.requires.fits ∙ sym (ap (λ (e : EchelonValue). e.cols) c.self.view_is) in
-    record {
-      fits = omega arith;
-      so_far = reduced_before_none _ _ _ _ field (over_of_row _ _ _ field c.len.ensures.well_formed fits);
-    }
+pub returns-in-2-clause-well_formed : goal.returns-in-2-clause-well_formed
+returns-in-2-clause-well_formed c = rw (← c.self.view_is) (echelon_of_rows _ _ _ c.self.invariant.are_rows)
 
-place : (c : goal.In-Some) → c.in-Some.pivot < c.self.inside.cols
-place c = omega (arith, place_of_found _ c.loop-pivot.row.entries _ _ c.in-Some.ensures.found.next, c.loop-pivot.invariant.so_far.clear.over.length_is)
+pub returns-in-4-clause-well_formed : goal.returns-in-4-clause-well_formed
+returns-in-4-clause-well_formed c = rw (← c.self.view_is) (echelon_of_rows _ _ _ c.self.invariant.are_rows)
 
-pub row_of-requires : goal.row_of-requires
-row_of-requires c =
-    let room = room_of_found _ _ _ _ c.loop-pivot.row.entries _ _ c.self.invariant c.in-Some.ensures.found.next in
-    omega (arith, place (goal.at.row_of-requires c).In-Some, room.rows)
+pub returns-in-8-clause-well_formed : goal.returns-in-8-clause-well_formed
+returns-in-8-clause-well_formed c = rw (← c.self.view_is) (echelon_of_rows _ _ _ c.self.invariant.are_rows)
 
-found : (c : goal.After-row_of) → IsFoundRow c.self.inside.rows.items c.in-Some.pivot c.row_of.result
-found c = found_row _ _ c.self.inside.rows.items c.self.inside.pivots c.loop-pivot.row.entries _ _ _ c.self.invariant c.in-Some.ensures.found.next c.row_of.ensures
-
-pub index-pivot_row-requires : goal.index-pivot_row-requires
-index-pivot_row-requires c = omega (arith, (found (goal.at.index-pivot_row-requires c).After-row_of).within, c.self.inside.rows.ok.0)
-
-at : (c : goal.After-index-pivot_row) → IsRowOfForm c.self.inside.field c.self.inside.cols c.index-pivot_row.result.now
-at c = form_row_at _ _ c.self.inside.rows.items c.row_of.result c.index-pivot_row.result.now c.self.invariant.are_rows (found c.before).within
-    c.index-pivot_row.ensures
-
-pub add_scaled_from-requires-clause-within : goal.add_scaled_from-requires-clause-within
-add_scaled_from-requires-clause-within c = omega (arith, place_of_found _ c.loop-pivot.row.entries _ _ c.in-Some.ensures.found.next)
-
-pub add_scaled_from-requires-clause-field : goal.add_scaled_from-requires-clause-field
-add_scaled_from-requires-clause-field c = (at (goal.at.add_scaled_from-requires-clause-field c).After-index-pivot_row).row_field ∙ sym c.loop-pivot.invariant.so_far.clear.field
-
-pub add_scaled_from-requires-clause-fits : goal.add_scaled_from-requires-clause-fits
-add_scaled_from-requires-clause-fits c =
-    (at (goal.at.add_scaled_from-requires-clause-fits c).After-index-pivot_row).row_over.length_is ∙ sym c.loop-pivot.invariant.so_far.clear.over.length_is
-
-pub add_scaled_from-requires-clause-zeros : goal.add_scaled_from-requires-clause-zeros
-add_scaled_from-requires-clause-zeros c =
-    let there = found (goal.at.add_scaled_from-requires-clause-zeros c).After-row_of in
-    zeros_before_pivot _ _ c.self.inside.rows.items c.row_of.result c.index-pivot_row.result.now c.self.invariant.are_rows
-    there.within c.index-pivot_row.ensures c.in-Some.pivot there.pivot
-
-negative : (c : goal.After-from) → IsNegative c.self.inside.field c.in-Some.entry (get_or c.negatives-negatives.result.now c.from.result 0)
-negative c =
-    negative_at _ _ _ _ _ c.negatives-negatives.ensures.values c.negatives-negatives.ensures.elements c.loop-pivot.invariant.so_far.clear.field c.in-Some.ensures.element
-    c.from.ensures
-
-pub overflow_add-start : goal.overflow_add-start
-overflow_add-start c = omega (arith, place (goal.at.overflow_add-start c).In-Some, c.self.invariant.are_rows.columns_fit)
-
-pub loop-pivot-smaller : goal.loop-pivot-smaller
-loop-pivot-smaller c =
-    omega (arith, place (goal.at.loop-pivot-smaller c).In-Some, c.in-Some.ensures.found.next.not_before, c.requires.fits, ap (λ (e : EchelonValue). e.cols) c.self.view_is)
-
-pub loop-pivot-preserved : goal.loop-pivot-preserved
-loop-pivot-preserved c =
-    let there : IsFoundRow c.self.inside.rows.items c.in-Some.pivot c.row_of.result = found (goal.at.loop-pivot-preserved c).After-row_of in
-    let pivot = sym (pivot_at c.self.inside.rows.items c.row_of.result c.index-pivot_row.result.now there.within c.index-pivot_row.ensures) ∙ there.pivot in
-    let so_far = c.loop-pivot.invariant.so_far in
-    let factor : ℕ = get_or c.negatives-negatives.result.now c.from.result 0 in
-    let negated = negative (goal.at.loop-pivot-preserved c).After-from in
-    let clearing : IsClearing c.self.inside.field c.self.inside.cols c.index-pivot_row.result.now c.loop-pivot.row c.add_scaled_from.new.self factor =
-    clearing_of _ c.self.inside.field _ c.index-pivot_row.result.now _ _ _ _ c.in-Some.pivot c.in-Some.entry _ so_far.clear.field so_far.clear.over pivot
-    c.in-Some.ensures.found refl negated.element negated.value c.add_scaled_from.ensures.sum c.add_scaled_from.ensures.as_long
-    c.add_scaled_from.ensures.well_formed in
-    record {
-      fits = omega (arith, place_of_found _ c.loop-pivot.row.entries _ _ c.in-Some.ensures.found.next, c.add_scaled_from.ensures.as_long);
-      so_far = reduce_next _ _ c.self.inside.rows.items c.self.inside.pivots c.loop-pivot.start c.in-Some.pivot c.row_of.result c.index-pivot_row.result.now c.args.row.now c.loop-pivot.row
-          c.add_scaled_from.new.self factor c.self.invariant so_far c.in-Some.ensures.found.next there c.index-pivot_row.ensures clearing;
-    }
-
-pub add_scaled_from-requires-clause-element : goal.add_scaled_from-requires-clause-element
-add_scaled_from-requires-clause-element c =
-    subst (λ o. IsElement o (get_or c.negatives-negatives.result.now c.from.result 0)) (sym c.loop-pivot.invariant.so_far.clear.field)
-    (negative (goal.at.add_scaled_from-requires-clause-element c).After-from).element
-
-pub returns-clause-representative : goal.returns-clause-representative
-returns-clause-representative c =
-    rw (← c.self.view_is) (reduced_all _ _ _ c.self.inside.pivots c.loop-pivot.start _ _ c.self.invariant c.loop-pivot.invariant.so_far c.in_default.ensures.found)
-
-pub returns-clause-same_field : goal.returns-clause-same_field
-returns-clause-same_field c = c.loop-pivot.invariant.so_far.clear.field ∙ ap (λ (e : EchelonValue). e.order) c.self.view_is
-
-pub returns-clause-as_long : goal.returns-clause-as_long
-returns-clause-as_long c = c.loop-pivot.invariant.so_far.clear.over.length_is ∙ ap (λ (e : EchelonValue). e.cols) c.self.view_is
-
-pub returns-clause-row_well_formed : goal.returns-clause-row_well_formed
-returns-clause-row_well_formed c = is_row_of_over _ _ _ c.loop-pivot.invariant.so_far.clear.field c.loop-pivot.invariant.so_far.clear.over
-
-pub returns-clause-well_formed : goal.returns-clause-well_formed
-returns-clause-well_formed c = rw (← c.self.view_is) (echelon_of_rows _ _ _ c.self.invariant.are_rows)
+pub returns-in_default-clause-well_formed : goal.returns-in_default-clause-well_formed
+returns-in_default-clause-well_formed c = rw (← c.self.view_is) (echelon_of_rows _ _ _ c.self.invariant.are_rows)

@@ -1,6 +1,6 @@
 use Rattle.std.proofs.Common.{◌≤◌, ◌-◌, length}
 use Rattle.axe_echelon.proofs.ClearingLaws.{IsReducedBefore}
-use Rattle.axe_echelon.proofs.subspace.Subspace.reduce.Given as goal
+use Rattle.axe_echelon.proofs.subspace.Subspace.reduce_by_entries.Given as goal
 
 abbrev pub invariant-loop-pivot : goal.invariant-loop-pivot
 invariant-loop-pivot l = record {
