@@ -1,2 +1,3 @@
 pub mod ApartWords
 pub mod TwoRows
+pub mod TwoFactors

@@ -13,6 +13,7 @@ use std::process::Abort;
 /// - `unit`: the order of a field, a length, an index, and the row that is 1 there and else 0;
 /// - `set`: a row, an index, an element, and the row with the element there;
 /// - `get`: a row, an index, and the element there;
+/// - `get_two_twice`: a row, two indices, and the elements there;
 /// - `copy`: a row, and its copy;
 /// - `first_nonzero`: a row, and the index of its first entry that is not zero;
 /// - `next_nonzero`: a row, an index, and that of the first entry from there on that is not zero;
@@ -25,6 +26,12 @@ unit | 2 | 1 | 0 | 2: 1
 set | 7: 00 | 1 | 3 | 7: 03
 get | 7: 05 | 0 | 0
 get | 7: 05 | 1 | 5
+get_two_twice | 2: 0110 | 3 | 1 | 0 | 1
+get_two_twice | 3: 0212 | 1 | 2 | 2 | 1
+get_two_twice | 5: 0342 | 2 | 0 | 4 | 0
+get_two_twice | 7: 0563 | 1 | 2 | 5 | 6
+get_two_twice | 4: 0321 | 1 | 3 | 3 | 1
+get_two_twice | 9: 1360 | 2 | 1 | 6 | 3
 copy | 9: 13 | 9: 13
 copy | 7: 66 | 7: 66
 first_nonzero | 7: 05 | 1
@@ -128,6 +135,8 @@ copy_to | 3: 2200000100111002211211221110011110200221212012210202211112111212211
 /// - `add_scaled_from`: a row, an index, a scalar, another row that is 0 before the index, and that sum;
 /// - `add_scaled_in`: the same over a field of characteristic 2, where the scalar is not zero;
 /// - `add_two_twice`: a row, two others, and the sum of the first and of twice the two;
+/// - `add_multiples`: a row over a prime field, a factor, another row, a second factor, a third row, and the sum of the
+///   first and of twice those multiples of the two;
 /// - `cancel`: a row, an index, another row, the negative of the first row's element there, and the sum of the first
 ///   and of that multiple of the other;
 /// - `scale`: a row, a scalar, and the multiple;
@@ -138,6 +147,10 @@ add_scaled | 7: 66 | 6 | 7: 66 | 7: 00
 add_scaled | 8: 41 | 5 | 8: 25 | 8: 56
 add_scaled | 2: 00000000000000000000000000000000000000000000000000000000000000001 | 1 | 2: 00000000000000000000000000000000000000000000000000000000000000001 | 2: 00000000000000000000000000000000000000000000000000000000000000000
 add_two_twice | 7: 0123 | 7: 1111 | 7: 2222 | 7: 6012
+add_multiples | 7: 0123 | 3 | 7: 1111 | 2 | 7: 0102 | 7: 6413
+add_multiples | 5: 0123 | 4 | 5: 1202 | 1 | 5: 0011 | 5: 3241
+add_multiples | 3: 0120 | 2 | 3: 1012 | 1 | 3: 0122 | 3: 1010
+add_multiples | 2: 0110 | 1 | 2: 1100 | 1 | 2: 0101 | 2: 0110
 add_two_twice | 9: 0134 | 9: 3333 | 9: 1111 | 9: 8620
 scale | 7: 03 | 4 | 7: 05
 dot | 8: 41 | 8: 25 | 6
@@ -281,6 +294,17 @@ fn tells(rt: &impl Abort, call: &str, row: &Row, line: &str) -> Result<bool, Tab
     }
 }
 
+/// The entries at two indices, each of them twice.
+fn tells_two_twice(rt: &impl Abort, row: &Row, line: &str) -> Result<bool, TableFault> {
+    let (first, second, one, other) = four_fields(line)?;
+    let (first, second) = two_numbers(first, second)?;
+    let (one, other) = (small_number_of(one)?, small_number_of(other)?);
+    assert!(rt; first < row.len());
+    assert!(rt; second < row.len());
+    let found = row.entries_at([first, second, second, first]);
+    Ok(found == [one, other, other, one])
+}
+
 /// The copy is to stay when the row is changed.
 fn copies(alloc: Global, row: &mut Row, line: &str) -> Result<bool, TableFault> {
     let wanted = one_field(line)?;
@@ -355,6 +379,27 @@ fn adds_two_twice(alloc: Global, row: &mut Row, line: &str) -> Result<bool, Tabl
     let first = row_of_shape(alloc, first, row.field(), row.len())?;
     let second = row_of_shape(alloc, second, row.field(), row.len())?;
     row.add_four_rows(&first, &second, &second, &first);
+    is_row(alloc, row, wanted)
+}
+
+/// Adds multiples of two rows, each of them twice.
+fn adds_multiples(
+    rt: &impl Abort,
+    alloc: Global,
+    row: &mut Row,
+    line: &str,
+) -> Result<bool, TableFault> {
+    let (factor, line) = first_field(line)?;
+    let (first, other_factor, second, wanted) = four_fields(line)?;
+    let factor = element_in(row.field(), factor)?;
+    let other_factor = element_in(row.field(), other_factor)?;
+    let first = row_of_shape(alloc, first, row.field(), row.len())?;
+    let second = row_of_shape(alloc, second, row.field(), row.len())?;
+    assert!(rt; row.field().degree() == 1);
+    assert!(rt; factor != 0);
+    assert!(rt; other_factor != 0);
+    let factors = [factor, other_factor, other_factor, factor];
+    row.add_four_multiples(factors, &first, &second, &second, &first);
     is_row(alloc, row, wanted)
 }
 
@@ -440,6 +485,7 @@ fn answers_of_row(
         "set" => sets(rt, alloc, row, line),
         "first_nonzero" => is_index(row.first_nonzero(), one_field(line)?),
         "get" | "next_nonzero" | "support_word" => tells(rt, call, row, line),
+        "get_two_twice" => tells_two_twice(rt, row, line),
         "is_zero" => Ok(row.is_zero() == truth_of(one_field(line)?)?),
         "part" => takes_part(rt, alloc, row, line),
         "first_and_last" | "runs" | "copy_to" => gives_row(rt, alloc, call, row, line),
@@ -450,6 +496,7 @@ fn answers_of_row(
         "cancel" => cancels(rt, alloc, row, line),
         "scale" => scales(alloc, row, line),
         "add_two_twice" => adds_two_twice(alloc, row, line),
+        "add_multiples" => adds_multiples(rt, alloc, row, line),
         "dot" => multiplies(alloc, row, line),
         _ => Err(TableFault::NotWritten),
     }
