@@ -1,7 +1,7 @@
-use Rattle.std.proofs.Common.{◌≡◌, ◌+◌, ℕ, length, get_or, refl, sym, ap, ◌∙◌, subst, arith}
+use Rattle.std.proofs.Common.{length, sym, ap, ◌∙◌, subst, arith}
 use Rattle.std.specs.List.{All}
 use Rattle.axe_field.specs.NumberFields.{number_field}
-use Rattle.axe_field.specs.Order.{Order, order_number, IsElement}
+use Rattle.axe_field.specs.Order.{Order, IsElement}
 use Rattle.axe_field.proofs.Orders.{one_is_element}
 use Rattle.axe_row.specs.Rows.{RowValue}
 use Rattle.axe_row.proofs.RowLaws.{same_row}

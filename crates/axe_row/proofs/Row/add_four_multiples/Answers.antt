@@ -1,4 +1,4 @@
-use Rattle.std.proofs.Common.{◌≡◌, length, refl, sym, ap, subst, ◌∙◌}
+use Rattle.std.proofs.Common.{length, refl, sym, ap, ◌∙◌}
 use Rattle.axe_field.specs.Order.{degree_of}
 use Rattle.axe_plane.specs.Planes.{digits_of}
 use Rattle.axe_row.specs.HigherPlanes.{linear_of, quadratic_of}
