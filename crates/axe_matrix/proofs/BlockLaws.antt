@@ -36,7 +36,7 @@ module _ (K : NumberField) where
   abbrev pub HasElements : List (List ℕ) → Type 0
   HasElements b = (i j : ℕ) → entry b i j < K.order
 
-  pub terms : List ℕ → List (List ℕ) → ℕ → ℕ → ℕ → ℕ
+  unfoldable pub terms : List ℕ → List (List ℕ) → ℕ → ℕ → ℕ → ℕ
   terms v b at j t = K.mul (get_or v (at + t) 0) (entry b (at + t) j)
 
   terms-below : (v : List ℕ) (b : List (List ℕ)) (at j t : ℕ) → AreElements K v → HasElements b → terms v b at j t < K.order

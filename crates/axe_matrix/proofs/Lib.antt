@@ -27,3 +27,8 @@ mod CoefficientWrites
 mod TransposedBlocks
 mod StripLaws
 mod WordTerms
+mod WaitingRows
+mod HornerTerms
+mod ValuePowers
+mod ValueDigits
+mod ValuePlaces

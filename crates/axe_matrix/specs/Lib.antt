@@ -5,5 +5,6 @@ pub mod Multiples
 pub mod Strips
 pub mod Products
 pub mod VectorTerms
+pub mod ValueTerms
 pub mod PieceTables
 pub mod Transposes

@@ -10,6 +10,7 @@ ghost use Rattle.axe_matrix.specs.Limits.{most_rows, most_columns};
 ghost use Rattle.axe_matrix.specs.Matrices.{IsMatrix, row_of, vector_product, has_only_zeros};
 
 mod arithmetic;
+mod by_values;
 mod multiples;
 mod parts;
 mod products;

@@ -73,11 +73,40 @@ impl Matrix {
             return Ok(());
         }
         if scalar == 1 {
-            return self.add_by_tables(alloc, a, b, size);
+            return self.add_times(alloc, a, b, size);
         }
         // The digits of a piece are read at once where no scalar is multiplied in.
         let multiple = a.multiple(alloc, scalar)?;
-        self.add_by_tables(alloc, &multiple, b, size)
+        self.add_times(alloc, &multiple, b, size)
+    }
+
+    /// Adds the product of two matrices as [`Matrix::add_product`] does with the scalar 1: row by row where rows are
+    /// multiplied value by value, and few enough that this takes less work, and else by tables that combine so many
+    /// rows of the second each. For want of memory nothing is changed.
+    fn add_times(
+        &mut self,
+        alloc: Global,
+        a: &Matrix,
+        b: &Matrix,
+        size: usize,
+    ) -> Result<(), Refusal>
+        requires a_field { a.now.order ≡ self.old.order }
+        requires b_field { b.now.order ≡ self.old.order }
+        requires rows_fit { length a.now.rows ≡ length self.old.rows }
+        requires inner_fit { a.now.cols ≡ length b.now.rows }
+        requires columns_fit { b.now.cols ≡ self.old.cols }
+        requires some { 1 ≤ size }
+        requires size { size ≤ most_combined self.old.order }
+        ensures sum { Answers None (λ _. self.new ≡ matrix_with_product self.old 1 a.now b.now) result }
+        ensures unchanged { OnErr result (self.new ≡ self.old) }
+        ensures well_formed { IsMatrix self.new }
+    {
+        let by_values = a.field().degree() > 1 && a.cols() <= COLUMNS_BY_VALUES;
+        if by_values {
+            self.add_directly(1, a, b);
+            return Ok(());
+        }
+        self.add_by_tables(alloc, a, b, size)
     }
 
     /// The matrix times an element: each entry e becomes c e, where c is the scalar.
@@ -217,6 +246,10 @@ impl Matrix {
         self.rows[index].add_four(numbers, first, second, &tables.third, &tables.fourth);
     }
 }
+
+/// Up to how many columns a matrix over a field that is not prime has where a product with it goes row by row, value by
+/// value: tables of so few rows cost more to fill and to look up than they save.
+const COLUMNS_BY_VALUES: usize = 128;
 
 /// How many rows of a matrix are looked at, at most, to guess how many of its entries are 0.
 const ROWS_SAMPLED: usize = 32;

@@ -31,6 +31,9 @@ impl Matrix {
         // `len` is called for what it ensures beside the length: that the entries are elements of the field.
         prove!(row.len() == self.cols());
         prove!(vector.len() == self.rows());
+        if scalar == 1 && self.field().degree() != 1 && self.has_many_entries(vector) {
+            return self.add_by_values(vector, row);
+        }
         let at = self.add_fours(scalar, vector, row);
         let mut place = at % WORD;
         for word in at / WORD..vector.len().div_ceil(WORD) {
