@@ -28,5 +28,6 @@ pub mod RowSpaces
 pub mod OrthogonalSpaces
 pub mod Transposes
 pub mod OrthogonalPoints
+pub mod NullSpacePoints
 pub mod ZeroMatrices
 pub mod WordsOfPivots

@@ -37,14 +37,14 @@ use native.Mathlib.Decide.{ℕ_discrete, dec_lt}
 module _ (F : Field) (n r : ℕ) (w : Matrix F) (rows : HasRowsOfLength F n w) (s : ℕ) (y : Matrix F) (lengths : HasRowsOfLength F n y)
     (basis : IsReducedBasisOf F (IsOrthogonalMirrored F n r w) s y) where
   -- the pivots of the space belong to columns that are no pivots of the rows
-  pivot_inside : (p : ℕ) → IsPivot F s y p → p < n
+  pub pivot_inside : (p : ℕ) → IsPivot F s y p → p < n
   pivot_inside p pivot = by_place (dec_lt p n)
     where
       by_place : Dec (p < n) → p < n
       by_place (yes inside) = inside
       by_place (no past) = absurd (pivot.leads.nonzero ((basis.forth pivot.vector pivot.in_span).length p (omega arith)))
 
-  pivot_is_free : (p : ℕ) → IsPivot F s y p → ¬ (IsPivot F r w (n - 1 - p))
+  pub pivot_is_free : (p : ℕ) → IsPivot F s y p → ¬ (IsPivot F r w (n - 1 - p))
   pivot_is_free p pivot of_rows =
       pivot.leads.nonzero (ap z (let back : p ≡ n - 1 - (n - 1 - p) = omega (arith, inside) in back)
       ∙ sym (mirrored_at F n z (n - 1 - p) (omega (arith, inside)))
@@ -77,9 +77,8 @@ module _ (F : Field) (n r : ℕ) (w : Matrix F) (rows : HasRowsOfLength F n w) (
       by_size (yes some) = absurd (from some)
       by_size (no none) = omega arith
 
-  -- else the last belongs to the first column that is none
-  module _ (c : ℕ) (inside : c < n) (before : (j : ℕ) → j < c → IsPivot F r w j) (x : Vector F) (length : HasLength F n x)
-      (unit : IsUnitOrthogonal F n r w c (mirrored F n x)) where
+  -- a vector for a column that is none has the pivot of one row of the basis
+  module _ (c : ℕ) (inside : c < n) (x : Vector F) (length : HasLength F n x) (unit : IsUnitOrthogonal F n r w c (mirrored F n x)) where
     abbrev p : ℕ → ℕ
     p = basis.reduced.pivots
 
@@ -95,56 +94,58 @@ module _ (F : Field) (n r : ℕ) (w : Matrix F) (rows : HasRowsOfLength F n w) (
         ∙ sym (mirrored_at F n x (n - 1 - i) (omega (arith, inside)))
         ∙ zero_after F n r w rows c (mirrored F n x) unit n (n - 1 - i) (omega arith) (omega (arith, inside, ahead))
 
-    place : (t : ℕ) × (t < s) × (p t ≡ n - 1 - c)
+    pub place : (t : ℕ) × (t < s) × (p t ≡ n - 1 - c)
     place = basis.reduced.are_pivots.all (n - 1 - c) (record {
       vector = x;
       in_span = x_in_span;
       leads = record { nonzero = λ e. F.one-not-zero (sym x_at ∙ e); before = x_before };
     })
 
-    -- no pivot of the space is past its place
-    none_past : (q : ℕ) → IsPivot F s y q → q ≤ n - 1 - c
-    none_past q pivot = by_place (dec_lt (n - 1 - q) c)
-      where
-        by_place : Dec (n - 1 - q < c) → q ≤ n - 1 - c
-        by_place (yes earlier) = absurd (pivot_is_free q pivot (before (n - 1 - q) earlier))
-        by_place (no later) = omega (arith, pivot_inside q pivot)
+    -- where the columns before it are pivots, this is the last row
+    module _ (before : (j : ℕ) → j < c → IsPivot F r w j) where
+      -- no pivot of the space is past its place
+      none_past : (q : ℕ) → IsPivot F s y q → q ≤ n - 1 - c
+      none_past q pivot = by_place (dec_lt (n - 1 - q) c)
+        where
+          by_place : Dec (n - 1 - q < c) → q ≤ n - 1 - c
+          by_place (yes earlier) = absurd (pivot_is_free q pivot (before (n - 1 - q) earlier))
+          by_place (no later) = omega (arith, pivot_inside q pivot)
 
-    last_place : (0 < s) × (p (s - 1) ≡ n - 1 - c)
-    last_place = from place
-      where
-        from : (t : ℕ) × (t < s) × (p t ≡ n - 1 - c) → (0 < s) × (p (s - 1) ≡ n - 1 - c)
-        from (t, below, found) = (omega arith, by_place (dec_lt t (s - 1)))
-          where
-            by_place : Dec (t < s - 1) → p (s - 1) ≡ n - 1 - c
-            by_place (yes earlier) = absurd (omega (
-              arith,
-              basis.reduced.are_pivots.ascending t (s - 1) earlier (omega arith),
-              none_past (p (s - 1)) (basis.reduced.are_pivots.each (s - 1) (omega arith)),
-              found,
-            ))
-            by_place (no later) = ap p (let last : s - 1 ≡ t = omega arith in last) ∙ found
+      last_place : (0 < s) × (p (s - 1) ≡ n - 1 - c)
+      last_place = from place
+        where
+          from : (t : ℕ) × (t < s) × (p t ≡ n - 1 - c) → (0 < s) × (p (s - 1) ≡ n - 1 - c)
+          from (t, below, found) = (omega arith, by_place (dec_lt t (s - 1)))
+            where
+              by_place : Dec (t < s - 1) → p (s - 1) ≡ n - 1 - c
+              by_place (yes earlier) = absurd (omega (
+                arith,
+                basis.reduced.are_pivots.ascending t (s - 1) earlier (omega arith),
+                none_past (p (s - 1)) (basis.reduced.are_pivots.each (s - 1) (omega arith)),
+                found,
+              ))
+              by_place (no later) = ap p (let last : s - 1 ≡ t = omega arith in last) ∙ found
 
-    pub last_is_first_free : (0 < s) × (x ≡ y (s - 1))
-    last_is_first_free = (
-      last_place.0,
-      sym (same_at_pivots F n s y (y (s - 1)) x lengths (span_row F s y (s - 1) last) x_in_span
-          (λ j pivot. at j (basis.reduced.are_pivots.all j pivot))),
-    )
-      where
-        last : s - 1 < s
-        last = omega (arith, last_place.0)
+      pub last_is_first_free : (0 < s) × (x ≡ y (s - 1))
+      last_is_first_free = (
+        last_place.0,
+        sym (same_at_pivots F n s y (y (s - 1)) x lengths (span_row F s y (s - 1) last) x_in_span
+            (λ j pivot. at j (basis.reduced.are_pivots.all j pivot))),
+      )
+        where
+          last : s - 1 < s
+          last = omega (arith, last_place.0)
 
-        at : (j : ℕ) → (t : ℕ) × (t < s) × (p t ≡ j) → y (s - 1) j ≡ x j
-        at j (t, below, found) = by_place (ℕ_discrete t (s - 1))
-          where
-            by_place : Dec (t ≡ s - 1) → y (s - 1) j ≡ x j
-            by_place (yes same) =
-                ap (y (s - 1)) (sym found ∙ ap p same) ∙ basis.reduced.one (s - 1) last
-                ∙ sym (ap x (sym found ∙ ap p same ∙ last_place.1) ∙ x_at)
-            by_place (no other) =
-                ap (y (s - 1)) (sym found) ∙ basis.reduced.zero t (s - 1) below last other
-                ∙ sym (x_before j (omega (arith, found, last_place.1, basis.reduced.are_pivots.ascending t (s - 1) (omega (arith, below, other)) last)))
+          at : (j : ℕ) → (t : ℕ) × (t < s) × (p t ≡ j) → y (s - 1) j ≡ x j
+          at j (t, below, found) = by_place (ℕ_discrete t (s - 1))
+            where
+              by_place : Dec (t ≡ s - 1) → y (s - 1) j ≡ x j
+              by_place (yes same) =
+                  ap (y (s - 1)) (sym found ∙ ap p same) ∙ basis.reduced.one (s - 1) last
+                  ∙ sym (ap x (sym found ∙ ap p same ∙ last_place.1) ∙ x_at)
+              by_place (no other) =
+                  ap (y (s - 1)) (sym found) ∙ basis.reduced.zero t (s - 1) below last other
+                  ∙ sym (x_before j (omega (arith, found, last_place.1, basis.reduced.are_pivots.ascending t (s - 1) (omega (arith, below, other)) last)))
 
 -- ---- of a subspace
 
@@ -179,8 +180,8 @@ module _ (e : EchelonValue) (h : IsEchelon e) (basis : MatrixValue) (well_formed
 
       last : (0 < length basis.rows) × (vector_of K v.entries ≡ matrix_of K basis.rows (length basis.rows - 1))
       last = last_is_first_free (gf e.order) e.cols (length e.rows) (matrix_of K e.rows) (rows_length K e.cols e.rows h.over) (length basis.rows)
-          (matrix_of K basis.rows) (rows_length K e.cols basis.rows basis_over) orthogonal.basis column first.within first.before (vector_of K v.entries)
-          (vector_length K e.cols v.entries v_over.length_is) unit
+          (matrix_of K basis.rows) (rows_length K e.cols basis.rows basis_over) orthogonal.basis column first.within (vector_of K v.entries)
+          (vector_length K e.cols v.entries v_over.length_is) unit first.before
 
 -- ---- the first point
 

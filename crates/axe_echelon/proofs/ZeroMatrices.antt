@@ -120,7 +120,7 @@ zero_transpose n rows zeros = All-from_get_or IsZeroVector (transpose n rows) []
     listed_at (length rows) (λ j. entry rows j i) j 0 among ∙ zero_entry (get_or rows j []) i (All-get_or IsZeroVector rows j [] among zeros))))
 
 -- the last row of the identity is the last unit vector
-last_of_identity : (n last : ℕ) → 1 ≤ n → last ≡ n - 1 → unit_row n last ≡ get_or (identity n) (length (identity n) - 1) []
+pub last_of_identity : (n last : ℕ) → 1 ≤ n → last ≡ n - 1 → unit_row n last ≡ get_or (identity n) (length (identity n) - 1) []
 unfolding identity
 last_of_identity n last some is =
     let count : length (identity n) ≡ n = table_length n n (λ i j. cond (eqb i j) 1 0) in

@@ -5,5 +5,6 @@ pub mod Steps
 pub mod Subspaces
 pub mod LeadingRows
 pub mod Mirrored
+pub mod NullPoints
 pub mod Orthogonal
 pub mod OrthogonalPoints

@@ -17,7 +17,9 @@ ghost use Rattle.axe_echelon.specs.Echelons.{IsEchelon, with_row_where, AreCoord
 ghost use Rattle.axe_echelon.specs.Steps.{HasSteps, AreSolvedCoordinates, IsSolved};
 ghost use Rattle.axe_echelon.specs.Subspaces.{IsCleared};
 
+mod first_points;
 mod inverses;
+pub mod laws;
 mod leading_rows;
 mod mirrors;
 mod null_spaces;
@@ -28,6 +30,7 @@ mod subspace;
 
 use axe_field::Field;
 use axe_matrix::{Matrix, Refusal, Row};
+pub use first_points::{NullPoints, null_points};
 pub use inverses::inverse;
 pub use null_spaces::{null_space, orthogonal_space};
 pub use orthogonal_points::orthogonal_point;

@@ -59,7 +59,7 @@ pub fn orthogonal_space(alloc: Global, rows: &Matrix) -> Result<Matrix, Refusal>
 
 /// The reduced basis of all vectors that are orthogonal to a space when they are read from the last entry to the first:
 /// one vector for each column that is no pivot of the space, from the last of them to the first.
-fn orthogonal_to(alloc: Global, space: &Subspace) -> Result<Matrix, Refusal>
+pub(crate) fn orthogonal_to(alloc: Global, space: &Subspace) -> Result<Matrix, Refusal>
     ensures basis { Answers None (IsOrthogonalToSpace space.now) result }
     ensures well_formed { Answers None IsMatrix result }
 {

@@ -33,7 +33,7 @@ pub fn orthogonal_point(alloc: Global, rows: &Matrix) -> Result<Option<Row>, Ref
 }
 
 /// The first column that is no pivot of a space, or `None` where all columns are.
-fn first_free_column(space: &Subspace) -> Option<usize>
+pub(crate) fn first_free_column(space: &Subspace) -> Option<usize>
     ensures { IsFirstFreeOrNone space.now result }
 {
     for column in 0..space.cols() {
