@@ -14,3 +14,4 @@ pub mod MisfitLaws
 pub mod PairingLaws
 pub mod SeenLaws
 pub mod TriedLaws
+pub mod FirstLaws

@@ -12,17 +12,18 @@ use Rattle.axe_spin.specs.Modules.{ModuleValue}
 use Rattle.axe_spin.specs.Spinning.{IsGeneratedSpace}
 use Rattle.axe_action.specs.Actions.{dual_module, IsAnnihilatorMatrix}
 use Rattle.axe_word.specs.declared.tested.Tested.{Tested}
-use Rattle.axe_word.specs.Tested.{IsTestedAt, IsTestedBy, IsTestedByPoly}
-use Rattle.axe_word.specs.Words.{WordValue, IsWordIn}
+use Rattle.axe_word.specs.Tested.{IsTested, IsTestedAt, IsTestedBy, IsTestedByPoly}
+use Rattle.axe_word.specs.Words.{WordValue, IsWordIn, IsValueOf}
 use Rattle.axe_word.specs.PointsOfMatrix.{IsReduced}
 use Rattle.axe_norton.specs.declared.factors.Fitted.{Fitted}
 use Rattle.axe_norton.specs.declared.spaces.Tried
 use Rattle.axe_norton.specs.declared.verdicts.At.{At}
 use Rattle.axe_norton.specs.declared.verdicts.At.TheVariants.{Irreducible, Reducible, Left}
-use Rattle.axe_norton.specs.Spaces.{GeneratesModule, GeneratesProper, TriedGenerate, IsFirstProperSpace, point_of}
-use Rattle.axe_norton.specs.Spaces.{TransposedPoint}
+use Rattle.axe_norton.specs.Spaces.{HasFewPoints, GeneratesModule, GeneratesProper, TriedGenerate, IsFirstProperSpace}
+use Rattle.axe_norton.specs.Spaces.{point_of, TransposedPoint}
 use Rattle.axe_norton.specs.SmallFactors.{IsFirstFitting, NoneFits}
 use Rattle.axe_norton.specs.OneVector.{FitsWord, TellsByOne}
+use Rattle.axe_norton.specs.Verdicts.{TellsByPoints}
 
 -- the matrix has as rows the reduced basis of a space of vectors of the module
 pub record IsReducedIn (m : ModuleValue) (basis : MatrixValue) : Type 0 where
@@ -99,6 +100,26 @@ pub record IsTestedWord (m : ModuleValue) (t : Tested) : Type 0 where
   pub word : WordValue
   pub is_word : IsWordIn m word
   pub is_tested : IsTestedBy m word t
+
+-- the matrix is the value of a word of the module
+pub record IsValueOfWord (m : ModuleValue) (matrix : MatrixValue) : Type 0 where
+  pub word : WordValue
+  pub is_word : IsWordIn m word
+  pub is_value : IsValueOf m word matrix
+
+-- the row is the first point of the null space of the value of a word, which has more than few points
+pub record IsFirstOfMany (m : ModuleValue) (matrix : MatrixValue) (point : RowValue) : Type 0 where
+  pub null_space : MatrixValue
+  pub value : IsTestedWord m (record { matrix = matrix; null_space = null_space })
+  pub some_row : 0 < length null_space.rows
+  pub many : ¬ (HasFewPoints null_space)
+  pub first : point ≡ record { order = null_space.order; entries = point_of null_space 0 }
+
+-- the points of the null space of the matrix, and of its transpose's, tell this of the module
+pub record TellsByNullSpace (m : ModuleValue) (matrix : MatrixValue) (answer : At) : Type 0 where
+  pub null_space : MatrixValue
+  pub is_tested : IsTested (record { matrix = matrix; null_space = null_space })
+  pub tells : TellsByPoints m matrix null_space answer
 
 -- ---- the first small factor that fits a square matrix
 

@@ -1,21 +1,24 @@
 //! What a word says of a module, and what words of a seed decide.
 
-ghost use Rattle.std.specs.Prelude.{◌≡◌, ◌≤◌, None};
+ghost use Rattle.std.specs.Prelude.{◌≡◌, ◌↔◌, ℕ, ◌≤◌, None};
 ghost use Rattle.axe_row.specs.Refusals.{Answers};
 ghost use Rattle.axe_spin.specs.Modules.{IsModule};
+ghost use Rattle.axe_word.specs.Drawing.{IsOrder};
 ghost use Rattle.axe_word.specs.Words.{IsWordIn};
 ghost use Rattle.axe_word.specs.KeptProducts.{AreProductsOf};
-ghost use Rattle.axe_norton.specs.Searches.{IsTestedWord};
-ghost use Rattle.axe_norton.specs.Verdicts.{last_word, TellsByPoints, Tells, Says, IsTrueOf, Decides, IsTrueVerdict};
+ghost use Rattle.axe_word.specs.PointsOfMatrix.{point_count, most_points};
+ghost use Rattle.axe_norton.specs.Searches.{IsValueOfWord, IsTestedWord, IsFirstOfMany, TellsByNullSpace};
+ghost use Rattle.axe_norton.specs.Verdicts.{last_word, TellsByPoints, Says, IsTrueOf, Decides, IsTrueVerdict};
 
 use crate::MOST_POINTS;
 use crate::one_vector::test_by_factor;
-use crate::spaces::{Tried, transposed_space, tried_points};
+use crate::spaces::{Tried, proper_space, transposed_point, transposed_space, tried_points};
 use crate::verdicts::{At, Verdict};
-use axe_matrix::{Matrix, Refusal};
+use axe_echelon::{NullPoints, null_points};
+use axe_matrix::{Matrix, Refusal, Row};
 use axe_poly::Irreducibles;
 use axe_spin::Module;
-use axe_word::{Products, Tested, Word, few_points, first_point, nth_word};
+use axe_word::{Products, Word, few_points, first_point, nth_word};
 use std::alloc::Global;
 
 /// What a word says of a module, of which it is one as [`Word::is_word_in`] says, by its value x (Norton's test: Parker
@@ -106,32 +109,28 @@ pub fn decide_at_with(
     ensures same_field { table.new.order ≡ «module».now.order }
     ensures products { AreProductsOf «module».now products.new }
 {
-    let tested = word.tested_with(alloc, module, products)?;
-    test_matrix(alloc, module, table, tested)
-}
-
-/// What the value of a word and its null space tell of a module: what the points tell, and where these leave the module
-/// open, what the first small factor that fits the value tells.
-fn test_matrix(
-    alloc: Global,
-    module: &Module,
-    table: &mut Irreducibles,
-    tested: Tested,
-) -> Result<At, Refusal>
-    requires value { IsTestedWord «module».now tested }
-    requires field { table.old.order ≡ «module».now.order }
-    ensures tells { Answers None (Tells «module».now tested.matrix tested.null_space) result }
-    ensures well_formed { IsModule «module».now }
-    ensures same_field { table.new.order ≡ «module».now.order }
-{
-    let Tested { matrix, null_space } = tested;
-    match test_points(alloc, module, &matrix, null_space)? {
+    let matrix = word.value_with(alloc, module, products)?;
+    match test_null_space(alloc, module, &matrix)? {
         At::Left => test_by_factor(alloc, module, table, &matrix),
         told => Ok(told),
     }
 }
 
-/// What the points of the null spaces of the value of a word and of its transpose tell of a module.
+/// What the points of the null spaces of the value of a word and of its transpose tell of a module. Of a null space with
+/// more than few points no basis is made, since the first point alone is tried.
+fn test_null_space(alloc: Global, module: &Module, matrix: &Matrix) -> Result<At, Refusal>
+    requires { IsValueOfWord «module».now matrix.now }
+    ensures tells { Answers None (TellsByNullSpace «module».now matrix.now) result }
+    ensures well_formed { IsModule «module».now }
+{
+    let most = most_dimensions(module.field().order());
+    match null_points(alloc, matrix, most)? {
+        NullPoints::Basis(null_space) => test_points(alloc, module, matrix, null_space),
+        NullPoints::First(point) => test_first(alloc, module, matrix, point),
+    }
+}
+
+/// The same, with the reduced basis of the null space.
 fn test_points(
     alloc: Global,
     module: &Module,
@@ -162,4 +161,32 @@ fn test_points(
     } else {
         Ok(At::Left)
     }
+}
+
+/// The same, with the first point of a null space that has more than few points: what that tells, and the first point of
+/// the null space of the transpose.
+fn test_first(alloc: Global, module: &Module, matrix: &Matrix, point: Row) -> Result<At, Refusal>
+    requires { IsFirstOfMany «module».now matrix.now point }
+    ensures { Answers None (TellsByNullSpace «module».now matrix.now) result }
+{
+    if let Some(space) = proper_space(alloc, module, point)? {
+        return Ok(At::Reducible(space));
+    }
+    let transposed = transposed_point(alloc, matrix)?;
+    match transposed_space(alloc, module, transposed)? {
+        Some(space) => Ok(At::Reducible(space)),
+        None => Ok(At::Left),
+    }
+}
+
+/// The most dimensions of a space over a field of an order that has few points, no more than [`MOST_POINTS`].
+fn most_dimensions(order: u8) -> usize
+    requires { IsOrder order }
+    ensures { (d : ℕ) → (d ≤ result) ↔ (point_count order d ≤ most_points) }
+{
+    let mut most = 0;
+    while few_points(order, most + 1, MOST_POINTS) {
+        most += 1;
+    }
+    most
 }

@@ -1,18 +1,37 @@
-use Rattle.axe_norton.proofs.DecisionLaws.{said_by, truth_told}
+use Rattle.axe_norton.proofs.TestedLaws.{value_square}
+use Rattle.axe_norton.proofs.DecisionLaws.{truth_told}
+use Rattle.axe_norton.proofs.SaidLaws.{said_is_true}
+use Rattle.axe_norton.proofs.FirstLaws.{said_by_points, said_where_left}
 use Rattle.axe_norton.proofs.decisions.decide_at_with.Goals as goal
 
-pub test_matrix-requires-clause-value : goal.test_matrix-requires-clause-value
-test_matrix-requires-clause-value c = record {
+pub test_null_space-requires : goal.test_null_space-requires
+test_null_space-requires c = record {
   word = c.args.word.now;
   is_word = c.requires.word;
-  is_tested = c.in_ok-tested.ensures.tested;
+  is_value = c.in_ok-matrix.ensures.value;
 }
+
+pub test_by_factor-requires-clause-square : goal.test_by_factor-requires-clause-square
+test_by_factor-requires-clause-square c = value_square c.args.module.now c.args.word.now c.in_ok-matrix.matrix c.in_ok-matrix.ensures.value
+
+pub returns-in-Left-clause-says : goal.returns-in-Left-clause-says
+returns-in-Left-clause-says c =
+    said_where_left c.args.module.now c.args.word.now c.in_ok-matrix.matrix c.in_ok-matrix.ensures.value c.test_by_factor.result
+    (rw c.in-Left.is at c.in_ok-told.ensures.tells) c.test_by_factor.ensures.tells
+
+pub returns-in-Left-clause-holds : goal.returns-in-Left-clause-holds
+returns-in-Left-clause-holds c =
+    truth_told c.args.module.now c.args.word.now c.test_by_factor.result c.test_by_factor.ensures.well_formed c.requires.word
+    (said_where_left c.args.module.now c.args.word.now c.in_ok-matrix.matrix c.in_ok-matrix.ensures.value c.test_by_factor.result
+    (rw c.in-Left.is at c.in_ok-told.ensures.tells) c.test_by_factor.ensures.tells)
 
 pub returns-clause-says : goal.returns-clause-says
 returns-clause-says c =
-    said_by c.args.module.now c.args.word.now c.in_ok-tested.tested c.test_matrix.result c.in_ok-tested.ensures.tested c.test_matrix.ensures.tells
+    said_by_points c.args.module.now c.args.word.now c.in_ok-matrix.matrix c.in_ok-matrix.ensures.value c.in_ok-told.told c.in_default.not-Left
+    c.in_ok-told.ensures.tells
 
 pub returns-clause-holds : goal.returns-clause-holds
 returns-clause-holds c =
-    truth_told c.args.module.now c.args.word.now c.test_matrix.result c.test_matrix.ensures.well_formed c.requires.word
-    (said_by c.args.module.now c.args.word.now c.in_ok-tested.tested c.test_matrix.result c.in_ok-tested.ensures.tested c.test_matrix.ensures.tells)
+    said_is_true c.args.module.now c.in_ok-told.ensures.well_formed c.args.word.now c.in_ok-told.told c.requires.word
+    (said_by_points c.args.module.now c.args.word.now c.in_ok-matrix.matrix c.in_ok-matrix.ensures.value c.in_ok-told.told c.in_default.not-Left
+    c.in_ok-told.ensures.tells)
