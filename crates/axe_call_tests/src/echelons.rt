@@ -1,12 +1,13 @@
 //! Echelon forms: rows that are inserted, reduced and taken apart, null spaces, and inverses.
 use crate::tables::{Topic, each_call};
 use axe_echelon::{
-    Echelon, Subspace, inverse, null_space, orthogonal_point, orthogonal_space, row_space, span_of,
+    Echelon, NullPoints, Subspace, inverse, null_points, null_space, orthogonal_point,
+    orthogonal_space, row_space, span_of,
 };
 use axe_matrix::{Matrix, Row};
 use axe_test_values::{
-    TableFault, field_of, first_field, is_matrix, is_row, matrix_of, number_of, one_field,
-    row_of_shape, three_fields, truth_of, two_fields,
+    TableFault, field_of, first_field, is_fault, is_matrix, is_row, is_same_matrix, matrix_of,
+    number_of, one_field, row_of_shape, three_fields, truth_of, two_fields,
 };
 use std::alloc::Global;
 
@@ -66,6 +67,20 @@ inverse | 5: 11111/01111/00111/00011/00001 | 5: 14000/01400/00140/00014/00001
 inverse | 5: 00001/00011/00111/01111/11111 | 5: 00041/00410/04100/41000/10000
 inverse | 3: 10/10 | the matrix has no inverse
 inverse | 3: 000/000 | the matrix is not square
+";
+
+/// A matrix, how many dimensions its null space may have to be given by its basis, and what is given: `basis` and the
+/// reduced basis, `first` and the first point, or `refused` and why.
+const NULL_POINTS: &str = "\
+null_points | 5: 1/2/0/3 | 3 | basis | 5: 1003/0101/0010
+null_points | 5: 1/2/0/3 | 2 | first | 5: 0010
+null_points | 3: 10/01/11/12 | 2 | basis | 3: 1011/0112
+null_points | 3: 10/01/11/12 | 1 | first | 3: 0112
+null_points | 5: 13/20/44/31 | 0 | first | 5: 0144
+null_points | 2: 10/01 | 0 | basis | 2: 0x2
+null_points | 2: 00/00/00 | 3 | basis | 2: 100/010/001
+null_points | 2: 00/00/00 | 2 | first | 2: 001
+null_points | 2: 0x2 | 0 | refused | the matrix has no rows
 ";
 
 fn inserts(alloc: Global, form: &mut Echelon, line: &str) -> Result<bool, TableFault> {
@@ -157,6 +172,17 @@ fn gives_point(alloc: Global, rows: &Matrix, line: &str) -> Result<bool, TableFa
     }
 }
 
+fn gives_null_points(alloc: Global, rows: &Matrix, line: &str) -> Result<bool, TableFault> {
+    let (most, kind, wanted) = three_fields(line)?;
+    match null_points(alloc, rows, number_of(most)?) {
+        Ok(NullPoints::Basis(basis)) => Ok(
+            kind == "basis" && is_same_matrix(alloc, &basis, wanted)?,
+        ),
+        Ok(NullPoints::First(point)) => Ok(kind == "first" && is_row(alloc, &point, wanted)?),
+        Err(refusal) => Ok(kind == "refused" && is_fault(alloc, &refusal, wanted)?),
+    }
+}
+
 /// Whether a call answers what its line says.
 pub(crate) fn answers(alloc: Global, call: &str, line: &str) -> Result<bool, TableFault> {
     let (rows, line) = first_field(line)?;
@@ -164,6 +190,7 @@ pub(crate) fn answers(alloc: Global, call: &str, line: &str) -> Result<bool, Tab
     match call {
         "null_space" => is_matrix(alloc, null_space(alloc, &rows), one_field(line)?),
         "orthogonal_space" => is_matrix(alloc, orthogonal_space(alloc, &rows), one_field(line)?),
+        "null_points" => gives_null_points(alloc, &rows, line),
         "orthogonal_point" => gives_point(alloc, &rows, line),
         "inverse" => is_matrix(alloc, inverse(alloc, &rows), one_field(line)?),
         "row_space" | "subspace" => gives_basis(alloc, call, &rows, line),
@@ -184,4 +211,9 @@ fn subspaces_have_reduced_bases(rt: HostRuntime) -> Result<(), TableFault> {
 #[test]
 fn matrices_have_null_spaces_and_inverses(rt: HostRuntime) -> Result<(), TableFault> {
     each_call(&rt, rt.alloc(), Topic::Echelons, NULL_SPACES_AND_INVERSES)
+}
+
+#[test]
+fn null_spaces_are_given_by_their_first_points(rt: HostRuntime) -> Result<(), TableFault> {
+    each_call(&rt, rt.alloc(), Topic::Echelons, NULL_POINTS)
 }
