@@ -32,3 +32,4 @@ mod HornerTerms
 mod ValuePowers
 mod ValueDigits
 mod ValuePlaces
+pub mod ConsecutiveEntries

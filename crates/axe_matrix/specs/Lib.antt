@@ -8,3 +8,4 @@ pub mod VectorTerms
 pub mod ValueTerms
 pub mod PieceTables
 pub mod Transposes
+pub mod ConsecutiveColumns

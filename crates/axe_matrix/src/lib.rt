@@ -11,6 +11,7 @@ ghost use Rattle.axe_matrix.specs.Matrices.{IsMatrix, row_of, vector_product, ha
 
 mod arithmetic;
 mod by_values;
+mod chosen;
 mod multiples;
 mod parts;
 mod products;
@@ -20,6 +21,7 @@ mod vectors;
 
 use axe_field::Field;
 pub use axe_row::{Refusal, Row};
+pub use chosen::ChosenColumns;
 use std::alloc::Global;
 use std::marker::Model;
 

@@ -8,7 +8,7 @@ ghost use Rattle.axe_matrix.specs.Matrices.{IsMatrix, AreSplit, HasFirstRows, ze
 ghost use Rattle.axe_matrix.specs.Matrices.{matrix_block, reversed_matrix, rows_at, columns_at};
 ghost use Rattle.axe_matrix.specs.RowLists.{AreRowsOf};
 
-use super::{Matrix, Refusal, Row};
+use super::{ChosenColumns, Matrix, Refusal, Row};
 use axe_field::Field;
 use std::alloc::Global;
 
@@ -179,9 +179,10 @@ impl Matrix {
         ensures columns { Answers None (λ chosen. chosen ≡ columns_at columns.now self.now) result }
         ensures well_formed { IfOk result IsMatrix }
     {
+        let places = ChosenColumns::new(columns);
         let mut chosen = Matrix::with_capacity(alloc, *self.field(), columns.len(), self.rows())?;
         for index in 0..self.rows() {
-            let row = self.row(index).select(alloc, columns)?;
+            let row = places.entries(alloc, self.row(index))?;
             chosen.append(row)?;
         }
         Ok(chosen)
