@@ -22,6 +22,9 @@ pub mod OrthogonalLaws
 pub mod MirroredLaws
 pub mod MirroredBases
 pub mod MirroredLists
+pub mod ReversedBits
+pub mod MirroredWords
+pub mod MirroredRows
 pub mod PivotsOfRows
 pub mod OrthogonalRows
 pub mod RowSpaces

@@ -27,6 +27,7 @@ mod orthogonal_points;
 mod pivot_table;
 mod spans;
 mod subspace;
+mod word_mirrors;
 
 use axe_field::Field;
 use axe_matrix::{Matrix, Refusal, Row};

@@ -4,15 +4,15 @@ use Rattle.axe_matrix.specs.Matrices.{MatrixValue, transposed_matrix}
 use Rattle.axe_echelon.proofs.Exits.{answers_more, answers_with}
 use Rattle.axe_echelon.proofs.MirroredLists.{columns_answer, mirrored_without_rows}
 use Rattle.axe_echelon.proofs.Transposes.{transposed_value, mirrored_by_columns}
-use Rattle.axe_echelon.proofs.mirrors.mirrored_matrix.Goals as goal
+use Rattle.axe_echelon.proofs.mirrors.mirrored_by_transposes.Goals as goal
 
-pub returns-then-rows-eq0-clause-mirrored : goal.returns-then-rows-eq0-clause-mirrored
-returns-then-rows-eq0-clause-mirrored c =
+pub returns-then-rows-eq0 : goal.returns-then-rows-eq0
+returns-then-rows-eq0 c =
     answers_with c.copy.result _ _ _ c.copy.ensures.copied c.copy.ensures.well_formed
     (λ other is well_formed. mirrored_without_rows c.args.matrix.now other (sym c.rows.ensures.count ∙ c.if-rows-eq0.true) is well_formed)
 
-pub returns-clause-mirrored : goal.returns-clause-mirrored
-returns-clause-mirrored c =
+pub returns : goal.returns
+returns c =
     let is : c.in_ok-columns.columns ≡ transposed_matrix c.args.matrix.now =
     transposed_value c.args.matrix.now c.in_ok-columns.columns c.in_ok-columns.ensures.transpose in
     let count : length c.in_ok-columns.columns.rows ≡ c.args.matrix.now.cols =

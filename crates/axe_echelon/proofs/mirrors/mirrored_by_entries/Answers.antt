@@ -3,7 +3,7 @@ use Rattle.std.proofs.lemmas.List.{length-replicate}
 use Rattle.axe_row.specs.Rows.{RowValue}
 use Rattle.axe_echelon.proofs.Exits.{no_memory}
 use Rattle.axe_echelon.proofs.MirroredLists.{mirrored_more, mirrored_all}
-use Rattle.axe_echelon.proofs.mirrors.mirrored_row.Goals as goal
+use Rattle.axe_echelon.proofs.mirrors.mirrored_by_entries.Goals as goal
 
 pub loop-index-preserved : goal.loop-index-preserved
 loop-index-preserved c =
