@@ -205,15 +205,16 @@ columns_within : (n : ℕ) (pivots columns : List ℕ) → AreComplementary n pi
 columns_within n pivots columns both = All-from_get_or (λ column. column < n) columns 0 both.columns_below
 
 -- what a test for the next pivot tells
-pub next_if : (pivots : List ℕ) (taken passed k l : ℕ) (test : Bool) → taken ≡ k → passed ≡ l → (IsTrue test ↔ IsNextPivot pivots taken passed) → test ≡ true →
-    IsNextPivot pivots k l
-next_if pivots taken passed k l test first second exactly is =
-    subst (λ x. IsNextPivot pivots x l) first (subst (λ y. IsNextPivot pivots taken y) second (exactly.0 is))
+pub next_if : (pivots given : List ℕ) (taken passed k l : ℕ) (test : Bool) → given ≡ pivots → taken ≡ k → passed ≡ l →
+    (IsTrue test ↔ IsNextPivot given taken passed) → test ≡ true → IsNextPivot pivots k l
+next_if pivots given taken passed k l test same first second exactly is =
+    subst (λ p. IsNextPivot p k l) same (subst (λ x. IsNextPivot given x l) first (subst (λ y. IsNextPivot given taken y) second (exactly.0 is)))
 
-pub not_next : (pivots : List ℕ) (taken passed k l : ℕ) (test : Bool) → taken ≡ k → passed ≡ l → (IsTrue test ↔ IsNextPivot pivots taken passed) → test ≡ false →
-    ¬ (IsNextPivot pivots k l)
-not_next pivots taken passed k l test first second exactly is = λ next.
-    different test is (exactly.1 (subst (λ x. IsNextPivot pivots x passed) (sym first) (subst (λ y. IsNextPivot pivots k y) (sym second) next)))
+pub not_next : (pivots given : List ℕ) (taken passed k l : ℕ) (test : Bool) → given ≡ pivots → taken ≡ k → passed ≡ l →
+    (IsTrue test ↔ IsNextPivot given taken passed) → test ≡ false → ¬ (IsNextPivot pivots k l)
+not_next pivots given taken passed k l test same first second exactly is = λ next.
+    let here : IsNextPivot given k l = subst (λ p. IsNextPivot p k l) (sym same) next in
+    different test is (exactly.1 (subst (λ x. IsNextPivot given x passed) (sym first) (subst (λ y. IsNextPivot given k y) (sym second) here)))
   where
     different : (b : Bool) → b ≡ false → b ≡ true → ⊥
     different b first second = cc

@@ -8,7 +8,7 @@ ghost use Rattle.axe_action.specs.FreeColumns.{AreComplementary, IsNextPivot};
 ghost use Rattle.axe_action.specs.Blocks.{with_entries, FitsBlocks, AreBlocksWith};
 
 use axe_field::Field;
-use axe_matrix::{Matrix, Refusal, Row};
+use axe_matrix::{ChosenColumns, Matrix, Refusal, Row};
 use std::alloc::Global;
 
 /// Three of the four blocks of those rows of a generator that were taken.
@@ -58,8 +58,8 @@ impl Blocks {
         &mut self,
         alloc: Global,
         row: Row,
-        pivots: &[usize],
-        columns: &[usize],
+        pivots: &ChosenColumns,
+        columns: &ChosenColumns,
     ) -> Result<(), Refusal>
         requires { FitsBlocks pivots.now columns.now self.old row }
         ensures { Answers None
@@ -73,14 +73,14 @@ impl Blocks {
         &mut self,
         alloc: Global,
         row: &Row,
-        pivots: &[usize],
-        columns: &[usize],
+        pivots: &ChosenColumns,
+        columns: &ChosenColumns,
     ) -> Result<(), Refusal>
         requires { FitsBlocks pivots.now columns.now self.old row.now }
         ensures { Answers None
             (λ _. AreBlocksWith pivots.now columns.now row.now.entries self.old self.new) result }
     {
-        if is_next_pivot(pivots, self.at_pivots.rows(), self.across.rows()) {
+        if is_next_pivot(pivots.columns(), self.at_pivots.rows(), self.across.rows()) {
             append_entries(alloc, &mut self.at_pivots, row, pivots)
         } else {
             append_entries(alloc, &mut self.across, row, pivots)?;
@@ -94,7 +94,7 @@ fn append_entries(
     alloc: Global,
     matrix: &mut Matrix,
     row: &Row,
-    columns: &[usize],
+    columns: &ChosenColumns,
 ) -> Result<(), Refusal>
     requires field { row.now.order ≡ matrix.old.order }
     requires fits { length columns.now ≡ matrix.old.cols }
@@ -104,7 +104,7 @@ fn append_entries(
         (λ _. matrix.new ≡ with_entries matrix.old columns.now row.now.entries) result }
     ensures well_formed { IfOk result (λ _. IsMatrix matrix.new) }
 {
-    let entries = row.select(alloc, columns)?;
+    let entries = columns.entries(alloc, row)?;
     matrix.append(entries)
 }
 
@@ -131,8 +131,10 @@ pub(crate) fn blocks_of(
         (λ blocks. IsMatrix blocks.at_pivots × IsMatrix blocks.across × IsMatrix blocks.at_columns) }
 {
     let mut blocks = Blocks::with_capacity(alloc, *generator.field(), pivots.len(), columns.len())?;
+    let chosen_pivots = ChosenColumns::new(pivots);
+    let chosen_columns = ChosenColumns::new(columns);
     for row in generator.into_rows() {
-        blocks.take(alloc, row, pivots, columns)?;
+        blocks.take(alloc, row, &chosen_pivots, &chosen_columns)?;
     }
     Ok(blocks)
 }

@@ -10,7 +10,7 @@ ghost use Rattle.axe_echelon.specs.Echelons.{IsEchelon, IsSpanOfRows};
 ghost use Rattle.axe_action.specs.Coordinates.{ArePivotColumns, AreCoordinateColumns, IsIdentityAt};
 
 use axe_echelon::Echelon;
-use axe_matrix::{Matrix, Refusal, Row};
+use axe_matrix::{ChosenColumns, Matrix, Refusal, Row};
 use std::alloc::Global;
 
 /// Columns at which the entries of the vectors of the span of independent rows are their coordinates over these rows:
@@ -42,8 +42,9 @@ pub(crate) fn is_identity_at(
     ensures identity { Answers None (λ identity. IsTrue identity ↔ IsIdentityAt columns.now rows.now.rows) result }
     ensures well_formed { IsMatrix rows.now }
 {
+    let chosen = ChosenColumns::new(columns);
     for index in 0..rows.rows() {
-        if !is_unit_at(alloc, rows.row(index), columns, index)? {
+        if !is_unit_at(alloc, rows.row(index), &chosen, index)? {
             return Ok(false);
         }
     }
@@ -51,14 +52,19 @@ pub(crate) fn is_identity_at(
 }
 
 /// Whether the entries of a row at some columns are the unit vector with its 1 at an index.
-fn is_unit_at(alloc: Global, row: &Row, columns: &[usize], index: usize) -> Result<bool, Refusal>
+fn is_unit_at(
+    alloc: Global,
+    row: &Row,
+    columns: &ChosenColumns,
+    index: usize,
+) -> Result<bool, Refusal>
     requires within { All (λ column. column < length row.now.entries) columns.now }
     requires below { index < length columns.now }
     ensures { Answers None (λ unit. IsTrue unit
         ↔ (entries_at columns.now row.now.entries ≡ unit_row (length columns.now) index)) result }
 {
-    let entries = row.select(alloc, columns)?;
-    let unit = Row::unit(alloc, *row.field(), columns.len(), index)?;
+    let entries = columns.entries(alloc, row)?;
+    let unit = Row::unit(alloc, *row.field(), entries.len(), index)?;
     Ok(entries.same(&unit))
 }
 

@@ -14,7 +14,7 @@ ghost use Rattle.axe_action.specs.FreeColumns.{IsFreeColumn, AreFreeColumns, IsR
 ghost use Rattle.axe_action.specs.FreeColumns.{HasUnitsModulo, rows_to_span, row_at};
 
 use axe_echelon::{Echelon, span_of};
-use axe_matrix::{Matrix, Refusal, Row};
+use axe_matrix::{ChosenColumns, Matrix, Refusal, Row};
 use axe_spin::Module;
 use std::alloc::Global;
 
@@ -70,8 +70,9 @@ fn units_modulo(alloc: Global, span: &Echelon, columns: &[usize]) -> Result<Matr
     ensures { Answers None (HasUnitsModulo span.now columns.now) result }
 {
     let mut units = Matrix::with_capacity(alloc, *span.field(), columns.len(), span.cols())?;
+    let chosen = ChosenColumns::new(columns);
     for column in 0..span.cols() {
-        let row = unit_modulo(alloc, span, columns, column)?;
+        let row = unit_modulo(alloc, span, &chosen, column)?;
         units.append(row)?;
     }
     Ok(units)
@@ -81,7 +82,7 @@ fn units_modulo(alloc: Global, span: &Echelon, columns: &[usize]) -> Result<Matr
 fn unit_modulo(
     alloc: Global,
     span: &Echelon,
-    columns: &[usize],
+    columns: &ChosenColumns,
     column: usize,
 ) -> Result<Row, Refusal>
     requires within { All (λ column. column < span.now.cols) columns.now }
@@ -92,7 +93,7 @@ fn unit_modulo(
 {
     let mut unit = Row::unit(alloc, *span.field(), span.cols(), column)?;
     span.reduce(&mut unit);
-    unit.select(alloc, columns)
+    columns.entries(alloc, &unit)
 }
 
 /// The action of a module modulo the span of rows, over the unit vectors of the columns that are no pivots. All unit

@@ -2,6 +2,7 @@ use Rattle.std.proofs.Common.{refl, sym, subst, arith}
 use Rattle.std.specs.Vec.Iter.{into_iter_items}
 use Rattle.std.proofs.lemmas.List.{nil_from_length}
 use Rattle.axe_matrix.specs.RowLists.{AreRowsOf}
+use Rattle.axe_action.specs.Blocks.{FitsBlocks, AreBlocksWith}
 use Rattle.axe_echelon.proofs.RowSpaces.{rows_more, next_field, next_long}
 use Rattle.axe_action.proofs.BlockLaws.{blocks_none, so_far_more, row_fits, blocks_are, row_below, row_at_next}
 use Rattle.axe_action.proofs.blocks.blocks_of.Goals as goal
@@ -17,13 +18,14 @@ pub take-requires : goal.take-requires
 take-requires c =
     let left = into_iter_items c.loop-row.row-iterator in
     let next = into_iter_items c.next.new.self in
-    row_fits c.args.generator c.args.pivots.now c.args.columns.now c.requires.complementary c.requires.square c.loop-row.yielded c.in-Some.row
+    coe 1 0 (i. FitsBlocks (c.new-chosen_pivots.ensures i) (c.new-chosen_columns.ensures i) c.loop-row.blocks c.in-Some.row)
+    (row_fits c.args.generator c.args.pivots.now c.args.columns.now c.requires.complementary c.requires.square c.loop-row.yielded c.in-Some.row
     c.loop-row.blocks c.loop-row.invariant.so_far
     (row_below c.args.generator c.loop-row.yielded left next c.in-Some.row c.loop-row.invariant.rows c.in-Some.ensures.steps.0)
     (row_at_next c.args.generator c.loop-row.yielded left next c.in-Some.row c.loop-row.invariant.rows c.in-Some.ensures.steps.0)
     (next_field c.args.generator c.loop-row.yielded left next c.in-Some.row c.loop-row.invariant.rows c.in-Some.ensures.steps.0)
     (next_long c.args.generator c.loop-row.yielded left next c.in-Some.row c.loop-row.invariant.rows c.in-Some.ensures.steps.0)
-    c.requires.pivots_fit c.requires.columns_fit
+    c.requires.pivots_fit c.requires.columns_fit)
 
 pub loop-row-preserved : goal.loop-row-preserved
 loop-row-preserved c =
@@ -35,7 +37,8 @@ loop-row-preserved c =
           c.loop-row.blocks c.loop-row.invariant.so_far
           (row_below c.args.generator c.loop-row.yielded left next c.in-Some.row c.loop-row.invariant.rows c.in-Some.ensures.steps.0)
           (row_at_next c.args.generator c.loop-row.yielded left next c.in-Some.row c.loop-row.invariant.rows c.in-Some.ensures.steps.0)
-          c.take.new.self c.in_ok-take.ensures;
+          c.take.new.self
+          (coe 0 1 (i. AreBlocksWith (c.new-chosen_pivots.ensures i) (c.new-chosen_columns.ensures i) c.in-Some.row.entries c.loop-row.blocks c.take.new.self) c.in_ok-take.ensures);
     }
 
 pub returns-clause-at_pivots : goal.returns-clause-at_pivots

@@ -12,9 +12,9 @@ pub returns-clause-modulo : goal.returns-clause-modulo
 returns-clause-modulo c =
     let unit : c.in_ok-unit.unit.entries ≡ unit_row c.args.span.now.cols c.args.column =
     ap (λ (r : RowValue). r.entries) c.in_ok-unit.ensures.unit ∙ ap (λ n. unit_row n c.args.column) c.cols.ensures.count in
-    answers_more c.select.result _
+    answers_more c.entries.result _
     (λ (row : RowValue). IsRowModulo c.args.span.now c.args.columns.now (unit_row c.args.span.now.cols c.args.column) row.entries)
-    c.select.ensures.selected
+    c.entries.ensures.selected
     (λ row is. row_is_modulo c.args.span.now c.args.columns.now (unit_row c.args.span.now.cols c.args.column) c.reduce.new.row row
     (rw unit at c.reduce.ensures.representative)
     c.reduce.ensures.same_field c.reduce.ensures.as_long c.reduce.ensures.row_well_formed is)
