@@ -1,6 +1,9 @@
 -- Products of generators factor by factor, where a factor is a generator or the product of two that is kept.
 use Rattle.std.specs.Prelude.{◌≡◌, ℕ, zero, suc, ◌+◌, ◌<◌, List, [], ◌∷◌, ◌++◌, length, take, drop, get_or}
+use Rattle.std.specs.Prelude.{Option, None, Some}
+use Rattle.std.specs.Borrow.{Bor}
 use Rattle.std.specs.List.{All, Contains}
+use Rattle.std.specs.Option.{unwrap_or, option_copied}
 use Rattle.std.proofs.Math.Seq.{take-add, take-length}
 use Rattle.std.proofs.lemmas.List.Elements.{All-append, All-contains, All-drop, All-take}
 use Rattle.axe_algebra.specs.NumberField.{NumberField}
@@ -16,6 +19,7 @@ use Rattle.axe_algebra.proofs.ListLaws.{matrix_of_product_of}
 use Rattle.axe_algebra.proofs.ListProducts.{product_over, product_length}
 use Rattle.axe_field.specs.NumberFields.{number_field}
 use Rattle.axe_matrix.specs.Matrices.{MatrixValue, IsMatrix, matrix_product}
+use Rattle.axe_matrix.specs.Multiples.{matrix_with_multiple}
 use Rattle.axe_matrix.specs.Products.{matrix_with_product}
 use Rattle.axe_matrix.proofs.ProductRows.{product_as_multiple}
 use Rattle.axe_spin.specs.Modules.{ModuleValue, IsModule, generator_of}
@@ -141,6 +145,26 @@ pub factors-more : (m : ModuleValue) (numbers : List ℕ) (taken len : ℕ) (x y
 factors-more m numbers taken len x y next h factor is =
     subst (λ xs. IsProductOf m xs next) (sym (take-add taken len numbers))
     (product-append m (take taken numbers) (take len (drop taken numbers)) x y next h factor.product is)
+
+-- a multiple of a factor that is the whole product is added
+pub added-whole : (m : ModuleValue) (c : ℕ) (numbers : List ℕ) (len : ℕ) (before x after : MatrixValue) → IsFactorAt m numbers 0 len x →
+    len ≡ length numbers → after ≡ matrix_with_multiple before c x → IsMultipleAdded m c numbers before after
+added-whole m c numbers len before x after factor all is = record {
+  matrix = x;
+  product = subst (λ xs. IsProductOf m xs x) (ap (λ k. take k numbers) all ∙ take-length numbers) factor.product;
+  sum = is;
+}
+
+-- a product that is lent where it has been made, and else the factor that it begins with
+pub product-lent : (m : ModuleValue) (numbers : List ℕ) (made : Option MatrixValue) (lent : Option (Bor MatrixValue)) (first before : Bor MatrixValue) →
+    option_copied lent ≡ made → before ≡ unwrap_or lent first → IsProductOf m numbers (unwrap_or made first.now) → IsProductOf m numbers before.now
+product-lent m numbers made lent first before copied is h =
+    subst (IsProductOf m numbers)
+    (sym (ap (λ (x : Bor MatrixValue). x.now) is ∙ now lent ∙ ap (λ x. unwrap_or x first.now) copied)) h
+  where
+    now : (x : Option (Bor MatrixValue)) → (unwrap_or x first).now ≡ unwrap_or (option_copied x) first.now
+    now None = refl
+    now (Some x) = refl
 
 -- a multiple of the product is added where the last factor is multiplied as it is added
 pub added-last : (m : ModuleValue) (c : ℕ) (numbers : List ℕ) (taken len : ℕ) (before x y after : MatrixValue) → before.order ≡ m.order → before.cols ≡ m.dim →

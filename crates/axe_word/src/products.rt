@@ -1,10 +1,11 @@
 //! Products of two generators of a module that are kept while words are evaluated, and products of more by these.
 
-ghost use Rattle.std.specs.Prelude.{◌≡◌, ◌+◌, ◌<◌, [], ◌∷◌, length, All, None, IfOk, IfSome, ⊤};
+ghost use Rattle.std.specs.Prelude.{◌≡◌, ◌+◌, ◌<◌, [], ◌∷◌, length, take, All, None, IfOk, IfSome, ⊤};
 ghost use Rattle.std.specs.List.{Contains};
 ghost use Rattle.axe_field.specs.Order.{IsElement};
 ghost use Rattle.axe_row.specs.Refusals.{Answers};
 ghost use Rattle.axe_matrix.specs.Matrices.{IsMatrix, matrix_product};
+ghost use Rattle.axe_word.specs.Products.{IsProductOf};
 ghost use Rattle.axe_word.specs.KeptProducts.{AreProductsOf, IsFactorAt, IsMultipleAdded};
 
 use axe_matrix::{Matrix, Refusal};
@@ -159,18 +160,43 @@ impl Products {
             sum.add_scaled(coefficient, first.matrix);
             return Ok(());
         }
-        let mut before = first.matrix.copy(alloc)?;
-        let mut taken = first.len;
+        self.add_after(alloc, module, coefficient, gens, first, sum)
+    }
+
+    /// Adds a multiple of the product of some generators, of which the first ones, and not all, have been multiplied.
+    fn add_after(
+        &self,
+        alloc: Global,
+        module: &Module,
+        coefficient: u8,
+        gens: &[u8],
+        begun: Factor<'_>,
+        sum: &mut Matrix,
+    ) -> Result<(), Refusal>
+        requires products { AreProductsOf «module».now self.now }
+        requires numbers { All (λ number. number < length «module».now.generators) gens.now }
+        requires begun { IsProductOf «module».now (take begun.len gens.now) begun.matrix.now }
+        requires left { begun.len < length gens.now }
+        requires element { IsElement sum.old.order coefficient }
+        requires field { sum.old.order ≡ «module».now.order }
+        requires columns { sum.old.cols ≡ «module».now.dim }
+        requires rows { length sum.old.rows ≡ «module».now.dim }
+        ensures added { Answers None
+            (λ _. IsMultipleAdded «module».now coefficient gens.now sum.old sum.new) result }
+        ensures well_formed { Answers None (λ _. IsMatrix sum.new) result }
+    {
+        let mut product: Option<Matrix> = None;
+        let mut taken = begun.len;
         // Each factor takes at least one of the generators.
         for _ in 0..gens.len() {
+            let before = product.as_ref().unwrap_or(begun.matrix);
             let factor = self.factor_at(module, gens, taken);
-            if taken + factor.len == gens.len() {
-                // The last factor is multiplied as it is added.
-                sum.add_product(alloc, coefficient, &before, factor.matrix)?;
-                return Ok(());
-            }
-            before = times(alloc, &before, factor.matrix)?;
             taken += factor.len;
+            if taken == gens.len() {
+                // The last factor is multiplied as it is added.
+                return sum.add_product(alloc, coefficient, before, factor.matrix);
+            }
+            product = Some(times(alloc, before, factor.matrix)?);
         }
         unreachable!()
     }

@@ -3,10 +3,8 @@
 ghost use Rattle.std.specs.Prelude.{◌≡◌, ◌<◌, length, None};
 ghost use Rattle.axe_row.specs.Refusals.{Answers};
 ghost use Rattle.axe_word.specs.Words.{IsWordIn};
-ghost use Rattle.axe_word.specs.KeptProducts.{AreProductsOf};
 ghost use Rattle.axe_word.specs.Tested.{IsTested, IsTestedBy, IsTestedByPoly};
 
-use crate::products::Products;
 use crate::word::Word;
 use axe_echelon::null_space;
 use axe_matrix::{Matrix, Refusal};
@@ -41,23 +39,6 @@ impl Word {
         ensures { Answers None (IsTestedBy «module».now self.now) result }
     {
         Tested::of(alloc, self.value(alloc, module)?)
-    }
-
-    /// What [`Word::tested`] gives, with products of generators that were kept for other words; those that are made for
-    /// this one are kept, too.
-    pub fn tested_with(
-        &self,
-        alloc: Global,
-        module: &Module,
-        products: &mut Products,
-    ) -> Result<Tested, Refusal>
-        requires word { IsWordIn «module».now self.now }
-        requires products { AreProductsOf «module».now products.old }
-        ensures tested { Answers None (IsTestedBy «module».now self.now) result }
-        ensures products { AreProductsOf «module».now products.new }
-    {
-        let value = self.value_with(alloc, module, products)?;
-        Tested::of(alloc, value)
     }
 
     /// The value p(x) of a polynomial p over the module's field at the value x of the word in the module, of which it
