@@ -1,5 +1,5 @@
 -- What the steps of the test tell, put together: what a word says, and what words decide.
-use Rattle.std.specs.Prelude.{◌≡◌, ℕ, suc, ◌<◌, ◌≤◌, length, Bool, IsTrue, ◌↔◌, Some, None, Result}
+use Rattle.std.specs.Prelude.{◌≡◌, ℕ, suc, ◌<◌, ◌≤◌, length, Some, None, Result}
 use Rattle.axe_algebra.specs.Lists.{IsSquareOver}
 use Rattle.axe_polynomial_algebra.specs.PolynomialsOfLists.{degree_of, IsMonicOver}
 use Rattle.axe_field.specs.Order.{order_number}
@@ -127,13 +127,6 @@ pub truth_told : (m : ModuleValue) (word : WordValue) (result : Result At Refusa
     Answers None (IsTrueOf m) result
 truth_told m word result is is_word said = answers_more result (Says m word) (IsTrueOf m) said
     (λ answer says. said_is_true m is word answer is_word says)
-
--- few points are counted by the order of the field and the number of rows
-pub few_is_few : (null : MatrixValue) (q n : ℕ) (few : Bool) → q ≡ order_number null.order → n ≡ length null.rows → (IsTrue few ↔ (point_count q n ≤ most_points)) →
-    IsTrue few ↔ HasFewPoints null
-few_is_few null q n few order rows counted =
-    subst (λ k. IsTrue few ↔ (point_count (order_number null.order) k ≤ most_points)) rows
-    (subst (λ p. IsTrue few ↔ (point_count p n ≤ most_points)) order counted)
 
 -- ---- words of a seed
 

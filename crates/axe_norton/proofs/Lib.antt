@@ -15,3 +15,4 @@ pub mod PairingLaws
 pub mod SeenLaws
 pub mod TriedLaws
 pub mod FirstLaws
+pub mod LastLaws

@@ -50,7 +50,14 @@ null_space_of_no_terms m t is =
     null_space_of_zero (number_field m.order) m.dim t.matrix.rows t.null_space.rows is.value.value.square is.value.value.value (value_over m [] t is).over
     (value_over m [] t is).basis
 
--- so this word leaves a module open only where the module has many points
+-- so that value is not invertible
+pub zero_is_singular : (m : ModuleValue) → IsModule m → (t : Tested) → IsTestedBy m [] t → ¬ (IsInvertibleMatrix t.matrix)
+zero_is_singular m is t tested invertible =
+    let none : length t.null_space.rows ≡ 0 =
+    no_rows_of_invertible t.matrix t.null_space (own_square m t.matrix (value_square m [] t.matrix tested.value)) tested.tested.null_space invertible in
+    omega (arith, none, null_space_of_no_terms m t tested, is.over.positive)
+
+-- and the word leaves a module open only where the module has many points
 pub many_where_open : (m : ModuleValue) → IsModule m → LeavesOpen m [] → most_points < point_count (order_number m.order) m.dim
 many_where_open m is open_ = cases open_.tells.0
   where
@@ -62,10 +69,7 @@ many_where_open m is open_ = cases open_.tells.0
 
     cases : IsInvertibleMatrix open_.tested.matrix ⊎ IsLeftWithMany m open_.tested.matrix open_.tested.null_space →
         most_points < point_count (order_number m.order) m.dim
-    cases (inl invertible) =
-        let none : length open_.tested.null_space.rows ≡ 0 = no_rows_of_invertible open_.tested.matrix open_.tested.null_space
-        (own_square m open_.tested.matrix (value_square m [] open_.tested.matrix open_.is_tested.value)) open_.is_tested.tested.null_space invertible in
-        absurd (omega (arith, none, rows, is.over.positive))
+    cases (inl invertible) = absurd (zero_is_singular m is open_.tested open_.is_tested invertible)
     cases (inr left) =
         subst (λ k. most_points < point_count (order_number m.order) k) rows
         (subst (λ o. most_points < point_count (order_number o) (length open_.tested.null_space.rows)) field left.many)

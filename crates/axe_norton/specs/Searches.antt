@@ -107,6 +107,15 @@ pub record IsValueOfWord (m : ModuleValue) (matrix : MatrixValue) : Type 0 where
   pub is_word : IsWordIn m word
   pub is_value : IsValueOf m word matrix
 
+-- the first point of the null space of the matrix generates everything in the module
+abbrev pub FirstGenerates : ModuleValue → MatrixValue → Type 0
+FirstGenerates m matrix = (null_space : MatrixValue) → IsTested (record { matrix = matrix; null_space = null_space }) →
+    GeneratesModule m (point_of null_space 0)
+
+-- the same of the value of the word
+abbrev pub FirstOfWordGenerates : ModuleValue → WordValue → Type 0
+FirstOfWordGenerates m word = (matrix : MatrixValue) → IsValueOf m word matrix → FirstGenerates m matrix
+
 -- the row is the first point of the null space of the value of a word, which has more than few points
 pub record IsFirstOfMany (m : ModuleValue) (matrix : MatrixValue) (point : RowValue) : Type 0 where
   pub null_space : MatrixValue

@@ -1,6 +1,7 @@
 -- What Norton's test looks at: the points of the null space of a tested matrix and of its transpose's, and what these
 -- generate (Parker 1984; Holt and Rees 1994).
-use Rattle.std.specs.Prelude.{◌≡◌, ℕ, ◌<◌, ◌≤◌, ◌⊎◌, List, [], ◌∷◌, length, get_or}
+use Rattle.std.specs.Prelude.{◌≡◌, ℕ, ◌-◌, ◌<◌, ◌≤◌, ◌⊎◌, List, [], ◌∷◌, length, get_or}
+use Rattle.axe_algebra.specs.Lists.{unit_row}
 use Rattle.axe_algebra.specs.SpansOfLists.{IsIndependent}
 use Rattle.axe_algebra.specs.ModulesOfLists.{IsInvariant, GeneratesEverything, IsIrreducible}
 use Rattle.axe_field.specs.Order.{order_number}
@@ -42,6 +43,10 @@ point_of basis i = get_or (points_of basis) i []
 -- the vector generates everything in the module (Parker 1984)
 abbrev pub GeneratesModule : ModuleValue → List ℕ → Type 0
 GeneratesModule m v = GeneratesEverything (number_field m.order) m.dim m.generators v
+
+-- the last unit vector generates everything in the module; it is the first point of the space of all vectors
+abbrev pub LastGenerates : ModuleValue → Type 0
+LastGenerates m = GeneratesModule m (unit_row m.dim (m.dim - 1))
 
 -- the matrix with this vector as its one row
 abbrev pub one_row : ModuleValue → List ℕ → MatrixValue

@@ -1,6 +1,7 @@
 //! What a word says of a module, and what words of a seed decide.
 
-ghost use Rattle.std.specs.Prelude.{◌≡◌, ◌↔◌, ℕ, ◌≤◌, None};
+ghost use Rattle.std.specs.Prelude.{◌≡◌, ◌↔◌, ℕ, ◌≤◌, length, None, IsTrue};
+ghost use Rattle.axe_row.specs.Operations.{IsZeroVector};
 ghost use Rattle.axe_row.specs.Refusals.{Answers};
 ghost use Rattle.axe_spin.specs.Modules.{IsModule};
 ghost use Rattle.axe_word.specs.Drawing.{IsOrder};
@@ -8,6 +9,8 @@ ghost use Rattle.axe_word.specs.Words.{IsWordIn};
 ghost use Rattle.axe_word.specs.KeptProducts.{AreProductsOf};
 ghost use Rattle.axe_word.specs.PointsOfMatrix.{point_count, most_points};
 ghost use Rattle.axe_norton.specs.Searches.{IsValueOfWord, IsTestedWord, IsFirstOfMany, TellsByNullSpace};
+ghost use Rattle.axe_norton.specs.Searches.{FindsProper, FirstGenerates, FirstOfWordGenerates};
+ghost use Rattle.axe_norton.specs.Spaces.{GeneratesModule, LastGenerates, HasFewPoints};
 ghost use Rattle.axe_norton.specs.Verdicts.{last_word, TellsByPoints, Says, IsTrueOf, Decides, IsTrueVerdict};
 
 use crate::MOST_POINTS;
@@ -71,13 +74,34 @@ pub fn decide_with(
     ensures holds { Answers None (IsTrueVerdict «module».now) result }
     ensures same_field { table.new.order ≡ «module».now.order }
 {
+    decide_knowing(alloc, module, false, table, seed, words)
+}
+
+/// What [`decide_with`] tells, where the module's last unit vector, the first point of the null space of word 0, may be
+/// known to generate everything: then it is not spun.
+pub fn decide_knowing(
+    alloc: Global,
+    module: &Module,
+    last_generates: bool,
+    table: &mut Irreducibles,
+    seed: u64,
+    words: u32,
+) -> Result<Verdict, Refusal>
+    requires words { words ≤ last_word }
+    requires last { IsTrue last_generates → LastGenerates «module».now }
+    requires field { table.old.order ≡ «module».now.order }
+    ensures decides { Answers None (Decides «module».now seed words) result }
+    ensures holds { Answers None (IsTrueVerdict «module».now) result }
+    ensures same_field { table.new.order ≡ «module».now.order }
+{
     let order = module.field().order();
     let gens = module.gens() as u8;
     // Words share products of generators.
     let mut products = Products::new(alloc);
     for number in 0..words + 1 {
         let word = nth_word(seed, number, order, gens);
-        match decide_at_with(alloc, module, table, &mut products, &word)? {
+        let first_generates = last_generates && number == 0;
+        match decide_at_knowing(alloc, module, first_generates, table, &mut products, &word)? {
             At::Irreducible { poly, vector } => {
                 return Ok(Verdict::Irreducible {
                     word: number,
@@ -109,67 +133,98 @@ pub fn decide_at_with(
     ensures same_field { table.new.order ≡ «module».now.order }
     ensures products { AreProductsOf «module».now products.new }
 {
+    decide_at_knowing(alloc, module, false, table, products, word)
+}
+
+/// What [`decide_at_with`] tells, where the first point of the null space of the word's value may be known to generate
+/// everything: then it is not spun where the null space has more than few points.
+fn decide_at_knowing(
+    alloc: Global,
+    module: &Module,
+    first_generates: bool,
+    table: &mut Irreducibles,
+    products: &mut Products,
+    word: &Word,
+) -> Result<At, Refusal>
+    requires word { IsWordIn «module».now word.now }
+    requires first { IsTrue first_generates → FirstOfWordGenerates «module».now word.now }
+    requires products { AreProductsOf «module».now products.old }
+    requires field { table.old.order ≡ «module».now.order }
+    ensures says { Answers None (Says «module».now word.now) result }
+    ensures holds { Answers None (IsTrueOf «module».now) result }
+    ensures same_field { table.new.order ≡ «module».now.order }
+    ensures products { AreProductsOf «module».now products.new }
+{
     let matrix = word.value_with(alloc, module, products)?;
-    match test_null_space(alloc, module, &matrix)? {
+    match test_null_space(alloc, module, &matrix, first_generates)? {
         At::Left => test_by_factor(alloc, module, table, &matrix),
         told => Ok(told),
     }
 }
 
-/// What the points of the null spaces of the value of a word and of its transpose tell of a module. Of a null space with
-/// more than few points no basis is made, since the first point alone is tried.
-fn test_null_space(alloc: Global, module: &Module, matrix: &Matrix) -> Result<At, Refusal>
-    requires { IsValueOfWord «module».now matrix.now }
+/// What the points of the null spaces of the value of a word and of its transpose tell of a module. Of a null space
+/// with more than few points no basis is made, since the first point alone is tried; that is not spun where it is known
+/// to generate everything.
+fn test_null_space(
+    alloc: Global,
+    module: &Module,
+    matrix: &Matrix,
+    first_generates: bool,
+) -> Result<At, Refusal>
+    requires value { IsValueOfWord «module».now matrix.now }
+    requires first { IsTrue first_generates → FirstGenerates «module».now matrix.now }
     ensures tells { Answers None (TellsByNullSpace «module».now matrix.now) result }
     ensures well_formed { IsModule «module».now }
 {
     let most = most_dimensions(module.field().order());
     match null_points(alloc, matrix, most)? {
-        NullPoints::Basis(null_space) => test_points(alloc, module, matrix, null_space),
-        NullPoints::First(point) => test_first(alloc, module, matrix, point),
+        NullPoints::Basis(null_space) => test_points(alloc, module, matrix, &null_space),
+        NullPoints::First(point) => test_first(alloc, module, matrix, point, first_generates),
     }
 }
 
-/// The same, with the reduced basis of the null space.
+/// The same, with the reduced basis of a null space that has few points.
 fn test_points(
     alloc: Global,
     module: &Module,
     matrix: &Matrix,
-    null_space: Matrix,
+    null_space: &Matrix,
 ) -> Result<At, Refusal>
-    requires value { IsTestedWord «module».now (record { matrix = matrix.now; null_space = null_space }) }
-    ensures tells { Answers None (TellsByPoints «module».now matrix.now null_space) result }
-    ensures well_formed { IsModule «module».now }
+    requires value { IsTestedWord «module».now (record { matrix = matrix.now; null_space = null_space.now }) }
+    requires few { HasFewPoints null_space.now }
+    ensures { Answers None (TellsByPoints «module».now matrix.now null_space.now) result }
 {
-    let few = few_points(module.field().order(), null_space.rows(), MOST_POINTS);
     if null_space.rows() == 0 {
         return Ok(At::Left);
     }
-    let first = first_point(alloc, &null_space)?;
-    let transposed = match tried_points(alloc, module, matrix, null_space, few)? {
+    let first = first_point(alloc, null_space)?;
+    let transposed = match tried_points(alloc, module, matrix, null_space)? {
         Tried::Proper(space) => return Ok(At::Reducible(space)),
         Tried::Generate(transposed) => transposed,
     };
-    if let Some(space) = transposed_space(alloc, module, transposed)? {
-        return Ok(At::Reducible(space));
-    }
-    if few {
-        Ok(At::Irreducible {
+    match transposed_space(alloc, module, transposed)? {
+        Some(space) => Ok(At::Reducible(space)),
+        None => Ok(At::Irreducible {
             poly: None,
             vector: first,
-        })
-    } else {
-        Ok(At::Left)
+        }),
     }
 }
 
-/// The same, with the first point of a null space that has more than few points: what that tells, and the first point of
-/// the null space of the transpose.
-fn test_first(alloc: Global, module: &Module, matrix: &Matrix, point: Row) -> Result<At, Refusal>
-    requires { IsFirstOfMany «module».now matrix.now point }
+/// The same, with the first point of a null space that has more than few points: what that tells, unless it is known to
+/// generate everything, and the first point of the null space of the transpose.
+fn test_first(
+    alloc: Global,
+    module: &Module,
+    matrix: &Matrix,
+    point: Row,
+    first_generates: bool,
+) -> Result<At, Refusal>
+    requires value { IsFirstOfMany «module».now matrix.now point }
+    requires first { IsTrue first_generates → GeneratesModule «module».now point.entries }
     ensures { Answers None (TellsByNullSpace «module».now matrix.now) result }
 {
-    if let Some(space) = proper_space(alloc, module, point)? {
+    if let Some(space) = proper_first(alloc, module, point, first_generates)? {
         return Ok(At::Reducible(space));
     }
     let transposed = transposed_point(alloc, matrix)?;
@@ -177,6 +232,26 @@ fn test_first(alloc: Global, module: &Module, matrix: &Matrix, point: Row) -> Re
         Some(space) => Ok(At::Reducible(space)),
         None => Ok(At::Left),
     }
+}
+
+/// The reduced basis of the space that the first point of a null space generates, or `None` where that is everything. It
+/// is not spun where it is known to generate everything.
+fn proper_first(
+    alloc: Global,
+    module: &Module,
+    point: Row,
+    first_generates: bool,
+) -> Result<Option<Matrix>, Refusal>
+    requires field { point.order ≡ «module».now.order }
+    requires fits { length point.entries ≡ «module».now.dim }
+    requires nonzero { ¬ (IsZeroVector point.entries) }
+    requires first { IsTrue first_generates → GeneratesModule «module».now point.entries }
+    ensures { Answers None (FindsProper «module».now point.entries) result }
+{
+    if first_generates {
+        return Ok(None);
+    }
+    proper_space(alloc, module, point)
 }
 
 /// The most dimensions of a space over a field of an order that has few points, no more than [`MOST_POINTS`].

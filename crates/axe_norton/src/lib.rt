@@ -11,7 +11,7 @@ mod pairings;
 mod spaces;
 mod verdicts;
 
-pub use decisions::{decide, decide_at, decide_at_with, decide_with};
+pub use decisions::{decide, decide_at, decide_at_with, decide_knowing, decide_with};
 pub use fitting::fits;
 pub use one_vector::{decide_poly, decide_poly_where_fits};
 pub use verdicts::{At, Verdict};

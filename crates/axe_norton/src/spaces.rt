@@ -1,6 +1,6 @@
 //! The spaces that points of null spaces generate in a module and in the transposed one.
 
-ghost use Rattle.std.specs.Prelude.{◌≡◌, ◌<◌, ◌↔◌, length, All, None, IsTrue};
+ghost use Rattle.std.specs.Prelude.{◌≡◌, ◌<◌, length, All, None};
 ghost use Rattle.axe_algebra.specs.Lists.{IsSquareOver};
 ghost use Rattle.axe_field.specs.NumberFields.{number_field};
 ghost use Rattle.axe_row.specs.Operations.{IsZeroVector};
@@ -21,12 +21,12 @@ use axe_spin::{Module, generated_space};
 use axe_word::{Points, first_point};
 use std::alloc::Global;
 
-/// What came of trying the points of the null space of a matrix.
+/// What came of trying the points of the null space of a matrix, which has few.
 #[derive(Drop)]
 pub(crate) enum Tried {
     /// The first that generates a proper space generates this one, of which this is the reduced basis.
     Proper(Matrix),
-    /// Each tried point generates everything; this is the first point of the null space of the transpose.
+    /// Each point generates everything; this is the first point of the null space of the transpose.
     Generate(Row),
 }
 
@@ -65,33 +65,30 @@ pub(crate) fn proper_space(
     }
 }
 
-/// What the first tried point of the null space of the value of a word that generates a proper space generates; or that
-/// each tried point generates everything. All points are tried where there are few, and else the first alone.
+/// What the first point of the null space of the value of a word that generates a proper space generates; or that each
+/// point generates everything. The null space has few points.
 pub(crate) fn tried_points(
     alloc: Global,
     module: &Module,
     matrix: &Matrix,
-    null_space: Matrix,
-    few: bool,
+    null_space: &Matrix,
 ) -> Result<Tried, Refusal>
-    requires value { IsTestedWord «module».now (record { matrix = matrix.now; null_space = null_space }) }
-    requires some_row { 0 < length null_space.rows }
-    requires few { IsTrue few ↔ HasFewPoints null_space }
-    ensures { Answers None (FindsTried «module».now matrix.now null_space) result }
+    requires value { IsTestedWord «module».now (record { matrix = matrix.now; null_space = null_space.now }) }
+    requires some_row { 0 < length null_space.now.rows }
+    requires few { HasFewPoints null_space.now }
+    ensures { Answers None (FindsTried «module».now matrix.now null_space.now) result }
 {
-    let point = first_point(alloc, &null_space)?;
-    if few && null_space.rows() > 1 {
-        return all_points(alloc, module, matrix, &null_space, point);
+    let point = first_point(alloc, null_space)?;
+    if null_space.rows() > 1 {
+        return all_points(alloc, module, matrix, null_space, point);
     }
-    // Of many points it may have as many rows as the module: their memory is free again before the point is spun.
-    drop(null_space);
     if let Some(space) = proper_space(alloc, module, point)? {
         return Ok(Tried::Proper(space));
     }
     Ok(Tried::Generate(transposed_point(alloc, matrix)?))
 }
 
-/// The same of all points of a null space, of which this is the first.
+/// The same of a null space of more dimensions than one, of which this is the first point.
 fn all_points(
     alloc: Global,
     module: &Module,

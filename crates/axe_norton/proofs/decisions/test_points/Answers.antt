@@ -1,95 +1,61 @@
-use Rattle.std.proofs.Common.{◌<◌, length, None, sym, ◌∙◌, ap, arith, IsTrue, ◌↔◌}
-use Rattle.axe_field.specs.Order.{order_number}
-use Rattle.axe_norton.specs.Spaces.{HasFewPoints}
+use Rattle.std.proofs.Common.{◌<◌, length, None, sym, ◌∙◌, arith}
 use Rattle.axe_norton.specs.Searches.{FindsFirst, IsTransposedPointRow}
 use Rattle.axe_word.proofs.ReducedNullSpaces.{null_is_reduced}
-use Rattle.axe_norton.proofs.TriedLaws.{square_in, null_in}
-use Rattle.axe_norton.proofs.SearchLaws.{not_both, transposed_point_field, transposed_point_fits, transposed_point_nonzero, transpose_generates, transposed_space_is}
-use Rattle.axe_norton.proofs.DecisionLaws.{left_without_rows, irreducible_told, left_told, few_is_few}
+use Rattle.axe_norton.proofs.TriedLaws.{square_in}
+use Rattle.axe_norton.proofs.SearchLaws.{transposed_point_field, transposed_point_fits, transposed_point_nonzero, transpose_generates, transposed_space_is}
+use Rattle.axe_norton.proofs.DecisionLaws.{left_without_rows, irreducible_told}
 use Rattle.axe_norton.proofs.decisions.test_points.Goals as goal
 use mathlib.Core.Logic.{inr}
 
-pub returns-then-rows-eq0-clause-tells : goal.returns-then-rows-eq0-clause-tells
-returns-then-rows-eq0-clause-tells c =
+pub returns-then-rows-eq0 : goal.returns-then-rows-eq0
+returns-then-rows-eq0 c =
     let tested = c.requires.value.is_tested.tested in
-    left_without_rows c.args.module.now c.args.matrix.now c.args.null_space (square_in c.args.module.now c.args.matrix.now c.args.null_space c.requires.value)
-    tested.null_space tested.well_formed (sym c.rows-2.ensures.count ∙ c.if-rows-eq0.true)
+    left_without_rows c.args.module.now c.args.matrix.now c.args.null_space.now (square_in c.args.module.now c.args.matrix.now c.args.null_space.now c.requires.value)
+    tested.null_space tested.well_formed (sym c.rows.ensures.count ∙ c.if-rows-eq0.true)
 
 pub first_point-requires-clause-reduced : goal.first_point-requires-clause-reduced
-first_point-requires-clause-reduced c = null_is_reduced c.args.matrix.now c.args.null_space c.requires.value.is_tested.tested.null_space
-
-pub tried_points-requires-clause-value : goal.tried_points-requires-clause-value
-tried_points-requires-clause-value c = c.requires.value
-
-pub tried_points-requires-clause-few : goal.tried_points-requires-clause-few
-tried_points-requires-clause-few c =
-    few_is_few c.args.null_space c.order.result c.rows.result c.few_points-few.result
-    (c.order.ensures.value
-    ∙ ap order_number (c.field.ensures.order ∙ sym (null_in c.args.module.now c.args.matrix.now c.args.null_space c.requires.value).field))
-    c.rows.ensures.count c.few_points-few.ensures
+first_point-requires-clause-reduced c = null_is_reduced c.args.matrix.now c.args.null_space.now c.requires.value.is_tested.tested.null_space
 
 pub transposed_space-requires-clause-field : goal.transposed_space-requires-clause-field
 transposed_space-requires-clause-field c =
-    let found : FindsFirst c.args.module.now c.args.null_space None × IsTransposedPointRow c.args.matrix.now c.in-Generate.transposed =
+    let found : FindsFirst c.args.module.now c.args.null_space.now None × IsTransposedPointRow c.args.matrix.now c.in-Generate.transposed =
     rw c.in-Generate.is at c.in_ok-space.ensures in
     transposed_point_field c.args.module.now c.args.matrix.now
-    (square_in c.args.module.now c.args.matrix.now c.args.null_space c.requires.value) c.in-Generate.transposed found.1
+    (square_in c.args.module.now c.args.matrix.now c.args.null_space.now c.requires.value) c.in-Generate.transposed found.1
 
 pub transposed_space-requires-clause-fits : goal.transposed_space-requires-clause-fits
 transposed_space-requires-clause-fits c =
-    let found : FindsFirst c.args.module.now c.args.null_space None × IsTransposedPointRow c.args.matrix.now c.in-Generate.transposed =
+    let found : FindsFirst c.args.module.now c.args.null_space.now None × IsTransposedPointRow c.args.matrix.now c.in-Generate.transposed =
     rw c.in-Generate.is at c.in_ok-space.ensures in
     transposed_point_fits c.args.module.now c.args.matrix.now
-    (square_in c.args.module.now c.args.matrix.now c.args.null_space c.requires.value) c.in-Generate.transposed found.1
+    (square_in c.args.module.now c.args.matrix.now c.args.null_space.now c.requires.value) c.in-Generate.transposed found.1
 
 pub transposed_space-requires-clause-nonzero : goal.transposed_space-requires-clause-nonzero
 transposed_space-requires-clause-nonzero c =
-    let found : FindsFirst c.args.module.now c.args.null_space None × IsTransposedPointRow c.args.matrix.now c.in-Generate.transposed =
+    let found : FindsFirst c.args.module.now c.args.null_space.now None × IsTransposedPointRow c.args.matrix.now c.in-Generate.transposed =
     rw c.in-Generate.is at c.in_ok-space.ensures in
     transposed_point_nonzero c.args.module.now c.args.matrix.now
-    (square_in c.args.module.now c.args.matrix.now c.args.null_space c.requires.value) c.in-Generate.transposed found.1
+    (square_in c.args.module.now c.args.matrix.now c.args.null_space.now c.requires.value) c.in-Generate.transposed found.1
 
-pub returns-in-Some-clause-tells : goal.returns-in-Some-clause-tells
-returns-in-Some-clause-tells c =
-    let found : FindsFirst c.args.module.now c.args.null_space None × IsTransposedPointRow c.args.matrix.now c.in-Generate.transposed =
+pub returns-in-Some : goal.returns-in-Some
+returns-in-Some c =
+    let found : FindsFirst c.args.module.now c.args.null_space.now None × IsTransposedPointRow c.args.matrix.now c.in-Generate.transposed =
     rw c.in-Generate.is at c.in_ok-space.ensures in
     inr (
       found.0,
-      transposed_space_is c.args.module.now c.args.matrix.now (square_in c.args.module.now c.args.matrix.now c.args.null_space c.requires.value)
+      transposed_space_is c.args.module.now c.args.matrix.now (square_in c.args.module.now c.args.matrix.now c.args.null_space.now c.requires.value)
           c.in-Generate.transposed found.1 c.in-Some.space (rw c.in-Some.is at c.in_ok-space-2.ensures),
     )
 
-pub returns-then-few-clause-tells : goal.returns-then-few-clause-tells
-returns-then-few-clause-tells c =
+pub returns-in-None : goal.returns-in-None
+returns-in-None c =
     let tested = c.requires.value.is_tested.tested in
-    let some : 0 < length c.args.null_space.rows = omega (arith, c.rows-2.ensures.count, c.if-rows-eq0.false) in
-    let few : IsTrue c.few_points-few.result ↔ HasFewPoints c.args.null_space =
-    few_is_few c.args.null_space c.order.result c.rows.result c.few_points-few.result
-    (c.order.ensures.value
-    ∙ ap order_number (c.field.ensures.order ∙ sym (null_in c.args.module.now c.args.matrix.now c.args.null_space c.requires.value).field))
-    c.rows.ensures.count c.few_points-few.ensures in
-    let found : FindsFirst c.args.module.now c.args.null_space None × IsTransposedPointRow c.args.matrix.now c.in-Generate.transposed =
+    let some : 0 < length c.args.null_space.now.rows = omega (arith, c.rows.ensures.count, c.if-rows-eq0.false) in
+    let found : FindsFirst c.args.module.now c.args.null_space.now None × IsTransposedPointRow c.args.matrix.now c.in-Generate.transposed =
     rw c.in-Generate.is at c.in_ok-space.ensures in
-    irreducible_told c.args.module.now c.args.matrix.now c.args.null_space
-    (square_in c.args.module.now c.args.matrix.now c.args.null_space c.requires.value) tested.null_space tested.well_formed some c.in_ok-first.first
-    (few.0 c.if-few.true) found.0
-    (transpose_generates c.args.module.now c.args.matrix.now (square_in c.args.module.now c.args.matrix.now c.args.null_space c.requires.value)
-    c.in-Generate.transposed found.1 (rw c.in_default.is at c.in_ok-space-2.ensures))
+    irreducible_told c.args.module.now c.args.matrix.now c.args.null_space.now
+    (square_in c.args.module.now c.args.matrix.now c.args.null_space.now c.requires.value) tested.null_space tested.well_formed some c.in_ok-first.first
+    c.requires.few found.0
+    (transpose_generates c.args.module.now c.args.matrix.now (square_in c.args.module.now c.args.matrix.now c.args.null_space.now c.requires.value)
+    c.in-Generate.transposed found.1 (rw c.in-None.is at c.in_ok-space-2.ensures))
     c.in_ok-first.ensures.first
-
-pub returns-else-few-clause-tells : goal.returns-else-few-clause-tells
-returns-else-few-clause-tells c =
-    let tested = c.requires.value.is_tested.tested in
-    let some : 0 < length c.args.null_space.rows = omega (arith, c.rows-2.ensures.count, c.if-rows-eq0.false) in
-    let few : IsTrue c.few_points-few.result ↔ HasFewPoints c.args.null_space =
-    few_is_few c.args.null_space c.order.result c.rows.result c.few_points-few.result
-    (c.order.ensures.value
-    ∙ ap order_number (c.field.ensures.order ∙ sym (null_in c.args.module.now c.args.matrix.now c.args.null_space c.requires.value).field))
-    c.rows.ensures.count c.few_points-few.ensures in
-    let found : FindsFirst c.args.module.now c.args.null_space None × IsTransposedPointRow c.args.matrix.now c.in-Generate.transposed =
-    rw c.in-Generate.is at c.in_ok-space.ensures in
-    left_told c.args.module.now c.args.matrix.now c.args.null_space
-    (square_in c.args.module.now c.args.matrix.now c.args.null_space c.requires.value) tested.null_space tested.well_formed some
-    (λ is_few. not_both c.few_points-few.result (few.1 is_few) c.if-few.false) found.0
-    (transpose_generates c.args.module.now c.args.matrix.now (square_in c.args.module.now c.args.matrix.now c.args.null_space c.requires.value)
-    c.in-Generate.transposed found.1 (rw c.in_default.is at c.in_ok-space-2.ensures))

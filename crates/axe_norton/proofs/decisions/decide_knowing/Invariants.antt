@@ -1,7 +1,7 @@
 use Rattle.std.proofs.Common.{◌≡◌}
 use Rattle.axe_word.specs.KeptProducts.{AreProductsOf}
 use Rattle.axe_norton.specs.Verdicts.{LeaveOpenBefore}
-use Rattle.axe_norton.proofs.decisions.decide_with.Given as goal
+use Rattle.axe_norton.proofs.decisions.decide_knowing.Given as goal
 
 abbrev pub invariant-loop-number : goal.invariant-loop-number
 invariant-loop-number l = record {
