@@ -4,6 +4,7 @@ pub mod Placements
 pub mod Lifting
 pub mod Placing
 pub mod Cutting
+pub mod LastVectors
 pub mod Stepping
 pub mod Factors
 pub mod AnswerLaws

@@ -1,9 +1,11 @@
 -- A section as the code keeps it.
-use Rattle.std.specs.Prelude.{⊤, ◌<◌}
+use Rattle.std.specs.Prelude.{⊤, ◌<◌, Bool, IsTrue}
 use Rattle.std.specs.List.{All}
 use Rattle.axe_matrix.specs.Matrices.{MatrixValue, IsMatrix, identity_matrix}
 use Rattle.axe_spin.specs.Modules.{ModuleValue}
+use Rattle.axe_norton.specs.Spaces.{LastGenerates}
 use Rattle.axe_series.specs.Sections.{SectionValue}
+use Rattle.axe_chop.specs.Stages.{IsSection}
 use Rattle.axe_chop.specs.Vectors.{matrix_of_unit_vectors}
 use Rattle.axe_chop.specs.declared.lifted.KeptRows.{KeptRows}
 use Rattle.axe_chop.specs.declared.lifted.KeptRows.TheVariants.{Identity, Units, Rows}
@@ -35,3 +37,8 @@ acting_module (Owned m) = m
 -- the section that is kept
 abbrev pub kept_section : Action → MatrixValue → SectionValue
 kept_section action rows = record { action = acting_module action; rows = rows }
+
+-- a section is kept; and the last unit vector generates everything in its action, where that is said
+pub record IsKeptSection (action : Action) (rows : MatrixValue) (last_generates : Bool) : Type 0 where
+  pub section : IsSection (kept_section action rows)
+  pub last : IsTrue last_generates → LastGenerates (acting_module action)

@@ -6,7 +6,8 @@ ghost use Rattle.axe_matrix.specs.Limits.{most_rows};
 ghost use Rattle.axe_matrix.specs.Matrices.{IsMatrix};
 ghost use Rattle.axe_spin.specs.Modules.{ModuleValue};
 ghost use Rattle.axe_norton.specs.Spaces.{IsProperSubmodule};
-ghost use Rattle.axe_norton.specs.Verdicts.{last_word};
+ghost use Rattle.axe_norton.specs.Verdicts.{last_word, Decides};
+ghost use Rattle.axe_norton.specs.declared.verdicts.Verdict.TheVariants.{Reducible};
 ghost use Rattle.axe_iso.specs.Forms.{FormValue};
 ghost use Rattle.axe_chop.specs.Kept.{acting_module};
 ghost use Rattle.axe_chop.specs.Stages.{IsActionLike, IsRowsLike, sections_dim, with_sections};
@@ -17,7 +18,7 @@ ghost use Rattle.axe_chop.specs.declared.search.Searched.TheVariants.{Open};
 use crate::found::Found;
 use crate::section::{Action, Section, Witness};
 use axe_matrix::{Matrix, Refusal};
-use axe_norton::{Verdict, decide_with};
+use axe_norton::{Verdict, decide_knowing};
 use axe_poly::Irreducibles;
 use std::alloc::Global;
 use std::collections::VecDeque;
@@ -119,7 +120,8 @@ fn decide_section<'a>(
         (IsDecided seed words section.entry found.old sections.old.items found.new sections.new.items) result }
     ensures same_field { table.new.order ≡ section.entry.action.order }
 {
-    match decide_with(alloc, section.action(), table, seed, words)? {
+    let last_generates = section.last_generates();
+    match decide_knowing(alloc, section.action(), last_generates, table, seed, words)? {
         Verdict::Irreducible { word, poly, vector } => {
             let witness = Witness { word, poly, vector };
             found.place_owned(alloc, section, seed, witness)?;
@@ -133,14 +135,15 @@ fn decide_section<'a>(
     }
 }
 
-/// Puts the two sections into which a submodule cuts a section before the others: first the submodule's, then the
-/// quotient by it.
+/// Puts the two sections into which a submodule that the words of a seed found cuts a section before the others: first
+/// the submodule's, then the quotient by it.
 fn put_parts<'a>(
     alloc: Global,
     sections: &mut VecDeque<Section<'a>>,
     section: Section<'a>,
     space: Matrix,
 ) -> Result<(), Refusal>
+    requires decided { (seed words : ℕ) × Decides section.action seed words (Reducible space) }
     requires space { IsProperSubmodule section.action space }
     ensures { Answers None (λ _. ArePartsBefore section.entry space sections.old.items sections.new.items) result }
 {

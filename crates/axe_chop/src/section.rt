@@ -1,15 +1,15 @@
 //! Sections of a module while its composition series is looked for.
 
-ghost use Rattle.std.specs.Prelude.{◌≡◌, ℕ, ◌+◌, ◌≤◌, ◌++◌, length, None, IfOk};
+ghost use Rattle.std.specs.Prelude.{◌≡◌, ◌↔◌, ℕ, ◌+◌, ◌-◌, ◌≤◌, ◌++◌, length, slice_get, Some, None, IsTrue, IfOk};
 ghost use Rattle.axe_row.specs.Refusals.{Answers};
 ghost use Rattle.axe_matrix.specs.Limits.{most_rows};
 ghost use Rattle.axe_matrix.specs.Matrices.{IsMatrix};
 ghost use Rattle.axe_spin.specs.Modules.{IsModule};
 ghost use Rattle.axe_action.specs.Actions.{IsBasisAction, IsActionModulo};
 ghost use Rattle.axe_action.specs.FreeColumns.{AreFreeColumns, rows_to_span};
-ghost use Rattle.axe_norton.specs.Spaces.{IsProperSubmodule};
+ghost use Rattle.axe_norton.specs.Spaces.{IsProperSubmodule, LastGenerates};
 ghost use Rattle.axe_norton.specs.Verdicts.{Decides};
-ghost use Rattle.axe_norton.specs.declared.verdicts.Verdict.TheVariants.{Irreducible};
+ghost use Rattle.axe_norton.specs.declared.verdicts.Verdict.TheVariants.{Irreducible, Reducible};
 ghost use Rattle.axe_iso.specs.Forms.{IsForm, IsFormFrom};
 ghost use Rattle.axe_series.specs.Sections.{whole_section, lifted_rows, IsCut};
 ghost use Rattle.axe_chop.specs.Stages.{IsSection, IsRowsLike};
@@ -30,6 +30,8 @@ use std::marker::Model;
 pub(crate) struct Section<'a> {
     action: Action<'a>,
     rows: LiftedRows,
+    /// Whether the last unit vector is known to generate everything in the action.
+    last_generates: bool,
 }
 
 /// By what a seed showed a section to be irreducible: the number of the word, the polynomial p that did so at the
@@ -52,14 +54,13 @@ pub(crate) enum Action<'a> {
 
 impl<'a> Model for Section<'a> {
     ghost use Rattle.axe_series.specs.Sections.{SectionValue};
-    ghost use Rattle.axe_chop.specs.Stages.{IsSection};
-    ghost use Rattle.axe_chop.specs.Kept.{kept_section};
+    ghost use Rattle.axe_chop.specs.Kept.{kept_section, IsKeptSection};
 
     ghost Value = { SectionValue };
 
     ghost view = { λ a. kept_section a.action a.rows };
 
-    ghost invariant = { λ a. IsSection (kept_section a.action a.rows) };
+    ghost invariant = { λ a. IsKeptSection a.action a.rows a.last_generates };
 }
 
 impl<'a> Section<'a> {
@@ -70,7 +71,13 @@ impl<'a> Section<'a> {
     {
         let module = action.module();
         let rows = LiftedRows::identity(*module.field(), module.dim());
-        Section { action, rows }
+        // Of a module that is given nothing is known.
+        let last_generates = false;
+        Section {
+            action,
+            rows,
+            last_generates,
+        }
     }
 
     /// The action on the section.
@@ -79,6 +86,13 @@ impl<'a> Section<'a> {
         ensures well_formed { IsSection self.now }
     {
         self.action.module()
+    }
+
+    /// Whether the last unit vector is known to generate everything in the action.
+    pub(crate) fn last_generates(&self) -> bool
+        ensures { IsTrue result → LastGenerates self.now.action }
+    {
+        self.last_generates
     }
 
     /// Appends the lifted rows to a matrix. For want of memory only some first of them are appended.
@@ -101,7 +115,7 @@ impl<'a> Section<'a> {
         ensures of_section { IsSection self.entry }
         ensures well_formed { IfOk result IsMatrix }
     {
-        let Section { action, rows } = self;
+        let Section { action, rows, .. } = self;
         drop(action);
         rows.lift(alloc, coordinates)
     }
@@ -122,29 +136,33 @@ impl<'a> Section<'a> {
         ensures of_section { IsSection self.entry }
         ensures well_formed { IfOk result (λ parts. IsForm parts.0 × IsMatrix parts.1) }
     {
-        let Section { action, rows } = self;
+        let Section { action, rows, .. } = self;
         let form = action.into_form(alloc, seed, witness)?;
         let lifted = rows.lift_copy(alloc, form.basis())?;
         Ok((form, lifted))
     }
 
     /// The two sections into which a submodule cuts the section: first the submodule's, then the quotient by it. The
-    /// rows of `space` are a basis of the submodule, which is neither zero nor everything. The action on the section is
-    /// taken apart, and gone before rows are lifted.
+    /// rows of `space` are a basis of the submodule, which is neither zero nor everything, and which the words of a
+    /// seed found. The action on the section is taken apart, and gone before rows are lifted.
     pub(crate) fn cut(
         self,
         alloc: Global,
         space: Matrix,
     ) -> Result<(Section<'a>, Section<'a>), Refusal>
+        requires decided { (seed words : ℕ) × Decides self.action seed words (Reducible space) }
         requires space { IsProperSubmodule self.action space }
         ensures { Answers None (λ parts. IsCut self.entry space parts.0 parts.1) result }
     {
-        let Section { action, rows } = self;
+        let Section { action, rows, .. } = self;
         let Split {
             sub,
             quotient,
             columns,
         } = action.split(alloc, &space)?;
+        // Where the last column is no pivot, the last unit vector is not in the submodule. So it generates everything
+        // in the section, since word 0 would have found what it generates, and its image does so in the quotient.
+        let quotient_last = is_last_of(space.cols() - 1, &columns);
         // The rows of the submodule are lifted, and the unit vectors that extend them to a basis: these lift to the
         // rows at their columns.
         let (sub_rows, quotient_rows) = rows.cut(alloc, space, columns)?;
@@ -152,10 +170,12 @@ impl<'a> Section<'a> {
             Section {
                 action: Action::Owned(sub),
                 rows: sub_rows,
+                last_generates: false,
             },
             Section {
                 action: Action::Owned(quotient),
                 rows: quotient_rows,
+                last_generates: quotient_last,
             },
         ))
     }
@@ -211,4 +231,11 @@ impl<'a> Action<'a> {
             Action::Owned(module) => Ok(module),
         }
     }
+}
+
+/// Whether a column is the last of some.
+fn is_last_of(column: usize, columns: &[usize]) -> bool
+    ensures { IsTrue result ↔ (slice_get columns.now (length columns.now - 1) ≡ Some column) }
+{
+    columns.last() == Some(&column)
 }

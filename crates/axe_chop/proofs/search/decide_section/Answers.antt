@@ -1,6 +1,7 @@
-use Rattle.std.proofs.Common.{sym, ap, ◌∙◌}
+use Rattle.std.proofs.Common.{sym, ap, subst, ◌∙◌, IsTrue}
 use Rattle.axe_echelon.proofs.Exits.{no_memory}
 use Rattle.axe_spin.specs.Modules.{ModuleValue}
+use Rattle.axe_norton.specs.Spaces.{LastGenerates}
 use Rattle.axe_chop.specs.Searches.{as_irreducible, as_reducible, as_undecided}
 use Rattle.axe_chop.proofs.Stepping.{decided_as, true_as}
 use Rattle.axe_chop.proofs.search.decide_section.Goals as goal
@@ -26,11 +27,20 @@ place_owned-requires-clause-room c = c.requires.room
 pub place_owned-requires-clause-few_forms : goal.place_owned-requires-clause-few_forms
 place_owned-requires-clause-few_forms c = c.requires.few_forms
 
-pub decide_with-requires-clause-field : goal.decide_with-requires-clause-field
-decide_with-requires-clause-field c = c.requires.table_field ∙ sym (ap (λ (m : ModuleValue). m.order) c.action.ensures.value)
+pub decide_knowing-requires-clause-field : goal.decide_knowing-requires-clause-field
+decide_knowing-requires-clause-field c = c.requires.table_field ∙ sym (ap (λ (m : ModuleValue). m.order) c.action.ensures.value)
+
+pub decide_knowing-requires-clause-last : goal.decide_knowing-requires-clause-last
+decide_knowing-requires-clause-last c =
+    subst (λ (m : ModuleValue). IsTrue c.last_generates-last_generates.result → LastGenerates m) (sym c.action.ensures.value) c.last_generates-last_generates.ensures
 
 pub put_parts-requires : goal.put_parts-requires
 put_parts-requires c = record {
+  decided = (
+    c.args.seed,
+    c.args.words,
+    decided_as c.action.result.now _ c.args.seed c.args.words _ _ c.action.ensures.value c.in-Reducible.is c.in_ok-word.ensures.decides,
+  );
   space = true_as c.action.result.now _ _ _ c.action.ensures.value c.in-Reducible.is c.in_ok-word.ensures.holds;
 }
 

@@ -1,45 +1,47 @@
+use Rattle.std.proofs.Common.{◌≡◌, true, false}
 use Rattle.axe_echelon.proofs.Exits.{no_memory}
 use Rattle.axe_chop.specs.Kept.{acting_module, kept_section}
 use Rattle.axe_chop.proofs.Cutting.{columns_within, columns_fit}
 use Rattle.axe_chop.proofs.Cutting.{IsOpened, IsSplit, proper_here, lift_field, lift_fits, cut_at, sub_kept, quotient_kept, parts_kept}
+use Rattle.axe_chop.proofs.LastVectors.{last_of_found}
 use Rattle.axe_chop.proofs.section.Section.cut.Goals as goal
 
 pub split-requires : goal.split-requires
 split-requires c =
     let opened : IsOpened (kept_section c.self.inside.action c.self.inside.rows) c.args.self c.args.space =
-    record { same = c.self.view_is; is_section = c.self.invariant; proper = c.requires.space } in
+    record { same = c.self.view_is; is_section = c.self.invariant.section; proper = c.requires.space } in
     proper_here (kept_section c.self.inside.action c.self.inside.rows) c.args.self c.args.space opened
 
 pub cut-requires-clause-field : goal.cut-requires-clause-field
 cut-requires-clause-field c =
     let opened : IsOpened (kept_section c.self.inside.action c.self.inside.rows) c.args.self c.args.space =
-    record { same = c.self.view_is; is_section = c.self.invariant; proper = c.requires.space } in
+    record { same = c.self.view_is; is_section = c.self.invariant.section; proper = c.requires.space } in
     lift_field (kept_section c.self.inside.action c.self.inside.rows) c.args.self c.args.space opened
 
 pub cut-requires-clause-fits : goal.cut-requires-clause-fits
 cut-requires-clause-fits c =
     let opened : IsOpened (kept_section c.self.inside.action c.self.inside.rows) c.args.self c.args.space =
-    record { same = c.self.view_is; is_section = c.self.invariant; proper = c.requires.space } in
+    record { same = c.self.view_is; is_section = c.self.invariant.section; proper = c.requires.space } in
     lift_fits (kept_section c.self.inside.action c.self.inside.rows) c.args.self c.args.space opened
 
 pub cut-requires-clause-within : goal.cut-requires-clause-within
 cut-requires-clause-within c =
     let opened : IsOpened (kept_section c.self.inside.action c.self.inside.rows) c.args.self c.args.space =
-    record { same = c.self.view_is; is_section = c.self.invariant; proper = c.requires.space } in
+    record { same = c.self.view_is; is_section = c.self.invariant.section; proper = c.requires.space } in
     columns_within (kept_section c.self.inside.action c.self.inside.rows) c.args.space c.in_ok-sub.field-0.columns.items
     (cut_at (kept_section c.self.inside.action c.self.inside.rows) c.args.self c.args.space opened c.in_ok-sub.field-0.columns.items c.in_ok-sub.ensures.columns)
 
 pub cut-requires-clause-places_fit : goal.cut-requires-clause-places_fit
 cut-requires-clause-places_fit c =
     let opened : IsOpened (kept_section c.self.inside.action c.self.inside.rows) c.args.self c.args.space =
-    record { same = c.self.view_is; is_section = c.self.invariant; proper = c.requires.space } in
+    record { same = c.self.view_is; is_section = c.self.invariant.section; proper = c.requires.space } in
     columns_fit (kept_section c.self.inside.action c.self.inside.rows) c.args.space c.in_ok-sub.field-0.columns.items
     (cut_at (kept_section c.self.inside.action c.self.inside.rows) c.args.self c.args.space opened c.in_ok-sub.field-0.columns.items c.in_ok-sub.ensures.columns)
 
 pub invariant_of-result : goal.invariant_of-result
 invariant_of-result c =
     let opened : IsOpened (kept_section c.self.inside.action c.self.inside.rows) c.args.self c.args.space =
-    record { same = c.self.view_is; is_section = c.self.invariant; proper = c.requires.space } in
+    record { same = c.self.view_is; is_section = c.self.invariant.section; proper = c.requires.space } in
     let split : IsSplit (acting_module c.self.inside.action) c.args.space c.in_ok-sub.field-0.sub c.in_ok-sub.field-0.quotient
     c.in_ok-sub.field-0.columns.items = record {
       acts = c.in_ok-sub.ensures.sub;
@@ -48,14 +50,17 @@ invariant_of-result c =
       sub_module = c.in_ok-sub.ensures.well_formed.0;
       quotient_module = c.in_ok-sub.ensures.well_formed.1;
     } in
-    sub_kept (kept_section c.self.inside.action c.self.inside.rows) c.args.self c.args.space opened
-    c.in_ok-sub.field-0.sub c.in_ok-sub.field-0.quotient c.in_ok-sub.field-0.columns.items split c.in_ok-sub_rows.sub_rows
-    c.in_ok-sub_rows.quotient_rows c.in_ok-sub_rows.ensures.lifted c.in_ok-sub_rows.ensures.chosen c.in_ok-sub_rows.ensures.well_formed
+    record {
+      section = sub_kept (kept_section c.self.inside.action c.self.inside.rows) c.args.self c.args.space opened
+          c.in_ok-sub.field-0.sub c.in_ok-sub.field-0.quotient c.in_ok-sub.field-0.columns.items split c.in_ok-sub_rows.sub_rows
+          c.in_ok-sub_rows.quotient_rows c.in_ok-sub_rows.ensures.lifted c.in_ok-sub_rows.ensures.chosen c.in_ok-sub_rows.ensures.well_formed;
+      last = λ said. absurd (let e : false ≡ true = said in cc);
+    }
 
 pub invariant_of-result-2 : goal.invariant_of-result-2
 invariant_of-result-2 c =
     let opened : IsOpened (kept_section c.self.inside.action c.self.inside.rows) c.args.self c.args.space =
-    record { same = c.self.view_is; is_section = c.self.invariant; proper = c.requires.space } in
+    record { same = c.self.view_is; is_section = c.self.invariant.section; proper = c.requires.space } in
     let split : IsSplit (acting_module c.self.inside.action) c.args.space c.in_ok-sub.field-0.sub c.in_ok-sub.field-0.quotient
     c.in_ok-sub.field-0.columns.items = record {
       acts = c.in_ok-sub.ensures.sub;
@@ -64,14 +69,19 @@ invariant_of-result-2 c =
       sub_module = c.in_ok-sub.ensures.well_formed.0;
       quotient_module = c.in_ok-sub.ensures.well_formed.1;
     } in
-    quotient_kept (kept_section c.self.inside.action c.self.inside.rows) c.args.self c.args.space opened
-    c.in_ok-sub.field-0.sub c.in_ok-sub.field-0.quotient c.in_ok-sub.field-0.columns.items split c.in_ok-sub_rows.sub_rows
-    c.in_ok-sub_rows.quotient_rows c.in_ok-sub_rows.ensures.lifted c.in_ok-sub_rows.ensures.chosen c.in_ok-sub_rows.ensures.well_formed
+    record {
+      section = quotient_kept (kept_section c.self.inside.action c.self.inside.rows) c.args.self c.args.space opened
+          c.in_ok-sub.field-0.sub c.in_ok-sub.field-0.quotient c.in_ok-sub.field-0.columns.items split c.in_ok-sub_rows.sub_rows
+          c.in_ok-sub_rows.quotient_rows c.in_ok-sub_rows.ensures.lifted c.in_ok-sub_rows.ensures.chosen c.in_ok-sub_rows.ensures.well_formed;
+      last = λ said. last_of_found (kept_section c.self.inside.action c.self.inside.rows) c.args.self c.args.space opened
+          c.in_ok-sub.field-0.columns.items c.in_ok-sub.ensures.columns c.requires.decided c.cols.result c.cols.ensures.count
+          c.deref.result.now c.deref.ensures.value (c.is_last_of-quotient_last.ensures.0 said) c.in_ok-sub.field-0.quotient c.in_ok-sub.ensures.quotient;
+    }
 
 pub returns : goal.returns
 returns c =
     let opened : IsOpened (kept_section c.self.inside.action c.self.inside.rows) c.args.self c.args.space =
-    record { same = c.self.view_is; is_section = c.self.invariant; proper = c.requires.space } in
+    record { same = c.self.view_is; is_section = c.self.invariant.section; proper = c.requires.space } in
     let split : IsSplit (acting_module c.self.inside.action) c.args.space c.in_ok-sub.field-0.sub c.in_ok-sub.field-0.quotient
     c.in_ok-sub.field-0.columns.items = record {
       acts = c.in_ok-sub.ensures.sub;

@@ -26,7 +26,7 @@ lift_copy-requires-clause-field c =
     subst (IsLift (acting_module c.self.inside.action)) (sym c.basis.ensures.value)
     (form_lift (acting_module c.self.inside.action) c.args.seed c.args.witness.now.word c.args.witness.now.poly c.args.witness.now.vector
     c.in_ok-form.form c.in_ok-form.ensures.form) in
-    lift.field ∙ sym c.self.invariant.field
+    lift.field ∙ sym c.self.invariant.section.field
 
 pub lift_copy-requires-clause-fits : goal.lift_copy-requires-clause-fits
 lift_copy-requires-clause-fits c =
@@ -34,7 +34,7 @@ lift_copy-requires-clause-fits c =
     subst (IsLift (acting_module c.self.inside.action)) (sym c.basis.ensures.value)
     (form_lift (acting_module c.self.inside.action) c.args.seed c.args.witness.now.word c.args.witness.now.poly c.args.witness.now.vector
     c.in_ok-form.form c.in_ok-form.ensures.form) in
-    lift.columns ∙ sym c.self.invariant.count
+    lift.columns ∙ sym c.self.invariant.section.count
 
 pub returns-clause-form : goal.returns-clause-form
 returns-clause-form c =
