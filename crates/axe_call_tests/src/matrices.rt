@@ -36,7 +36,8 @@ same | 2: 010/100/001 | 2: 010/001/100 | no
 /// - `reverse`: a matrix, and the matrix with its rows in the opposite order;
 /// - `into_rows`: a matrix, and the matrix into which its rows move one by one;
 /// - `copy`: a matrix, and its copy;
-/// - `block`: a matrix, rows and columns, and the block of these.
+/// - `block`: a matrix, rows and columns, and the block of these;
+/// - `last_columns`, `outer_columns`: a matrix, and its last two columns, or its last one and then its first.
 const MADE: &str = "\
 identity | 2 | 2 | 2: 10/01
 zero | 2 | 2 | 2 | 2: 00/00
@@ -55,6 +56,11 @@ into_rows | 3: 12/01/22 | 3: 12/01/22
 into_rows | 2: 0x2 | 2: 0x2
 copy | 2: 10/01 | 2: 10/01
 block | 2: 01/11 | 1..2 | 0..2 | 2: 11
+last_columns | 2: 011/110 | 2: 11/10
+last_columns | 9: 1234/5678 | 9: 34/78
+last_columns | 5: 0x3 | 5: 0x2
+outer_columns | 3: 120/012 | 3: 01/20
+outer_columns | 8: 7654/3210 | 8: 47/03
 ";
 
 /// - `mul`, `add`: two matrices, and their product or sum;
@@ -261,6 +267,23 @@ fn takes_block(
     is_matrix(alloc, block, wanted)
 }
 
+/// Two columns, which are consecutive or not.
+fn takes_columns(
+    rt: &impl Abort,
+    alloc: Global,
+    call: &str,
+    matrix: &Matrix,
+    line: &str,
+) -> Result<bool, TableFault> {
+    let columns = matrix.cols();
+    assert!(rt; columns >= 2);
+    let chosen = match call {
+        "last_columns" => matrix.columns_at(alloc, &[columns - 2, columns - 1]),
+        _ => matrix.columns_at(alloc, &[columns - 1, 0]),
+    };
+    is_matrix(alloc, chosen, one_field(line)?)
+}
+
 /// The calls that are given a matrix and answer one.
 fn gives_matrix(
     alloc: Global,
@@ -376,6 +399,7 @@ fn answers_of_matrix(
         "append_rows" | "append_matrix" => appends_matrix(rt, alloc, call, matrix, line),
         "reverse" => reverses(alloc, matrix, line),
         "block" => takes_block(rt, alloc, matrix, line),
+        "last_columns" | "outer_columns" => takes_columns(rt, alloc, call, matrix, line),
         "copy" | "transpose" => gives_matrix(alloc, call, matrix, line),
         "mul" | "add" => combines(alloc, call, matrix, line),
         "add_to_diagonal" => adds_to_diagonal(rt, alloc, matrix, line),
