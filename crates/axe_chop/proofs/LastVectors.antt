@@ -24,7 +24,6 @@ use Rattle.axe_algebra.proofs.Sections.{ActsModulo, lifted_image}
 use Rattle.axe_algebra.proofs.ListEntries.{rows_length}
 use Rattle.axe_algebra.proofs.ListVectors.{vector_of_unit_row}
 use Rattle.axe_algebra.proofs.ListModules.{module_shape}
-use Rattle.axe_field.specs.Order.{Order}
 use Rattle.axe_field.specs.NumberFields.{number_field, gf}
 use Rattle.axe_matrix.specs.Matrices.{MatrixValue}
 use Rattle.axe_spin.specs.Modules.{ModuleValue, IsModule}
