@@ -1,5 +1,5 @@
 -- What the steps of the test tell, put together: what a word says, and what words decide.
-use Rattle.std.specs.Prelude.{◌≡◌, ℕ, suc, ◌<◌, ◌≤◌, length, Some, None, Result}
+use Rattle.std.specs.Prelude.{◌≡◌, ℕ, suc, ◌<◌, ◌≤◌, [], length, Some, None, Result}
 use Rattle.axe_algebra.specs.Lists.{IsSquareOver}
 use Rattle.axe_polynomial_algebra.specs.PolynomialsOfLists.{degree_of, IsMonicOver}
 use Rattle.axe_field.specs.Order.{order_number}
@@ -25,7 +25,7 @@ use Rattle.axe_norton.specs.SmallFactors.{IsFittingFactor, IsFirstFitting}
 use Rattle.axe_norton.specs.OneVector.{TellsByOne}
 use Rattle.axe_norton.specs.Searches.{IsReducedIn, IsSquareIn, TellsByFirst}
 use Rattle.axe_norton.specs.Verdicts.{IsLeftByPoints, TellsByPoints, Tells, Says, LeavesOpen, LeaveOpenBefore, DecidesAt, word_of_seed, IsTrueOf}
-use Rattle.axe_norton.proofs.OpenLaws.{own_square, invertible_without_rows, no_rows_of_invertible}
+use Rattle.axe_norton.proofs.OpenLaws.{own_square, invertible_without_rows, no_rows_of_invertible, word_zero}
 use Rattle.axe_norton.proofs.TestedLaws.{null_in_module}
 use Rattle.axe_norton.proofs.SearchLaws.{some_point_in}
 use Rattle.axe_norton.proofs.FactorLaws.{fits_by_rows}
@@ -133,6 +133,11 @@ truth_told m word result is is_word said = answers_more result (Says m word) (Is
 pub word_drawn : (m : ModuleValue) (seed j q k : ℕ) (word : WordValue) → word ≡ drawn_word seed j q k → q ≡ order_number m.order → k ≡ length m.generators →
     word ≡ word_of_seed m seed j
 word_drawn m seed j q k word is order count = is ∙ ap (λ p. drawn_word seed j p k) order ∙ ap (drawn_word seed j (order_number m.order)) count
+
+-- word 0 says what the word without terms says
+pub said_by_word_zero : (m : ModuleValue) (seed j : ℕ) (word : WordValue) (answer : At) → word ≡ word_of_seed m seed j → j ≡ 0 → Says m [] answer → Says m word answer
+said_by_word_zero m seed j word answer same first says =
+    subst (λ (w : WordValue). Says m w answer) (sym (same ∙ ap (word_of_seed m seed) first ∙ word_zero m seed)) says
 
 pub none_before : (m : ModuleValue) (seed : ℕ) → LeaveOpenBefore m seed 0
 none_before m seed i before = absurd (omega arith)

@@ -23,7 +23,7 @@ use Rattle.axe_word.proofs.PointSums.{last_row_is_first_point}
 use Rattle.axe_norton.specs.declared.verdicts.At.{At}
 use Rattle.axe_norton.specs.declared.verdicts.At.TheVariants.{Irreducible, Reducible, Left}
 use Rattle.axe_norton.specs.Spaces.{GeneratesModule, GeneratesProper, HasFewPoints}
-use Rattle.axe_norton.specs.Searches.{IsSquareIn, FindsFirst, IsValueOfWord, IsTestedWord, IsFirstOfMany, FirstGenerates, IsTransposedPointRow, IsAnnihilatorOf, TellsByNullSpace, TellsByFirst}
+use Rattle.axe_norton.specs.Searches.{IsSquareIn, FindsFirst, IsValueOfWord, IsTestedWord, IsFirstOfMany, IsTransposedPointRow, IsAnnihilatorOf, TellsByNullSpace, TellsByFirst}
 use Rattle.axe_norton.specs.Verdicts.{TellsByPoints, Tells, Says}
 use Rattle.axe_norton.proofs.SearchLaws.{none_of_first, transpose_generates, transposed_space_is}
 use Rattle.axe_norton.proofs.DecisionLaws.{left_told, told_where_left, said_by}
@@ -131,10 +131,6 @@ module _ (m : ModuleValue) (matrix : MatrixValue) (point : RowValue) (is : IsFir
 
   pub many_nonzero : ¬ (IsZeroVector point.entries)
   many_nonzero = first_nonzero m matrix is.null_space is.value is.some_row point is.first
-
-  pub many_generates : FirstGenerates m matrix → GeneratesModule m point.entries
-  many_generates first =
-      subst (GeneratesModule m) (sym (ap (λ (r : RowValue). r.entries) is.first)) (first is.null_space is.value.is_tested.tested)
 
   told : (answer : At) → TellsByPoints m matrix is.null_space answer → TellsByNullSpace m matrix answer
   told answer tells = record { null_space = is.null_space; is_tested = is.value.is_tested.tested; tells = tells }

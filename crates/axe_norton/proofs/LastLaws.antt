@@ -19,11 +19,9 @@ use Rattle.axe_echelon.proofs.ZeroMatrices.{last_of_identity}
 use Rattle.axe_spin.specs.Modules.{ModuleValue, IsModule}
 use Rattle.axe_word.specs.declared.tested.Tested.{Tested}
 use Rattle.axe_word.specs.Tested.{IsTestedBy}
-use Rattle.axe_word.specs.Words.{WordValue, IsValueOf}
 use Rattle.axe_norton.specs.declared.verdicts.At.TheVariants.{Reducible}
 use Rattle.axe_norton.specs.declared.verdicts.Verdict
 use Rattle.axe_norton.specs.Spaces.{GeneratesModule, GeneratesProper, LastGenerates, IsFirstProperSpace, point_of}
-use Rattle.axe_norton.specs.Searches.{FirstOfWordGenerates}
 use Rattle.axe_norton.specs.Verdicts.{Decides, LeavesOpen, Says, IsLeftByPoints, ShowsReducible, TellsByFactor, word_of_seed}
 use Rattle.axe_norton.proofs.PointLaws.{point_at, some_point}
 use Rattle.axe_norton.proofs.TestedLaws.{IsNullSpaceOver, value_over, independent_null}
@@ -82,15 +80,12 @@ module _ (m : ModuleValue) (is : IsModule m) (t : Tested) (tested : IsTestedBy m
       }
 
   -- its first point is the last unit vector
-  first_is_last_unit : point_of t.null_space 0 ≡ unit_row m.dim (m.dim - 1)
+  pub first_is_last_unit : point_of t.null_space 0 ≡ unit_row m.dim (m.dim - 1)
   first_is_last_unit =
       sym (point_at m.order m.dim t.null_space null_over.field null_over.columns 0)
       ∙ (first_point_is_last_row K m.dim t.null_space.rows null_over.over some_row).1
       ∙ ap (λ (rows : List (List ℕ)). get_or rows (length rows - 1) []) null_space_is_identity
       ∙ sym (last_of_identity m.dim (m.dim - 1) is.over.positive refl)
-
-  pub first_generates_where_last : LastGenerates m → GeneratesModule m (point_of t.null_space 0)
-  first_generates_where_last last = subst (GeneratesModule m) (sym first_is_last_unit) last
 
   last_where_first_generates : GeneratesModule m (point_of t.null_space 0) → LastGenerates m
   last_where_first_generates first = subst (GeneratesModule m) first_is_last_unit first
@@ -140,14 +135,3 @@ last_generates_where_outside m seed words space is (j, decides) outside = by_wor
     by_word (suc j) before says =
         let left : LeavesOpen m [] = subst (LeavesOpen m) (word_zero m seed) (before 0 (omega arith)) in
         last_where_left m is left.tested left.is_tested left.tells.0
-
--- where it is known to, the first point of the null space of word 0's value does
-pub first_of_word_zero : (m : ModuleValue) (seed j : ℕ) (word : WordValue) → IsModule m → LastGenerates m → word ≡ word_of_seed m seed j → j ≡ 0 →
-    FirstOfWordGenerates m word
-first_of_word_zero m seed j word is last same first matrix is_value null tested =
-    first_generates_where_last m is (record { matrix = matrix; null_space = null })
-    (record {
-      value = subst (λ (w : WordValue). IsValueOf m w matrix) (same ∙ ap (word_of_seed m seed) first ∙ word_zero m seed) is_value;
-      tested = tested;
-    })
-    last

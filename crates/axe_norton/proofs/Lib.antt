@@ -16,3 +16,5 @@ pub mod SeenLaws
 pub mod TriedLaws
 pub mod FirstLaws
 pub mod LastLaws
+pub mod ZeroFactors
+pub mod ZeroLaws

@@ -1,5 +1,5 @@
 -- What the steps of the test find: proper spaces that points generate, or none.
-use Rattle.std.specs.Prelude.{◌≡◌, ℕ, ◌<◌, ◌≤◌, List, [], ◌∷◌, length, get_or, Option, Some, None}
+use Rattle.std.specs.Prelude.{◌≡◌, ℕ, ◌<◌, ◌≤◌, List, [], ◌∷◌, length, get_or, Option, Some, None, ⊤}
 use Rattle.axe_algebra.specs.Lists.{IsSquareOver}
 use Rattle.axe_polynomial_algebra.specs.PolynomialsOfLists.{IsFactorOfDegree, polynomial_number, Fits}
 use Rattle.axe_field.specs.Order.{order_number}
@@ -95,6 +95,11 @@ abbrev pub FindsTransposed : ModuleValue → List ℕ → Option MatrixValue →
 FindsTransposed m v None = GeneratesModule (dual_module m) v
 FindsTransposed m v (Some space) = IsAnnihilatorOf m v space
 
+-- the transposed module, where it is kept
+abbrev pub IsKeptTranspose : ModuleValue → Option ModuleValue → Type 0
+IsKeptTranspose m None = ⊤
+IsKeptTranspose m (Some transposed) = transposed ≡ dual_module m
+
 -- the matrix, with its null space, is the value of a word of the module
 pub record IsTestedWord (m : ModuleValue) (t : Tested) : Type 0 where
   pub word : WordValue
@@ -106,15 +111,6 @@ pub record IsValueOfWord (m : ModuleValue) (matrix : MatrixValue) : Type 0 where
   pub word : WordValue
   pub is_word : IsWordIn m word
   pub is_value : IsValueOf m word matrix
-
--- the first point of the null space of the matrix generates everything in the module
-abbrev pub FirstGenerates : ModuleValue → MatrixValue → Type 0
-FirstGenerates m matrix = (null_space : MatrixValue) → IsTested (record { matrix = matrix; null_space = null_space }) →
-    GeneratesModule m (point_of null_space 0)
-
--- the same of the value of the word
-abbrev pub FirstOfWordGenerates : ModuleValue → WordValue → Type 0
-FirstOfWordGenerates m word = (matrix : MatrixValue) → IsValueOf m word matrix → FirstGenerates m matrix
 
 -- the row is the first point of the null space of the value of a word, which has more than few points
 pub record IsFirstOfMany (m : ModuleValue) (matrix : MatrixValue) (point : RowValue) : Type 0 where

@@ -1,6 +1,7 @@
 //! What a word says of a module, and what words of a seed decide.
 
-ghost use Rattle.std.specs.Prelude.{◌≡◌, ◌↔◌, ℕ, ◌≤◌, length, None, IsTrue};
+ghost use Rattle.std.specs.Prelude.{◌≡◌, ◌↔◌, ℕ, ◌<◌, ◌≤◌, [], length, None, IsTrue};
+ghost use Rattle.axe_field.specs.Order.{order_number};
 ghost use Rattle.axe_row.specs.Operations.{IsZeroVector};
 ghost use Rattle.axe_row.specs.Refusals.{Answers};
 ghost use Rattle.axe_spin.specs.Modules.{IsModule};
@@ -9,7 +10,7 @@ ghost use Rattle.axe_word.specs.Words.{IsWordIn};
 ghost use Rattle.axe_word.specs.KeptProducts.{AreProductsOf};
 ghost use Rattle.axe_word.specs.PointsOfMatrix.{point_count, most_points};
 ghost use Rattle.axe_norton.specs.Searches.{IsValueOfWord, IsTestedWord, IsFirstOfMany, TellsByNullSpace};
-ghost use Rattle.axe_norton.specs.Searches.{FindsProper, FirstGenerates, FirstOfWordGenerates};
+ghost use Rattle.axe_norton.specs.Searches.{FindsProper, IsKeptTranspose};
 ghost use Rattle.axe_norton.specs.Spaces.{GeneratesModule, LastGenerates, HasFewPoints};
 ghost use Rattle.axe_norton.specs.Verdicts.{last_word, TellsByPoints, Says, IsTrueOf, Decides, IsTrueVerdict};
 
@@ -98,10 +99,15 @@ pub fn decide_knowing(
     let gens = module.gens() as u8;
     // Words share products of generators.
     let mut products = Products::new(alloc);
+    let mut kept = None;
     for number in 0..words + 1 {
         let word = nth_word(seed, number, order, gens);
-        let first_generates = last_generates && number == 0;
-        match decide_at_knowing(alloc, module, first_generates, table, &mut products, &word)? {
+        let said = if number == 0 && !few_points(order, module.dim(), MOST_POINTS) {
+            decide_zero(alloc, module, last_generates, &mut kept)?
+        } else {
+            decide_at_keeping(alloc, module, table, &mut products, &mut kept, &word)?
+        };
+        match said {
             At::Irreducible { poly, vector } => {
                 return Ok(Verdict::Irreducible {
                     word: number,
@@ -133,53 +139,83 @@ pub fn decide_at_with(
     ensures same_field { table.new.order ≡ «module».now.order }
     ensures products { AreProductsOf «module».now products.new }
 {
-    decide_at_knowing(alloc, module, false, table, products, word)
+    let mut kept = None;
+    decide_at_keeping(alloc, module, table, products, &mut kept, word)
 }
 
-/// What [`decide_at_with`] tells, where the first point of the null space of the word's value may be known to generate
-/// everything: then it is not spun where the null space has more than few points.
-fn decide_at_knowing(
+/// What [`decide_at_with`] tells, with the transposed module where it is kept from other words; it is kept for further
+/// ones where it is small.
+fn decide_at_keeping(
     alloc: Global,
     module: &Module,
-    first_generates: bool,
     table: &mut Irreducibles,
     products: &mut Products,
+    kept: &mut Option<Module>,
     word: &Word,
 ) -> Result<At, Refusal>
     requires word { IsWordIn «module».now word.now }
-    requires first { IsTrue first_generates → FirstOfWordGenerates «module».now word.now }
     requires products { AreProductsOf «module».now products.old }
     requires field { table.old.order ≡ «module».now.order }
+    requires kept { IsKeptTranspose «module».now kept.old }
     ensures says { Answers None (Says «module».now word.now) result }
     ensures holds { Answers None (IsTrueOf «module».now) result }
     ensures same_field { table.new.order ≡ «module».now.order }
     ensures products { AreProductsOf «module».now products.new }
+    ensures kept { IsKeptTranspose «module».now kept.new }
 {
     let matrix = word.value_with(alloc, module, products)?;
-    match test_null_space(alloc, module, &matrix, first_generates)? {
-        At::Left => test_by_factor(alloc, module, table, &matrix),
+    match test_null_space(alloc, module, &matrix, kept)? {
+        At::Left => test_by_factor(alloc, module, table, &matrix, kept),
         told => Ok(told),
     }
 }
 
+/// What word 0 says of a module that has more than few points. The word has no terms and its value is zero, so that all
+/// vectors are null vectors, and the first point is the last unit vector, as it is for the transpose. It is not spun
+/// where it is known to generate everything; no polynomial fits zero.
+fn decide_zero(
+    alloc: Global,
+    module: &Module,
+    last_generates: bool,
+    kept: &mut Option<Module>,
+) -> Result<At, Refusal>
+    requires many { most_points < point_count (order_number «module».now.order) «module».now.dim }
+    requires last { IsTrue last_generates → LastGenerates «module».now }
+    requires kept { IsKeptTranspose «module».now kept.old }
+    ensures says { Answers None (Says «module».now []) result }
+    ensures holds { Answers None (IsTrueOf «module».now) result }
+    ensures kept { IsKeptTranspose «module».now kept.new }
+{
+    let (field, dim) = (*module.field(), module.dim());
+    let last = Row::unit(alloc, field, dim, dim - 1)?;
+    if let Some(space) = proper_last(alloc, module, last, last_generates)? {
+        return Ok(At::Reducible(space));
+    }
+    let last = Row::unit(alloc, field, dim, dim - 1)?;
+    match transposed_space(alloc, module, last, kept)? {
+        Some(space) => Ok(At::Reducible(space)),
+        None => Ok(At::Left),
+    }
+}
+
 /// What the points of the null spaces of the value of a word and of its transpose tell of a module. Of a null space
-/// with more than few points no basis is made, since the first point alone is tried; that is not spun where it is known
-/// to generate everything.
+/// with more than few points no basis is made, since the first point alone is tried.
 fn test_null_space(
     alloc: Global,
     module: &Module,
     matrix: &Matrix,
-    first_generates: bool,
+    kept: &mut Option<Module>,
 ) -> Result<At, Refusal>
     requires value { IsValueOfWord «module».now matrix.now }
-    requires first { IsTrue first_generates → FirstGenerates «module».now matrix.now }
+    requires kept { IsKeptTranspose «module».now kept.old }
     ensures tells { Answers None (TellsByNullSpace «module».now matrix.now) result }
     ensures well_formed { IsModule «module».now }
+    ensures kept { IsKeptTranspose «module».now kept.new }
 {
     let most = most_dimensions(module.field().order());
     match null_points(alloc, matrix, most)? {
-        NullPoints::Basis(null_space) => test_points(alloc, module, matrix, &null_space),
-        NullPoints::First(point) => test_first(alloc, module, matrix, point, first_generates),
+        NullPoints::Basis(null_space) => test_points(alloc, module, matrix, &null_space, kept),
+        NullPoints::First(point) => test_first(alloc, module, matrix, point, kept),
     }
 }
 
@@ -189,10 +225,13 @@ fn test_points(
     module: &Module,
     matrix: &Matrix,
     null_space: &Matrix,
+    kept: &mut Option<Module>,
 ) -> Result<At, Refusal>
     requires value { IsTestedWord «module».now (record { matrix = matrix.now; null_space = null_space.now }) }
     requires few { HasFewPoints null_space.now }
-    ensures { Answers None (TellsByPoints «module».now matrix.now null_space.now) result }
+    requires kept { IsKeptTranspose «module».now kept.old }
+    ensures tells { Answers None (TellsByPoints «module».now matrix.now null_space.now) result }
+    ensures kept { IsKeptTranspose «module».now kept.new }
 {
     if null_space.rows() == 0 {
         return Ok(At::Left);
@@ -202,7 +241,7 @@ fn test_points(
         Tried::Proper(space) => return Ok(At::Reducible(space)),
         Tried::Generate(transposed) => transposed,
     };
-    match transposed_space(alloc, module, transposed)? {
+    match transposed_space(alloc, module, transposed, kept)? {
         Some(space) => Ok(At::Reducible(space)),
         None => Ok(At::Irreducible {
             poly: None,
@@ -211,47 +250,48 @@ fn test_points(
     }
 }
 
-/// The same, with the first point of a null space that has more than few points: what that tells, unless it is known to
-/// generate everything, and the first point of the null space of the transpose.
+/// The same, with the first point of a null space that has more than few points: what that tells, and the first point of
+/// the null space of the transpose.
 fn test_first(
     alloc: Global,
     module: &Module,
     matrix: &Matrix,
     point: Row,
-    first_generates: bool,
+    kept: &mut Option<Module>,
 ) -> Result<At, Refusal>
     requires value { IsFirstOfMany «module».now matrix.now point }
-    requires first { IsTrue first_generates → GeneratesModule «module».now point.entries }
-    ensures { Answers None (TellsByNullSpace «module».now matrix.now) result }
+    requires kept { IsKeptTranspose «module».now kept.old }
+    ensures tells { Answers None (TellsByNullSpace «module».now matrix.now) result }
+    ensures kept { IsKeptTranspose «module».now kept.new }
 {
-    if let Some(space) = proper_first(alloc, module, point, first_generates)? {
+    if let Some(space) = proper_space(alloc, module, point)? {
         return Ok(At::Reducible(space));
     }
     let transposed = transposed_point(alloc, matrix)?;
-    match transposed_space(alloc, module, transposed)? {
+    match transposed_space(alloc, module, transposed, kept)? {
         Some(space) => Ok(At::Reducible(space)),
         None => Ok(At::Left),
     }
 }
 
-/// The reduced basis of the space that the first point of a null space generates, or `None` where that is everything. It
-/// is not spun where it is known to generate everything.
-fn proper_first(
+/// The reduced basis of the space that the last unit vector generates, or `None` where that is everything. It is not
+/// spun where it is known to generate everything.
+fn proper_last(
     alloc: Global,
     module: &Module,
-    point: Row,
-    first_generates: bool,
+    last: Row,
+    last_generates: bool,
 ) -> Result<Option<Matrix>, Refusal>
-    requires field { point.order ≡ «module».now.order }
-    requires fits { length point.entries ≡ «module».now.dim }
-    requires nonzero { ¬ (IsZeroVector point.entries) }
-    requires first { IsTrue first_generates → GeneratesModule «module».now point.entries }
-    ensures { Answers None (FindsProper «module».now point.entries) result }
+    requires field { last.order ≡ «module».now.order }
+    requires fits { length last.entries ≡ «module».now.dim }
+    requires nonzero { ¬ (IsZeroVector last.entries) }
+    requires last { IsTrue last_generates → GeneratesModule «module».now last.entries }
+    ensures { Answers None (FindsProper «module».now last.entries) result }
 {
-    if first_generates {
+    if last_generates {
         return Ok(None);
     }
-    proper_space(alloc, module, point)
+    proper_space(alloc, module, last)
 }
 
 /// The most dimensions of a space over a field of an order that has few points, no more than [`MOST_POINTS`].

@@ -7,7 +7,7 @@ ghost use Rattle.axe_poly.specs.Limits.{greatest_degree};
 ghost use Rattle.axe_spin.specs.Modules.{IsModule};
 ghost use Rattle.axe_word.specs.Words.{IsWordIn};
 ghost use Rattle.axe_word.specs.Tested.{IsTested};
-ghost use Rattle.axe_norton.specs.Searches.{IsSquareIn, TellsByFirst};
+ghost use Rattle.axe_norton.specs.Searches.{IsSquareIn, TellsByFirst, IsKeptTranspose};
 ghost use Rattle.axe_norton.specs.Verdicts.{IsTrueOf};
 ghost use Rattle.axe_norton.specs.OneVector.{FitsWord, TellsByOne, SaysByPoly, SaysWhereFits};
 
@@ -34,7 +34,7 @@ pub fn decide_poly(alloc: Global, module: &Module, word: &Word, poly: &Poly) -> 
 {
     let tested = word.tested_by_poly(alloc, module, poly)?;
     let poly = poly.copy(alloc)?;
-    test_by_one(alloc, module, poly, tested)
+    test_by_one(alloc, module, poly, tested, &mut None)
 }
 
 /// What [`decide_poly`] says by a polynomial p over the module's field, of at most the greatest degree; nothing exactly
@@ -55,7 +55,7 @@ pub fn decide_poly_where_fits(
         return Ok(None);
     };
     let poly = poly.copy(alloc)?;
-    Ok(Some(test_by_one(alloc, module, poly, tested)?))
+    Ok(Some(test_by_one(alloc, module, poly, tested, &mut None)?))
 }
 
 /// What the first small factor that fits a square matrix tells of a module by one vector; the module is left open where
@@ -65,29 +65,40 @@ pub(crate) fn test_by_factor(
     module: &Module,
     table: &mut Irreducibles,
     matrix: &Matrix,
+    kept: &mut Option<Module>,
 ) -> Result<At, Refusal>
     requires square { IsSquareIn «module».now matrix.now }
     requires field { table.old.order ≡ «module».now.order }
+    requires kept { IsKeptTranspose «module».now kept.old }
     ensures tells { Answers None (TellsByFirst «module».now matrix.now) result }
     ensures well_formed { IsModule «module».now }
     ensures same_field { table.new.order ≡ «module».now.order }
+    ensures kept { IsKeptTranspose «module».now kept.new }
 {
     // `dim` is called for what it ensures beside the number: that the module is one.
     prove!(matrix.cols() == module.dim());
     match first_fitting(alloc, table, matrix)? {
-        Some(found) => test_by_one(alloc, module, found.poly, found.tested),
+        Some(found) => test_by_one(alloc, module, found.poly, found.tested, kept),
         None => Ok(At::Left),
     }
 }
 
 /// What a polynomial p that fits a square matrix x tells of a module by the first points of the null spaces of p(x) and
 /// of its transpose. The matrix is p(x), which is singular.
-fn test_by_one(alloc: Global, module: &Module, poly: Poly, tested: Tested) -> Result<At, Refusal>
+fn test_by_one(
+    alloc: Global,
+    module: &Module,
+    poly: Poly,
+    tested: Tested,
+    kept: &mut Option<Module>,
+) -> Result<At, Refusal>
     requires square { IsSquareIn «module».now tested.matrix }
     requires tested { IsTested tested }
     requires some_row { 0 < length tested.null_space.rows }
+    requires kept { IsKeptTranspose «module».now kept.old }
     ensures tells { Answers None (TellsByOne «module».now poly tested.matrix tested.null_space) result }
     ensures well_formed { IsModule «module».now }
+    ensures kept { IsKeptTranspose «module».now kept.new }
 {
     let Tested { matrix, null_space } = tested;
     // `dim` is called for what it ensures beside the number: that the module is one.
@@ -102,7 +113,7 @@ fn test_by_one(alloc: Global, module: &Module, poly: Poly, tested: Tested) -> Re
     let transposed = transposed_point(alloc, &matrix)?;
     // Its memory is free again before the transposed module is made.
     drop(matrix);
-    if let Some(space) = transposed_space(alloc, module, transposed)? {
+    if let Some(space) = transposed_space(alloc, module, transposed, kept)? {
         return Ok(At::Reducible(space));
     }
     Ok(At::Irreducible {

@@ -6,11 +6,13 @@ ghost use Rattle.axe_field.specs.NumberFields.{number_field};
 ghost use Rattle.axe_row.specs.Operations.{IsZeroVector};
 ghost use Rattle.axe_row.specs.Refusals.{Answers};
 ghost use Rattle.axe_matrix.specs.Matrices.{vector_product};
+ghost use Rattle.axe_spin.specs.Modules.{ModuleValue};
+ghost use Rattle.axe_action.specs.Actions.{dual_module};
 ghost use Rattle.axe_reduction.specs.Solutions.{IsInvertibleMatrix};
 ghost use Rattle.axe_word.specs.PointsOfMatrix.{points_of};
 ghost use Rattle.axe_norton.specs.Spaces.{GeneratesModule, HasFewPoints, point_of};
 ghost use Rattle.axe_norton.specs.Searches.{IsTestedWord, FindsProper, FindsProperSpace, FindsFirstOf, FindsTried};
-ghost use Rattle.axe_norton.specs.Searches.{IsTransposedPointRow, FindsTransposed};
+ghost use Rattle.axe_norton.specs.Searches.{IsTransposedPointRow, FindsTransposed, IsKeptTranspose};
 ghost use Rattle.axe_norton.specs.Pairings.{AreNullSpaces, AreCoordinatesOfPoint, IsPairing};
 
 use crate::pairings::{is_seen_to_generate, pairings};
@@ -20,6 +22,10 @@ use axe_matrix::{Matrix, Refusal, Row};
 use axe_spin::{Module, generated_space};
 use axe_word::{Points, first_point};
 use std::alloc::Global;
+
+/// The most dimensions of a transposed module that is kept while further words are asked: it takes as much memory as
+/// the module.
+const KEPT_DIMENSIONS: usize = 1_024;
 
 /// What came of trying the points of the null space of a matrix, which has few.
 #[derive(Drop)]
@@ -189,25 +195,40 @@ pub(crate) fn transposed_point(alloc: Global, matrix: &Matrix) -> Result<Row, Re
 }
 
 /// The reduced basis of the annihilator of the space that a vector other than zero generates in the transposed module,
-/// or `None` where it generates everything there. The transposed module is made for this alone: to keep it for further
-/// words would take as much memory as the module.
+/// or `None` where it generates everything there. The transposed module is made where it is not kept, and kept for
+/// further words where it is small.
 pub(crate) fn transposed_space(
     alloc: Global,
     module: &Module,
     vector: Row,
+    kept: &mut Option<Module>,
 ) -> Result<Option<Matrix>, Refusal>
     requires field { vector.order ≡ «module».now.order }
     requires fits { length vector.entries ≡ «module».now.dim }
     requires nonzero { ¬ (IsZeroVector vector.entries) }
-    ensures { Answers None (FindsTransposed «module».now vector.entries) result }
+    requires kept { IsKeptTranspose «module».now kept.old }
+    ensures found { Answers None (FindsTransposed «module».now vector.entries) result }
+    ensures kept { IsKeptTranspose «module».now kept.new }
 {
-    let transposed = dual(alloc, module)?;
+    let transposed = match kept.take() {
+        Some(transposed) => transposed,
+        None => dual(alloc, module)?,
+    };
     let generated = proper_subspace(alloc, &transposed, vector)?;
-    // Its memory is free again before the rows of the space are moved into a basis.
-    drop(transposed);
+    keep_where_small(transposed, kept);
     let Some(space) = generated else {
         return Ok(None);
     };
     let basis = space.into_reduced(alloc)?;
     Ok(Some(annihilator(alloc, &basis)?))
+}
+
+/// Keeps a transposed module for further words, where it is small; the memory of a larger one is free again.
+fn keep_where_small(transposed: Module, kept: &mut Option<Module>)
+    requires { kept.old ≡ None }
+    ensures { (m : ModuleValue) → transposed ≡ dual_module m → IsKeptTranspose m kept.new }
+{
+    if transposed.dim() <= KEPT_DIMENSIONS {
+        *kept = Some(transposed);
+    }
 }

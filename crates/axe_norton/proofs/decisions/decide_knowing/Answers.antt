@@ -1,57 +1,91 @@
-use Rattle.std.proofs.Common.{◌≡◌, suc, ◌+◌, arith, rules}
-use Rattle.std.proofs.lemmas.Bool.{eqb-true}
+use Rattle.std.proofs.Common.{◌≡◌, suc, ◌+◌, sym, ◌∙◌, ap, subst, arith, rules}
+use Rattle.axe_poly.specs.Tables.{IrreduciblesValue}
+use Rattle.axe_word.specs.KeptProducts.{AreProductsOf}
+use Rattle.axe_norton.specs.Searches.{IsKeptTranspose}
+use Rattle.axe_norton.specs.Verdicts.{Says, IsTrueOf}
 use Rattle.axe_norton.proofs.OpenLaws.{many_where_undecided}
-use Rattle.axe_norton.proofs.SearchLaws.{not_both}
-use Rattle.axe_norton.proofs.LastLaws.{first_of_word_zero}
-use Rattle.axe_norton.proofs.decisions.decide_knowing.Goals.{then-last_generates, else-last_generates}
-use Rattle.axe_norton.proofs.DecisionLaws.{none_before, open_more, decided_here, word_drawn, undecided}
+use Rattle.axe_norton.proofs.decisions.decide_knowing.Goals.{then-number-eq0+then-not-few_points+in_ok-said, else-number-eq0+in_ok-said-2}
+use Rattle.axe_norton.proofs.DecisionLaws.{none_before, open_more, decided_here, said_by_word_zero, word_drawn, undecided}
 use Rattle.axe_norton.proofs.decisions.decide_knowing.Goals as goal
 
 pub loop-number-init : goal.loop-number-init
 loop-number-init c = record {
   field = c.requires.field;
   products = search rules;
+  kept = tt;
   before = none_before c.args.module.now c.args.seed;
 }
 
-pub decide_at_knowing-requires-clause-field : goal.decide_at_knowing-requires-clause-field
-decide_at_knowing-requires-clause-field c = c.loop-number.invariant.field
-
-pub decide_at_knowing-requires-clause-first : goal.decide_at_knowing-requires-clause-first
-decide_at_knowing-requires-clause-first c = elim c.if-last_generates.branch [
-  | then-last_generates w ↦ λ known.
-      let zero : c.loop-number.number ≡ 0 = eqb-true c.loop-number.number 0 (rw w.first_generates-is at known) in
-      first_of_word_zero c.args.module.now c.args.seed c.loop-number.number c.nth_word-word.result c.field.ensures.well_formed
-      (c.requires.last w.if-last_generates.true)
-      (word_drawn c.args.module.now c.args.seed c.loop-number.number _ _ c.nth_word-word.result c.nth_word-word.ensures.drawn (cc) (cc)) zero
-  | else-last_generates w ↦ λ known. absurd (not_both c.args.last_generates (rw w.first_generates-is at known) w.if-last_generates.false)
-]
-
 pub loop-number-preserved : goal.loop-number-preserved
-loop-number-preserved c = record {
-  field = c.decide_at_knowing.ensures.same_field;
-  products = c.decide_at_knowing.ensures.products;
-  before = open_more c.args.module.now c.args.seed c.loop-number.number _ c.nth_word-word.result
-      (let e : c.loop-number.number + 1 ≡ suc c.loop-number.number = omega arith in e) c.loop-number.invariant.before
-      (word_drawn c.args.module.now c.args.seed c.loop-number.number _ _ c.nth_word-word.result c.nth_word-word.ensures.drawn (cc) (cc))
-      (rw c.in-Left.is at c.in_ok-poly.ensures.says);
-}
+loop-number-preserved c =
+    let says : Says c.args.module.now c.nth_word-word.result c.if-number-eq0.said = elim c.if-number-eq0.branch [
+      | then-number-eq0+then-not-few_points+in_ok-said w ↦
+          subst (Says c.args.module.now c.nth_word-word.result) (sym w.said-is)
+          (said_by_word_zero c.args.module.now c.args.seed c.loop-number.number c.nth_word-word.result _
+          (word_drawn c.args.module.now c.args.seed c.loop-number.number _ _ c.nth_word-word.result c.nth_word-word.ensures.drawn (cc) (cc)) w.if-number-eq0.true w.in_ok-said.ensures.says)
+      | else-number-eq0+in_ok-said-2 w ↦ subst (Says c.args.module.now c.nth_word-word.result) (sym w.said-is) w.in_ok-said-2.ensures.says
+    ] in
+    record {
+      field = elim c.if-number-eq0.branch [
+        | then-number-eq0+then-not-few_points+in_ok-said w ↦ ap (λ (t : IrreduciblesValue). t.order) w.table-is ∙ c.loop-number.invariant.field
+        | else-number-eq0+in_ok-said-2 w ↦ ap (λ (t : IrreduciblesValue). t.order) w.table-is ∙ w.decide_at_keeping.ensures.same_field
+      ];
+      products = elim c.if-number-eq0.branch [
+        | then-number-eq0+then-not-few_points+in_ok-said w ↦ subst (AreProductsOf c.args.module.now) (sym w.products-is) c.loop-number.invariant.products
+        | else-number-eq0+in_ok-said-2 w ↦ subst (AreProductsOf c.args.module.now) (sym w.products-is) w.decide_at_keeping.ensures.products
+      ];
+      kept = elim c.if-number-eq0.branch [
+        | then-number-eq0+then-not-few_points+in_ok-said w ↦ subst (IsKeptTranspose c.args.module.now) (sym w.kept-is) w.decide_zero.ensures.kept
+        | else-number-eq0+in_ok-said-2 w ↦ subst (IsKeptTranspose c.args.module.now) (sym w.kept-is) w.decide_at_keeping.ensures.kept
+      ];
+      before = open_more c.args.module.now c.args.seed c.loop-number.number _ c.nth_word-word.result
+          (let e : c.loop-number.number + 1 ≡ suc c.loop-number.number = omega arith in e) c.loop-number.invariant.before
+          (word_drawn c.args.module.now c.args.seed c.loop-number.number _ _ c.nth_word-word.result c.nth_word-word.ensures.drawn (cc) (cc)) (rw c.in-Left.is at says);
+    }
 
 pub returns-in-Irreducible-clause-decides : goal.returns-in-Irreducible-clause-decides
 returns-in-Irreducible-clause-decides c =
+    let says : Says c.args.module.now c.nth_word-word.result c.if-number-eq0.said = elim c.if-number-eq0.branch [
+      | then-number-eq0+then-not-few_points+in_ok-said w ↦
+          subst (Says c.args.module.now c.nth_word-word.result) (sym w.said-is)
+          (said_by_word_zero c.args.module.now c.args.seed c.loop-number.number c.nth_word-word.result _
+          (word_drawn c.args.module.now c.args.seed c.loop-number.number _ _ c.nth_word-word.result c.nth_word-word.ensures.drawn (cc) (cc)) w.if-number-eq0.true w.in_ok-said.ensures.says)
+      | else-number-eq0+in_ok-said-2 w ↦ subst (Says c.args.module.now c.nth_word-word.result) (sym w.said-is) w.in_ok-said-2.ensures.says
+    ] in
     decided_here c.args.module.now c.args.seed c.args.words c.loop-number.number c.nth_word-word.result _ (omega (arith, c.loop-number-test.true))
     c.loop-number.invariant.before
-    (word_drawn c.args.module.now c.args.seed c.loop-number.number _ _ c.nth_word-word.result c.nth_word-word.ensures.drawn (cc) (cc))
-    (rw c.in-Irreducible.is at c.in_ok-poly.ensures.says)
+    (word_drawn c.args.module.now c.args.seed c.loop-number.number _ _ c.nth_word-word.result c.nth_word-word.ensures.drawn (cc) (cc)) (rw c.in-Irreducible.is at says)
+
+pub returns-in-Irreducible-clause-holds : goal.returns-in-Irreducible-clause-holds
+returns-in-Irreducible-clause-holds c =
+    let holds : IsTrueOf c.args.module.now c.if-number-eq0.said = elim c.if-number-eq0.branch [
+      | then-number-eq0+then-not-few_points+in_ok-said w ↦ subst (IsTrueOf c.args.module.now) (sym w.said-is) w.in_ok-said.ensures.holds
+      | else-number-eq0+in_ok-said-2 w ↦ subst (IsTrueOf c.args.module.now) (sym w.said-is) w.in_ok-said-2.ensures.holds
+    ] in
+    (rw c.in-Irreducible.is at holds)
 
 pub returns-in-Reducible-clause-decides : goal.returns-in-Reducible-clause-decides
-returns-in-Reducible-clause-decides c = (
-  c.loop-number.number,
-  decided_here c.args.module.now c.args.seed c.args.words c.loop-number.number c.nth_word-word.result _ (omega (arith, c.loop-number-test.true))
-      c.loop-number.invariant.before
-      (word_drawn c.args.module.now c.args.seed c.loop-number.number _ _ c.nth_word-word.result c.nth_word-word.ensures.drawn (cc) (cc))
-      (rw c.in-Reducible.is at c.in_ok-poly.ensures.says),
-)
+returns-in-Reducible-clause-decides c =
+    let says : Says c.args.module.now c.nth_word-word.result c.if-number-eq0.said = elim c.if-number-eq0.branch [
+      | then-number-eq0+then-not-few_points+in_ok-said w ↦
+          subst (Says c.args.module.now c.nth_word-word.result) (sym w.said-is)
+          (said_by_word_zero c.args.module.now c.args.seed c.loop-number.number c.nth_word-word.result _
+          (word_drawn c.args.module.now c.args.seed c.loop-number.number _ _ c.nth_word-word.result c.nth_word-word.ensures.drawn (cc) (cc)) w.if-number-eq0.true w.in_ok-said.ensures.says)
+      | else-number-eq0+in_ok-said-2 w ↦ subst (Says c.args.module.now c.nth_word-word.result) (sym w.said-is) w.in_ok-said-2.ensures.says
+    ] in (
+      c.loop-number.number,
+      decided_here c.args.module.now c.args.seed c.args.words c.loop-number.number c.nth_word-word.result _ (omega (arith, c.loop-number-test.true))
+          c.loop-number.invariant.before
+          (word_drawn c.args.module.now c.args.seed c.loop-number.number _ _ c.nth_word-word.result c.nth_word-word.ensures.drawn (cc) (cc)) (rw c.in-Reducible.is at says),
+    )
+
+pub returns-in-Reducible-clause-holds : goal.returns-in-Reducible-clause-holds
+returns-in-Reducible-clause-holds c =
+    let holds : IsTrueOf c.args.module.now c.if-number-eq0.said = elim c.if-number-eq0.branch [
+      | then-number-eq0+then-not-few_points+in_ok-said w ↦ subst (IsTrueOf c.args.module.now) (sym w.said-is) w.in_ok-said.ensures.holds
+      | else-number-eq0+in_ok-said-2 w ↦ subst (IsTrueOf c.args.module.now) (sym w.said-is) w.in_ok-said-2.ensures.holds
+    ] in
+    (rw c.in-Reducible.is at holds)
 
 pub returns-clause-holds : goal.returns-clause-holds
 returns-clause-holds c =

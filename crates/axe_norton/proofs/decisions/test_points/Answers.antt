@@ -7,8 +7,8 @@ use Rattle.axe_norton.proofs.DecisionLaws.{left_without_rows, irreducible_told}
 use Rattle.axe_norton.proofs.decisions.test_points.Goals as goal
 use mathlib.Core.Logic.{inr}
 
-pub returns-then-rows-eq0 : goal.returns-then-rows-eq0
-returns-then-rows-eq0 c =
+pub returns-then-rows-eq0-clause-tells : goal.returns-then-rows-eq0-clause-tells
+returns-then-rows-eq0-clause-tells c =
     let tested = c.requires.value.is_tested.tested in
     left_without_rows c.args.module.now c.args.matrix.now c.args.null_space.now (square_in c.args.module.now c.args.matrix.now c.args.null_space.now c.requires.value)
     tested.null_space tested.well_formed (sym c.rows.ensures.count ∙ c.if-rows-eq0.true)
@@ -37,18 +37,18 @@ transposed_space-requires-clause-nonzero c =
     transposed_point_nonzero c.args.module.now c.args.matrix.now
     (square_in c.args.module.now c.args.matrix.now c.args.null_space.now c.requires.value) c.in-Generate.transposed found.1
 
-pub returns-in-Some : goal.returns-in-Some
-returns-in-Some c =
+pub returns-in-Some-clause-tells : goal.returns-in-Some-clause-tells
+returns-in-Some-clause-tells c =
     let found : FindsFirst c.args.module.now c.args.null_space.now None × IsTransposedPointRow c.args.matrix.now c.in-Generate.transposed =
     rw c.in-Generate.is at c.in_ok-space.ensures in
     inr (
       found.0,
       transposed_space_is c.args.module.now c.args.matrix.now (square_in c.args.module.now c.args.matrix.now c.args.null_space.now c.requires.value)
-          c.in-Generate.transposed found.1 c.in-Some.space (rw c.in-Some.is at c.in_ok-space-2.ensures),
+          c.in-Generate.transposed found.1 c.in-Some.space (rw c.in-Some.is at c.in_ok-space-2.ensures.found),
     )
 
-pub returns-in-None : goal.returns-in-None
-returns-in-None c =
+pub returns-in-None-clause-tells : goal.returns-in-None-clause-tells
+returns-in-None-clause-tells c =
     let tested = c.requires.value.is_tested.tested in
     let some : 0 < length c.args.null_space.now.rows = omega (arith, c.rows.ensures.count, c.if-rows-eq0.false) in
     let found : FindsFirst c.args.module.now c.args.null_space.now None × IsTransposedPointRow c.args.matrix.now c.in-Generate.transposed =
@@ -57,5 +57,5 @@ returns-in-None c =
     (square_in c.args.module.now c.args.matrix.now c.args.null_space.now c.requires.value) tested.null_space tested.well_formed some c.in_ok-first.first
     c.requires.few found.0
     (transpose_generates c.args.module.now c.args.matrix.now (square_in c.args.module.now c.args.matrix.now c.args.null_space.now c.requires.value)
-    c.in-Generate.transposed found.1 (rw c.in-None.is at c.in_ok-space-2.ensures))
+    c.in-Generate.transposed found.1 (rw c.in-None.is at c.in_ok-space-2.ensures.found))
     c.in_ok-first.ensures.first

@@ -51,11 +51,11 @@ returns-in-Some-2-clause-tells c =
     one_transposed c.args.module.now c.args.tested c.requires.square c.requires.tested c.requires.some_row c.in_ok-point.point c.in_ok-point.ensures.first
     c.args.poly c.in-Some-2.space (rw c.in_default.is at c.in_ok-space.ensures)
     (transposed_space_is c.args.module.now c.args.tested.matrix c.requires.square c.in_ok-transposed.transposed c.in_ok-transposed.ensures c.in-Some-2.space
-    (rw c.in-Some-2.is at c.in_ok-space-2.ensures))
+    (rw c.in-Some-2.is at c.in_ok-space-2.ensures.found))
 
 pub returns-clause-tells : goal.returns-clause-tells
 returns-clause-tells c =
     one_irreducible c.args.module.now c.args.tested c.requires.square c.requires.tested c.requires.some_row c.in_ok-point.point c.in_ok-point.ensures.first
     c.args.poly c.args.poly c.in_ok-vector.vector refl c.in_ok-vector.ensures.copied (rw c.in_default.is at c.in_ok-space.ensures)
     (transpose_generates c.args.module.now c.args.tested.matrix c.requires.square c.in_ok-transposed.transposed c.in_ok-transposed.ensures
-    (rw c.in_default-2.is at c.in_ok-space-2.ensures))
+    (rw c.in_default-2.is at c.in_ok-space-2.ensures.found))

@@ -2,7 +2,7 @@ use Rattle.axe_norton.proofs.TestedLaws.{value_square}
 use Rattle.axe_norton.proofs.DecisionLaws.{truth_told}
 use Rattle.axe_norton.proofs.SaidLaws.{said_is_true}
 use Rattle.axe_norton.proofs.FirstLaws.{said_by_points, said_where_left}
-use Rattle.axe_norton.proofs.decisions.decide_at_knowing.Goals as goal
+use Rattle.axe_norton.proofs.decisions.decide_at_keeping.Goals as goal
 
 pub test_null_space-requires-clause-value : goal.test_null_space-requires-clause-value
 test_null_space-requires-clause-value c = record {
@@ -10,9 +10,6 @@ test_null_space-requires-clause-value c = record {
   is_word = c.requires.word;
   is_value = c.in_ok-matrix.ensures.value;
 }
-
-pub test_null_space-requires-clause-first : goal.test_null_space-requires-clause-first
-test_null_space-requires-clause-first c = λ known. c.requires.first known c.in_ok-matrix.matrix c.in_ok-matrix.ensures.value
 
 pub test_by_factor-requires-clause-square : goal.test_by_factor-requires-clause-square
 test_by_factor-requires-clause-square c = value_square c.args.module.now c.args.word.now c.in_ok-matrix.matrix c.in_ok-matrix.ensures.value
