@@ -2,8 +2,10 @@ pub mod ModuleLaws
 pub mod ZeroRows
 pub mod SeedLaws
 pub mod SpunLaws
+pub mod ImageLaws
 pub mod OriginLaws
 pub mod SpaceLaws
+pub mod BlockLaws
 pub mod GeneratedLaws
 pub mod StandardLaws
 pub mod StandardImages

@@ -99,7 +99,7 @@ module _ (m : ModuleValue) (is : IsModule m) where
       span_within F (length old.rows) (matrix_of K old.rows) (length new.rows) (matrix_of K new.rows) _ (old_row_spanned old new enlarged) spanned
 
   -- and so do images of rows
-  image_in_enlarged : (old new : EchelonValue) (r i : ℕ) → IsEnlarged m old new → r < length old.rows → IsSpanned K new.rows (image_of_row m old.rows r i) →
+  pub image_in_enlarged : (old new : EchelonValue) (r i : ℕ) → IsEnlarged m old new → r < length old.rows → IsSpanned K new.rows (image_of_row m old.rows r i) →
       IsSpanned K new.rows (image_of_row m new.rows r i)
   image_in_enlarged old new r i enlarged below =
       subst (λ (v : List ℕ). IsSpanned K new.rows (combination K m.dim v (get_or m.generators i []))) (sym (enlarged.begins r below))

@@ -5,4 +5,6 @@ pub mod Spinning
 pub mod Spun
 pub mod Origins
 pub mod Spaces
+pub mod Blocks
+pub mod Images
 pub mod SpinLaws

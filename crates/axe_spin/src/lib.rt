@@ -1,6 +1,7 @@
 //! Modules over a small finite field: the spaces that rows generate in them, and standard bases.
 #![tactic(auto)]
 
+mod blocks;
 mod generated;
 mod laws;
 mod limits;

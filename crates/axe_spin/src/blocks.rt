@@ -1,0 +1,28 @@
+//! Blocks: rows of a module that wait together for their images.
+
+ghost use Rattle.std.specs.Prelude.{◌≡◌, ◌+◌, ◌<◌, ◌≤◌};
+
+use crate::module::Module;
+
+/// The least dimension of a module whose rows are multiplied by a generator many at once. In smaller ones a product
+/// takes as long as the images of its rows one by one.
+const MANY_DIMENSIONS: usize = 1024;
+
+/// The least number of rows for which a product is made.
+const MANY_ROWS: usize = 32;
+
+/// How many of the rows that are spun in a module are multiplied by the generators next, where so many were before them:
+/// one, or of a module of many dimensions as many as wait. But they are no more than have images enough to make the
+/// rows as many as the dimension.
+pub(crate) fn block_length(module: &Module, rows: usize, taken: usize) -> usize
+    requires { taken < rows }
+    ensures some { 1 ≤ result }
+    ensures within { taken + result ≤ rows }
+{
+    if module.dim() < MANY_DIMENSIONS {
+        return 1;
+    }
+    let missing = module.dim().saturating_sub(rows);
+    let count = (rows - taken).min(missing.div_ceil(module.gens()));
+    if count < MANY_ROWS { 1 } else { count }
+}
