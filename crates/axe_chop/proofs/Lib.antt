@@ -5,6 +5,7 @@ pub mod Lifting
 pub mod Placing
 pub mod Cutting
 pub mod LastVectors
+pub mod Asking
 pub mod Stepping
 pub mod Factors
 pub mod AnswerLaws

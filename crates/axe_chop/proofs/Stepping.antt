@@ -62,16 +62,35 @@ pushed_two x y before middle after second first = first ∙ (λ i. x ∷ second 
 
 -- ---- verdicts
 
--- what is decided of a module by its name
-pub decided_as : (action m : ModuleValue) (seed words : ℕ) (verdict found : Verdict.Verdict) → action ≡ m →
-    verdict ≡ found → Decides action seed words verdict → Decides m seed words found
-decided_as action m seed words verdict found is is_verdict decides =
-    subst (λ v. Decides m seed words v) is_verdict (subst (λ a. Decides a seed words verdict) is decides)
+-- what is decided of a section that stays as it is, by its name
+pub decided_as : (section after : SectionValue) (seed words : ℕ) (verdict found : Verdict.Verdict) → after ≡ section →
+    verdict ≡ found → Decides section.action seed words verdict → Decides after.action seed words found
+decided_as section after seed words verdict found same is decides =
+    subst (λ v. Decides after.action seed words v) is
+    (subst (λ (s : SectionValue). Decides s.action seed words verdict) (sym same) decides)
 
-pub true_as : (action m : ModuleValue) (verdict found : Verdict.Verdict) → action ≡ m → verdict ≡ found →
-    IsTrueVerdict action verdict → IsTrueVerdict m found
-true_as action m verdict found is is_verdict holds =
-    subst (λ v. IsTrueVerdict m v) is_verdict (subst (λ a. IsTrueVerdict a verdict) is holds)
+pub true_as : (section after : SectionValue) (verdict found : Verdict.Verdict) → after ≡ section → verdict ≡ found →
+    IsTrueVerdict section.action verdict → IsTrueVerdict after.action found
+true_as section after verdict found same is holds =
+    subst (λ v. IsTrueVerdict after.action v) is (subst (λ (s : SectionValue). IsTrueVerdict s.action verdict) (sym same) holds)
+
+-- its action is like those of the forms, and there is room for its rows
+pub like_as : (section after : SectionValue) (forms : List FormValue) → after ≡ section →
+    All (λ (form : FormValue). IsActionLike section.action form.matrices) forms →
+    All (λ (form : FormValue). IsActionLike after.action form.matrices) forms
+like_as section after forms same =
+    subst (λ (s : SectionValue). All (λ (form : FormValue). IsActionLike s.action form.matrices) forms) (sym same)
+
+pub room_as : (section after : SectionValue) (rows : List (List ℕ)) → after ≡ section →
+    length rows + section.action.dim ≤ most_rows → length rows + after.action.dim ≤ most_rows
+room_as section after rows same = subst (λ (s : SectionValue). length rows + s.action.dim ≤ most_rows) (sym same)
+
+-- what becomes of it
+pub step_as : (seed words : ℕ) (section after : SectionValue) (found next : Found.Found) (others all : List SectionValue) →
+    after ≡ section → (left : Option SectionValue) → IsDecided seed words after found others next all left →
+    IsDecided seed words section found others next all left
+step_as seed words section after found next others all same left =
+    subst (λ (s : SectionValue). IsDecided seed words s found others next all left) same
 
 -- ---- one more place
 

@@ -1,9 +1,10 @@
 -- A section as the code keeps it.
-use Rattle.std.specs.Prelude.{⊤, ◌<◌, Bool, IsTrue}
+use Rattle.std.specs.Prelude.{⊤, ℕ, ◌<◌}
 use Rattle.std.specs.List.{All}
 use Rattle.axe_matrix.specs.Matrices.{MatrixValue, IsMatrix, identity_matrix}
 use Rattle.axe_spin.specs.Modules.{ModuleValue}
-use Rattle.axe_norton.specs.Spaces.{LastGenerates}
+use Rattle.axe_norton.specs.Known.{IsKnownOf}
+use Rattle.axe_norton.specs.declared.known.Known.{Known}
 use Rattle.axe_series.specs.Sections.{SectionValue}
 use Rattle.axe_chop.specs.Stages.{IsSection}
 use Rattle.axe_chop.specs.Vectors.{matrix_of_unit_vectors}
@@ -38,7 +39,7 @@ acting_module (Owned m) = m
 abbrev pub kept_section : Action → MatrixValue → SectionValue
 kept_section action rows = record { action = acting_module action; rows = rows }
 
--- a section is kept; and the last unit vector generates everything in its action, where that is said
-pub record IsKeptSection (action : Action) (rows : MatrixValue) (last_generates : Bool) : Type 0 where
+-- a section is kept; and what is known of its action for the seed is true of it
+pub record IsKeptSection (action : Action) (rows : MatrixValue) (seed : ℕ) (known : Known) : Type 0 where
   pub section : IsSection (kept_section action rows)
-  pub last : IsTrue last_generates → LastGenerates (acting_module action)
+  pub is_known : IsKnownOf (acting_module action) seed known

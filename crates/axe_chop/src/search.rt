@@ -18,7 +18,7 @@ ghost use Rattle.axe_chop.specs.declared.search.Searched.TheVariants.{Open};
 use crate::found::Found;
 use crate::section::{Action, Section, Witness};
 use axe_matrix::{Matrix, Refusal};
-use axe_norton::{Verdict, decide_knowing};
+use axe_norton::Verdict;
 use axe_poly::Irreducibles;
 use std::alloc::Global;
 use std::collections::VecDeque;
@@ -71,7 +71,7 @@ fn decide_all<'a>(
 {
     // The irreducible polynomials are found once for all sections.
     let mut table = Irreducibles::new(alloc, *action.module().field());
-    sections.push_front(Section::whole(action))?;
+    sections.push_front(Section::whole(alloc, action, seed))?;
     while let Some(section) = sections.pop_front() {
         let left = decide_section(alloc, found, sections, section, &mut table, seed, words)?;
         if let Some(undecided) = left {
@@ -120,8 +120,8 @@ fn decide_section<'a>(
         (IsDecided seed words section.entry found.old sections.old.items found.new sections.new.items) result }
     ensures same_field { table.new.order ≡ section.entry.action.order }
 {
-    let last_generates = section.last_generates();
-    match decide_knowing(alloc, section.action(), last_generates, table, seed, words)? {
+    let mut section = section;
+    match section.decide(alloc, table, seed, words)? {
         Verdict::Irreducible { word, poly, vector } => {
             let witness = Witness { word, poly, vector };
             found.place_owned(alloc, section, seed, witness)?;

@@ -7,8 +7,8 @@ ghost use Rattle.axe_matrix.specs.Matrices.{IsMatrix};
 ghost use Rattle.axe_spin.specs.Modules.{IsModule};
 ghost use Rattle.axe_action.specs.Actions.{IsBasisAction, IsActionModulo};
 ghost use Rattle.axe_action.specs.FreeColumns.{AreFreeColumns, rows_to_span};
-ghost use Rattle.axe_norton.specs.Spaces.{IsProperSubmodule, LastGenerates};
-ghost use Rattle.axe_norton.specs.Verdicts.{Decides};
+ghost use Rattle.axe_norton.specs.Spaces.{IsProperSubmodule};
+ghost use Rattle.axe_norton.specs.Verdicts.{last_word, Decides, IsTrueVerdict};
 ghost use Rattle.axe_norton.specs.declared.verdicts.Verdict.TheVariants.{Irreducible, Reducible};
 ghost use Rattle.axe_iso.specs.Forms.{IsForm, IsFormFrom};
 ghost use Rattle.axe_series.specs.Sections.{whole_section, lifted_rows, IsCut};
@@ -19,7 +19,8 @@ use crate::lifted::LiftedRows;
 use axe_action::{Split, split_by_submodule};
 use axe_iso::{Form, form_of, form_of_owned};
 use axe_matrix::{Matrix, Refusal, Row};
-use axe_poly::Poly;
+use axe_norton::{Known, Verdict, decide_knowing};
+use axe_poly::{Irreducibles, Poly};
 use axe_spin::Module;
 use std::alloc::Global;
 use std::marker::Model;
@@ -30,8 +31,10 @@ use std::marker::Model;
 pub(crate) struct Section<'a> {
     action: Action<'a>,
     rows: LiftedRows,
-    /// Whether the last unit vector is known to generate everything in the action.
-    last_generates: bool,
+    /// The seed for whose words something is known.
+    seed: u64,
+    /// What is known of the action for that seed.
+    known: Known,
 }
 
 /// By what a seed showed a section to be irreducible: the number of the word, the polynomial p that did so at the
@@ -60,23 +63,23 @@ impl<'a> Model for Section<'a> {
 
     ghost view = { λ a. kept_section a.action a.rows };
 
-    ghost invariant = { λ a. IsKeptSection a.action a.rows a.last_generates };
+    ghost invariant = { λ a. IsKeptSection a.action a.rows a.seed a.known };
 }
 
 impl<'a> Section<'a> {
-    /// A module as its own section, with the unit vectors.
-    pub(crate) fn whole(action: Action<'a>) -> Section<'a>
+    /// A module as its own section, with the unit vectors. Nothing is known of it for a seed.
+    pub(crate) fn whole(alloc: Global, action: Action<'a>, seed: u64) -> Section<'a>
         ensures whole { result ≡ whole_section (acting_module action.entry) }
         ensures well_formed { IsSection result }
     {
         let module = action.module();
         let rows = LiftedRows::identity(*module.field(), module.dim());
-        // Of a module that is given nothing is known.
-        let last_generates = false;
+        let known = Known::nothing(alloc);
         Section {
             action,
             rows,
-            last_generates,
+            seed,
+            known,
         }
     }
 
@@ -88,11 +91,29 @@ impl<'a> Section<'a> {
         self.action.module()
     }
 
-    /// Whether the last unit vector is known to generate everything in the action.
-    pub(crate) fn last_generates(&self) -> bool
-        ensures { IsTrue result → LastGenerates self.now.action }
+    /// What the words 0 to `words` of a seed decide of the action. What is known for that seed serves, and values of words
+    /// that are made are kept; what is known for another is forgotten. The section stays as it is. The table has
+    /// irreducible polynomials over its field.
+    pub(crate) fn decide(
+        &mut self,
+        alloc: Global,
+        table: &mut Irreducibles,
+        seed: u64,
+        words: u32,
+    ) -> Result<Verdict, Refusal>
+        requires words { words ≤ last_word }
+        requires field { table.old.order ≡ self.old.action.order }
+        ensures decides { Answers None (Decides self.old.action seed words) result }
+        ensures holds { Answers None (IsTrueVerdict self.old.action) result }
+        ensures same { self.new ≡ self.old }
+        ensures same_field { table.new.order ≡ self.old.action.order }
     {
-        self.last_generates
+        if seed != self.seed {
+            self.known = Known::nothing(alloc);
+            self.seed = seed;
+        }
+        let module = self.action.module();
+        decide_knowing(alloc, module, &mut self.known, table, seed, words)
     }
 
     /// Appends the lifted rows to a matrix. For want of memory only some first of them are appended.
@@ -154,7 +175,12 @@ impl<'a> Section<'a> {
         requires space { IsProperSubmodule self.action space }
         ensures { Answers None (λ parts. IsCut self.entry space parts.0 parts.1) result }
     {
-        let Section { action, rows, .. } = self;
+        let Section {
+            action,
+            rows,
+            seed,
+            known,
+        } = self;
         let Split {
             sub,
             quotient,
@@ -163,6 +189,7 @@ impl<'a> Section<'a> {
         // Where the last column is no pivot, the last unit vector is not in the submodule. So it generates everything
         // in the section, since word 0 would have found what it generates, and its image does so in the quotient.
         let quotient_last = is_last_of(space.cols() - 1, &columns);
+        let (sub_known, quotient_known) = known.cut(alloc, &space, quotient_last)?;
         // The rows of the submodule are lifted, and the unit vectors that extend them to a basis: these lift to the
         // rows at their columns.
         let (sub_rows, quotient_rows) = rows.cut(alloc, space, columns)?;
@@ -170,12 +197,14 @@ impl<'a> Section<'a> {
             Section {
                 action: Action::Owned(sub),
                 rows: sub_rows,
-                last_generates: false,
+                seed,
+                known: sub_known,
             },
             Section {
                 action: Action::Owned(quotient),
                 rows: quotient_rows,
-                last_generates: quotient_last,
+                seed,
+                known: quotient_known,
             },
         ))
     }

@@ -135,9 +135,9 @@ pub word_drawn : (m : ModuleValue) (seed j q k : ℕ) (word : WordValue) → wor
 word_drawn m seed j q k word is order count = is ∙ ap (λ p. drawn_word seed j p k) order ∙ ap (drawn_word seed j (order_number m.order)) count
 
 -- word 0 says what the word without terms says
-pub said_by_word_zero : (m : ModuleValue) (seed j : ℕ) (word : WordValue) (answer : At) → word ≡ word_of_seed m seed j → j ≡ 0 → Says m [] answer → Says m word answer
-said_by_word_zero m seed j word answer same first says =
-    subst (λ (w : WordValue). Says m w answer) (sym (same ∙ ap (word_of_seed m seed) first ∙ word_zero m seed)) says
+pub said_by_word_zero : (m : ModuleValue) (seed j : ℕ) (answer : At) → j ≡ 0 → Says m [] answer → Says m (word_of_seed m seed j) answer
+said_by_word_zero m seed j answer first says =
+    subst (λ (w : WordValue). Says m w answer) (sym (ap (word_of_seed m seed) first ∙ word_zero m seed)) says
 
 pub none_before : (m : ModuleValue) (seed : ℕ) → LeaveOpenBefore m seed 0
 none_before m seed i before = absurd (omega arith)
@@ -152,13 +152,9 @@ open_more m seed j next word is before same left i below = at (ℕ_discrete i j)
     at (no other) = before i (omega arith)
 
 -- one more word, the first that does not leave it open, decides
-pub decided_here : (m : ModuleValue) (seed words j : ℕ) (word : WordValue) (answer : At) → j ≤ words → LeaveOpenBefore m seed j → word ≡ word_of_seed m seed j →
-    Says m word answer → DecidesAt m seed words j answer
-decided_here m seed words j word answer within before same says = record {
-  within = within;
-  before = before;
-  says = subst (λ (w : WordValue). Says m w answer) same says;
-}
+pub decided_here : (m : ModuleValue) (seed words j : ℕ) (answer : At) → j ≤ words → LeaveOpenBefore m seed j → Says m (word_of_seed m seed j) answer →
+    DecidesAt m seed words j answer
+decided_here m seed words j answer within before says = record { within = within; before = before; says = says }
 
 -- all words leave it open
 pub undecided : (m : ModuleValue) (seed words j : ℕ) → words < j → LeaveOpenBefore m seed j → (i : ℕ) → i ≤ words → LeavesOpen m (word_of_seed m seed i)

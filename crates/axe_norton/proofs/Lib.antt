@@ -18,3 +18,5 @@ pub mod FirstLaws
 pub mod LastLaws
 pub mod ZeroFactors
 pub mod ZeroLaws
+pub mod CutWords
+pub mod CutValues

@@ -5,3 +5,4 @@ pub mod Verdicts
 pub mod Searches
 pub mod Misfits
 pub mod Pairings
+pub mod Known

@@ -6,15 +6,18 @@ ghost use Rattle.axe_row.specs.Operations.{IsZeroVector};
 ghost use Rattle.axe_row.specs.Refusals.{Answers};
 ghost use Rattle.axe_spin.specs.Modules.{IsModule};
 ghost use Rattle.axe_word.specs.Drawing.{IsOrder};
-ghost use Rattle.axe_word.specs.Words.{IsWordIn};
+ghost use Rattle.axe_word.specs.Words.{IsWordIn, IsValueOf};
 ghost use Rattle.axe_word.specs.KeptProducts.{AreProductsOf};
 ghost use Rattle.axe_word.specs.PointsOfMatrix.{point_count, most_points};
+ghost use Rattle.axe_norton.specs.Known.{IsKnownOf};
 ghost use Rattle.axe_norton.specs.Searches.{IsValueOfWord, IsTestedWord, IsFirstOfMany, TellsByNullSpace};
 ghost use Rattle.axe_norton.specs.Searches.{FindsProper, IsKeptTranspose};
 ghost use Rattle.axe_norton.specs.Spaces.{GeneratesModule, LastGenerates, HasFewPoints};
-ghost use Rattle.axe_norton.specs.Verdicts.{last_word, TellsByPoints, Says, IsTrueOf, Decides, IsTrueVerdict};
+ghost use Rattle.axe_norton.specs.Verdicts.{last_word, word_of_seed, TellsByPoints, Says, IsTrueOf, Decides};
+ghost use Rattle.axe_norton.specs.Verdicts.{IsTrueVerdict};
 
 use crate::MOST_POINTS;
+use crate::known::Known;
 use crate::one_vector::test_by_factor;
 use crate::spaces::{Tried, proper_space, transposed_point, transposed_space, tried_points};
 use crate::verdicts::{At, Verdict};
@@ -75,37 +78,47 @@ pub fn decide_with(
     ensures holds { Answers None (IsTrueVerdict «module».now) result }
     ensures same_field { table.new.order ≡ «module».now.order }
 {
-    decide_knowing(alloc, module, false, table, seed, words)
+    let mut known = Known::nothing(alloc);
+    decide_knowing(alloc, module, &mut known, table, seed, words)
 }
 
-/// What [`decide_with`] tells, where the module's last unit vector, the first point of the null space of word 0, may be
-/// known to generate everything: then it is not spun.
+/// What [`decide_with`] tells, where something may be known of the module for the seed. A last unit vector, the first
+/// point of the null space of word 0, is not spun where it is known to generate everything; values of words that are
+/// known are not made, and those of others are kept where they are few.
 pub fn decide_knowing(
     alloc: Global,
     module: &Module,
-    last_generates: bool,
+    known: &mut Known,
     table: &mut Irreducibles,
     seed: u64,
     words: u32,
 ) -> Result<Verdict, Refusal>
     requires words { words ≤ last_word }
-    requires last { IsTrue last_generates → LastGenerates «module».now }
+    requires known { IsKnownOf «module».now seed known.old }
     requires field { table.old.order ≡ «module».now.order }
     ensures decides { Answers None (Decides «module».now seed words) result }
     ensures holds { Answers None (IsTrueVerdict «module».now) result }
     ensures same_field { table.new.order ≡ «module».now.order }
+    ensures known { IsKnownOf «module».now seed known.new }
 {
     let order = module.field().order();
-    let gens = module.gens() as u8;
     // Words share products of generators.
     let mut products = Products::new(alloc);
     let mut kept = None;
     for number in 0..words + 1 {
-        let word = nth_word(seed, number, order, gens);
         let said = if number == 0 && !few_points(order, module.dim(), MOST_POINTS) {
-            decide_zero(alloc, module, last_generates, &mut kept)?
+            decide_zero(alloc, module, known.last_generates, &mut kept)?
         } else {
-            decide_at_keeping(alloc, module, table, &mut products, &mut kept, &word)?
+            let numbered = Numbered { seed, number };
+            decide_numbered(
+                alloc,
+                module,
+                known,
+                table,
+                &mut products,
+                &mut kept,
+                numbered,
+            )?
         };
         match said {
             At::Irreducible { poly, vector } => {
@@ -120,6 +133,50 @@ pub fn decide_knowing(
         }
     }
     Ok(Verdict::Undecided)
+}
+
+/// A word by its seed and its number.
+#[derive(Clone, Copy)]
+struct Numbered {
+    seed: u64,
+    number: u32,
+}
+
+/// What a word of a seed says of a module, by its value where that is known; else the value is made, and kept where it
+/// may be.
+fn decide_numbered(
+    alloc: Global,
+    module: &Module,
+    known: &mut Known,
+    table: &mut Irreducibles,
+    products: &mut Products,
+    kept: &mut Option<Module>,
+    numbered: Numbered,
+) -> Result<At, Refusal>
+    requires known { IsKnownOf «module».now numbered.seed known.old }
+    requires products { AreProductsOf «module».now products.old }
+    requires field { table.old.order ≡ «module».now.order }
+    requires kept { IsKeptTranspose «module».now kept.old }
+    ensures says { Answers None (Says «module».now (word_of_seed «module».now numbered.seed numbered.number)) result }
+    ensures holds { Answers None (IsTrueOf «module».now) result }
+    ensures known { IsKnownOf «module».now numbered.seed known.new }
+    ensures same_field { table.new.order ≡ «module».now.order }
+    ensures products { AreProductsOf «module».now products.new }
+    ensures kept { IsKeptTranspose «module».now kept.new }
+{
+    let word = nth_word(
+        numbered.seed,
+        numbered.number,
+        module.field().order(),
+        module.gens() as u8,
+    );
+    if let Some(value) = known.value(numbered.number) {
+        return decide_value(alloc, module, table, kept, &word, value);
+    }
+    let value = word.value_with(alloc, module, products)?;
+    let said = decide_value(alloc, module, table, kept, &word, &value)?;
+    known.keep(numbered.number, value)?;
+    Ok(said)
 }
 
 /// What [`decide_at`] tells, with a table of irreducible polynomials as [`decide_with`] takes it, and with the products
@@ -140,32 +197,31 @@ pub fn decide_at_with(
     ensures products { AreProductsOf «module».now products.new }
 {
     let mut kept = None;
-    decide_at_keeping(alloc, module, table, products, &mut kept, word)
+    let value = word.value_with(alloc, module, products)?;
+    decide_value(alloc, module, table, &mut kept, word, &value)
 }
 
-/// What [`decide_at_with`] tells, with the transposed module where it is kept from other words; it is kept for further
-/// ones where it is small.
-fn decide_at_keeping(
+/// What a word says of a module, by its value, with the transposed module where it is kept from other words; it is kept
+/// for further ones where it is small.
+fn decide_value(
     alloc: Global,
     module: &Module,
     table: &mut Irreducibles,
-    products: &mut Products,
     kept: &mut Option<Module>,
     word: &Word,
+    value: &Matrix,
 ) -> Result<At, Refusal>
     requires word { IsWordIn «module».now word.now }
-    requires products { AreProductsOf «module».now products.old }
+    requires value { IsValueOf «module».now word.now value.now }
     requires field { table.old.order ≡ «module».now.order }
     requires kept { IsKeptTranspose «module».now kept.old }
     ensures says { Answers None (Says «module».now word.now) result }
     ensures holds { Answers None (IsTrueOf «module».now) result }
     ensures same_field { table.new.order ≡ «module».now.order }
-    ensures products { AreProductsOf «module».now products.new }
     ensures kept { IsKeptTranspose «module».now kept.new }
 {
-    let matrix = word.value_with(alloc, module, products)?;
-    match test_null_space(alloc, module, &matrix, kept)? {
-        At::Left => test_by_factor(alloc, module, table, &matrix, kept),
+    match test_null_space(alloc, module, value, kept)? {
+        At::Left => test_by_factor(alloc, module, table, value, kept),
         told => Ok(told),
     }
 }

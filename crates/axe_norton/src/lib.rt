@@ -4,6 +4,7 @@
 mod decisions;
 mod factors;
 mod fitting;
+mod known;
 pub mod laws;
 mod misfits;
 mod one_vector;
@@ -13,6 +14,7 @@ mod verdicts;
 
 pub use decisions::{decide, decide_at, decide_at_with, decide_knowing, decide_with};
 pub use fitting::fits;
+pub use known::Known;
 pub use one_vector::{decide_poly, decide_poly_where_fits};
 pub use verdicts::{At, Verdict};
 

@@ -1,5 +1,6 @@
-use Rattle.std.proofs.Common.{◌≡◌, true, false}
+use Rattle.std.proofs.Common.{IsTrue}
 use Rattle.axe_echelon.proofs.Exits.{no_memory}
+use Rattle.axe_norton.specs.Spaces.{LastGenerates}
 use Rattle.axe_chop.specs.Kept.{acting_module, kept_section}
 use Rattle.axe_chop.proofs.Cutting.{columns_within, columns_fit}
 use Rattle.axe_chop.proofs.Cutting.{IsOpened, IsSplit, proper_here, lift_field, lift_fits, cut_at, sub_kept, quotient_kept, parts_kept}
@@ -12,27 +13,37 @@ split-requires c =
     record { same = c.self.view_is; is_section = c.self.invariant.section; proper = c.requires.space } in
     proper_here (kept_section c.self.inside.action c.self.inside.rows) c.args.self c.args.space opened
 
-pub cut-requires-clause-field : goal.cut-requires-clause-field
-cut-requires-clause-field c =
+pub cut-requires : goal.cut-requires
+cut-requires c =
+    let opened : IsOpened (kept_section c.self.inside.action c.self.inside.rows) c.args.self c.args.space =
+    record { same = c.self.view_is; is_section = c.self.invariant.section; proper = c.requires.space } in (
+      acting_module c.self.inside.action,
+      c.self.inside.seed,
+      c.self.invariant.is_known,
+      proper_here (kept_section c.self.inside.action c.self.inside.rows) c.args.self c.args.space opened,
+    )
+
+pub cut-requires-2-clause-field : goal.cut-requires-2-clause-field
+cut-requires-2-clause-field c =
     let opened : IsOpened (kept_section c.self.inside.action c.self.inside.rows) c.args.self c.args.space =
     record { same = c.self.view_is; is_section = c.self.invariant.section; proper = c.requires.space } in
     lift_field (kept_section c.self.inside.action c.self.inside.rows) c.args.self c.args.space opened
 
-pub cut-requires-clause-fits : goal.cut-requires-clause-fits
-cut-requires-clause-fits c =
+pub cut-requires-2-clause-fits : goal.cut-requires-2-clause-fits
+cut-requires-2-clause-fits c =
     let opened : IsOpened (kept_section c.self.inside.action c.self.inside.rows) c.args.self c.args.space =
     record { same = c.self.view_is; is_section = c.self.invariant.section; proper = c.requires.space } in
     lift_fits (kept_section c.self.inside.action c.self.inside.rows) c.args.self c.args.space opened
 
-pub cut-requires-clause-within : goal.cut-requires-clause-within
-cut-requires-clause-within c =
+pub cut-requires-2-clause-within : goal.cut-requires-2-clause-within
+cut-requires-2-clause-within c =
     let opened : IsOpened (kept_section c.self.inside.action c.self.inside.rows) c.args.self c.args.space =
     record { same = c.self.view_is; is_section = c.self.invariant.section; proper = c.requires.space } in
     columns_within (kept_section c.self.inside.action c.self.inside.rows) c.args.space c.in_ok-sub.field-0.columns.items
     (cut_at (kept_section c.self.inside.action c.self.inside.rows) c.args.self c.args.space opened c.in_ok-sub.field-0.columns.items c.in_ok-sub.ensures.columns)
 
-pub cut-requires-clause-places_fit : goal.cut-requires-clause-places_fit
-cut-requires-clause-places_fit c =
+pub cut-requires-2-clause-places_fit : goal.cut-requires-2-clause-places_fit
+cut-requires-2-clause-places_fit c =
     let opened : IsOpened (kept_section c.self.inside.action c.self.inside.rows) c.args.self c.args.space =
     record { same = c.self.view_is; is_section = c.self.invariant.section; proper = c.requires.space } in
     columns_fit (kept_section c.self.inside.action c.self.inside.rows) c.args.space c.in_ok-sub.field-0.columns.items
@@ -50,11 +61,18 @@ invariant_of-result c =
       sub_module = c.in_ok-sub.ensures.well_formed.0;
       quotient_module = c.in_ok-sub.ensures.well_formed.1;
     } in
+    let last : IsTrue c.is_last_of-quotient_last.result → LastGenerates c.in_ok-sub.field-0.quotient =
+    λ said. last_of_found (kept_section c.self.inside.action c.self.inside.rows) c.args.self c.args.space opened
+    c.in_ok-sub.field-0.columns.items c.in_ok-sub.ensures.columns c.requires.decided c.cols.result c.cols.ensures.count
+    c.deref.result.now c.deref.ensures.value (c.is_last_of-quotient_last.ensures.0 said) c.in_ok-sub.field-0.quotient c.in_ok-sub.ensures.quotient in
     record {
       section = sub_kept (kept_section c.self.inside.action c.self.inside.rows) c.args.self c.args.space opened
           c.in_ok-sub.field-0.sub c.in_ok-sub.field-0.quotient c.in_ok-sub.field-0.columns.items split c.in_ok-sub_rows.sub_rows
           c.in_ok-sub_rows.quotient_rows c.in_ok-sub_rows.ensures.lifted c.in_ok-sub_rows.ensures.chosen c.in_ok-sub_rows.ensures.well_formed;
-      last = λ said. absurd (let e : false ≡ true = said in cc);
+      is_known = (c.in_ok-sub_known.ensures (acting_module c.self.inside.action) c.in_ok-sub.field-0.sub c.in_ok-sub.field-0.quotient
+          c.self.inside.seed c.self.invariant.is_known
+          (proper_here (kept_section c.self.inside.action c.self.inside.rows) c.args.self c.args.space opened)
+          c.in_ok-sub.ensures.sub c.in_ok-sub.ensures.quotient last).0;
     }
 
 pub invariant_of-result-2 : goal.invariant_of-result-2
@@ -69,13 +87,18 @@ invariant_of-result-2 c =
       sub_module = c.in_ok-sub.ensures.well_formed.0;
       quotient_module = c.in_ok-sub.ensures.well_formed.1;
     } in
+    let last : IsTrue c.is_last_of-quotient_last.result → LastGenerates c.in_ok-sub.field-0.quotient =
+    λ said. last_of_found (kept_section c.self.inside.action c.self.inside.rows) c.args.self c.args.space opened
+    c.in_ok-sub.field-0.columns.items c.in_ok-sub.ensures.columns c.requires.decided c.cols.result c.cols.ensures.count
+    c.deref.result.now c.deref.ensures.value (c.is_last_of-quotient_last.ensures.0 said) c.in_ok-sub.field-0.quotient c.in_ok-sub.ensures.quotient in
     record {
       section = quotient_kept (kept_section c.self.inside.action c.self.inside.rows) c.args.self c.args.space opened
           c.in_ok-sub.field-0.sub c.in_ok-sub.field-0.quotient c.in_ok-sub.field-0.columns.items split c.in_ok-sub_rows.sub_rows
           c.in_ok-sub_rows.quotient_rows c.in_ok-sub_rows.ensures.lifted c.in_ok-sub_rows.ensures.chosen c.in_ok-sub_rows.ensures.well_formed;
-      last = λ said. last_of_found (kept_section c.self.inside.action c.self.inside.rows) c.args.self c.args.space opened
-          c.in_ok-sub.field-0.columns.items c.in_ok-sub.ensures.columns c.requires.decided c.cols.result c.cols.ensures.count
-          c.deref.result.now c.deref.ensures.value (c.is_last_of-quotient_last.ensures.0 said) c.in_ok-sub.field-0.quotient c.in_ok-sub.ensures.quotient;
+      is_known = (c.in_ok-sub_known.ensures (acting_module c.self.inside.action) c.in_ok-sub.field-0.sub c.in_ok-sub.field-0.quotient
+          c.self.inside.seed c.self.invariant.is_known
+          (proper_here (kept_section c.self.inside.action c.self.inside.rows) c.args.self c.args.space opened)
+          c.in_ok-sub.ensures.sub c.in_ok-sub.ensures.quotient last).1;
     }
 
 pub returns : goal.returns
@@ -97,6 +120,20 @@ returns c =
 pub returns-in_err-sub : goal.returns-in_err-sub
 returns-in_err-sub c =
     no_memory _ c.from_residual.result _ c.from_residual.ensures.1 c.in_err-sub.ensures.sub
+
+pub returns-in_err-sub_known : goal.returns-in_err-sub_known
+returns-in_err-sub_known c =
+    let opened : IsOpened (kept_section c.self.inside.action c.self.inside.rows) c.args.self c.args.space =
+    record { same = c.self.view_is; is_section = c.self.invariant.section; proper = c.requires.space } in
+    let last : IsTrue c.is_last_of-quotient_last.result → LastGenerates c.in_ok-sub.field-0.quotient =
+    λ said. last_of_found (kept_section c.self.inside.action c.self.inside.rows) c.args.self c.args.space opened
+    c.in_ok-sub.field-0.columns.items c.in_ok-sub.ensures.columns c.requires.decided c.cols.result c.cols.ensures.count
+    c.deref.result.now c.deref.ensures.value (c.is_last_of-quotient_last.ensures.0 said) c.in_ok-sub.field-0.quotient c.in_ok-sub.ensures.quotient in
+    no_memory _ c.from_residual-in_err-sub_known.result _ c.from_residual-in_err-sub_known.ensures.1
+    (c.in_err-sub_known.ensures (acting_module c.self.inside.action) c.in_ok-sub.field-0.sub c.in_ok-sub.field-0.quotient
+    c.self.inside.seed c.self.invariant.is_known
+    (proper_here (kept_section c.self.inside.action c.self.inside.rows) c.args.self c.args.space opened)
+    c.in_ok-sub.ensures.sub c.in_ok-sub.ensures.quotient last)
 
 pub returns-in_err-sub_rows : goal.returns-in_err-sub_rows
 returns-in_err-sub_rows c =

@@ -1,4 +1,4 @@
-use Rattle.std.proofs.Common.{subst, ◌∙◌, ap, true, false, ◌≡◌}
+use Rattle.std.proofs.Common.{subst, ◌∙◌, ap}
 use Rattle.axe_spin.specs.Modules.{ModuleValue, IsModule}
 use Rattle.axe_chop.specs.Kept.{acting_module}
 use Rattle.axe_chop.proofs.Cutting.{whole_is_kept}
@@ -10,7 +10,7 @@ invariant_of-result c = record {
       (c.field.ensures.order ∙ ap (λ (m : ModuleValue). m.order) c.module-module.ensures)
       (c.dim.ensures.count ∙ ap (λ (m : ModuleValue). m.dim) c.module-module.ensures)
       c.identity-rows.ensures.identity (subst IsModule c.module-module.ensures c.dim.ensures.well_formed);
-  last = λ said. absurd (let e : false ≡ true = said in cc);
+  is_known = c.nothing-known.ensures (acting_module c.args.action) c.args.seed;
 }
 
 pub returns-clause-well_formed : goal.returns-clause-well_formed
