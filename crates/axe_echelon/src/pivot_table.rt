@@ -44,6 +44,7 @@ impl PivotTable {
 
     /// Gives the table room for so many columns, where it has none. The pivots that it tells of stay, also where there
     /// is no memory.
+    #[inline(always)]
     pub(crate) fn make_room(&mut self, cols: usize) -> Result<(), AllocError>
         ensures pivots { (pivots : List ℕ) → HasPivots cols pivots self.old → HasPivots cols pivots self.new }
         ensures room { IfOk result (λ _. (pivots : List ℕ) → HasPivots cols pivots self.old → HasRoom cols self.new) }

@@ -159,6 +159,7 @@ impl Subspace {
     }
 
     /// Adds a row to the echelon form, and marks its pivot. For want of memory the space stays as it is.
+    #[inline(always)]
     pub(crate) fn add_row(&mut self, row: PivotRow) -> Result<(), Refusal>
         requires { IsNextRow self.old row }
         ensures added { Answers None (λ _. self.new ≡ with_row_where true self.old row.row.entries) result }
@@ -375,6 +376,7 @@ impl Subspace {
 }
 
 /// What is left of a vector, scaled to 1 at its first entry other than 0, or `None` where nothing is left.
+#[inline(always)]
 pub(crate) fn scaled_rest(rest: Row) -> Option<ScaledRow>
     ensures { MatchOption result (IsZeroVector rest.entries) (IsScaledRest rest) }
 {

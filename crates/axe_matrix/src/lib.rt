@@ -93,6 +93,7 @@ impl Matrix {
 
     /// Appends a row of as many entries as the matrix has columns, over its field. For want of memory the row is handed
     /// back, and the matrix is unchanged.
+    #[inline(always)]
     pub fn push_row(&mut self, row: Row) -> Result<(), Row>
         requires field { row.order ≡ self.old.order }
         requires fits { length row.entries ≡ self.old.cols }
@@ -110,6 +111,7 @@ impl Matrix {
     }
 
     /// Appends a row as [`Matrix::push_row`] does; for want of memory the row is dropped, and the matrix is unchanged.
+    #[inline(always)]
     pub fn append(&mut self, row: Row) -> Result<(), Refusal>
         requires field { row.order ≡ self.old.order }
         requires fits { length row.entries ≡ self.old.cols }
@@ -124,6 +126,7 @@ impl Matrix {
 
     /// A row vector times the matrix: its entry j is the sum over t of entry t of the vector times entry t, j of the
     /// matrix. The vector is over the matrix's field, and has as many entries as the matrix has rows.
+    #[inline(always)]
     pub fn vec_mul(&self, alloc: Global, vector: &Row) -> Result<Row, Refusal>
         requires field { vector.now.order ≡ self.now.order }
         requires fits { length vector.now.entries ≡ length self.now.rows }

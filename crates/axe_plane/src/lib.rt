@@ -52,6 +52,7 @@ impl Plane {
     ghost use Rattle.axe_plane.specs.Planes.{prime_of_plane, digits_of, IsPlane};
 
     /// The plane of `len` zeros modulo 2, 3, 5 or 7. A plane of no digits takes no memory.
+    #[inline(always)]
     pub fn zero(alloc: Global, prime: u8, len: usize) -> Result<Plane, AllocError>
         requires { (prime ≡ 2) ⊎ ((prime ≡ 3) ⊎ ((prime ≡ 5) ⊎ (prime ≡ 7))) }
         ensures { IfOk result (IsPlane prime (replicate len 0)) }
@@ -112,6 +113,7 @@ impl Plane {
     }
 
     /// The same plane a second time.
+    #[inline(always)]
     pub fn copy(&self, alloc: Global) -> Result<Plane, AllocError>
         ensures { IfOk result (λ plane. plane ≡ self.now) }
     {
@@ -135,6 +137,7 @@ impl Plane {
     }
 
     /// The plane of the `len` digits from an index on.
+    #[inline(always)]
     pub fn part(&self, alloc: Global, start: usize, len: usize) -> Result<Plane, AllocError>
         requires { start + len ≤ length (digits_of self.now) }
         ensures { IfOk result (IsPlane (prime_of_plane self.now)
@@ -369,7 +372,7 @@ impl Plane {
 
     /// Adds an entry of each of four tables modulo the same prime, whose entries have this plane's length, in one pass.
     /// The numbers of the entries stand in the tables' order.
-    #[inline]
+    #[inline(always)]
     pub fn add_four_entries(
         &mut self,
         entries: [usize; 4],
@@ -407,7 +410,7 @@ impl Plane {
     }
 
     /// Adds four other planes modulo the same prime and of the same length, in one pass.
-    #[inline]
+    #[inline(always)]
     pub fn add_four(&mut self, a: &Plane, b: &Plane, c: &Plane, d: &Plane)
         requires a { IsAddend self.old a.now }
         requires b { IsAddend self.old b.now }
@@ -525,6 +528,7 @@ impl Plane {
     }
 
     /// Multiplies each digit by a factor modulo the prime.
+    #[inline(always)]
     pub fn scale(&mut self, factor: u8)
         requires { factor < prime_of_plane self.old }
         ensures { IsPlane (prime_of_plane self.old)

@@ -19,6 +19,7 @@ pub(crate) struct Higher {
 
 impl Higher {
     /// Adds the planes of four others, each to that of the same power of x.
+    #[inline(always)]
     pub(crate) fn add_four(&mut self, a: &Higher, b: &Higher, c: &Higher, d: &Higher)
         requires a { AreAddends self.old a.now }
         requires b { AreAddends self.old b.now }

@@ -76,6 +76,7 @@ impl Model for Row {
 
 impl Row {
     /// The row of `len` zeros.
+    #[inline(always)]
     pub fn zero(alloc: Global, field: Field, len: usize) -> Result<Row, Refusal>
         ensures zeros { Answers None (λ row. row ≡ record { order = field; entries = replicate len 0 }) result }
         ensures well_formed { Answers None IsRow result }
@@ -207,6 +208,7 @@ impl Row {
     }
 
     /// The same row a second time.
+    #[inline(always)]
     pub fn copy(&self, alloc: Global) -> Result<Row, Refusal>
         ensures copied { Answers None (λ copy. copy ≡ self.now) result }
         ensures well_formed { Answers None IsRow result }
@@ -259,6 +261,7 @@ impl Row {
     }
 
     /// Multiplies the row by an element: each entry d becomes c d, where c is the scalar.
+    #[inline(always)]
     pub fn scale(&mut self, scalar: u8)
         requires { IsElement self.old.order scalar }
         ensures multiple { self.new ≡ multiple_row scalar self.old }
@@ -292,6 +295,7 @@ impl Row {
     }
 
     /// The index of the first entry other than 0, counted from 0, or `None` where every entry is 0.
+    #[inline(always)]
     pub fn first_nonzero(&self) -> Option<usize>
         ensures { MatchOption result (IsZeroVector self.now.entries) (IsFirstNonzero self.now.entries) }
     {
@@ -362,6 +366,7 @@ impl Row {
 
     /// The row over a field that is not prime with these planes of coefficients, where there was memory for them. The
     /// planes of x and x^2 come as their making answered, so that a caller need not leave early.
+    #[inline(always)]
     fn of_planes(
         alloc: Global,
         field: Field,

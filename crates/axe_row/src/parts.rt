@@ -9,6 +9,7 @@ use std::alloc::Global;
 
 impl Row {
     /// The part of the row that has `len` entries from an index on.
+    #[inline(always)]
     pub fn part(&self, alloc: Global, start: usize, len: usize) -> Result<Row, Refusal>
         requires { start + len ≤ length self.now.entries }
         ensures part { Answers None (λ part. part ≡ part_of self.now start len) result }

@@ -12,6 +12,7 @@ use axe_plane::Plane;
 
 impl Row {
     /// Adds four other rows over the same field and of the same length, in one pass.
+    #[inline(always)]
     pub fn add_four_rows(&mut self, a: &Row, b: &Row, c: &Row, d: &Row)
         requires a { IsRowAddend self.old a.now }
         requires b { IsRowAddend self.old b.now }
