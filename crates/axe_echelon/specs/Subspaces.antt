@@ -21,6 +21,10 @@ use Rattle.axe_echelon.specs.declared.pivot_table.PivotTable.{PivotTable}
 use Rattle.axe_echelon.specs.declared.subspace.PivotRow.{PivotRow}
 use Rattle.axe_echelon.specs.declared.subspace.ScaledRow.{ScaledRow}
 
+-- the new rows begin with the old ones
+abbrev pub BeginWith : List (List ℕ) → List (List ℕ) → Type 0
+BeginWith old new = (t : ℕ) → t < length old → get_or new t [] ≡ get_or old t []
+
 -- the rows of e span what those of `old` span, and one more row where that is new; they are as many and one more
 -- where it is new, and begin with those of `old`
 pub record SpansOneMore (new : Bool) (old : EchelonValue) (row : List ℕ) (e : EchelonValue) : Type 0 where
@@ -28,7 +32,7 @@ pub record SpansOneMore (new : Bool) (old : EchelonValue) (row : List ℕ) (e : 
   pub columns : e.cols ≡ old.cols
   pub same : HaveSameSpan (number_field old.order) (if new then old.rows ++ row ∷ [] else old.rows) e.rows
   pub count : length e.rows ≡ (if new then suc (length old.rows) else length old.rows)
-  pub begins : (t : ℕ) → t < length old.rows → get_or e.rows t [] ≡ get_or old.rows t []
+  pub begins : BeginWith old.rows e.rows
 
 -- the vectors that the rows are
 abbrev pub rows_of : List PivotRow → List (List ℕ)

@@ -14,12 +14,13 @@ use Rattle.axe_row.specs.declared.refusals.Refusal.TheVariants.{Memory}
 use Rattle.axe_matrix.specs.Matrices.{MatrixValue, IsMatrix, row_of, matrix_block, matrix_product, product_refusal}
 use Rattle.axe_matrix.proofs.ProductLaws.{product_refusal-none, length-product, get_or-product}
 use Rattle.axe_echelon.specs.Echelons.{EchelonValue}
+use Rattle.axe_echelon.specs.Subspaces.{BeginWith}
 use Rattle.axe_echelon.proofs.Exits.{memory_if_accepted}
 use Rattle.axe_echelon.proofs.InverseLaws.{matrix_over}
 use Rattle.axe_spin.specs.Modules.{ModuleValue, generator_of}
 use Rattle.axe_spin.specs.Origins.{HaveOrigins}
 use Rattle.axe_spin.specs.declared.spinning.Origin.{Origin}
-use Rattle.axe_spin.specs.Images.{AreImagesAt, AreImagesOfBlock, BeginWith}
+use Rattle.axe_spin.specs.Images.{AreImagesAt, AreImagesOfBlock}
 use Rattle.axe_spin.specs.Spun.{IsSpanOf, IsOffered, image_of_row, SpinsOn}
 use Rattle.axe_spin.proofs.SpunLaws.{spins_on}
 use mathlib.Core.Logic.{inl, inr}

@@ -1,10 +1,11 @@
 -- Blocks of rows that are multiplied by the generators of a module at once.
-use Rattle.std.specs.Prelude.{◌≡◌, ℕ, ◌+◌, ◌<◌, ◌≤◌, List, [], ◌++◌, length, get_or}
+use Rattle.std.specs.Prelude.{◌≡◌, ℕ, ◌+◌, ◌≤◌, List, [], ◌++◌, length, get_or}
 use Rattle.axe_algebra.specs.Lists.{listed}
 use Rattle.axe_algebra.specs.SpansOfLists.{HaveSameSpan}
 use Rattle.axe_field.specs.NumberFields.{number_field}
 use Rattle.axe_matrix.specs.Matrices.{MatrixValue}
 use Rattle.axe_echelon.specs.Echelons.{EchelonValue}
+use Rattle.axe_echelon.specs.Subspaces.{BeginWith}
 
 -- the matrix of so many rows of the space, from row `source` on
 abbrev pub block_of_rows : EchelonValue → ℕ → ℕ → MatrixValue
@@ -20,4 +21,4 @@ pub record SpansMore (old : EchelonValue) (rows : List (List ℕ)) (e : EchelonV
   pub columns : e.cols ≡ old.cols
   pub same : HaveSameSpan (number_field old.order) (old.rows ++ rows) e.rows
   pub grown : length old.rows ≤ length e.rows
-  pub begins : (t : ℕ) → t < length old.rows → get_or e.rows t [] ≡ get_or old.rows t []
+  pub begins : BeginWith old.rows e.rows

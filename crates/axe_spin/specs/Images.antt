@@ -15,7 +15,3 @@ pub record AreImagesAt (m : ModuleValue) (rows : List (List ℕ)) (source index 
 -- the same for so many rows from row `source` on, whose images stand in this order
 abbrev pub AreImagesOfBlock : ModuleValue → List (List ℕ) → ℕ → ℕ → List MatrixValue → Type 0
 AreImagesOfBlock m rows source count images = (index : ℕ) → index < count → AreImagesAt m rows (source + index) index images
-
--- the new rows begin with the old ones
-abbrev pub BeginWith : List (List ℕ) → List (List ℕ) → Type 0
-BeginWith old new = (t : ℕ) → t < length old → get_or new t [] ≡ get_or old t []

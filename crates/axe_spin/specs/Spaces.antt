@@ -4,6 +4,7 @@ use Rattle.axe_algebra.specs.SpansOfLists.{IsSpanned}
 use Rattle.axe_algebra.specs.ModulesOfLists.{IsGenerated}
 use Rattle.axe_field.specs.NumberFields.{number_field}
 use Rattle.axe_echelon.specs.Echelons.{EchelonValue, IsEchelon}
+use Rattle.axe_echelon.specs.Subspaces.{BeginWith}
 use Rattle.axe_spin.specs.Modules.{ModuleValue}
 use Rattle.axe_spin.specs.Spun.{image_of_row}
 
@@ -17,7 +18,7 @@ pub record IsSubspaceOf (m : ModuleValue) (space : EchelonValue) : Type 0 where
 pub record IsEnlarged (m : ModuleValue) (old new : EchelonValue) : Type 0 where
   pub subspace : IsSubspaceOf m new
   pub grown : length old.rows ≤ length new.rows
-  pub begins : (t : ℕ) → t < length old.rows → get_or new.rows t [] ≡ get_or old.rows t []
+  pub begins : BeginWith old.rows new.rows
   pub generated : (t : ℕ) → t < length new.rows →
       IsGenerated (number_field m.order) m.dim m.generators old.rows (get_or new.rows t [])
 

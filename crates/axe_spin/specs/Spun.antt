@@ -7,6 +7,7 @@ use Rattle.axe_algebra.specs.Standard.{Precedes}
 use Rattle.axe_field.specs.NumberFields.{number_field}
 use Rattle.axe_matrix.specs.Matrices.{MatrixValue}
 use Rattle.axe_echelon.specs.Echelons.{EchelonValue}
+use Rattle.axe_echelon.specs.Subspaces.{BeginWith}
 use Rattle.axe_spin.specs.Modules.{ModuleValue}
 
 -- the subspace is the span of the matrix's rows, and these are independent
@@ -45,7 +46,7 @@ pub record AreSpinning (m : ModuleValue) (first rows : List (List ℕ)) (sources
   pub over : IsMatrixOver (number_field m.order) m.dim rows
   pub independent : IsIndependent (number_field m.order) rows
   pub grown : length first ≤ length rows
-  pub begins : (t : ℕ) → t < length first → get_or rows t [] ≡ get_or first t []
+  pub begins : BeginWith first rows
   pub earlier : (t : ℕ) → length first ≤ t → t < length rows → sources t < t
   pub number-below : (t : ℕ) → length first ≤ t → t < length rows → numbers t < length m.generators
   pub ascending : (s t : ℕ) → length first ≤ s → s < t → t < length rows →

@@ -11,9 +11,9 @@ const MANY_DIMENSIONS: usize = 1024;
 /// The least number of rows for which a product is made.
 const MANY_ROWS: usize = 32;
 
-/// How many of the rows that are spun in a module are multiplied by the generators next, where so many were before them:
-/// one, or of a module of many dimensions as many as wait. But they are no more than have images enough to make the
-/// rows as many as the dimension.
+/// How many rows are multiplied by a module's generators next, where there are `rows` and the images of the first `taken`
+/// were made: one, or in a module of many dimensions as many as wait. They are no more than have images enough to make
+/// the rows as many as the dimension; and fewer than [`MANY_ROWS`] are taken one by one.
 pub(crate) fn block_length(module: &Module, rows: usize, taken: usize) -> usize
     requires { taken < rows }
     ensures some { 1 ≤ result }

@@ -4,7 +4,8 @@
 ghost use Rattle.std.specs.Prelude.{◌≡◌, ◌+◌, ◌<◌, ◌≤◌, length, None, if◌then◌else◌};
 ghost use Rattle.axe_row.specs.Refusals.{Answers};
 ghost use Rattle.axe_matrix.specs.Matrices.{IsMatrix};
-ghost use Rattle.axe_spin.specs.Images.{AreImagesOfBlock, AreImagesAt, BeginWith};
+ghost use Rattle.axe_echelon.specs.Subspaces.{BeginWith};
+ghost use Rattle.axe_spin.specs.Images.{AreImagesOfBlock, AreImagesAt};
 ghost use Rattle.axe_spin.specs.Origins.{HaveOrigins};
 ghost use Rattle.axe_spin.specs.Spun.{IsSpanOf, IsOffered, IsSpunMatrix, SpinsOn, with_row};
 

@@ -1,6 +1,6 @@
 use Rattle.std.proofs.Common.{◌+◌}
 use Rattle.axe_matrix.specs.Matrices.{IsMatrix}
-use Rattle.axe_spin.specs.Images.{BeginWith}
+use Rattle.axe_echelon.specs.Subspaces.{BeginWith}
 use Rattle.axe_spin.specs.Origins.{HaveOrigins}
 use Rattle.axe_spin.specs.Spun.{IsSpanOf, SpinsOn}
 use Rattle.axe_spin.proofs.spinning.take_images_of_block.Given as goal
