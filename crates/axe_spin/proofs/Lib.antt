@@ -5,6 +5,7 @@ pub mod SpunLaws
 pub mod ImageLaws
 pub mod OriginLaws
 pub mod SpaceLaws
+pub mod PostponedLaws
 pub mod BlockLaws
 pub mod GeneratedLaws
 pub mod StandardLaws

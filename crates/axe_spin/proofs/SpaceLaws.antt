@@ -21,7 +21,7 @@ use Rattle.axe_field.specs.NumberFields.{number_field}
 use Rattle.axe_matrix.specs.Matrices.{MatrixValue}
 use Rattle.axe_echelon.specs.Echelons.{EchelonValue, IsEchelon, IsRowSpace}
 use Rattle.axe_echelon.specs.Subspaces.{SpansOneMore}
-use Rattle.axe_echelon.proofs.EliminationLaws.{full_echelon_spans, room_of_rank}
+use Rattle.axe_echelon.proofs.EliminationLaws.{full_echelon_spans}
 use Rattle.axe_echelon.proofs.FormLaws.{below_or_at}
 use Rattle.axe_echelon.proofs.RowSpaces.{grown_span}
 use Rattle.axe_spin.specs.Modules.{ModuleValue, IsModule}
@@ -49,6 +49,15 @@ pub space_over : (m : ModuleValue) (space : EchelonValue) → space.order ≡ m.
 space_over m space field columns h =
     subst (λ n. IsMatrixOver (number_field m.order) n space.rows) columns (subst (λ o. IsMatrixOver (number_field o) space.cols space.rows) field h.over)
 
+-- a space is enlarged by nothing
+pub enlarged_by_nothing : (m : ModuleValue) (space : EchelonValue) → IsSubspaceOf m space → IsEnlarged m space space
+enlarged_by_nothing m space h = record {
+  subspace = h;
+  grown = omega arith;
+  begins = λ t below. refl;
+  generated = λ t below. seed_row_generated (number_field m.order) m.dim m.generators space.rows t (space_over m space h.field h.columns h.well_formed) below;
+}
+
 module _ (m : ModuleValue) (is : IsModule m) where
   abbrev K : NumberField
   K = number_field m.order
@@ -71,15 +80,7 @@ module _ (m : ModuleValue) (is : IsModule m) where
       (generated_is_invariant F M (module_shape K m.dim m.generators is.over.square) (length rows) (matrix_of K rows))
       (length others) (matrix_of K others) (rows_length K m.dim others over_others) each
 
-  -- a space is enlarged by nothing, and step by step
-  pub enlarged_by_nothing : (space : EchelonValue) → IsSubspaceOf m space → IsEnlarged m space space
-  enlarged_by_nothing space h = record {
-    subspace = h;
-    grown = omega arith;
-    begins = λ t below. refl;
-    generated = λ t below. seed_row_generated K m.dim m.generators space.rows t (over space h) below;
-  }
-
+  -- and step by step
   pub enlarged_on : (old mid new : EchelonValue) → IsEnlarged m old mid → IsEnlarged m mid new → IsEnlarged m old new
   enlarged_on old mid new first second = record {
     subspace = second.subspace;
@@ -94,7 +95,7 @@ module _ (m : ModuleValue) (is : IsModule m) where
   old_row_spanned old new enlarged t below =
       subst (IsSpanned K new.rows) (enlarged.begins t below) (row_spanned K new.rows t (omega (arith, below, enlarged.grown)))
 
-  spanned_in_enlarged : (old new : EchelonValue) (v : List ℕ) → IsEnlarged m old new → IsSpanned K old.rows v → IsSpanned K new.rows v
+  pub spanned_in_enlarged : (old new : EchelonValue) (v : List ℕ) → IsEnlarged m old new → IsSpanned K old.rows v → IsSpanned K new.rows v
   spanned_in_enlarged old new v enlarged spanned =
       span_within F (length old.rows) (matrix_of K old.rows) (length new.rows) (matrix_of K new.rows) _ (old_row_spanned old new enlarged) spanned
 
@@ -108,6 +109,13 @@ module _ (m : ModuleValue) (is : IsModule m) where
       AreImagesSpanned m new.rows r count
   images_stay old new r count enlarged below images i inside =
       image_in_enlarged old new r i enlarged below (spanned_in_enlarged old new (image_of_row m old.rows r i) enlarged (images i inside))
+
+  -- those of one more generator
+  pub images_more : (old new : EchelonValue) (r count : ℕ) → IsEnlarged m old new → r < length old.rows → AreImagesSpanned m old.rows r count →
+      IsSpanned K new.rows (image_of_row m new.rows r count) → AreImagesSpanned m new.rows r (count + 1)
+  images_more old new r count enlarged below images image i less =
+      below_or_at (λ i. IsSpanned K new.rows (image_of_row m new.rows r i)) count (images_stay old new r count enlarged below images) image i
+      (omega (arith, less))
 
   -- no images of a row yet, and those of a row of the whole space
   pub images_of_whole : (space : EchelonValue) (r : ℕ) → IsSubspaceOf m space → length space.rows ≡ m.dim → r < length space.rows →
@@ -151,15 +159,12 @@ module _ (m : ModuleValue) (is : IsModule m) where
           spanned_generated K m.dim m.generators space.rows (space.rows ++ image ∷ []) (get_or next.rows t []) row_or_image_generated (same.back t within);
     }
 
-    -- and is spanned, as those of the generators before it are
-    pub images_more : AreImagesSpanned m space.rows source number → AreImagesSpanned m next.rows source (number + 1)
-    images_more images i less =
-        below_or_at (λ i. IsSpanned K next.rows (image_of_row m next.rows source i)) number
-        (images_stay space next source number enlarged_by_image below images)
-        (image_in_enlarged space next source number enlarged_by_image below
+    -- and is spanned
+    pub image_inserted : IsSpanned K next.rows (image_of_row m next.rows source number)
+    image_inserted =
+        image_in_enlarged space next source number enlarged_by_image below
         (subst (IsSpanned K next.rows) image_is
-        (spanned_within K (space.rows ++ image ∷ []) next.rows image same (appended_row_spanned K space.rows image))))
-        i (omega (arith, less))
+        (spanned_within K (space.rows ++ image ∷ []) next.rows image same (appended_row_spanned K space.rows image)))
 
   -- where the images of all rows are spanned, the space is what the old one generates
   pub generated_by_old : (old new : EchelonValue) (source : ℕ) → IsSubspaceOf m old → IsEnlarged m old new → length new.rows ≤ source →
@@ -173,13 +178,6 @@ module _ (m : ModuleValue) (is : IsModule m) where
         (old_row_spanned old new enlarged) enlarged.generated;
     well_formed = enlarged.subspace.well_formed;
   }
-
-  -- as many as the dimension are all, since independent rows are no more
-  pub generated_by_dimension : (old new : EchelonValue) (source : ℕ) → IsSubspaceOf m old → IsEnlarged m old new → m.dim ≤ source →
-      ((r : ℕ) → r < source → AreImagesSpanned m new.rows r (length m.generators)) → IsGeneratedSpace m old.rows new
-  generated_by_dimension old new source h enlarged all =
-      generated_by_old old new source h enlarged
-      (omega (arith, room_of_rank new enlarged.subspace.well_formed, enlarged.subspace.columns, all))
 
   -- rows with one span generate the same
   generated_by_same_span : (rows others : List (List ℕ)) → IsMatrixOver K m.dim rows → IsMatrixOver K m.dim others → HaveSameSpan K rows others →

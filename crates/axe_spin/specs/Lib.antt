@@ -6,5 +6,6 @@ pub mod Spun
 pub mod Origins
 pub mod Spaces
 pub mod Blocks
+pub mod Postponed
 pub mod Images
 pub mod SpinLaws

@@ -26,3 +26,12 @@ pub(crate) fn block_length(module: &Module, rows: usize, taken: usize) -> usize
     let count = (rows - taken).min(missing.div_ceil(module.gens()));
     if count < MANY_ROWS { 1 } else { count }
 }
+
+/// How many rows are taken one by one in a module, at most: all of them, or none where they are taken by blocks.
+pub(crate) fn rows_one_by_one(module: &Module) -> usize {
+    if module.dim() < MANY_DIMENSIONS {
+        module.dim()
+    } else {
+        0
+    }
+}

@@ -1,16 +1,21 @@
 //! The spaces that rows generate in a module.
 
-ghost use Rattle.std.specs.Prelude.{◌≡◌, ℕ, ◌+◌, ◌<◌, ◌≤◌, length, None, IfOk};
+ghost use Rattle.std.specs.Prelude.{◌≡◌, ℕ, ◌+◌, ◌<◌, ◌≤◌, ◌↔◌, length, None, Some, IfOk, IsTrue};
+ghost use Rattle.axe_algebra.specs.SpansOfLists.{IsSpanned};
+ghost use Rattle.axe_field.specs.NumberFields.{number_field};
 ghost use Rattle.axe_row.specs.Refusals.{Answers, unless_refused};
 ghost use Rattle.axe_matrix.specs.Matrices.{IsMatrix};
 ghost use Rattle.axe_spin.specs.Modules.{IsModule};
 ghost use Rattle.axe_echelon.specs.Echelons.{IsEchelon};
 ghost use Rattle.axe_spin.specs.Blocks.{block_of_rows, SpansMore};
+ghost use Rattle.axe_spin.specs.Postponed.{AreImagesSpannedBut, AreTakenBut};
 ghost use Rattle.axe_spin.specs.Spaces.{IsSubspaceOf, IsEnlarged, AreImagesSpanned};
+ghost use Rattle.axe_spin.specs.Spun.{image_of_row};
 ghost use Rattle.axe_spin.specs.Spinning.{seed_refusal, IsGeneratedSpace, IsGeneratedMatrix};
 
-use crate::blocks::block_length;
+use crate::blocks::{block_length, rows_one_by_one};
 use crate::module::Module;
+use crate::trail::Trail;
 use axe_echelon::{Subspace, row_space};
 use axe_matrix::{Matrix, Refusal};
 use std::alloc::Global;
@@ -50,14 +55,153 @@ fn check_seed(module: &Module, seed: &Matrix) -> Result<(), Refusal>
     Ok(())
 }
 
-/// Enlarges a space of vectors of a module to the least invariant space with it. It takes the rows of the echelon form
-/// in turn, those that it adds among them, and inserts the images of each under the generators.
+/// Enlarges a space of vectors of a module to the least invariant space with it. Images that are likely to be in the space
+/// already are postponed to the end: where the rows come to span everything before, none of them is made.
 fn make_invariant(alloc: Global, module: &Module, space: &mut Subspace) -> Result<(), Refusal>
     requires { IsSubspaceOf «module».now space.old }
     ensures generated { Answers None (λ _. IsGeneratedSpace «module».now space.old.rows space.new) result }
     ensures module_well_formed { IsModule «module».now }
 {
-    let mut taken = 0;
+    // `dim` is called for what it ensures beside the number: that the module is well formed.
+    prove!(space.cols() == module.dim());
+    let postponed = take_likely_images(alloc, module, space)?;
+    insert_postponed(alloc, module, space, &postponed)?;
+    take_images_from(alloc, module, space, postponed.len())?;
+    Ok(())
+}
+
+/// Takes the rows of the echelon form of a space in turn, those that it adds among them, and inserts the images of each
+/// under the generators, but for those that are postponed. It answers for each row the generator whose image is. In
+/// modules of many dimensions, whose rows are taken by blocks, it takes none.
+fn take_likely_images(
+    alloc: Global,
+    module: &Module,
+    space: &mut Subspace,
+) -> Result<Vec<Option<usize>>, Refusal>
+    requires { IsSubspaceOf «module».now space.old }
+    ensures enlarged { Answers None (λ _. IsEnlarged «module».now space.old space.new) result }
+    ensures within { Answers None (λ postponed. length postponed.items ≤ length space.new.rows) result }
+    ensures taken { Answers None (λ postponed. AreTakenBut «module».now space.new.rows postponed.items) result }
+{
+    let mut trail = Trail::new(alloc, module.gens(), space.dim())?;
+    let mut postponed = Vec::new(alloc);
+    for source in 0..rows_one_by_one(module) {
+        if source == space.dim() {
+            break;
+        }
+        let unlikely = trail.unlikely(source);
+        insert_likely_images(alloc, module, space, source, unlikely, &mut trail)?;
+        postponed.push(unlikely)?;
+    }
+    Ok(postponed)
+}
+
+/// Inserts the images of one row of the echelon form under the generators, but for the one that is postponed.
+fn insert_likely_images(
+    alloc: Global,
+    module: &Module,
+    space: &mut Subspace,
+    source: usize,
+    postponed: Option<usize>,
+    trail: &mut Trail,
+) -> Result<(), Refusal>
+    requires subspace { IsSubspaceOf «module».now space.old }
+    requires within { source < length space.old.rows }
+    ensures enlarged { Answers None (λ _. IsEnlarged «module».now space.old space.new) result }
+    ensures images { Answers None (λ _.
+        AreImagesSpannedBut «module».now space.new.rows postponed source (length «module».now.generators)) result }
+{
+    for number in 0..module.gens() {
+        // Once the rows span everything, no image is new.
+        if is_whole(module, space) {
+            break;
+        }
+        if !is_postponed(postponed, number) {
+            let is_new = insert_image(alloc, module, space, source, number)?;
+            trail.note(source, number, is_new)?;
+        }
+    }
+    Ok(())
+}
+
+/// Whether the image under a generator is the one that is postponed.
+fn is_postponed(postponed: Option<usize>, number: usize) -> bool
+    ensures { IsTrue result ↔ (postponed ≡ Some number) }
+{
+    match postponed {
+        Some(other) => other == number,
+        None => false,
+    }
+}
+
+/// Inserts the images of rows that were postponed, for each of the first rows the one that the list has.
+fn insert_postponed(
+    alloc: Global,
+    module: &Module,
+    space: &mut Subspace,
+    postponed: &[Option<usize>],
+) -> Result<(), Refusal>
+    requires subspace { IsSubspaceOf «module».now space.old }
+    requires within { length postponed.now ≤ length space.old.rows }
+    requires taken { AreTakenBut «module».now space.old.rows postponed.now }
+    ensures enlarged { Answers None (λ _. IsEnlarged «module».now space.old space.new) result }
+    ensures images { Answers None (λ _. (r : ℕ) → r < length postponed.now →
+        AreImagesSpanned «module».now space.new.rows r (length «module».now.generators)) result }
+{
+    // `dim` is called for what it ensures beside the number: that the module is well formed.
+    prove!(space.cols() == module.dim());
+    for source in 0..postponed.len() {
+        // Once the rows span everything, no image is new.
+        if is_whole(module, space) {
+            break;
+        }
+        insert_postponed_image(alloc, module, space, source, postponed[source])?;
+    }
+    Ok(())
+}
+
+/// Inserts the image of a row that was postponed, where one was.
+fn insert_postponed_image(
+    alloc: Global,
+    module: &Module,
+    space: &mut Subspace,
+    source: usize,
+    postponed: Option<usize>,
+) -> Result<(), Refusal>
+    requires subspace { IsSubspaceOf «module».now space.old }
+    requires within { source < length space.old.rows }
+    requires images { AreImagesSpannedBut «module».now space.old.rows postponed source (length «module».now.generators) }
+    ensures enlarged { Answers None (λ _. IsEnlarged «module».now space.old space.new) result }
+    ensures images { Answers None
+        (λ _. AreImagesSpanned «module».now space.new.rows source (length «module».now.generators)) result }
+{
+    let Some(number) = postponed else {
+        return Ok(());
+    };
+    if number < module.gens() {
+        insert_image(alloc, module, space, source, number)?;
+    }
+    Ok(())
+}
+
+/// Enlarges a space of vectors of a module to the least invariant space with it, where the images of the first `start` rows
+/// of its echelon form are in it. It takes the other rows in turn, those that it adds among them, and inserts the images
+/// of each under the generators.
+fn take_images_from(
+    alloc: Global,
+    module: &Module,
+    space: &mut Subspace,
+    start: usize,
+) -> Result<(), Refusal>
+    requires subspace { IsSubspaceOf «module».now space.old }
+    requires within { start ≤ length space.old.rows }
+    requires images { (r : ℕ) → r < start →
+        AreImagesSpanned «module».now space.old.rows r (length «module».now.generators) }
+    ensures enlarged { Answers None (λ _. IsEnlarged «module».now space.old space.new) result }
+    ensures images { Answers None (λ _. (r : ℕ) → r < length space.new.rows →
+        AreImagesSpanned «module».now space.new.rows r (length «module».now.generators)) result }
+{
+    let mut taken = start;
     // There are no more independent rows than the dimension, and each step takes one or more.
     for _ in 0..module.dim() {
         if taken == space.dim() {
@@ -87,15 +231,42 @@ fn insert_images(
     ensures images { Answers None
         (λ _. AreImagesSpanned «module».now space.new.rows source (length «module».now.generators)) result }
 {
-    for number in 0..module.gens() {
+    for generator in 0..module.gens() {
         // Once the rows span everything, no image is new.
-        if space.dim() == module.dim() {
+        if is_whole(module, space) {
             break;
         }
-        let image = module.generator(number).vec_mul(alloc, space.row(source))?;
-        space.insert(image)?;
+        insert_image(alloc, module, space, source, generator)?;
     }
     Ok(())
+}
+
+/// Inserts the image of one row of the echelon form under a generator, and answers whether it is new.
+#[inline(always)]
+fn insert_image(
+    alloc: Global,
+    module: &Module,
+    space: &mut Subspace,
+    source: usize,
+    number: usize,
+) -> Result<bool, Refusal>
+    requires subspace { IsSubspaceOf «module».now space.old }
+    requires within { source < length space.old.rows }
+    requires number { number < length «module».now.generators }
+    ensures enlarged { Answers None (λ _. IsEnlarged «module».now space.old space.new) result }
+    ensures image { Answers None (λ _. IsSpanned (number_field «module».now.order) space.new.rows
+        (image_of_row «module».now space.new.rows source number)) result }
+{
+    let image = module.generator(number).vec_mul(alloc, space.row(source))?;
+    space.insert(image)
+}
+
+/// Whether a space of vectors of a module is that of all of them.
+#[inline(always)]
+fn is_whole(module: &Module, space: &Subspace) -> bool
+    ensures { IsTrue result ↔ (length space.now.rows ≡ «module».now.dim) }
+{
+    space.dim() == module.dim()
 }
 
 /// Inserts the images of `count` rows of the echelon form under the generators, those from row `source` on, by products.

@@ -8,6 +8,7 @@ mod limits;
 mod module;
 mod spinning;
 mod standard;
+mod trail;
 
 pub use generated::{generate, generated_space};
 pub use laws::{isomorphism_carries_standard_basis, multiple_has_the_same_standard_matrices};

@@ -6,7 +6,7 @@ use Rattle.axe_spin.proofs.generated.insert_images_of_block.Goals.{else-loop-ind
 
 pub loop-index-init : goal.loop-index-init
 loop-index-init c = record {
-  enlarged = enlarged_by_nothing c.args.module.now c.gens-index-end.ensures.well_formed c.args.space.now c.requires.subspace;
+  enlarged = enlarged_by_nothing c.args.module.now c.args.space.now c.requires.subspace;
   images = λ r begun within i below. absurd (omega (arith, below));
 }
 

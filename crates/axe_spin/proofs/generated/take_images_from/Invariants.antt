@@ -1,6 +1,6 @@
 use Rattle.std.proofs.Common.{◌<◌, ◌≤◌, ℕ, length}
 use Rattle.axe_spin.specs.Spaces.{IsEnlarged, AreImagesSpanned}
-use Rattle.axe_spin.proofs.generated.make_invariant.Given as goal
+use Rattle.axe_spin.proofs.generated.take_images_from.Given as goal
 
 abbrev pub invariant-loop : goal.invariant-loop
 invariant-loop l = record {
