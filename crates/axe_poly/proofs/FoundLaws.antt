@@ -1,6 +1,7 @@
 -- The irreducible polynomials of the next degree, as they are found and put into a table.
-use Rattle.std.specs.Prelude.{◌≡◌, ℕ, suc, ◌+◌, ◌-◌, ◌*◌, ◌^◌, ◌<◌, ◌≤◌, List, [], ◌∷◌, ◌++◌, length}
-use Rattle.std.proofs.lemmas.List.{map-append}
+use Rattle.std.specs.Prelude.{◌≡◌, ℕ, suc, ◌+◌, ◌-◌, ◌*◌, ◌^◌, ◌<◌, ◌≤◌, List, [], ◌∷◌, ◌++◌, length, get_or}
+use Rattle.std.specs.List.{All}
+use Rattle.std.proofs.lemmas.List.{map-append, get_or-map, length-map}
 use Rattle.std.proofs.lemmas.List.Elements.{All-nil, All-push, All-append}
 use Rattle.axe_algebra.specs.NumberField.{NumberField}
 use Rattle.axe_algebra.proofs.ElementNumbers.{zero-below}
@@ -94,6 +95,19 @@ module _ (t : IrreduciblesValue) where
       fields = h.fields;
       irreducibles = not_one_more K (t.degree + 1) number f (coefficients_of found) is reducible h.irreducibles;
     }
+
+  -- their degrees are no greater than the greatest one
+  pub found_degrees : (bound : ℕ) (found : List PolyValue) → t.degree < greatest_degree t.order →
+      AreFoundBelow t bound found → All (λ p. degree_of p.coefficients ≤ greatest_degree t.order) found
+  found_degrees bound found small h i p inside = omega (arith, small, degree)
+    where
+      listed : get_or (coefficients_of found) i p.coefficients ≡ (get_or found i p).coefficients
+      listed = get_or-map (λ (f : PolyValue). f.coefficients) found i p p.coefficients inside
+
+      degree : degree_of (get_or found i p).coefficients ≡ t.degree + 1
+      degree = ap degree_of (sym listed)
+          ∙ (h.irreducibles.each i p.coefficients
+          (omega (arith, inside, length-map found (λ (f : PolyValue). f.coefficients)))).irreducible.degree_is
 
   -- before the first candidate
   pub found_none : (first : ℕ) (found : List PolyValue) → first ≡ order_number t.order ^ (t.degree + 1) → found ≡ [] →

@@ -13,3 +13,4 @@ pub mod NumberPolynomials
 pub mod BitProducts
 pub mod ProductWords
 pub mod SieveLaws
+pub mod DivisorLaws

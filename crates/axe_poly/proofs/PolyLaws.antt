@@ -1,15 +1,14 @@
 -- Monic polynomials as values: what their tests say, and what their coefficients are.
 use Rattle.std.specs.Prelude.{◌≡◌, ◌↔◌, IsTrue, Bool, ℕ, ◌+◌, ◌-◌, ◌^◌, ◌<◌, ◌≤◌, List, length, get_or}
 use Rattle.std.specs.List.{All}
-use Rattle.std.proofs.lemmas.List.{get_or_default, get_or-map, length-map}
+use Rattle.std.proofs.lemmas.List.{get_or_default}
 use Rattle.axe_algebra.specs.Lists.{AreElements}
 use Rattle.axe_field.specs.Arithmetic.{field_add, field_mul, field_neg}
 use Rattle.axe_field.specs.NumberFields.{number_field}
 use Rattle.axe_field.specs.Order.{Order, Two, Three, Four, Five, Seven, Eight, Nine, order_number, IsElement}
-use Rattle.axe_polynomial_algebra.specs.PolynomialsOfLists.{IsMonicOver, Divides}
+use Rattle.axe_polynomial_algebra.specs.PolynomialsOfLists.{Divides}
 use Rattle.axe_poly.specs.Limits.{greatest_degree}
-use Rattle.axe_poly.specs.Polys.{PolyValue, IsPoly, poly_with, coefficients_of}
-use Rattle.axe_poly.specs.Tables.{AreTabled}
+use Rattle.axe_poly.specs.Polys.{IsPoly, poly_with}
 use mathlib.Core.Path.{sym, ◌∙◌, ap, subst}
 use native.Mathlib.Nat.{pow-le-pow_right}
 use native.Mathlib.Omega.{arith}
@@ -93,22 +92,6 @@ sum_in_field o f a b c product sum same product_is sum_is =
 pub negative_in_field : (o f : Order) (a n : ℕ) → f ≡ o → n ≡ field_neg f a → n ≡ (number_field o).neg a
 unfolding number_field
 negative_in_field o f a n same is = is ∙ ap (λ g. field_neg g a) same
-
--- a polynomial of a table
-pub poly_of_table : (o : Order) (d : ℕ) (items : List PolyValue) (i : ℕ) (x : PolyValue) → AreTabled o d items →
-    i < length items → x ≡ get_or items i x → IsPoly x
-poly_of_table o d items i x tabled inside is =
-    subst (λ q. IsMonicOver (number_field q) x.coefficients) (sym same_field)
-    (subst (λ (f : List ℕ). IsMonicOver (number_field o) f) listed
-    (tabled.irreducibles.each i x.coefficients
-    (omega (arith, inside, length-map items (λ (f : PolyValue). f.coefficients)))).irreducible.over)
-  where
-    same_field : x.order ≡ o
-    same_field = ap (λ (p : PolyValue). p.order) is ∙ tabled.fields i x inside
-
-    listed : get_or (coefficients_of items) i x.coefficients ≡ x.coefficients
-    listed = get_or-map (λ (f : PolyValue). f.coefficients) items i x x.coefficients inside
-        ∙ ap (λ (p : PolyValue). p.coefficients) (sym is)
 
 -- what a division tells, said of the table
 pub divides_tells : (o q : Order) (p r f : List ℕ) (b : Bool) → o ≡ q → p ≡ r →

@@ -5,3 +5,4 @@ pub mod Numbering
 pub mod Tables
 pub mod Lanes
 pub mod Sieve
+pub mod Divisors

@@ -65,17 +65,14 @@ impl Irreducibles {
         ensures { Answers None
             (λ _. AreFactorsAmong self.now poly.now degree (index + 1) factors.new.items) result }
     {
-        // `count` is called for what it ensures beside their number: that they are irreducible, and that their degrees
-        // are no greater than the greatest one.
+        // `count` is called for what it ensures beside their number: that they are irreducible.
         prove!(index < self.count());
-        let divisor = self.polynomial(index);
-        if divisor.degree() != degree {
+        let divisor = self.divisor(index);
+        if divisor.poly().degree() != degree {
             return Ok(());
         }
-        let (lanes, coefficients) = (self.lanes(), divisor.coefficients());
-        let multiples = lanes.multiples(coefficients);
-        if lanes.divides(coefficients, &multiples, poly.coefficients()) {
-            let factor = divisor.copy(alloc)?;
+        if divisor.divides(self.lanes(), poly.coefficients()) {
+            let factor = divisor.poly().copy(alloc)?;
             factors.push(factor)?;
         }
         Ok(())

@@ -10,6 +10,7 @@ ghost use Rattle.axe_poly.specs.Sieve.{AreReducibleMarks};
 ghost use Rattle.axe_poly.specs.Tables.{AreIrreducibles, AreFoundBelow};
 
 use crate::digits::Digits;
+use crate::divisor::{Divisor, divisors_of};
 use crate::lanes::Lanes;
 use crate::poly::{Poly, list_of};
 use axe_field::Field;
@@ -23,7 +24,7 @@ use std::marker::Model;
 pub struct Irreducibles {
     lanes: Lanes,
     degree: usize,
-    polynomials: Vec<Poly>,
+    polynomials: Vec<Divisor>,
 }
 
 impl Model for Irreducibles {
@@ -96,17 +97,25 @@ impl Irreducibles {
         self.polynomials.len()
     }
 
+    /// The one at an index, as a divisor.
+    pub(crate) fn divisor(&self, index: usize) -> &Divisor
+        requires { index < length self.now.polynomials }
+        ensures value { result.now ≡ poly_with self.now.order (get_or self.now.polynomials index []) }
+    {
+        &self.polynomials[index]
+    }
+
     /// The one at an index.
     pub(crate) fn polynomial(&self, index: usize) -> &Poly
         requires { index < length self.now.polynomials }
         ensures value { result.now ≡ poly_with self.now.order (get_or self.now.polynomials index []) }
         ensures well_formed { IsPoly result.now }
     {
-        &self.polynomials[index]
+        self.divisor(index).poly()
     }
 
     /// Those of the next degree.
-    fn of_next_degree(&self, alloc: Global) -> Result<Vec<Poly>, Refusal>
+    fn of_next_degree(&self, alloc: Global) -> Result<Vec<Divisor>, Refusal>
         requires { self.now.degree < greatest_degree self.now.order }
         ensures { Answers None (λ found.
             AreFoundBelow self.now (2 * order_number self.now.order ^ (self.now.degree + 1)) found.items) result }
@@ -119,7 +128,7 @@ impl Irreducibles {
         for number in first..2 * first {
             self.try_number(alloc, number, &reducible, &mut candidate, &mut found)?;
         }
-        Ok(found)
+        divisors_of(alloc, self.lanes(), found)
     }
 
     /// A mark for each monic polynomial of the next degree, by its number: whether it is reducible.

@@ -3,6 +3,7 @@
 #![tactic(auto)]
 
 mod digits;
+mod divisor;
 mod factors;
 mod irreducibles;
 mod lanes;
