@@ -80,7 +80,7 @@ module _ (m : ModuleValue) (is : IsModule m) where
       (generated_is_invariant F M (module_shape K m.dim m.generators is.over.square) (length rows) (matrix_of K rows))
       (length others) (matrix_of K others) (rows_length K m.dim others over_others) each
 
-  -- and step by step
+  -- a space that is enlarged twice is enlarged
   pub enlarged_on : (old mid new : EchelonValue) → IsEnlarged m old mid → IsEnlarged m mid new → IsEnlarged m old new
   enlarged_on old mid new first second = record {
     subspace = second.subspace;

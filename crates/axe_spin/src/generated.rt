@@ -256,6 +256,9 @@ fn insert_image(
     ensures enlarged { Answers None (λ _. IsEnlarged «module».now space.old space.new) result }
     ensures image { Answers None (λ _. IsSpanned (number_field «module».now.order) space.new.rows
         (image_of_row «module».now space.new.rows source number)) result }
+    ensures exactly { IfOk result
+        (λ is_new. IsTrue is_new ↔ ¬ (IsSpanned (number_field «module».now.order) space.old.rows
+        (image_of_row «module».now space.old.rows source number))) }
 {
     let image = module.generator(number).vec_mul(alloc, space.row(source))?;
     space.insert(image)

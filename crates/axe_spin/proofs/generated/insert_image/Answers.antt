@@ -47,6 +47,10 @@ returns-clause-image c =
     c.in_ok-image.image.entries new c.args.source c.args.number c.requires.subspace c.requires.within c.requires.number (image_is c) one_more exactly.1
     c.insert.ensures.well_formed)
 
+-- what is told of the product is told of the image
+pub returns-clause-exactly : goal.returns-clause-exactly
+returns-clause-exactly c = rw (← image_is c, ← c.requires.subspace.field) c.insert.ensures.exactly
+
 pub returns-in_err-image-clause-enlarged : goal.returns-in_err-image-clause-enlarged
 returns-in_err-image-clause-enlarged c = no_memory _ c.from_residual.result _ c.from_residual.ensures.1 c.in_err-image.ensures.product
 
