@@ -5,3 +5,5 @@ pub mod Orders
 pub mod ProductTables
 pub mod Remainders
 pub mod CoefficientLaws
+pub mod FormLaws
+pub mod FormSums

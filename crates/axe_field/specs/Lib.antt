@@ -4,3 +4,4 @@ pub mod Planes
 pub mod CheckedLaws
 pub mod NumberFields
 pub mod Tables
+pub mod Forms

@@ -12,13 +12,16 @@ ghost use Rattle.std.proofs.lemmas.Cmp.{nat_eq_equiv, on_equiv};
 ghost use Rattle.axe_field.specs.Order.{Order, order_number, prime_of, degree_of, conway, IsElement};
 ghost use Rattle.axe_field.specs.Arithmetic.{polynomial_of, polynomial_product, IsRemainder, field_add, field_neg};
 ghost use Rattle.axe_field.specs.Arithmetic.{field_mul, field_inv};
+ghost use Rattle.axe_field.specs.Forms.{prime_order};
 ghost use Rattle.axe_field.specs.NumberFields.{number_field};
 ghost use Rattle.axe_field.specs.Planes.{matrix_of_multiplication, coefficient, element_of, coefficient_by_matrix};
 
+pub use forms::ProductTerm;
 use std::fmt;
 use std::marker::Model;
 use tables::Tables;
 
+mod forms;
 mod tables;
 
 /// One of the seven fields. Its value is three bytes; the tables of its operations are constants.
@@ -267,4 +270,14 @@ pub fn coefficients_add_and_multiply()
         coefficient o (field_add o a b) j ≡ (coefficient o a j + coefficient o b j) % prime_of o }
     ensures product { (o : Order) (c a j : ℕ) → IsElement o c → IsElement o a → j < 3 →
         coefficient o (field_mul o c a) j ≡ coefficient_by_matrix o (matrix_of_multiplication o c) a j }
+{}
+
+/// The elements of the prime field are elements of the field, by the same numbers, and have the same sums and products
+/// there.
+pub fn prime_field_is_inside()
+    ensures element { (o : Order) (a : ℕ) → IsElement (prime_order o) a → IsElement o a }
+    ensures sum { (o : Order) (a b : ℕ) → IsElement (prime_order o) a → IsElement (prime_order o) b →
+        field_add o a b ≡ field_add (prime_order o) a b }
+    ensures product { (o : Order) (a b : ℕ) → IsElement (prime_order o) a → IsElement (prime_order o) b →
+        field_mul o a b ≡ field_mul (prime_order o) a b }
 {}

@@ -31,3 +31,4 @@ pub mod BitBlockLaws
 pub mod BlockLaws
 pub mod FourMultiples
 pub mod SummedTables
+pub mod FormLaws

@@ -12,3 +12,4 @@ pub mod Words
 pub mod FoundEntries
 pub mod EntryWords
 pub mod BitBlocks
+pub mod FormValues

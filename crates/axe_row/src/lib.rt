@@ -20,6 +20,7 @@ mod combos;
 mod dots;
 mod entries;
 mod entry_word;
+mod forms;
 mod found;
 mod higher;
 mod lanes;
