@@ -33,3 +33,4 @@ mod ValuePowers
 mod ValueDigits
 mod ValuePlaces
 pub mod ConsecutiveEntries
+pub mod FormProducts

@@ -9,3 +9,4 @@ pub mod ValueTerms
 pub mod PieceTables
 pub mod Transposes
 pub mod ConsecutiveColumns
+pub mod FormValues

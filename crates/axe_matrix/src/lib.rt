@@ -12,6 +12,7 @@ ghost use Rattle.axe_matrix.specs.Matrices.{IsMatrix, row_of, vector_product, ha
 mod arithmetic;
 mod by_values;
 mod chosen;
+mod forms;
 mod multiples;
 mod parts;
 mod products;

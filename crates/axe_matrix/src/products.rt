@@ -81,8 +81,9 @@ impl Matrix {
     }
 
     /// Adds the product of two matrices as [`Matrix::add_product`] does with the scalar 1: row by row where rows are
-    /// multiplied value by value, and few enough that this takes less work, and else by tables that combine so many
-    /// rows of the second each. For want of memory nothing is changed.
+    /// multiplied value by value, and few enough that this takes less work, by products over the prime field where
+    /// there are so many that this does, and else by tables that combine so many rows of the second each. For want of
+    /// memory nothing is changed.
     fn add_times(
         &mut self,
         alloc: Global,
@@ -106,6 +107,9 @@ impl Matrix {
             self.add_directly(1, a, b);
             return Ok(());
         }
+        if a.goes_by_forms() {
+            return self.add_by_forms(alloc, a, b);
+        }
         self.add_by_tables(alloc, a, b, size)
     }
 
@@ -122,7 +126,7 @@ impl Matrix {
 
     /// Adds the product of two matrices as [`Matrix::add_product`] does with the scalar 1, by tables that combine so
     /// many rows of the second each. For want of memory nothing is changed.
-    fn add_by_tables(
+    pub(crate) fn add_by_tables(
         &mut self,
         alloc: Global,
         a: &Matrix,
@@ -296,7 +300,7 @@ fn nonzero_entries(row: &Row) -> usize {
 
 /// How many rows each of four tables combines, where so many rows are added from it to sums of so many terms: one more
 /// as long as that makes the additions for each term fewer, there is work for four tables, and a table can.
-fn rows_combined(field: &Field, rows: usize, terms: usize) -> usize
+pub(crate) fn rows_combined(field: &Field, rows: usize, terms: usize) -> usize
     ensures some { 1 ≤ result }
     ensures fits { result ≤ most_combined field.now }
 {
