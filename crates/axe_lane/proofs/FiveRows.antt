@@ -86,6 +86,9 @@ sum_of_five p (inr (inr (inr e))) x a b c d = rw e (omega arith)
 abbrev pub wrapped : ℕ → ℕ → ℕ
 wrapped x y = (x + y) % 256
 
+pub wrapped_associative : (x y z : ℕ) → wrapped x (wrapped y z) ≡ wrapped (wrapped x y) z
+wrapped_associative x y z = omega arith
+
 abbrev L : ℕ → ℕ → ℕ
 L = less_where_not_below
 

@@ -49,6 +49,10 @@ four_times p z h = thrice p (L (8 * p) z) (less_below (8 * p) z (omega arith)) �
 pub five_times : (p z : ℕ) → z < 32 * p → L p (L (2 * p) (L (4 * p) (L (8 * p) (L (16 * p) z)))) ≡ z % p
 five_times p z h = four_times p (L (16 * p) z) (less_below (16 * p) z (omega arith)) ∙ less_mod (16 * p) 16 p z refl
 
+-- a byte, where p is from 4 to 7
+pub six_times : (p z : ℕ) → 4 ≤ p → z < 256 → L p (L (2 * p) (L (4 * p) (L (8 * p) (L (16 * p) (L (32 * p) z))))) ≡ z % p
+six_times p z large h = five_times p (L (32 * p) z) (less_below (32 * p) z (omega arith)) ∙ less_mod (32 * p) 32 p z refl
+
 -- x, y and a factor m are below p
 module _ (p m x y : ℕ) (few : p < 8) (m_below : m < p) (x_below : x < p) (y_below : y < p) where
   unreduced : x + m * y < 7 * p

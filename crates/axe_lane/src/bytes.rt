@@ -448,7 +448,7 @@ fn times(v: u8x32, m: u8) -> u8x32
 
 /// Each lane less a number where it is not below it: the difference wraps where it is, and is then the greater one.
 #[inline(always)]
-fn reduced(v: u8x32, by: u8) -> u8x32
+pub(crate) fn reduced(v: u8x32, by: u8) -> u8x32
     ensures { result ≡ map (less_where_not_below by) v }
 {
     v.simd_min(v - u8x32::splat(by))
