@@ -17,7 +17,7 @@ pub use layer::{
     add_digits, bit_in, copy_digits, fill_with_bits, fill_with_part, fill_with_selected, next_in,
     number_in, numbers_by_digits, numbers_in, set_bit,
 };
-pub use packed::{WORD_BYTES, packed_word, word_of_packed};
-pub use parts::lowest;
+pub use packed::{WORD_BYTES, packed_word, piece_number, word_of_packed};
+pub use parts::{lowest, word_from};
 pub use places::earlier;
 pub use supports::{four_in_word, next_in_word};

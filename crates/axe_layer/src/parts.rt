@@ -61,7 +61,7 @@ fn digits_from(words: &[u64], from: usize, count: usize) -> u64
 
 /// The word of the digits from an index on; a digit that lies beyond the words is 0.
 #[inline]
-pub(crate) fn word_from(words: &[u64], from: usize) -> u64
+pub fn word_from(words: &[u64], from: usize) -> u64
     requires { from / 64 < length words.now }
     ensures { (i : ℕ) → i < 64 → bit_at result i ≡ bit_of words.now (from + i) }
 {
