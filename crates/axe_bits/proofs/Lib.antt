@@ -1,3 +1,4 @@
+pub mod PieceEntries
 pub mod PieceLaws
 pub mod EndSums
 pub mod MaskedBits

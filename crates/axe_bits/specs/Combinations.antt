@@ -32,3 +32,8 @@ pub record HaveEntrySums (p start count : ℕ) (before after : List (List ℕ)) 
   pub earlier : (x : ℕ) → x ≤ start → slice_index_or after x [] ≡ slice_index_or before x []
   pub later : (x : ℕ) → start + count ≤ x → x < length before →
       slice_index_or after x [] ≡ slice_index_or before x []
+
+-- there is a list x in a table of lists, counted from 0, and it has n digits
+pub record HasEntryOf (n : ℕ) (entries : List (List ℕ)) (x : ℕ) : Type 0 where
+  pub within : x < length entries
+  pub fits : length (slice_index_or entries x []) ≡ n

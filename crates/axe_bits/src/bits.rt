@@ -1,6 +1,6 @@
 //! Planes of digits modulo 2.
 ghost use Rattle.std.specs.Prelude.{ℕ, ◌≡◌, ◌+◌, ◌*◌, ◌/◌, ◌^◌, ◌%◌, ◌<◌, ◌≤◌, ◌↔◌, IsTrue, IfOk, length, map};
-ghost use Rattle.std.specs.Prelude.{replicate, slice_index, slice_set, All, MatchOption};
+ghost use Rattle.std.specs.Prelude.{[], replicate, slice_index, slice_index_or, slice_set, All, MatchOption};
 ghost use Rattle.axe_algebra.specs.Lists.{listed};
 ghost use Rattle.axe_lane.specs.Bytes.{multiple_modulo, sum_of_products, AreDigits};
 ghost use Rattle.axe_lane.specs.Entries.{IsFirstNonzero, AreZerosBefore, AreZerosFrom, IsNextNonzero};
@@ -11,9 +11,10 @@ ghost use Rattle.axe_layer.specs.Digits.{number_from, numbers_from, number_bound
 ghost use Rattle.axe_layer.specs.Lanes.{in_lanes};
 ghost use Rattle.axe_lane.specs.Multiples.{to_constant_of_two, to_linear_of_two};
 ghost use Rattle.axe_lane.specs.Multiples.{to_constant_of_three, to_linear_of_three, to_quadratic_of_three};
-ghost use Rattle.axe_bits.specs.Combinations.{digits_with_two, digits_with_multiples};
+ghost use Rattle.axe_bits.specs.Combinations.{digits_with_two, digits_with_multiples, HasEntryOf};
 ghost use Rattle.axe_layer.specs.Packed.{packed_bit};
 
+use crate::BitTable;
 use axe_lane::{
     WORD, any_nonzero, first_set, parity_and, xor_into, xor_multiple_over_eight,
     xor_multiple_over_four, xor4_into,
@@ -21,7 +22,7 @@ use axe_lane::{
 use axe_layer::{
     WORD_BYTES, add_digits, bit_in, copy_digits, fill_with_bits, fill_with_part,
     fill_with_selected, lowest, next_in, number_in, numbers_in, packed_numbers, packed_word,
-    set_bit, word_of_packed,
+    piece_number, set_bit, word_from, word_of_packed,
 };
 use std::alloc::{AllocError, Global};
 use std::marker::Model;
@@ -348,6 +349,41 @@ impl BitPlane {
             (bits (length self.old) c.now) (bits (length self.old) d.now) }
     {
         xor4_into(&mut self.words, a, b, c, d);
+    }
+
+    /// Adds, for each of four pieces of another plane, the entry of a table whose number has the piece's digits in base
+    /// 2, most significant first: the pieces have `size` digits each, and stand one after another from an index on. The
+    /// tables' entries have this plane's length.
+    #[inline(always)]
+    pub fn add_pieces(
+        &mut self,
+        of: &BitPlane,
+        size: usize,
+        at: usize,
+        a: &BitTable,
+        b: &BitTable,
+        c: &BitTable,
+        d: &BitTable,
+    )
+        requires some { 1 ≤ size }
+        requires short { size ≤ 8 }
+        requires within { at + 4 * size ≤ length of.now }
+        requires a { HasEntryOf (length self.old) a.now (number_from 2 size at of.now) }
+        requires b { HasEntryOf (length self.old) b.now (number_from 2 size (at + size) of.now) }
+        requires c { HasEntryOf (length self.old) c.now (number_from 2 size (at + 2 * size) of.now) }
+        requires d { HasEntryOf (length self.old) d.now (number_from 2 size (at + 3 * size) of.now) }
+        ensures { self.new ≡ digits_with_four 2 self.old
+            (slice_index_or a.now (number_from 2 size at of.now) [])
+            (slice_index_or b.now (number_from 2 size (at + size) of.now) [])
+            (slice_index_or c.now (number_from 2 size (at + 2 * size) of.now) [])
+            (slice_index_or d.now (number_from 2 size (at + 3 * size) of.now) []) }
+    {
+        let word = word_from(&of.words, at);
+        let a = a.entry(piece_number(word, 0, size));
+        let b = b.entry(piece_number(word, size, size));
+        let c = c.entry(piece_number(word, 2 * size, size));
+        let d = d.entry(piece_number(word, 3 * size, size));
+        self.add_four(a, b, c, d);
     }
 
     /// Multiplies each digit by a factor modulo 2: the factor 0 makes zeros, and 1 changes nothing.
