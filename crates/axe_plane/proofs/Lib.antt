@@ -2,3 +2,4 @@ pub mod PlaneLaws
 pub mod FourMultiples
 pub mod TableLaws
 pub mod PlaneWords
+pub mod SumLaws

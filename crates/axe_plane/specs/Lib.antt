@@ -4,3 +4,4 @@ pub mod Addends
 pub mod FlatTables
 pub mod Tables
 pub mod NumberWords
+pub mod Sums

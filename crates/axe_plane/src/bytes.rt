@@ -15,6 +15,9 @@ use axe_lane::{
 };
 use std::alloc::{AllocError, Global};
 use std::marker::Model;
+pub use sums::ByteSums;
+
+mod sums;
 
 /// How many bytes a piece of a dot product has at most.
 const PIECE: usize = 4096;

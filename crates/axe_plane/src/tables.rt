@@ -161,6 +161,18 @@ impl PlaneTable {
         }
     }
 
+    /// The table of bits that a table modulo 2 is.
+    #[inline(always)]
+    pub(crate) fn bit_table(&self) -> &BitTable
+        requires even { prime_of_table self.now ≡ 2 }
+        ensures entries { result.now ≡ entries_of_table self.now }
+    {
+        match self {
+            PlaneTable::Bits(table) => table,
+            PlaneTable::Trits(_) | PlaneTable::Bytes(_) => unreachable!(),
+        }
+    }
+
     /// The words of an entry of a table modulo 2.
     #[inline]
     pub(crate) fn words_of(&self, index: usize) -> &[u64]
