@@ -32,3 +32,4 @@ pub mod BlockLaws
 pub mod FourMultiples
 pub mod SummedTables
 pub mod FormLaws
+pub mod PieceRows

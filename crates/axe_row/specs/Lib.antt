@@ -13,3 +13,4 @@ pub mod FoundEntries
 pub mod EntryWords
 pub mod BitBlocks
 pub mod FormValues
+pub mod Sums

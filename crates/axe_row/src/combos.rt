@@ -8,7 +8,7 @@ ghost use Rattle.axe_plane.specs.Planes.{prime_of_plane, digits_of, IsPlane};
 ghost use Rattle.axe_plane.specs.Tables.{prime_of_table, entries_of_table, plane_at, IsTable};
 ghost use Rattle.axe_row.specs.ByteDigits.{digits_per_byte};
 ghost use Rattle.axe_row.specs.Combinations.{most_combined, zero_table, combination_at, row_with_four, AreOfOneKind};
-ghost use Rattle.axe_row.specs.Combinations.{Combines, IsRowFor, IsTableOfRows};
+ghost use Rattle.axe_row.specs.Combinations.{piece_number, Combines, IsRowFor, IsTableOfRows};
 ghost use Rattle.axe_row.specs.Operations.{row_with_multiple, sum_with_multiple};
 ghost use Rattle.axe_bits.specs.Combinations.{digits_with_multiples};
 ghost use Rattle.axe_row.specs.Planes.{AreAddable};
@@ -20,8 +20,11 @@ use crate::planes::digits_in_plane;
 use crate::{Refusal, Row};
 use axe_field::Field;
 use axe_plane::{Plane, PlaneTable};
+pub use row_sum::RowSum;
 use std::alloc::Global;
 use std::marker::Model;
+
+mod row_sum;
 
 /// A table of rows over a field of q elements, to hold all combinations of up to `size` rows of one length: q^size
 /// rows, the first always zero. Each plane of its rows stands in one piece of memory with that of the others.
@@ -287,6 +290,55 @@ impl Row {
             &c.quadratic,
             &d.quadratic,
         );
+    }
+
+    /// Adds, for each of four pieces of another row over this row's field, the row of a table that the piece names: the
+    /// entries of the piece are the digits of its number in base q, most significant first, where q is the order of the
+    /// field. The pieces have `size` entries each, or those that there are, and stand one after another from an index
+    /// on. The tables' rows are as long as this row.
+    #[inline(always)]
+    pub fn add_pieces(
+        &mut self,
+        of: &Row,
+        size: usize,
+        at: usize,
+        a: &Combos,
+        b: &Combos,
+        c: &Combos,
+        d: &Combos,
+    )
+        requires short { size ≤ 8 }
+        requires counted { at + 4 * size < 2 ^ 64 }
+        requires field { of.now.order ≡ self.old.order }
+        requires a { IsRowFor self.old a.now (piece_number of.now 1 size at) }
+        requires b { IsRowFor self.old b.now (piece_number of.now 1 size (at + size)) }
+        requires c { IsRowFor self.old c.now (piece_number of.now 1 size (at + 2 * size)) }
+        requires d { IsRowFor self.old d.now (piece_number of.now 1 size (at + 3 * size)) }
+        ensures sum { self.new ≡ row_with_four self.old
+            (combination_at a.now (piece_number of.now 1 size at))
+            (combination_at b.now (piece_number of.now 1 size (at + size)))
+            (combination_at c.now (piece_number of.now 1 size (at + 2 * size)))
+            (combination_at d.now (piece_number of.now 1 size (at + 3 * size))) }
+        ensures as_long { length self.new.entries ≡ length self.old.entries }
+        ensures well_formed { IsRow self.new }
+    {
+        let Some(_) = &self.higher else {
+            let order = usize::from(self.field.order());
+            let (constant, of) = (&mut self.constant, &of.constant);
+            constant.add_pieces(
+                of,
+                order,
+                size,
+                at,
+                &a.constant,
+                &b.constant,
+                &c.constant,
+                &d.constant,
+            );
+            return;
+        };
+        let numbers = of.piece_numbers(1, size, at);
+        self.add_four(numbers, a, b, c, d);
     }
 
     /// Adds a multiple of a row of a table.

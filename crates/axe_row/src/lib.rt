@@ -38,7 +38,7 @@ use axe_layer::earlier;
 pub use axe_plane::BitPlane;
 use axe_plane::Plane;
 pub use bit_block::BitBlock;
-pub use combos::{Combos, digits_per_byte};
+pub use combos::{Combos, RowSum, digits_per_byte};
 pub use entry_word::EntryWord;
 use higher::Higher;
 use planes::{add_planes, digits_in_plane, element, plane_of, quadratic_at};
