@@ -17,6 +17,7 @@ mod multiples;
 mod parts;
 mod products;
 mod strips;
+mod sums;
 mod transposes;
 mod vectors;
 

@@ -1,10 +1,12 @@
 //! Products of matrices, row by row or by tables of combinations of rows.
 
-ghost use Rattle.std.specs.Prelude.{◌≡◌, ◌*◌, ◌<◌, ◌≤◌, None, IfOk, OnErr, length, slice_index, slice_set};
+ghost use Rattle.std.specs.Prelude.{◌≡◌, ◌+◌, ◌*◌, ◌^◌, ◌<◌, ◌≤◌, IsTrue, None, IfOk, OnErr, length, slice_set};
 ghost use Rattle.std.specs.Simd.Lanes.{chunk};
 ghost use Rattle.axe_field.specs.Order.{IsElement};
-ghost use Rattle.axe_row.specs.Combinations.{most_combined, combination_at, row_with_four, Combines, IsRowFor};
+ghost use Rattle.axe_row.specs.Combinations.{most_combined, combination_at, piece_number, row_with_four, Combines};
+ghost use Rattle.axe_row.specs.Combinations.{IsRowFor};
 ghost use Rattle.axe_row.specs.Refusals.{Answers};
+ghost use Rattle.axe_row.specs.Sums.{HasSums};
 ghost use Rattle.axe_matrix.specs.Matrices.{IsMatrix, row_of, product_refusal, matrix_product};
 ghost use Rattle.axe_matrix.specs.Multiples.{matrix_multiple};
 ghost use Rattle.axe_matrix.specs.PieceTables.{IsTableFor, AreTablesFor, CombineFrom};
@@ -82,8 +84,8 @@ impl Matrix {
 
     /// Adds the product of two matrices as [`Matrix::add_product`] does with the scalar 1: row by row where rows are
     /// multiplied value by value, and few enough that this takes less work, by products over the prime field where
-    /// there are so many that this does, and else by tables that combine so many rows of the second each. For want of
-    /// memory nothing is changed.
+    /// there are so many that this does, and else by tables that combine so many rows of the second each; over 5 and 7
+    /// elements by sums whose remainders are taken seldom. For want of memory nothing is changed.
     fn add_times(
         &mut self,
         alloc: Global,
@@ -109,6 +111,9 @@ impl Matrix {
         }
         if a.goes_by_forms() {
             return self.add_by_forms(alloc, a, b);
+        }
+        if goes_by_sums(b, size) {
+            return self.add_by_sums(alloc, a, b, size);
         }
         self.add_by_tables(alloc, a, b, size)
     }
@@ -226,28 +231,36 @@ impl Matrix {
         // `rows` is called for what it ensures beside their number: that the second matrix is one, of so few rows.
         prove!(at < b.rows());
         for index in 0..self.rows() {
-            let numbers = a.row(index).piece_numbers(1, tables.size, at);
-            self.add_combinations(index, numbers, tables);
+            self.add_combinations(index, a.row(index), at, tables);
         }
     }
 
-    /// Adds a row of each of four tables to the row at an index.
-    fn add_combinations(&mut self, index: usize, numbers: [usize; 4], tables: &FourTables)
+    /// Adds to the row at an index the rows of four tables that four pieces of another row name, one after another from
+    /// an index on.
+    fn add_combinations(&mut self, index: usize, of: &Row, at: usize, tables: &FourTables)
         requires index { index < length self.old.rows }
-        requires first { IsRowFor (row_of self.old index) tables.now.first (slice_index numbers 0) }
-        requires second { IsRowFor (row_of self.old index) tables.now.second (slice_index numbers 1) }
-        requires third { IsRowFor (row_of self.old index) tables.now.third (slice_index numbers 2) }
-        requires fourth { IsRowFor (row_of self.old index) tables.now.fourth (slice_index numbers 3) }
+        requires field { of.now.order ≡ self.old.order }
+        requires short { tables.now.size ≤ 8 }
+        requires counted { at + 4 * tables.now.size < 2 ^ 64 }
+        requires first { IsRowFor (row_of self.old index) tables.now.first
+            (piece_number of.now 1 tables.now.size at) }
+        requires second { IsRowFor (row_of self.old index) tables.now.second
+            (piece_number of.now 1 tables.now.size (at + tables.now.size)) }
+        requires third { IsRowFor (row_of self.old index) tables.now.third
+            (piece_number of.now 1 tables.now.size (at + 2 * tables.now.size)) }
+        requires fourth { IsRowFor (row_of self.old index) tables.now.fourth
+            (piece_number of.now 1 tables.now.size (at + 3 * tables.now.size)) }
         ensures sum { let sum = row_with_four (row_of self.old index)
-            (combination_at tables.now.first (slice_index numbers 0))
-            (combination_at tables.now.second (slice_index numbers 1))
-            (combination_at tables.now.third (slice_index numbers 2))
-            (combination_at tables.now.fourth (slice_index numbers 3)) in
+            (combination_at tables.now.first (piece_number of.now 1 tables.now.size at))
+            (combination_at tables.now.second (piece_number of.now 1 tables.now.size (at + tables.now.size)))
+            (combination_at tables.now.third (piece_number of.now 1 tables.now.size (at + 2 * tables.now.size)))
+            (combination_at tables.now.fourth (piece_number of.now 1 tables.now.size (at + 3 * tables.now.size))) in
             self.new ≡ record self.old { rows = slice_set self.old.rows index sum.entries } }
         ensures well_formed { IsMatrix self.new }
     {
         let (first, second) = (&tables.first, &tables.second);
-        self.rows[index].add_four(numbers, first, second, &tables.third, &tables.fourth);
+        let (third, fourth) = (&tables.third, &tables.fourth);
+        self.rows[index].add_pieces(of, tables.size, at, first, second, third, fourth);
     }
 }
 
@@ -260,7 +273,7 @@ const ROWS_SAMPLED: usize = 32;
 
 /// Whether a product by rows takes fewer additions of a row than one by tables that combine so many rows each, where
 /// this matrix is the first factor. A product by rows takes one for each of its entries other than 0. For each block of
-/// terms, the tables take about one for each of their combinations, and what two take for each row. Both ways are
+/// terms, the tables take about one for each of their combinations, and one or two for each row. Both ways are
 /// right: the answer is a guess from some of the rows, evenly spread, and "no" as soon as those looked at so far have
 /// much more than their share of the entries.
 fn direct_is_cheaper(a: &Matrix, size: usize) -> bool
@@ -270,7 +283,7 @@ fn direct_is_cheaper(a: &Matrix, size: usize) -> bool
     let combinations = usize::from(a.field().order()).saturating_pow(size as u32);
     let blocks = a.cols().div_ceil(4 * size);
     let fillings = combinations.saturating_mul(4) / a.rows().max(1);
-    let share = blocks.saturating_mul(fillings.saturating_add(2));
+    let share = blocks.saturating_mul(fillings.saturating_add(additions_of_four(a.field())));
     let step = a.rows() / ROWS_SAMPLED + 1;
     // The rows looked at first may have somewhat more than their share.
     let (mut left, mut index) = (share.saturating_mul(2), 0);
@@ -310,8 +323,8 @@ pub(crate) fn rows_combined(field: &Field, rows: usize, terms: usize) -> usize
     while size < most {
         let more = combinations.saturating_mul(order);
         // The terms of a block are as many as four times the size.
-        let after = additions_of_block(more, rows).saturating_mul(size);
-        if additions_of_block(combinations, rows).saturating_mul(size + 1) <= after {
+        let after = additions_of_block(field, more, rows).saturating_mul(size);
+        if additions_of_block(field, combinations, rows).saturating_mul(size + 1) <= after {
             break;
         }
         size += 1;
@@ -321,26 +334,49 @@ pub(crate) fn rows_combined(field: &Field, rows: usize, terms: usize) -> usize
 }
 
 /// About how many additions of a row a block of terms takes by four tables of so many combinations each: one for each
-/// combination, and for each of so many rows what two take, a guess for every field.
-fn additions_of_block(combinations: usize, rows: usize) -> usize {
+/// combination, and for each of so many rows what four rows of tables take.
+fn additions_of_block(field: &Field, combinations: usize, rows: usize) -> usize {
     combinations
         .saturating_mul(4)
-        .saturating_add(rows.saturating_mul(2))
+        .saturating_add(rows.saturating_mul(additions_of_four(field)))
+}
+
+/// About as many additions of a row as adding four rows of tables takes, a guess: one over 5 and 7 elements, where their
+/// remainders are not taken, and two over the other fields.
+fn additions_of_four(field: &Field) -> usize {
+    if field.prime() > 3 { 1 } else { 2 }
+}
+
+/// From how many blocks of terms on a product over 5 or 7 elements goes by sums: of fewer they cost more to make and to
+/// add than the remainders that they save.
+const BLOCKS_BY_SUMS: usize = 4;
+
+/// Whether a product with this matrix as the second factor, by tables that combine so many rows each, takes fewer steps
+/// where the remainders of its entries are taken seldom: it is over 5 or 7 elements and has enough terms.
+fn goes_by_sums(b: &Matrix, size: usize) -> bool
+    ensures { IsTrue result → HasSums b.now.order }
+{
+    b.field().prime() > 3 && b.rows() / 4 / BLOCKS_BY_SUMS >= size
 }
 
 /// Four tables of combinations of up to `size` rows each.
 #[derive(Drop)]
-struct FourTables {
-    size: usize,
-    first: Combos,
-    second: Combos,
-    third: Combos,
-    fourth: Combos,
+pub(super) struct FourTables {
+    pub(super) size: usize,
+    pub(super) first: Combos,
+    pub(super) second: Combos,
+    pub(super) third: Combos,
+    pub(super) fourth: Combos,
 }
 
 impl FourTables {
     /// Four tables of zeros, for rows of so many entries.
-    fn new(alloc: Global, field: Field, len: usize, size: usize) -> Result<FourTables, Refusal>
+    pub(super) fn new(
+        alloc: Global,
+        field: Field,
+        len: usize,
+        size: usize,
+    ) -> Result<FourTables, Refusal>
         requires some { 1 ≤ size }
         requires size { size ≤ most_combined field }
         ensures size { IfOk result (λ tables. tables.size ≡ size) }
@@ -379,7 +415,7 @@ impl FourTables {
 
     /// Makes the tables those of the combinations of four pieces of a matrix's rows, one after another from an index
     /// on.
-    fn fill(&mut self, b: &Matrix, at: usize)
+    pub(super) fn fill(&mut self, b: &Matrix, at: usize)
         requires within { at < length b.now.rows }
         requires tables { AreTablesFor b.now.order b.now.cols self.old }
         ensures combine { CombineFrom at b.now.rows self.new }
