@@ -3,8 +3,8 @@ ghost use Rattle.std.specs.Prelude.{◌≡◌, length};
 ghost use Rattle.axe_lane.specs.Bytes.{AreDigits, IsSmallPrime};
 
 use axe_lane::{
-    add_scaled_bytes, add4_bytes, any_nonzero, bits_of_bytes, dot_bytes, first_byte, first_set,
-    parity_and, put_xor, scale_bytes, xor_into, xor4_into,
+    add_scaled_bytes, add4_bytes, add4_wrapping, any_nonzero, bits_of_bytes, dot_bytes, first_byte,
+    first_set, parity_and, put_xor, reduce_bytes, scale_bytes, xor_into, xor4_into,
 };
 use std::process::Abort;
 
@@ -186,6 +186,32 @@ fn five_rows_of_bytes_are_summed(rt: &impl Abort, len: usize, p: u8) -> bool {
     is_right
 }
 
+/// Whether sums of five lists of so many bytes are made byte by byte, modulo 256, and then their remainders taken.
+fn sums_leave_their_remainders(rt: &impl Abort, len: usize, p: u8) -> bool {
+    assert!(rt; len <= MOST && 4 <= p && p <= 7);
+    let (a, b, c, d) = (
+        bytes_below(251, 3),
+        bytes_below(251, 7),
+        bytes_below(251, 11),
+        bytes_below(251, 13),
+    );
+    let old = bytes_below(251, 29);
+    let mut sum = old;
+    add4_wrapping(&mut sum[..len], &a[..len], &b[..len], &c[..len], &d[..len]);
+    let mut rest = sum;
+    reduce_bytes(&mut rest[..len], p);
+    let mut is_right = true;
+    for at in 0..len {
+        let four = a[at]
+            .wrapping_add(b[at])
+            .wrapping_add(c[at])
+            .wrapping_add(d[at]);
+        let total = old[at].wrapping_add(four);
+        is_right = is_right && sum[at] == total && total.checked_rem(p) == Some(rest[at]);
+    }
+    is_right
+}
+
 /// Whether sums of five rows of so many words are made word by word.
 fn five_rows_of_words_are_summed(rt: &impl Abort, len: usize) -> bool {
     assert!(rt; len <= MOST);
@@ -279,6 +305,9 @@ fn five_rows_are_summed_at_each_length(rt: HostRuntime) {
         assert!(rt; five_rows_of_words_are_summed(&rt, len), "{len}");
         for p in [2, 3, 5, 7] {
             assert!(rt; five_rows_of_bytes_are_summed(&rt, len, p), "{len} {p}");
+        }
+        for p in [5, 7] {
+            assert!(rt; sums_leave_their_remainders(&rt, len, p), "{len} {p}");
         }
     }
 }
