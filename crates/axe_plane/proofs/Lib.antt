@@ -3,3 +3,5 @@ pub mod FourMultiples
 pub mod TableLaws
 pub mod PlaneWords
 pub mod SumLaws
+pub mod PlacedDigits
+mod SmallNumbers

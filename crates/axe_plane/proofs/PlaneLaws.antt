@@ -1,5 +1,6 @@
 -- Planes as their primes and digits.
-use Rattle.std.proofs.Common.{◌≡◌, ℕ, ◌<◌, List, length, set, replicate, refl, sym, ap, subst, ◌∙◌, arith, lit<}
+use Rattle.std.proofs.Common.{◌≡◌, ℕ, ◌+◌, ◌*◌, ◌%◌, ◌<◌, List, length, set, replicate, refl, sym, ap, subst, ◌∙◌, arith, lit<}
+use Rattle.std.proofs.Math.Nat.{mod-eq_of_lt}
 use Rattle.axe_lane.specs.Bytes.{AreDigits}
 use Rattle.axe_bits.specs.Trits.{trits, HoldLayers}
 use Rattle.axe_layer.specs.Bits.{bits}
@@ -112,3 +113,8 @@ pub four_bytes : (p : ℕ) (x wa wb wc wd a b c d new : List ℕ) → wa ≡ a �
 four_bytes p x wa wb wc wd a b c d new ea eb ec ed e =
     let same : digits_with_four p x wa wb wc wd ≡ digits_with_four p x a b c d = λ i. digits_with_four p x (ea i) (eb i) (ec i) (ed i) in
     e ∙ same
+
+-- a digit to which a multiple of 0 is added
+pub unchanged : (p m x y : ℕ) → x < p → y ≡ 0 → (x + m * y) % p ≡ x
+unchanged p m x y below none =
+    let nothing : x + m * y ≡ x = rw none (omega arith) in ap (λ s. s % p) nothing ∙ mod-eq_of_lt below

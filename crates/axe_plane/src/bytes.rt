@@ -8,6 +8,7 @@ ghost use Rattle.axe_layer.specs.Digits.{digits_at, digits_with_four, digits_wit
 ghost use Rattle.axe_layer.specs.Digits.{numbers_with_multiple, number_from, number_bound};
 ghost use Rattle.axe_plane.specs.Planes.{negative_modulo};
 ghost use Rattle.axe_plane.specs.Primes.{byte_prime, ByteDigits};
+ghost use Rattle.axe_plane.specs.Sums.{placed};
 
 use crate::primes::BytePrime;
 use axe_lane::{
@@ -92,9 +93,52 @@ impl BytePlane {
     }
 
     /// The number whose digits in a base up to 9, most significant first, are up to eight of the plane's digits from an
-    /// index on: `size` of them or those that there are.
+    /// index on: `size` of them or those that there are. Up to three, as pieces have, are read without a loop.
     #[inline]
     pub fn number_from(&self, base: usize, size: usize, at: usize) -> usize
+        requires base { base ≤ 9 }
+        requires short { size ≤ 8 }
+        requires counted { at + size < 2 ^ 64 }
+        ensures value { result ≡ number_from base size at self.now.digits }
+        ensures small { result < number_bound }
+    {
+        let whole = at + size <= self.len();
+        match size {
+            1 if whole => usize::from(self.get(at)),
+            2 if whole => self.number_of_two(base, at),
+            3 if whole => self.number_of_three(base, at),
+            _ => self.number_by_digits(base, size, at),
+        }
+    }
+
+    /// What [`BytePlane::number_from`] gives, of two digits.
+    #[inline(always)]
+    fn number_of_two(&self, base: usize, at: usize) -> usize
+        requires base { base ≤ 9 }
+        requires counted { at + 2 < 2 ^ 64 }
+        requires within { at + 2 ≤ length self.now.digits }
+        ensures value { result ≡ number_from base 2 at self.now.digits }
+        ensures small { result < number_bound }
+    {
+        usize::from(self.get(at)) * base + usize::from(self.get(at + 1))
+    }
+
+    /// What [`BytePlane::number_from`] gives, of three digits.
+    #[inline(always)]
+    fn number_of_three(&self, base: usize, at: usize) -> usize
+        requires base { base ≤ 9 }
+        requires counted { at + 3 < 2 ^ 64 }
+        requires within { at + 3 ≤ length self.now.digits }
+        ensures value { result ≡ number_from base 3 at self.now.digits }
+        ensures small { result < number_bound }
+    {
+        let front = usize::from(self.get(at)) * base + usize::from(self.get(at + 1));
+        front * base + usize::from(self.get(at + 2))
+    }
+
+    /// What [`BytePlane::number_from`] gives, of any number of digits, one after another.
+    #[inline(never)]
+    fn number_by_digits(&self, base: usize, size: usize, at: usize) -> usize
         requires base { base ≤ 9 }
         requires short { size ≤ 8 }
         requires counted { at + size < 2 ^ 64 }
@@ -261,6 +305,22 @@ impl BytePlane {
     {
         let prime = self.prime.number();
         add_scaled_bytes(&mut self.bytes, bytes, factor, prime);
+    }
+
+    /// Adds a list of digits to those from an index on.
+    pub(crate) fn add_bytes_at(&mut self, start: usize, bytes: &[u8])
+        requires within { start + length bytes.now ≤ length self.old.digits }
+        requires digits { AreDigits (byte_prime self.old.prime) bytes.now }
+        ensures { self.new ≡ record {
+          prime = self.old.prime;
+          digits =
+              digits_with_multiple (byte_prime self.old.prime) self.old.digits 1
+              (placed (length self.old.digits) start bytes.now);
+        } }
+    {
+        let prime = self.prime.number();
+        let end = start + bytes.len();
+        add_scaled_bytes(&mut self.bytes[start..end], bytes, 1, prime);
     }
 
     /// Adds four lists of as many digits.

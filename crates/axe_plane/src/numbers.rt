@@ -10,7 +10,7 @@ use crate::{Plane, PlaneTable};
 impl Plane {
     /// Four numbers in a base up to 9, the digits of each being up to eight of the plane's, most significant first:
     /// those of the pieces of `size` digits one after another from an index on, as far as the plane goes.
-    #[inline]
+    #[inline(always)]
     pub fn numbers_from(&self, base: usize, size: usize, at: usize) -> [usize; 4]
         requires base { base ≤ 9 }
         requires short { size ≤ 8 }

@@ -1,11 +1,10 @@
 //! Sums of digits modulo 5 or 7 whose remainders are not taken yet.
-ghost use Rattle.std.specs.Prelude.{ℕ, ◌≡◌, ◌⊎◌, ◌+◌, ◌*◌, ◌^◌, ◌<◌, ◌≤◌, IfOk, length, replicate};
+ghost use Rattle.std.specs.Prelude.{◌≡◌, ◌⊎◌, ◌+◌, ◌≤◌, IfOk, length, replicate, slice_index};
 ghost use Rattle.axe_lane.specs.Bytes.{AreDigits};
-ghost use Rattle.axe_layer.specs.Digits.{digits_with_four, digits_with_multiple, number_from};
-ghost use Rattle.axe_plane.specs.Addends.{IsAddend};
+ghost use Rattle.axe_layer.specs.Digits.{digits_with_four, digits_with_multiple};
 ghost use Rattle.axe_plane.specs.Planes.{prime_of_plane, digits_of, IsPlane};
 ghost use Rattle.axe_plane.specs.Primes.{byte_prime};
-ghost use Rattle.axe_plane.specs.Sums.{plane_of_sums};
+ghost use Rattle.axe_plane.specs.Sums.{placed, plane_of_sums};
 ghost use Rattle.axe_plane.specs.Tables.{plane_at, IsEntryFor};
 
 use crate::{BytePrime, Plane, PlaneTable};
@@ -13,8 +12,8 @@ use axe_lane::{add4_wrapping, reduce_bytes};
 use std::alloc::{AllocError, Global};
 use std::marker::Model;
 
-/// A plane modulo 5 or 7 to which entries of tables are added: a byte for each digit, which is the digit or greater by a
-/// multiple of the prime. The remainders are taken only where a byte has no more room, and in the end.
+/// A plane modulo 5 or 7 to which entries of tables are added: a byte for each digit, which is the digit or greater by
+/// a multiple of the prime. The remainders are taken only where a byte has no more room, and in the end.
 #[derive(Drop)]
 pub struct ByteSums {
     prime: BytePrime,
@@ -54,53 +53,44 @@ impl ByteSums {
         })
     }
 
-    /// Adds, for each of four pieces of a plane, the entry of a table whose number has the piece's digits in a base up to
-    /// 9, as [`Plane::add_pieces`] does.
-    pub fn add_pieces(
+    /// Adds the entries of four tables at these indices, as [`Plane::add_four_entries`] does.
+    pub fn add_four_entries(
         &mut self,
-        of: &Plane,
-        base: usize,
-        size: usize,
-        at: usize,
+        indices: [usize; 4],
         a: &PlaneTable,
         b: &PlaneTable,
         c: &PlaneTable,
         d: &PlaneTable,
     )
-        requires base { base ≤ 9 }
-        requires short { size ≤ 8 }
-        requires counted { at + 4 * size < 2 ^ 64 }
-        requires a { IsEntryFor (plane_of_sums self.old) a.now (number_from base size at (digits_of of.now)) }
-        requires b { IsEntryFor (plane_of_sums self.old) b.now (number_from base size (at + size) (digits_of of.now)) }
-        requires c { IsEntryFor (plane_of_sums self.old) c.now
-            (number_from base size (at + 2 * size) (digits_of of.now)) }
-        requires d { IsEntryFor (plane_of_sums self.old) d.now
-            (number_from base size (at + 3 * size) (digits_of of.now)) }
+        requires a { IsEntryFor (plane_of_sums self.old) a.now (slice_index indices 0) }
+        requires b { IsEntryFor (plane_of_sums self.old) b.now (slice_index indices 1) }
+        requires c { IsEntryFor (plane_of_sums self.old) c.now (slice_index indices 2) }
+        requires d { IsEntryFor (plane_of_sums self.old) d.now (slice_index indices 3) }
         ensures { IsPlane (byte_prime self.old.prime) (digits_with_four (byte_prime self.old.prime) self.old.digits
-            (digits_of (plane_at a.now (number_from base size at (digits_of of.now))))
-            (digits_of (plane_at b.now (number_from base size (at + size) (digits_of of.now))))
-            (digits_of (plane_at c.now (number_from base size (at + 2 * size) (digits_of of.now))))
-            (digits_of (plane_at d.now (number_from base size (at + 3 * size) (digits_of of.now)))))
+            (digits_of (plane_at a.now (slice_index indices 0))) (digits_of (plane_at b.now (slice_index indices 1)))
+            (digits_of (plane_at c.now (slice_index indices 2))) (digits_of (plane_at d.now (slice_index indices 3))))
             (plane_of_sums self.new) }
     {
-        let [first, second, third, fourth] = of.numbers_from(base, size, at);
+        let [first, second, third, fourth] = indices;
         let (a, b) = (a.bytes_of(first), b.bytes_of(second));
         let (c, d) = (c.bytes_of(third), d.bytes_of(fourth));
         self.add_four(a, b, c, d);
     }
 
-    /// Adds the remainders to a plane modulo the same prime and of the same length. The sums stay.
-    pub fn add_to(&mut self, plane: &mut Plane)
-        requires addend { IsAddend plane.old (plane_of_sums self.old) }
+    /// Adds the remainders to the digits from an index on of a plane modulo the same prime. The sums stay.
+    pub fn add_to(&mut self, plane: &mut Plane, start: usize)
+        requires prime { byte_prime self.old.prime ≡ prime_of_plane plane.old }
+        requires within { start + length self.old.digits ≤ length (digits_of plane.old) }
         ensures sum { IsPlane (prime_of_plane plane.old)
-            (digits_with_multiple (prime_of_plane plane.old) (digits_of plane.old) 1 self.old.digits) plane.new }
+            (digits_with_multiple (prime_of_plane plane.old) (digits_of plane.old) 1
+            (placed (length (digits_of plane.old)) start self.old.digits)) plane.new }
         ensures kept { self.new ≡ self.old }
     {
         let prime = self.prime.number();
         reduce_bytes(&mut self.bytes, prime);
         self.most = prime - 1;
         match plane {
-            Plane::Bytes(plane) => plane.add_bytes(1, &self.bytes),
+            Plane::Bytes(plane) => plane.add_bytes_at(start, &self.bytes),
             // Planes modulo one prime are of one kind.
             _ => unreachable!(),
         }

@@ -1,5 +1,4 @@
 use Rattle.std.proofs.Common.{◌≡◌, ◌++◌, ◌+◌, ◌-◌, ◌*◌, ◌%◌, ◌<◌, ◌≤◌, List, ℕ, length, get_or, take, drop, ap, sym, subst, ◌∙◌, arith}
-use Rattle.std.proofs.Math.Nat.{mod-eq_of_lt}
 use Rattle.std.specs.Simd.Lanes.{zip2}
 use Rattle.axe_lane.specs.Entries.{AreZerosBefore}
 use Rattle.axe_lane.specs.Bytes.{AreDigits}
@@ -7,13 +6,8 @@ use Rattle.axe_layer.specs.Digits.{digits_with_multiple}
 use Rattle.axe_layer.proofs.DigitLaws.{digit-below, zip2-sum}
 use Rattle.axe_layer.proofs.EndLaws.{zip2-written}
 use Rattle.axe_plane.specs.Primes.{byte_prime, ByteDigits}
-use Rattle.axe_plane.proofs.PlaneLaws.{byte_prime-positive}
+use Rattle.axe_plane.proofs.PlaneLaws.{byte_prime-positive, unchanged}
 use Rattle.axe_plane.proofs.bytes.BytePlane.add_scaled_from.Goals as goal
-
--- a digit to which a multiple of 0 is added
-unchanged : (p m x y : ℕ) → x < p → y ≡ 0 → (x + m * y) % p ≡ x
-unchanged p m x y below none =
-    let nothing : x + m * y ≡ x = rw none (omega arith) in ap (λ s. s % p) nothing ∙ mod-eq_of_lt below
 
 -- the bytes after
 after : (k r p m start : ℕ) (a b v w dst : List ℕ) → k ≡ length a → v ≡ a → w ≡ b → r ≡ p → length b ≡ length a → start ≤ length a →

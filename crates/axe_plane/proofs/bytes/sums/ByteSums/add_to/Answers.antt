@@ -7,11 +7,11 @@ use Rattle.axe_plane.proofs.PlaneLaws.{byte_prime-positive}
 use Rattle.axe_plane.proofs.SumLaws.{reduced, remainders_written, remainders-digits, byte_prime-at_least, byte_prime-at_most}
 use Rattle.axe_plane.proofs.bytes.sums.ByteSums.add_to.Goals as goal
 
-pub add_bytes-requires-clause-digits : goal.add_bytes-requires-clause-digits
-add_bytes-requires-clause-digits c =
+pub add_bytes_at-requires-clause-digits : goal.add_bytes_at-requires-clause-digits
+add_bytes_at-requires-clause-digits c =
     let p = byte_prime c.self.inside.prime in
     let same : p ≡ byte_prime c.in-Bytes.plane.prime =
-    ap (λ (s : ByteDigits). byte_prime s.prime) c.self.view_is ∙ c.requires.addend.prime ∙ ap prime_of_plane c.in-Bytes.is in
+    ap (λ (s : ByteDigits). byte_prime s.prime) c.self.view_is ∙ c.requires.prime ∙ ap prime_of_plane c.in-Bytes.is in
     subst (λ q. AreDigits q c.deref.result.now) same
     (subst (AreDigits p)
     (sym (c.deref.ensures.value ∙ remainders_written _ _ p c.self.inside.bytes.items _ _ c.self.inside.bytes.ok.0 c.deref_mut.ensures.value c.number-prime.ensures c.reduce_bytes.ensures))
