@@ -33,3 +33,4 @@ pub mod FourMultiples
 pub mod SummedTables
 pub mod FormLaws
 pub mod PieceRows
+pub mod PlacedRows

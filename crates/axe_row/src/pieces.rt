@@ -13,6 +13,7 @@ impl Row {
     /// a piece, each times a scalar, are the digits of its number in base q, most significant first, where q is the
     /// order of the field. A piece that goes beyond the end is as short as that makes it, and an empty one has number
     /// 0.
+    #[inline(always)]
     pub fn piece_numbers(&self, scalar: u8, size: usize, at: usize) -> [usize; 4]
         requires element { IsElement self.now.order scalar }
         requires short { size ≤ 8 }

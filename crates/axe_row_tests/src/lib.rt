@@ -18,6 +18,8 @@ mod packed;
 #[cfg(test)]
 mod places;
 #[cfg(test)]
+mod row_sums;
+#[cfg(test)]
 mod row_sweep;
 #[cfg(test)]
 mod rows;

@@ -17,7 +17,7 @@ const LENGTHS: [usize; 22] = [
     2048,
 ];
 
-fn field_of_order(rt: &impl Abort, order: u8) -> Field {
+pub(crate) fn field_of_order(rt: &impl Abort, order: u8) -> Field {
     Field::new(order).ok().expect(rt, "no field")
 }
 
@@ -37,7 +37,7 @@ fn row_of_entries(
 }
 
 /// A row whose entries follow no rule. The rows of two seeds differ.
-fn row_of_seed(
+pub(crate) fn row_of_seed(
     rt: &impl Abort,
     alloc: Global,
     field: Field,
@@ -53,13 +53,13 @@ fn row_of_seed(
     row_of_entries(rt, alloc, field, &entries)
 }
 
-fn entry_of(rt: &impl Abort, row: &Row, index: usize) -> u8 {
+pub(crate) fn entry_of(rt: &impl Abort, row: &Row, index: usize) -> u8 {
     assert!(rt; index < row.len());
     row.get(index)
 }
 
 /// Asserts that a row is over this field and has this length.
-fn assert_shape(rt: &impl Abort, row: &Row, field: &Field, len: usize)
+pub(crate) fn assert_shape(rt: &impl Abort, row: &Row, field: &Field, len: usize)
     ensures field { row.now.order ≡ field.now }
     ensures length { length row.now.entries ≡ len }
 {
@@ -76,7 +76,7 @@ fn assert_alike(rt: &impl Abort, row: &Row, other: &Row)
 }
 
 /// An element plus the product of two.
-fn sum_with_product(rt: &impl Abort, field: &Field, a: u8, b: u8, c: u8) -> u8 {
+pub(crate) fn sum_with_product(rt: &impl Abort, field: &Field, a: u8, b: u8, c: u8) -> u8 {
     assert!(rt; field.is_element(a) && field.is_element(b) && field.is_element(c));
     field.add(a, field.mul(b, c))
 }

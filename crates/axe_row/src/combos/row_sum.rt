@@ -1,10 +1,10 @@
 //! Sums of rows of tables over the fields of 5 and 7 elements, whose remainders are not taken yet.
-ghost use Rattle.std.specs.Prelude.{◌≡◌, ◌+◌, ◌*◌, ◌^◌, ◌<◌, ◌≤◌, None, length, replicate};
-ghost use Rattle.axe_row.specs.Combinations.{combination_at, piece_number, row_with_four, IsRowFor};
+ghost use Rattle.std.specs.Prelude.{◌≡◌, ◌+◌, ◌≤◌, None, length, replicate, slice_index};
+ghost use Rattle.axe_row.specs.Combinations.{combination_at, row_with_four, IsRowFor};
 ghost use Rattle.axe_row.specs.Operations.{row_with_multiple};
 ghost use Rattle.axe_row.specs.Refusals.{Answers};
 ghost use Rattle.axe_row.specs.Rows.{IsRow};
-ghost use Rattle.axe_row.specs.Sums.{HasSums};
+ghost use Rattle.axe_row.specs.Sums.{HasSums, placed_row};
 
 use crate::{Combos, Refusal, Row};
 use axe_field::Field;
@@ -50,56 +50,30 @@ impl RowSum {
         Ok(RowSum { field, sums })
     }
 
-    /// Adds, for each of four pieces of a row over the same field, the row of a table that the piece names, as
-    /// [`Row::add_pieces`] does.
-    pub fn add_pieces(
-        &mut self,
-        of: &Row,
-        size: usize,
-        at: usize,
-        a: &Combos,
-        b: &Combos,
-        c: &Combos,
-        d: &Combos,
-    )
-        requires short { size ≤ 8 }
-        requires counted { at + 4 * size < 2 ^ 64 }
-        requires field { of.now.order ≡ self.old.order }
-        requires a { IsRowFor self.old a.now (piece_number of.now 1 size at) }
-        requires b { IsRowFor self.old b.now (piece_number of.now 1 size (at + size)) }
-        requires c { IsRowFor self.old c.now (piece_number of.now 1 size (at + 2 * size)) }
-        requires d { IsRowFor self.old d.now (piece_number of.now 1 size (at + 3 * size)) }
+    /// Adds the rows of four tables at these indices, as [`Row::add_four`] does.
+    pub fn add_four(&mut self, indices: [usize; 4], a: &Combos, b: &Combos, c: &Combos, d: &Combos)
+        requires a { IsRowFor self.old a.now (slice_index indices 0) }
+        requires b { IsRowFor self.old b.now (slice_index indices 1) }
+        requires c { IsRowFor self.old c.now (slice_index indices 2) }
+        requires d { IsRowFor self.old d.now (slice_index indices 3) }
         ensures sum { self.new ≡ row_with_four self.old
-            (combination_at a.now (piece_number of.now 1 size at))
-            (combination_at b.now (piece_number of.now 1 size (at + size)))
-            (combination_at c.now (piece_number of.now 1 size (at + 2 * size)))
-            (combination_at d.now (piece_number of.now 1 size (at + 3 * size))) }
+            (combination_at a.now (slice_index indices 0)) (combination_at b.now (slice_index indices 1))
+            (combination_at c.now (slice_index indices 2)) (combination_at d.now (slice_index indices 3)) }
         ensures as_long { length self.new.entries ≡ length self.old.entries }
         ensures well_formed { IsRow self.new }
     {
-        let order = usize::from(self.field.order());
-        let of = &of.constant;
-        self.sums.add_pieces(
-            of,
-            order,
-            size,
-            at,
-            &a.constant,
-            &b.constant,
-            &c.constant,
-            &d.constant,
-        );
+        self.sums.add_four_entries(indices, &a.constant, &b.constant, &c.constant, &d.constant);
     }
 
-    /// Adds the sum to a row over the same field and of as many entries. The sum stays.
-    pub fn add_to(&mut self, row: &mut Row)
+    /// Adds the sum to the entries from an index on of a row over the same field. The sum stays.
+    pub fn add_to(&mut self, row: &mut Row, start: usize)
         requires field { self.old.order ≡ row.old.order }
-        requires fits { length self.old.entries ≡ length row.old.entries }
-        ensures sum { row.new ≡ row_with_multiple row.old 1 self.old }
+        requires within { start + length self.old.entries ≤ length row.old.entries }
+        ensures sum { row.new ≡ row_with_multiple row.old 1 (placed_row (length row.old.entries) start self.old) }
         ensures as_long { length row.new.entries ≡ length row.old.entries }
         ensures well_formed { IsRow row.new }
         ensures kept { self.new ≡ self.old }
     {
-        self.sums.add_to(&mut row.constant);
+        self.sums.add_to(&mut row.constant, start);
     }
 }
