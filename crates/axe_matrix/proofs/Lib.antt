@@ -26,6 +26,8 @@ mod EntryWrites
 mod CoefficientWrites
 mod TransposedBlocks
 mod StripLaws
+mod PlacedColumns
+mod PieceLaws
 mod WordTerms
 mod WaitingRows
 mod HornerTerms

@@ -74,6 +74,15 @@ module _ (o : Order) (c at size : ℕ) (v : List ℕ) (small : IsElement o c) (o
   name-below : name < order_number o ^ length named
   name-below = number_with_digits-below (order_number o) named named_elements
 
+  -- there are so few combinations of so many rows
+  pub name-fits : name < order_number o ^ size
+  name-fits =
+      let long : length named ≤ size =
+      omega (arith, length-multiple (number_field o) c (chunk at size v), piece_fits at size v) in
+      let most : order_number o ^ length named ≤ order_number o ^ size =
+      pow-le-pow_right (let above : 1 < order_number o = order_number-above o in omega arith) long in
+      omega (arith, name-below, most)
+
   -- the row that it names is the combination of the piece of the rows
   pub row_of_table : (b : List (List ℕ)) (table : CombosValue) → length v ≡ length b → table.order ≡ o → Combines (chunk at size b) table →
       get_or table.rows name [] ≡ combination (number_field o) table.len named (chunk at size b)
@@ -89,9 +98,9 @@ module _ (o : Order) (c at size : ℕ) (v : List ℕ) (small : IsElement o c) (o
       IsRowFor row table name
   is_row_for columns row table h field fits = record {
     within =
-        let long : length named ≤ size = omega (arith, length-multiple (number_field o) c (chunk at size v), piece_fits at size v) in
-        let most : order_number o ^ length named ≤ order_number o ^ size = pow-le-pow_right (let above : 1 < order_number o = order_number-above o in omega arith) long in
-        subst (λ n. name < n) (sym (h.well_formed.counted ∙ ap (λ p. order_number p ^ table.size) h.field ∙ ap (λ n. order_number o ^ n) h.combined)) (omega (arith, name-below, most));
+        subst (λ n. name < n)
+        (sym (h.well_formed.counted ∙ ap (λ p. order_number p ^ table.size) h.field
+        ∙ ap (λ n. order_number o ^ n) h.combined)) name-fits;
     field = h.field ∙ sym field;
     fits = h.long ∙ sym fits;
   }

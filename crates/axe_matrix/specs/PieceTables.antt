@@ -1,8 +1,10 @@
--- Four tables of combinations of pieces of a matrix's rows, by which products are added.
-use Rattle.std.specs.Prelude.{◌≡◌, ℕ, ◌+◌, ◌*◌, ◌≤◌, List}
+-- Four tables of combinations of pieces of a matrix's rows, by which products are added, and the numbers of pieces of
+-- another's rows, which name these combinations.
+use Rattle.std.specs.Prelude.{◌≡◌, ℕ, ◌+◌, ◌*◌, ◌<◌, ◌≤◌, List, [], length, slice_index_or}
 use Rattle.std.specs.Simd.Lanes.{chunk}
 use Rattle.axe_field.specs.Order.{Order}
-use Rattle.axe_row.specs.Combinations.{CombosValue, Combines, IsTableOfRows}
+use Rattle.axe_row.specs.Combinations.{CombosValue, Combines, IsTableOfRows, piece_numbers}
+use Rattle.axe_matrix.specs.Matrices.{MatrixValue, row_of}
 use Rattle.axe_matrix.specs.declared.products.FourTables.{FourTables}
 
 -- a table for the combinations of up to so many rows of so many entries over a field
@@ -26,3 +28,14 @@ pub record CombineFrom (at : ℕ) (rows : List (List ℕ)) (tables : FourTables)
   pub second : Combines (chunk (at + tables.size) tables.size rows) tables.second
   pub third : Combines (chunk (at + 2 * tables.size) tables.size rows) tables.third
   pub fourth : Combines (chunk (at + 3 * tables.size) tables.size rows) tables.fourth
+
+-- for each row of a matrix, the numbers of its four pieces of so many entries from a column on
+pub record ArePieceNumbers (m : MatrixValue) (size at : ℕ) (numbers : List (List ℕ)) : Type 0 where
+  pub count : length numbers ≡ length m.rows
+  pub each : (i : ℕ) → i < length m.rows → slice_index_or numbers i [] ≡ piece_numbers (row_of m i) 1 size at
+
+-- those of a matrix's columns in blocks of four times so many, one block after another until all columns are in one
+pub record AreBlockNumbers (m : MatrixValue) (size : ℕ) (blocks : List (List (List ℕ))) : Type 0 where
+  pub all : m.cols ≤ length blocks * (4 * size)
+  pub each : (k : ℕ) → k < length blocks →
+      ArePieceNumbers m size (k * (4 * size)) (slice_index_or blocks k [])

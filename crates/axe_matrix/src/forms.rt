@@ -17,10 +17,10 @@ use axe_field::ProductTerm;
 use std::alloc::Global;
 
 /// From how many columns on a matrix over four elements is multiplied by products over two.
-const LARGE_OVER_FOUR: usize = 256;
+const LARGE_OVER_FOUR: usize = 192;
 
 /// From how many columns on a matrix over eight elements is multiplied by products over two.
-const LARGE_OVER_EIGHT: usize = 1024;
+const LARGE_OVER_EIGHT: usize = 640;
 
 /// From how many columns on a matrix over nine elements is multiplied by products over three.
 const LARGE_OVER_NINE: usize = 2048;

@@ -112,7 +112,7 @@ impl Matrix {
         if a.goes_by_forms() {
             return self.add_by_forms(alloc, a, b);
         }
-        if goes_by_sums(b, size) {
+        if goes_by_sums(b) {
             return self.add_by_sums(alloc, a, b, size);
         }
         self.add_by_tables(alloc, a, b, size)
@@ -283,7 +283,8 @@ fn direct_is_cheaper(a: &Matrix, size: usize) -> bool
     let combinations = usize::from(a.field().order()).saturating_pow(size as u32);
     let blocks = a.cols().div_ceil(4 * size);
     let fillings = combinations.saturating_mul(4) / a.rows().max(1);
-    let share = blocks.saturating_mul(fillings.saturating_add(additions_of_four(a.field())));
+    let additions = additions_of_four(a.field(), a.cols());
+    let share = blocks.saturating_mul(fillings.saturating_add(additions));
     let step = a.rows() / ROWS_SAMPLED + 1;
     // The rows looked at first may have somewhat more than their share.
     let (mut left, mut index) = (share.saturating_mul(2), 0);
@@ -319,12 +320,13 @@ pub(crate) fn rows_combined(field: &Field, rows: usize, terms: usize) -> usize
 {
     let order = usize::from(field.order());
     let most = digits_per_byte(field).min(terms.div_ceil(4));
+    let each = additions_of_four(field, terms);
     let (mut size, mut combinations) = (1, order);
     while size < most {
         let more = combinations.saturating_mul(order);
         // The terms of a block are as many as four times the size.
-        let after = additions_of_block(field, more, rows).saturating_mul(size);
-        if additions_of_block(field, combinations, rows).saturating_mul(size + 1) <= after {
+        let after = additions_of_block(more, rows, each).saturating_mul(size);
+        if additions_of_block(combinations, rows, each).saturating_mul(size + 1) <= after {
             break;
         }
         size += 1;
@@ -335,28 +337,35 @@ pub(crate) fn rows_combined(field: &Field, rows: usize, terms: usize) -> usize
 
 /// About how many additions of a row a block of terms takes by four tables of so many combinations each: one for each
 /// combination, and for each of so many rows what four rows of tables take.
-fn additions_of_block(field: &Field, combinations: usize, rows: usize) -> usize {
+fn additions_of_block(combinations: usize, rows: usize, each: usize) -> usize {
     combinations
         .saturating_mul(4)
-        .saturating_add(rows.saturating_mul(additions_of_four(field)))
+        .saturating_add(rows.saturating_mul(each))
 }
 
-/// About as many additions of a row as adding four rows of tables takes, a guess: one over 5 and 7 elements, where their
-/// remainders are not taken, and two over the other fields.
-fn additions_of_four(field: &Field) -> usize {
-    if field.prime() > 3 { 1 } else { 2 }
+/// About as many additions of a row as adding four rows of tables takes in a product of so many terms, a guess: one where
+/// their remainders are not taken, and else two.
+fn additions_of_four(field: &Field, terms: usize) -> usize {
+    if has_many_terms(field, terms) { 1 } else { 2 }
 }
 
-/// From how many blocks of terms on a product over 5 or 7 elements goes by sums: of fewer they cost more to make and to
-/// add than the remainders that they save.
-const BLOCKS_BY_SUMS: usize = 4;
+/// From how many terms on a product over 5 or 7 elements goes by sums: with fewer the numbers of pieces cost more to keep
+/// than the remainders that are saved.
+const TERMS_BY_SUMS: usize = 192;
 
-/// Whether a product with this matrix as the second factor, by tables that combine so many rows each, takes fewer steps
-/// where the remainders of its entries are taken seldom: it is over 5 or 7 elements and has enough terms.
-fn goes_by_sums(b: &Matrix, size: usize) -> bool
+/// Whether a product with this matrix as the second factor takes fewer steps by tables where the remainders of its entries
+/// are taken seldom.
+fn goes_by_sums(b: &Matrix) -> bool
     ensures { IsTrue result → HasSums b.now.order }
 {
-    b.field().prime() > 3 && b.rows() / 4 / BLOCKS_BY_SUMS >= size
+    has_many_terms(b.field(), b.rows())
+}
+
+/// Whether a field has 5 or 7 elements, and a product over it so many terms that it goes by sums.
+fn has_many_terms(field: &Field, terms: usize) -> bool
+    ensures { IsTrue result → HasSums field.now }
+{
+    field.prime() > 3 && terms >= TERMS_BY_SUMS
 }
 
 /// Four tables of combinations of up to `size` rows each.

@@ -1,57 +1,113 @@
-use Rattle.std.proofs.Common.{◌*◌, ◌<◌, ◌≤◌, ℕ, length, refl, ◌∙◌, arith}
+use Rattle.std.proofs.Common.{◌≡◌, ◌+◌, ◌*◌, ◌<◌, ◌≤◌, ℕ, List, length, get_or, refl, ap, ◌∙◌, arith}
 use Rattle.axe_field.proofs.Orders.{one_is_element}
-use Rattle.axe_row.specs.Combinations.{CombosValue, IsRowFor, piece_number, piece_numbers}
-use Rattle.axe_matrix.specs.Matrices.{row_of}
+use Rattle.axe_row.specs.Combinations.{CombosValue, IsRowFor, piece_number}
+use Rattle.axe_matrix.specs.Matrices.{MatrixValue, IsMatrix, row_of}
 use Rattle.axe_matrix.specs.PieceTables.{IsTableFor}
 use Rattle.axe_matrix.proofs.BlockRows.{row_may_be_added, row_of_block}
 use Rattle.axe_matrix.proofs.MatrixLaws.{length-row_of}
+use Rattle.axe_matrix.proofs.PieceLaws.{numbers-read}
 use Rattle.axe_matrix.proofs.ProductRows.{rows_with_terms-listed}
-use Rattle.axe_matrix.proofs.RewrittenRows.{IsRewrittenBelow-none, IsRewrittenBelow-more, IsRewrittenBelow-all}
+use Rattle.axe_matrix.proofs.RewrittenRows.{IsRewrittenBelow, IsRewrittenBelow-none, IsRewrittenBelow-more, IsRewrittenBelow-all}
 use Rattle.axe_matrix.proofs.sums.MatrixSum.add_block.Goals as goal
 
 pub loop-index-init : goal.loop-index-init
 loop-index-init c = IsRewrittenBelow-none _ _ c.requires.well_formed
 
-below : (c : goal.After-row) → c.loop-index.index < length c.args.self.now.rows
-below c = omega (arith, c.loop-index-test.true, c.rows-index-end.ensures.count, c.requires.rows_fit)
+pub index-requires : goal.index-requires
+index-requires c =
+    let count : length c.numbers.inside.rows.items ≡ length c.args.a.now.rows =
+    ap (λ (x : List (List ℕ)). length x) c.numbers.view_is ∙ c.requires.numbers.count in
+    omega (arith, c.loop-index-test.true, c.rows-index-end.ensures.count, count, c.numbers.inside.rows.ok.0)
 
 pub add_combinations-requires-clause-index : goal.add_combinations-requires-clause-index
-add_combinations-requires-clause-index c = omega (arith, below c, c.loop-index.invariant.count)
+add_combinations-requires-clause-index c =
+    omega (
+      arith,
+      c.loop-index-test.true,
+      c.rows-index-end.ensures.count,
+      c.requires.rows_fit,
+      c.loop-index.invariant.count,
+    )
 
-may_be_added : (c : goal.After-row) (table : CombosValue) (from : ℕ) → IsTableFor c.args.self.now.order c.args.self.now.cols c.args.tables.now.size table →
-    IsRowFor (row_of c.loop-index.self c.loop-index.index) table (piece_number c.row.result.now 1 c.args.tables.now.size from)
-may_be_added c table from is_table =
-    let invariant = c.loop-index.invariant in
-    row_may_be_added c.args.self.now c.args.a.now c.loop-index.index 1 c.args.tables.now.size from c.row.result.now
-    (row_of c.loop-index.self c.loop-index.index) table _ c.row.ensures.well_formed c.requires.a_field (let inside = below c in omega (arith, inside, c.requires.rows_fit)) (one_is_element c.args.self.now.order)
-    c.row.ensures.value is_table invariant.field
-    (length-row_of c.loop-index.self c.loop-index.index invariant.well_formed (add_combinations-requires-clause-index c) ∙ invariant.columns) refl
+-- a table has the row of the number of a piece, and it may be added to the row at the index
+may_be_added : (d a m : MatrixValue) (i size from number : ℕ) (table : CombosValue) (f : ℕ → List ℕ) → IsMatrix a →
+    a.order ≡ d.order →
+    length a.rows ≡ length d.rows → i < length a.rows → IsTableFor d.order d.cols size table →
+    IsRewrittenBelow i d f m →
+    number ≡ piece_number (row_of a i) 1 size from → IsRowFor (row_of m i) table number
+may_be_added d a m i size from number table f ha a_field rows_fit below is_table h is =
+    row_may_be_added d a i 1 size from (row_of a i) (row_of m i) table number ha a_field below (one_is_element d.order)
+    refl is_table h.field (length-row_of m i h.well_formed (omega (arith, below, rows_fit, h.count)) ∙ h.columns) is
 
 pub add_combinations-requires-clause-first : goal.add_combinations-requires-clause-first
 add_combinations-requires-clause-first c =
-    may_be_added c c.args.tables.now.first _ c.requires.tables.first
+    let below : c.loop-index.index < length c.args.a.now.rows =
+    omega (arith, c.loop-index-test.true, c.rows-index-end.ensures.count) in
+    let read = numbers-read c.args.a.now c.args.tables.now.size c.args.at c.loop-index.index c.args.numbers.now
+    c.numbers.inside.rows.items
+    c.index.result.now c.requires.numbers c.numbers.view_is below c.index.ensures in
+    may_be_added c.args.self.now c.args.a.now c.loop-index.self c.loop-index.index c.args.tables.now.size c.args.at _
+    c.args.tables.now.first _
+    c.rows-index-end.ensures.well_formed c.requires.a_field c.requires.rows_fit below c.requires.tables.first
+    c.loop-index.invariant
+    (ap (λ (ns : List ℕ). get_or ns 0 0) read)
 
 pub add_combinations-requires-clause-second : goal.add_combinations-requires-clause-second
 add_combinations-requires-clause-second c =
-    may_be_added c c.args.tables.now.second _ c.requires.tables.second
+    let below : c.loop-index.index < length c.args.a.now.rows =
+    omega (arith, c.loop-index-test.true, c.rows-index-end.ensures.count) in
+    let read = numbers-read c.args.a.now c.args.tables.now.size c.args.at c.loop-index.index c.args.numbers.now
+    c.numbers.inside.rows.items
+    c.index.result.now c.requires.numbers c.numbers.view_is below c.index.ensures in
+    may_be_added c.args.self.now c.args.a.now c.loop-index.self c.loop-index.index c.args.tables.now.size
+    (c.args.at + c.args.tables.now.size) _ c.args.tables.now.second _
+    c.rows-index-end.ensures.well_formed c.requires.a_field c.requires.rows_fit below c.requires.tables.second
+    c.loop-index.invariant
+    (ap (λ (ns : List ℕ). get_or ns 1 0) read)
 
 pub add_combinations-requires-clause-third : goal.add_combinations-requires-clause-third
 add_combinations-requires-clause-third c =
-    may_be_added c c.args.tables.now.third _ c.requires.tables.third
+    let below : c.loop-index.index < length c.args.a.now.rows =
+    omega (arith, c.loop-index-test.true, c.rows-index-end.ensures.count) in
+    let read = numbers-read c.args.a.now c.args.tables.now.size c.args.at c.loop-index.index c.args.numbers.now
+    c.numbers.inside.rows.items
+    c.index.result.now c.requires.numbers c.numbers.view_is below c.index.ensures in
+    may_be_added c.args.self.now c.args.a.now c.loop-index.self c.loop-index.index c.args.tables.now.size
+    (c.args.at + 2 * c.args.tables.now.size) _ c.args.tables.now.third _
+    c.rows-index-end.ensures.well_formed c.requires.a_field c.requires.rows_fit below c.requires.tables.third
+    c.loop-index.invariant
+    (ap (λ (ns : List ℕ). get_or ns 2 0) read)
 
 pub add_combinations-requires-clause-fourth : goal.add_combinations-requires-clause-fourth
 add_combinations-requires-clause-fourth c =
-    may_be_added c c.args.tables.now.fourth _ c.requires.tables.fourth
+    let below : c.loop-index.index < length c.args.a.now.rows =
+    omega (arith, c.loop-index-test.true, c.rows-index-end.ensures.count) in
+    let read = numbers-read c.args.a.now c.args.tables.now.size c.args.at c.loop-index.index c.args.numbers.now
+    c.numbers.inside.rows.items
+    c.index.result.now c.requires.numbers c.numbers.view_is below c.index.ensures in
+    may_be_added c.args.self.now c.args.a.now c.loop-index.self c.loop-index.index c.args.tables.now.size
+    (c.args.at + 3 * c.args.tables.now.size) _ c.args.tables.now.fourth _
+    c.rows-index-end.ensures.well_formed c.requires.a_field c.requires.rows_fit below c.requires.tables.fourth
+    c.loop-index.invariant
+    (ap (λ (ns : List ℕ). get_or ns 3 0) read)
 
 pub loop-index-preserved : goal.loop-index-preserved
 loop-index-preserved c =
     let invariant = c.loop-index.invariant in
-    let inside : c.loop-index.index < length c.args.self.now.rows = omega (arith, c.loop-index-test.true, c.rows-index-end.ensures.count, c.requires.rows_fit) in
+    let below : c.loop-index.index < length c.args.a.now.rows =
+    omega (arith, c.loop-index-test.true, c.rows-index-end.ensures.count) in
+    let within : c.loop-index.index < length c.args.self.now.rows = omega (arith, below, c.requires.rows_fit) in
+    let read = numbers-read c.args.a.now c.args.tables.now.size c.args.at c.loop-index.index c.args.numbers.now
+    c.numbers.inside.rows.items
+    c.index.result.now c.requires.numbers c.numbers.view_is below c.index.ensures in
     let row = row_of_block c.args.self.now c.args.a.now c.args.b.now c.loop-index.self c.loop-index.index 1 c.args.at c.args.tables.now
-    (piece_numbers c.row.result.now 1 c.args.tables.now.size c.args.at) c.row.result.now c.requires.well_formed c.row.ensures.well_formed c.rows.ensures.well_formed c.requires.a_field c.requires.b_field
-    inside (omega (arith, inside, c.requires.rows_fit)) c.requires.inner_fit (one_is_element c.args.self.now.order) c.requires.tables c.requires.combine c.row.ensures.value refl
-    invariant.field (invariant.kept c.loop-index.index (omega arith)) in
-    IsRewrittenBelow-more _ _ _ _ _ _ invariant inside row c.add_combinations.ensures.sum c.add_combinations.ensures.well_formed
+    c.index.result.now (row_of c.args.a.now c.loop-index.index) c.requires.well_formed
+    c.rows-index-end.ensures.well_formed
+    c.rows.ensures.well_formed c.requires.a_field c.requires.b_field within below c.requires.inner_fit
+    (one_is_element c.args.self.now.order)
+    c.requires.tables c.requires.combine refl read invariant.field (invariant.kept c.loop-index.index (omega arith)) in
+    IsRewrittenBelow-more _ _ _ _ _ _ invariant within row c.add_combinations.ensures.sum
+    c.add_combinations.ensures.well_formed
 
 pub returns-clause-sum : goal.returns-clause-sum
 returns-clause-sum c =

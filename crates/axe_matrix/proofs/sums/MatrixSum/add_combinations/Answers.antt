@@ -1,6 +1,7 @@
-use Rattle.std.proofs.Common.{◌≡◌, ◌<◌, ◌+◌, ◌*◌, length, set, ap, ◌∙◌, subst, arith}
-use Rattle.axe_row.specs.Combinations.{IsRowFor, combination_at, piece_number, row_with_four}
+use Rattle.std.proofs.Common.{◌≡◌, ◌<◌, length, get_or, set, ap, ◌∙◌, subst, arith}
+use Rattle.axe_row.specs.Combinations.{IsRowFor, combination_at, row_with_four}
 use Rattle.axe_row.specs.Rows.{RowValue}
+use Rattle.axe_row.proofs.PieceRows.{row_of_number, four_of_numbers}
 use Rattle.axe_matrix.specs.Matrices.{MatrixValue, row_of}
 use Rattle.axe_matrix.proofs.RowListLaws.{length-at}
 use Rattle.axe_matrix.proofs.RowWrites.{below_rows, order-at, row-read, MakeMatrix-write, matrix_from_written_rows}
@@ -19,35 +20,53 @@ read c =
     let below = below_rows _ _ _ c.self.inside.rows.items c.args.index c.self.view_is c.requires.index in
     row-read _ _ _ c.self.inside.rows.items c.args.index c.index_mut.result.now c.self.view_is c.self.invariant below c.index_mut.ensures.value
 
-pub add_pieces-requires-clause-a : goal.add_pieces-requires-clause-a
-add_pieces-requires-clause-a c = subst (λ row. IsRowFor row c.args.tables.now.first (piece_number c.args.of.now 1 c.args.tables.now.size c.args.at)) (read c) c.requires.first
+pub add_four-requires-clause-a : goal.add_four-requires-clause-a
+add_four-requires-clause-a c =
+    row_of_number c.index_mut.result.now c.args.tables.now.first _ (get_or c.args.numbers 0 0) c.from.ensures
+    (subst (λ row. IsRowFor row c.args.tables.now.first (get_or c.args.numbers 0 0)) (read c) c.requires.first)
 
-pub add_pieces-requires-clause-b : goal.add_pieces-requires-clause-b
-add_pieces-requires-clause-b c = subst (λ row. IsRowFor row c.args.tables.now.second (piece_number c.args.of.now 1 c.args.tables.now.size (c.args.at + c.args.tables.now.size))) (read c) c.requires.second
+pub add_four-requires-clause-b : goal.add_four-requires-clause-b
+add_four-requires-clause-b c =
+    row_of_number c.index_mut.result.now c.args.tables.now.second _ (get_or c.args.numbers 1 0) c.from-2.ensures
+    (subst (λ row. IsRowFor row c.args.tables.now.second (get_or c.args.numbers 1 0)) (read c) c.requires.second)
 
-pub add_pieces-requires-clause-c : goal.add_pieces-requires-clause-c
-add_pieces-requires-clause-c c = subst (λ row. IsRowFor row c.args.tables.now.third (piece_number c.args.of.now 1 c.args.tables.now.size (c.args.at + 2 * c.args.tables.now.size))) (read c) c.requires.third
+pub add_four-requires-clause-c : goal.add_four-requires-clause-c
+add_four-requires-clause-c c =
+    row_of_number c.index_mut.result.now c.args.tables.now.third _ (get_or c.args.numbers 2 0) c.from-3.ensures
+    (subst (λ row. IsRowFor row c.args.tables.now.third (get_or c.args.numbers 2 0)) (read c) c.requires.third)
 
-pub add_pieces-requires-clause-d : goal.add_pieces-requires-clause-d
-add_pieces-requires-clause-d c = subst (λ row. IsRowFor row c.args.tables.now.fourth (piece_number c.args.of.now 1 c.args.tables.now.size (c.args.at + 3 * c.args.tables.now.size))) (read c) c.requires.fourth
+pub add_four-requires-clause-d : goal.add_four-requires-clause-d
+add_four-requires-clause-d c =
+    row_of_number c.index_mut.result.now c.args.tables.now.fourth _ (get_or c.args.numbers 3 0) c.from-4.ensures
+    (subst (λ row. IsRowFor row c.args.tables.now.fourth (get_or c.args.numbers 3 0)) (read c) c.requires.fourth)
 
 -- the row, and what it becomes
 abbrev after : (c : goal.After-self-1) → RowValue → RowValue
 after c row =
-    row_with_four row (combination_at c.args.tables.now.first (piece_number c.args.of.now 1 c.args.tables.now.size c.args.at)) (combination_at c.args.tables.now.second (piece_number c.args.of.now 1 c.args.tables.now.size (c.args.at + c.args.tables.now.size)))
-    (combination_at c.args.tables.now.third (piece_number c.args.of.now 1 c.args.tables.now.size (c.args.at + 2 * c.args.tables.now.size))) (combination_at c.args.tables.now.fourth (piece_number c.args.of.now 1 c.args.tables.now.size (c.args.at + 3 * c.args.tables.now.size)))
+    row_with_four row (combination_at c.args.tables.now.first (get_or c.args.numbers 0 0))
+    (combination_at c.args.tables.now.second (get_or c.args.numbers 1 0))
+    (combination_at c.args.tables.now.third (get_or c.args.numbers 2 0))
+    (combination_at c.args.tables.now.fourth (get_or c.args.numbers 3 0))
 
 pub invariant_of-self : goal.invariant_of-self
 invariant_of-self c =
-    MakeMatrix-write _ _ c.self.inside.rows.items c.args.index c.add_pieces.new.self c.self.invariant
-    (ap (λ (r : RowValue). r.order) c.add_pieces.ensures.sum ∙ order-at _ _ c.self.inside.rows.items c.args.index c.index_mut.result.now c.self.invariant (within c) c.index_mut.ensures.value)
-    (c.add_pieces.ensures.as_long ∙ length-at _ _ c.self.inside.rows.items c.args.index c.index_mut.result.now c.self.invariant (within c) c.index_mut.ensures.value)
-    c.add_pieces.ensures.well_formed
+    MakeMatrix-write _ _ c.self.inside.rows.items c.args.index c.add_four.new.self c.self.invariant
+    (ap (λ (r : RowValue). r.order) c.add_four.ensures.sum
+    ∙ order-at _ _ c.self.inside.rows.items c.args.index c.index_mut.result.now c.self.invariant (within c)
+    c.index_mut.ensures.value)
+    (c.add_four.ensures.as_long ∙ length-at _ _ c.self.inside.rows.items c.args.index c.index_mut.result.now
+    c.self.invariant (within c) c.index_mut.ensures.value)
+    c.add_four.ensures.well_formed
 
 pub returns-clause-sum : goal.returns-clause-sum
 returns-clause-sum c =
-    matrix_from_written_rows _ _ c.self.inside.rows.items c.args.index c.index_mut.result.now c.add_pieces.new.self (after c) c.self.invariant (within c)
-    c.index_mut.ensures.value c.add_pieces.ensures.sum
+    let sum = c.add_four.ensures.sum
+    ∙ four_of_numbers c.index_mut.result.now c.args.tables.now.first c.args.tables.now.second c.args.tables.now.third
+    c.args.tables.now.fourth
+    _ _ _ _ _ _ _ _ c.from.ensures c.from-2.ensures c.from-3.ensures c.from-4.ensures in
+    matrix_from_written_rows _ _ c.self.inside.rows.items c.args.index c.index_mut.result.now c.add_four.new.self
+    (after c) c.self.invariant (within c)
+    c.index_mut.ensures.value sum
     ∙ ap (λ (m : MatrixValue). record m { rows = set m.rows c.args.index (after c (row_of m c.args.index)).entries }) c.self.view_is
 
 pub returns-clause-well_formed : goal.returns-clause-well_formed
