@@ -18,7 +18,7 @@ L = less_where_not_below
 abbrev pub scaled : ℕ → List ℕ → List ℕ
 scaled m l = map (λ y. m * y) l
 
-chunk-scaled : (m n k : ℕ) (l : List ℕ) → chunk n k (scaled m l) ≡ scaled m (chunk n k l)
+pub chunk-scaled : (m n k : ℕ) (l : List ℕ) → chunk n k (scaled m l) ≡ scaled m (chunk n k l)
 chunk-scaled m n k l =
     let f : ℕ → ℕ = λ y. m * y in
     ap (λ (r : List ℕ). chunk 0 k r) (drop-map f n l) ∙ take-map f k _
@@ -74,7 +74,7 @@ product_below p m y few m_below y_below =
     let most = mul-le m y 6 (p - 1) (omega arith) (omega arith) in
     omega (arith, most)
 
-products_below : (p m : ℕ) (l : List ℕ) → p < 8 → m < p → AreDigits p l → All (λ k. k + 6 ≤ 6 * p) (scaled m l)
+pub products_below : (p m : ℕ) (l : List ℕ) → p < 8 → m < p → AreDigits p l → All (λ k. k + 6 ≤ 6 * p) (scaled m l)
 products_below p m l few m_below below =
     All-map (λ k. k + 6 ≤ 6 * p) (λ y. m * y) l (λ k d inside. product_below p m (get_or l k d) few m_below (below k d inside))
 

@@ -6,6 +6,7 @@ pub mod ZeroLaws
 pub mod SumLaws
 pub mod FiveRows
 pub mod FourMultiples
+pub mod LazySums
 pub mod MaskedRows
 pub mod TritSums
 pub mod FiveTrits

@@ -3,7 +3,7 @@ use Rattle.std.proofs.Common.{◌≡◌, ℕ, zero, suc, ◌+◌, ◌<◌, ◌�
 use Rattle.std.specs.Simd.Lanes.{chunk, put_chunk, zip2}
 use Rattle.std.specs.List.{All}
 use Rattle.std.proofs.lemmas.Simd.{length-chunk}
-use Rattle.std.proofs.lemmas.List.Elements.{All-nil, All-cons, All-tail}
+use Rattle.std.proofs.lemmas.List.Elements.{All-nil, All-cons, All-head, All-tail}
 
 module _ (f : ℕ → ℕ → ℕ) where
   -- the first n entries are f of both lists' entries, the others are those of the first list
@@ -114,6 +114,22 @@ module _ (f : ℕ → ℕ → ℕ) where
   All-combined_to P value (suc n) (x ∷ xs) [] all = all
   All-combined_to P value (suc n) (x ∷ xs) (y ∷ ys) all =
       All-cons P (f x y) (combined_to n xs ys) (value x y) (All-combined_to P value n xs ys (All-tail P x xs all))
+
+  -- the same, where the value is on entries of which P and Q hold
+  pub All-combined_from : (P Q : ℕ → Type 0) → ((x y : ℕ) → P x → Q y → P (f x y)) → (n : ℕ) (xs ys : List ℕ) → All P xs → All Q ys → All P (combined_to n xs ys)
+  All-combined_from P Q value zero xs ys all others = all
+  All-combined_from P Q value (suc n) [] ys all others = All-nil P
+  All-combined_from P Q value (suc n) (x ∷ xs) [] all others = all
+  All-combined_from P Q value (suc n) (x ∷ xs) (y ∷ ys) all others =
+      All-cons P (f x y) (combined_to n xs ys) (value x y (All-head P x xs all) (All-head Q y ys others))
+      (All-combined_from P Q value n xs ys (All-tail P x xs all) (All-tail Q y ys others))
+
+  pub All-zip2_from : (P Q R : ℕ → Type 0) → ((x y : ℕ) → P x → Q y → R (f x y)) → (xs ys : List ℕ) → All P xs → All Q ys → All R (zip2 f xs ys)
+  All-zip2_from P Q R value [] ys all others = All-nil R
+  All-zip2_from P Q R value (x ∷ xs) [] all others = All-nil R
+  All-zip2_from P Q R value (x ∷ xs) (y ∷ ys) all others =
+      All-cons R (f x y) (zip2 f xs ys) (value x y (All-head P x xs all) (All-head Q y ys others))
+      (All-zip2_from P Q R value xs ys (All-tail P x xs all) (All-tail Q y ys others))
 
   pub All-zip2 : (P : ℕ → Type 0) → ((x y : ℕ) → P (f x y)) → (xs ys : List ℕ) → All P (zip2 f xs ys)
   All-zip2 P value [] ys = All-nil P

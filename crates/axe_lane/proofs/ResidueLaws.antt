@@ -14,18 +14,18 @@ small_primes p (inr (inr (inr e))) = (omega arith, omega arith)
 abbrev L : ℕ → ℕ → ℕ
 L = less_where_not_below
 
-stays : (b x : ℕ) → x < b → L b x ≡ x
+pub stays : (b x : ℕ) → x < b → L b x ≡ x
 stays b x h = ap (λ t. cond t (x - b) x) (lt-leb b x h)
 
-falls : (b x : ℕ) → b ≤ x → L b x ≡ x - b
+pub falls : (b x : ℕ) → b ≤ x → L b x ≡ x - b
 falls b x h = ap (λ t. cond t (x - b) x) (le-leb b x h)
 
 -- one subtraction halves the bound
-less_below : (b x : ℕ) → x < b + b → L b x < b
+pub less_below : (b x : ℕ) → x < b + b → L b x < b
 less_below b x h = elim (cases_lt x b) [ inl l ↦ omega (arith, stays b x l) | inr g ↦ omega (arith, falls b x g) ]
 
 -- and keeps the residue
-less_mod : (b k p x : ℕ) → b ≡ k * p → L b x % p ≡ x % p
+pub less_mod : (b k p x : ℕ) → b ≡ k * p → L b x % p ≡ x % p
 less_mod b k p x e =
     elim (cases_lt x b) [
       | inl l ↦ ap (λ y. y % p) (stays b x l)

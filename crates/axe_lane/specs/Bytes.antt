@@ -33,6 +33,22 @@ multiple_modulo p m a = map (λ x. (m * x) % p) a
 abbrev pub less_where_not_below : ℕ → ℕ → ℕ
 less_where_not_below y x = if nat_le y x then x - y else x
 
+-- a row of sums below 16 p plus m times another row, entry by entry: 16 p is taken away where it can be
+abbrev pub lazy_sum : ℕ → List ℕ → ℕ → List ℕ → List ℕ
+lazy_sum p x m a = zip2 (λ d s. less_where_not_below (16 * p) (d + m * s)) x a
+
+-- the sum of multiples of four rows, entry by entry
+abbrev pub sum_of_multiples : List ℕ → List ℕ → List ℕ → List ℕ → List ℕ → List ℕ
+sum_of_multiples factors a b c d =
+    zip2 (λ x y. x + y) (zip2 (λ x y. x + y) (zip2 (λ x y. x + y)
+    (map (λ x. slice_index factors 0 * x) a) (map (λ x. slice_index factors 1 * x) b))
+    (map (λ x. slice_index factors 2 * x) c)) (map (λ x. slice_index factors 3 * x) d)
+
+-- a row of sums below 16 p plus multiples of four other rows, entry by entry: 16 p is taken away twice where it can be
+abbrev pub lazy_sum_with_four : ℕ → List ℕ → List ℕ → List ℕ → List ℕ → List ℕ → List ℕ → List ℕ
+lazy_sum_with_four p factors x a b c d =
+    zip2 (λ y s. less_where_not_below (16 * p) (less_where_not_below (16 * p) (y + s))) x (sum_of_multiples factors a b c d)
+
 -- the sum of the products of the entries of two rows at the same index
 abbrev pub sum_of_products : List ℕ → List ℕ → ℕ
 sum_of_products a b = sum (zip2 (λ x y. x * y) a b)

@@ -438,7 +438,7 @@ fn sum_of<const P: u8>(d: u8x32, s: u8x32, m: u8) -> u8x32
 /// m times each lane. Two bytes are multiplied as one number of 16 bits: as both products are bytes, nothing of the
 /// lower one is carried into the higher one.
 #[inline(always)]
-fn times(v: u8x32, m: u8) -> u8x32
+pub(crate) fn times(v: u8x32, m: u8) -> u8x32
     requires { All (λ x. m * x < 256) v }
     ensures { result ≡ map (λ x. m * x) v }
 {

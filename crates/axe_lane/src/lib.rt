@@ -18,7 +18,7 @@ pub use bytes::{
 };
 pub use digits::{add_bits, add_to_each, end_of_run};
 pub use masks::{bits_of_bytes, support_of_bytes};
-pub use sums::{add4_wrapping, reduce_bytes};
+pub use sums::{add_multiple_to_sums, add4_multiples_to_sums, add4_wrapping, reduce_bytes};
 pub use trits::{add_multiple_over_nine, add_trits, add4_trits, dot_trits};
 pub use words::{
     WORD, any_nonzero, first_set, parity_and, put_xor, xor_into, xor_multiple_over_eight,
