@@ -1,17 +1,19 @@
 -- The words of two layers in one list, those of the ones and after them those of the twos.
-use Rattle.std.proofs.Common.{◌≡◌, ◌↔◌, ℕ, ◌+◌, ◌-◌, ◌*◌, ◌/◌, ◌^◌, ◌<◌, Bool, not, IsTrue, List, ◌++◌, length, get_or, take, drop, refl, sym, ap, ap₂, subst, ◌∙◌, arith, length-append}
+use Rattle.std.proofs.Common.{◌≡◌, ◌↔◌, ℕ, ◌+◌, ◌-◌, ◌*◌, ◌/◌, ◌^◌, ◌<◌, Bool, not, IsTrue, List, ◌++◌, length, get_or, take, drop, refl, sym, ap, ap₂, subst, ◌∙◌, arith, length-append, inl, inr}
 use Rattle.std.specs.List.{All}
+use Rattle.std.proofs.lemmas.Bool.{cases_eq}
 use Rattle.std.proofs.lemmas.List.{get_or_past, get_or-drop, get_or-take, length-drop, length-take, replicate-append-replicate, take-append-drop}
 use Rattle.std.proofs.Math.Seq.{drop-append_seam, take-append_seam}
 use native.Mathlib.Decide.{dec_lt}
+use Rattle.axe_lane.specs.Bytes.{multiple_modulo}
 use Rattle.axe_lane.specs.Entries.{HasNonzero}
 use Rattle.axe_lane.specs.Trits.{IsTritSum, IsTritSumOfFive, IsTritSumOfThree}
 use Rattle.axe_layer.specs.Bits.{bits, HoldsBits}
 use Rattle.axe_layer.specs.Digits.{digits_with_four, digits_with_multiple}
 use Rattle.axe_bits.specs.Trits.{trits, first_half, second_half, HoldLayers, HoldTrits}
 use Rattle.axe_layer.proofs.BitLaws.{bit_of-zeros, bits-zeros, bits-injective, HoldsBits-zeros, written, zeros}
-use Rattle.axe_bits.proofs.TritWords.{digits_of_five, digits_of_sum, digits_of_three, layers, layers_of_five, layers_of_planes, layers_of_sum, layers_of_three, length-layers}
-use Rattle.axe_bits.proofs.TritZeros.{same_ones, same_twos, trits-zeros, zero_ones, zero_trits, zero_twos}
+use Rattle.axe_bits.proofs.TritWords.{digits_of_five, digits_of_sum, digits_of_three, exchanged, layers, layers_of_five, layers_of_planes, layers_of_sum, layers_of_three, length-layers}
+use Rattle.axe_bits.proofs.TritZeros.{same_ones, same_twos, trits-zeros, trits_by_one, trits_by_two, zero_ones, zero_trits, zero_twos}
 use Rattle.axe_layer.proofs.ZeroDigits.{no_bit, zero_word, zero_words}
 
 -- the halves of a list of words are two layers of n bits
@@ -62,6 +64,41 @@ module _ (n : ℕ) (words a b x : List ℕ) (is : half_trits n words ≡ x) wher
 
   pub trits-len : trits (bits (length x) a) (bits (length x) b) ≡ x → trits (bits n a) (bits n b) ≡ x
   trits-len digits = ap (λ k. trits (bits k a) (bits k b)) (sym (halves_long n words x is)) ∙ digits
+
+-- ---- the halves as the layers of a multiple by 1 or 2
+
+module _ (n f : ℕ) (words v w a b x : List ℕ) (held : HalvesHold n words) (is : half_trits n words ≡ x) (some : 0 < f) (few : f < 3)
+    (v_is : v ≡ words) (w_is : w ≡ words) (a_first : f - 1 ≡ 0 → a ≡ first_half v) (a_second : f - 1 ≡ 1 → a ≡ second_half v)
+    (b_first : 1 - (f - 1) ≡ 0 → b ≡ first_half w) (b_second : 1 - (f - 1) ≡ 1 → b ≡ second_half w) where
+  -- the halves as they stand, and exchanged
+  in_order : f ≡ 1 → (a ≡ first_half words) × (b ≡ second_half words)
+  in_order one = (a_first (omega (arith, one)) ∙ ap first_half v_is, b_second (omega (arith, one)) ∙ ap second_half w_is)
+
+  turned : f ≡ 2 → (a ≡ second_half words) × (b ≡ first_half words)
+  turned two = (a_second (omega (arith, two)) ∙ ap second_half v_is, b_first (omega (arith, two)) ∙ ap first_half w_is)
+
+  pub HoldLayers-multiple : HoldLayers (length x) a b
+  HoldLayers-multiple =
+      HoldLayers-all n words a b x is (elim (cases_eq f 1) [
+        | inl one ↦
+            let both = in_order one in
+            subst (λ (y : List ℕ). HoldLayers n y b) (sym both.0) (subst (HoldLayers n (first_half words)) (sym both.1) held)
+        | inr other ↦
+            let both = turned (omega (arith, other, some, few)) in
+            subst (λ (y : List ℕ). HoldLayers n y b) (sym both.0) (subst (HoldLayers n (second_half words)) (sym both.1) (exchanged _ _ _ held))
+      ])
+
+  pub trits-multiple : trits (bits (length x) a) (bits (length x) b) ≡ multiple_modulo 3 f x
+  trits-multiple =
+      ap (λ k. trits (bits k a) (bits k b)) (halves_long n words x is) ∙ elim (cases_eq f 1) [
+        | inl one ↦
+            let both = in_order one in
+            ap₂ (λ (y z : List ℕ). trits (bits n y) (bits n z)) both.0 both.1 ∙ is ∙ trits_by_one _ _ _ held.together is f one
+        | inr other ↦
+            let two : f ≡ 2 = omega (arith, other, some, few) in
+            let both = turned two in
+            ap₂ (λ (y z : List ℕ). trits (bits n y) (bits n z)) both.0 both.1 ∙ trits_by_two _ _ _ held.together is f two
+      ]
 
 -- ---- two layers that are joined
 

@@ -121,6 +121,13 @@ module _ (a b x : List ℕ) (h : HoldTrits a b) (is : trits a b ≡ x) where
       twice : (e : ℕ) → get_or b e 0 + 2 * get_or a e 0 ≡ (2 * get_or x e 0) % 3
       twice e = omega (arith, trit_of a b x h is e, h.apart e)
 
+-- a multiple has zeros where the digits have
+pub zeros_of_multiple : (m n : ℕ) (x : List ℕ) → AreZerosBefore x n → AreZerosBefore (multiple_modulo 3 m x) n
+zeros_of_multiple m n x zeros j before = elim (cases_lt j (length x)) [
+  | inl inside ↦ get_or-map (λ y. (m * y) % 3) x j 0 0 inside ∙ rw (zeros j before) (omega arith)
+  | inr past ↦ get_or_past (multiple_modulo 3 m x) j 0 (omega (arith, past, length-map x (λ y. (m * y) % 3)))
+]
+
 reduced_sum : (x y : ℕ) → (x + 1 * (y % 3)) % 3 ≡ (x + y) % 3
 reduced_sum x y = omega arith
 

@@ -219,8 +219,12 @@ impl TritPlane {
         requires zeros { AreZerosBefore other.now start }
         ensures { self.new ≡ digits_with_multiple 3 self.old factor other.now }
     {
-        let (ones, twos) = other.layers();
-        self.add_layers(start, factor, ones, twos);
+        // `len` is called for what it ensures beside the number: that the digits are below 3.
+        prove!(start <= self.len());
+        if factor != 0 {
+            let (ones, twos) = other.multiple_layers(factor);
+            self.add_layers(start, 1, ones, twos);
+        }
     }
 
     /// Adds to a row over the field of order 9 the multiple by p + q x of another of its length, where x^2 is x + 1: to
@@ -301,6 +305,20 @@ impl TritPlane {
         ensures digits { trits (bits (length self.now) result.0.now) (bits (length self.now) result.1.now) ≡ self.now }
     {
         self.words.split_at(self.words.len() / 2)
+    }
+
+    /// The layers of the multiple of the plane by 1 or 2, as [`TritPlane::layers`] gives those of the plane: twice a digit is
+    /// the digit with its layers exchanged. They are found without a branch on the factor, which nothing could foresee.
+    #[inline(always)]
+    pub fn multiple_layers(&self, factor: u8) -> (&[u64], &[u64])
+        requires some { 0 < factor }
+        requires factor { factor < 3 }
+        ensures holds { HoldLayers (length self.now) result.0.now result.1.now }
+        ensures digits { trits (bits (length self.now) result.0.now) (bits (length self.now) result.1.now)
+            ≡ multiple_modulo 3 factor self.now }
+    {
+        let first = usize::from(factor - 1);
+        (half_of(&self.words, first), half_of(&self.words, 1 - first))
     }
 
     /// Multiplies each digit by a factor modulo 3.
@@ -388,6 +406,19 @@ fn add_to_halves(words: &mut [u64], first: usize, ones: &[u64], twos: &[u64])
         &ones[first..],
         &twos[first..],
     );
+}
+
+/// One of the two halves of a list of words, 0 being the first and 1 the second. No branch depends on which one it is.
+#[inline(always)]
+fn half_of(words: &[u64], which: usize) -> &[u64]
+    requires halves { 2 * (length words.now / 2) ≡ length words.now }
+    requires which { which < 2 }
+    ensures first { which ≡ 0 → result.now ≡ first_half words.now }
+    ensures second { which ≡ 1 → result.now ≡ second_half words.now }
+{
+    let width = words.len() / 2;
+    let start = which * width;
+    &words[start..start + width]
 }
 
 /// Adds four rows over the field of order 3 to the one of which the two halves of a list of words are the ones and the
