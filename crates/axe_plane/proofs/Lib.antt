@@ -3,5 +3,7 @@ pub mod FourMultiples
 pub mod TableLaws
 pub mod PlaneWords
 pub mod SumLaws
+pub mod SumMultiples
 pub mod PlacedDigits
 mod SmallNumbers
+mod RemainderTables

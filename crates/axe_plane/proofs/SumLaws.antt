@@ -38,6 +38,22 @@ remainders-digits p [] positive = All-nil (λ digit. digit < p)
 remainders-digits p (x ∷ xs) positive =
     All-cons (λ digit. digit < p) (x % p) (remainders p xs) (mod-lt x positive) (remainders-digits p xs positive)
 
+-- digits are their own remainders
+pub remainders-of_digits : (p : ℕ) (xs : List ℕ) → AreDigits p xs → remainders p xs ≡ xs
+remainders-of_digits p [] digits = refl
+remainders-of_digits p (x ∷ xs) digits =
+    let first : x % p ≡ x = mod-eq_of_lt (All-head (λ digit. digit < p) x xs digits) in
+    let rest = remainders-of_digits p xs (All-tail (λ digit. digit < p) x xs digits) in
+    λ i. first i ∷ rest i
+
+-- below a number that is greater
+pub AreDigits-below : (p q : ℕ) → p ≤ q → (xs : List ℕ) → AreDigits p xs → AreDigits q xs
+AreDigits-below p q greater [] digits = All-nil (λ digit. digit < q)
+AreDigits-below p q greater (x ∷ xs) digits =
+    let here : x < p = All-head (λ digit. digit < p) x xs digits in
+    let rest = AreDigits-below p q greater xs (All-tail (λ digit. digit < p) x xs digits) in
+    All-cons (λ digit. digit < q) x xs (omega (arith, greater, here)) rest
+
 remainders-small : (p : ℕ) (xs : List ℕ) → 0 < p → All (λ byte. byte ≤ p - 1) (remainders p xs)
 remainders-small p [] positive = All-nil (λ byte. byte ≤ p - 1)
 remainders-small p (x ∷ xs) positive =

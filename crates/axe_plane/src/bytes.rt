@@ -1,11 +1,11 @@
 //! Planes of digits modulo 5 or 7.
 ghost use Rattle.std.specs.Prelude.{ℕ, map, replicate, slice_index, slice_set, All, MatchOption, ◌≡◌, ◌+◌, ◌/◌, ◌%◌};
-ghost use Rattle.std.specs.Prelude.{◌<◌, ◌≤◌, ◌↔◌, IsTrue, IfOk, length, ◌^◌};
+ghost use Rattle.std.specs.Prelude.{◌<◌, ◌≤◌, ◌↔◌, IsTrue, IfOk, length, ◌*◌, ◌^◌};
 ghost use Rattle.axe_algebra.specs.Lists.{listed};
 ghost use Rattle.axe_lane.specs.Bytes.{multiple_modulo, sum_of_products, AreDigits};
 ghost use Rattle.axe_lane.specs.Entries.{IsFirstNonzero, AreZerosBefore, AreZerosFrom, IsNextNonzero};
 ghost use Rattle.axe_layer.specs.Digits.{digits_at, digits_with_four, digits_with_multiple, AreSmallSums};
-ghost use Rattle.axe_layer.specs.Digits.{numbers_with_multiple, number_from, number_bound};
+ghost use Rattle.axe_layer.specs.Digits.{numbers_with_multiple, number_from, numbers_from, number_bound};
 ghost use Rattle.axe_plane.specs.Planes.{negative_modulo};
 ghost use Rattle.axe_plane.specs.Primes.{byte_prime, ByteDigits};
 ghost use Rattle.axe_plane.specs.Sums.{placed};
@@ -111,6 +111,39 @@ impl BytePlane {
         }
     }
 
+    /// Four such numbers, of the pieces of `size` digits one after another from an index on. Where the plane has all digits
+    /// of pieces of two or three, it is asked once for all four.
+    #[inline]
+    pub(crate) fn numbers_from(&self, base: usize, size: usize, at: usize) -> [usize; 4]
+        requires base { base ≤ 9 }
+        requires short { size ≤ 8 }
+        requires counted { at + 4 * size < 2 ^ 64 }
+        ensures value { result ≡ numbers_from base size at self.now.digits }
+        ensures small { (i : ℕ) → slice_index result i < number_bound }
+    {
+        let whole = at + 4 * size <= self.len();
+        match size {
+            2 if whole => [
+                self.number_of_two(base, at),
+                self.number_of_two(base, at + 2),
+                self.number_of_two(base, at + 4),
+                self.number_of_two(base, at + 6),
+            ],
+            3 if whole => [
+                self.number_of_three(base, at),
+                self.number_of_three(base, at + 3),
+                self.number_of_three(base, at + 6),
+                self.number_of_three(base, at + 9),
+            ],
+            _ => [
+                self.number_from(base, size, at),
+                self.number_from(base, size, at + size),
+                self.number_from(base, size, at + 2 * size),
+                self.number_from(base, size, at + 3 * size),
+            ],
+        }
+    }
+
     /// What [`BytePlane::number_from`] gives, of two digits.
     #[inline(always)]
     fn number_of_two(&self, base: usize, at: usize) -> usize
@@ -120,7 +153,7 @@ impl BytePlane {
         ensures value { result ≡ number_from base 2 at self.now.digits }
         ensures small { result < number_bound }
     {
-        usize::from(self.get(at)) * base + usize::from(self.get(at + 1))
+        usize::from(self.digit_at(at)) * base + usize::from(self.digit_at(at + 1))
     }
 
     /// What [`BytePlane::number_from`] gives, of three digits.
@@ -132,8 +165,17 @@ impl BytePlane {
         ensures value { result ≡ number_from base 3 at self.now.digits }
         ensures small { result < number_bound }
     {
-        let front = usize::from(self.get(at)) * base + usize::from(self.get(at + 1));
-        front * base + usize::from(self.get(at + 2))
+        let front = usize::from(self.digit_at(at)) * base + usize::from(self.digit_at(at + 1));
+        front * base + usize::from(self.digit_at(at + 2))
+    }
+
+    /// The digit at an index that the plane has.
+    #[inline(always)]
+    fn digit_at(&self, index: usize) -> u8
+        requires { index < length self.now.digits }
+        ensures { result ≡ slice_index self.now.digits index }
+    {
+        self.bytes[index]
     }
 
     /// What [`BytePlane::number_from`] gives, of any number of digits, one after another.

@@ -27,6 +27,7 @@ mod digits;
 mod number_words;
 mod numbers;
 mod primes;
+mod remainders;
 mod supports;
 mod tables;
 mod words;
@@ -509,9 +510,11 @@ impl Plane {
         ensures digits { trits (bits (length (digits_of self.now)) result.0.now)
             (bits (length (digits_of self.now)) result.1.now) ≡ multiple_modulo 3 factor (digits_of self.now) }
     {
-        let (ones, twos) = self.layers();
-        let is_twice = factor == 2;
-        if is_twice { (twos, ones) } else { (ones, twos) }
+        match self {
+            Plane::Trits(plane) => plane.multiple_layers(factor),
+            // Planes modulo one prime are of one kind.
+            _ => unreachable!(),
+        }
     }
 
     /// The bytes of a plane modulo 5 or 7.

@@ -127,17 +127,10 @@ impl Plane {
         ensures value { result ≡ numbers_from base size at (digits_of self.now) }
         ensures small { (i : ℕ) → slice_index result i < number_bound }
     {
-        let (second, third) = (at + size, at + 2 * size);
-        let fourth = at + 3 * size;
         match self {
             Plane::Bits(_) => unreachable!(),
             Plane::Trits(plane) => plane.numbers_from(base, size, at),
-            Plane::Bytes(plane) => [
-                plane.number_from(base, size, at),
-                plane.number_from(base, size, second),
-                plane.number_from(base, size, third),
-                plane.number_from(base, size, fourth),
-            ],
+            Plane::Bytes(plane) => plane.numbers_from(base, size, at),
         }
     }
 }

@@ -1,4 +1,4 @@
-use Rattle.std.proofs.Common.{◌≡◌, ap, ◌∙◌, sym, arith}
+use Rattle.std.proofs.Common.{ap, ◌∙◌, sym, arith}
 use Rattle.axe_layer.specs.Digits.{number_from}
 use Rattle.axe_plane.proofs.SmallNumbers.{number_from-one}
 use Rattle.axe_plane.proofs.bytes.BytePlane.number_from.Goals as goal

@@ -1,4 +1,4 @@
-use Rattle.std.proofs.Common.{◌≡◌, ◌+◌, ◌*◌, ap₂, ◌∙◌, sym, arith}
+use Rattle.std.proofs.Common.{◌+◌, ◌*◌, ap₂, ◌∙◌, sym, arith}
 use Rattle.axe_plane.proofs.SmallNumbers.{number_from-three}
 use Rattle.axe_plane.proofs.bytes.BytePlane.number_of_three.Goals as goal
 
@@ -8,6 +8,6 @@ overflow_add-at c = omega (arith, c.requires.counted)
 pub returns-clause-value : goal.returns-clause-value
 returns-clause-value c =
     ap₂ (λ x y. x * c.args.base + y)
-    (ap₂ (λ x y. x * c.args.base + y) (c.from.ensures ∙ c.get.ensures) (c.from-2.ensures ∙ c.get-2.ensures))
-    (c.from-3.ensures ∙ c.get-3.ensures)
+    (ap₂ (λ x y. x * c.args.base + y) (c.from.ensures ∙ c.digit_at.ensures) (c.from-2.ensures ∙ c.digit_at-2.ensures))
+    (c.from-3.ensures ∙ c.digit_at-3.ensures)
     ∙ sym (number_from-three c.args.base c.args.at c.args.self.now.digits c.requires.within)
