@@ -34,3 +34,4 @@ pub mod SummedTables
 pub mod FormLaws
 pub mod PieceRows
 pub mod PlacedRows
+pub mod SumRows

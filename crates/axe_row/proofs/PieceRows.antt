@@ -39,7 +39,7 @@ four_of_numbers self a b c d x y z w x' y' z' w' ex ey ez ew =
 -- ---- sums whose remainders are not taken yet
 
 -- the fields that have them are prime
-sums_degree : (o : Order) → HasSums o → degree_of o ≡ 1
+pub sums_degree : (o : Order) → HasSums o → degree_of o ≡ 1
 sums_degree Two has = refl
 sums_degree Three has = refl
 sums_degree Four has = absurd (omega arith)

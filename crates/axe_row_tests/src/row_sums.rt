@@ -1,9 +1,12 @@
 //! Sums of rows of tables over the fields of 5 and 7 elements, which are added to rows from an index on, against sums that
-//! are taken entry by entry.
+//! are taken entry by entry; and rows that become sums and rows again, against the same calls of rows.
+
+ghost use Rattle.std.specs.Prelude.{◌≡◌, ◌≤◌, length};
+ghost use Rattle.axe_lane.specs.Entries.{AreZerosBefore};
 
 use crate::row_sweep::{assert_shape, entry_of, field_of_order, row_of_seed, sum_with_product};
 use axe_field::Field;
-use axe_row::{Combos, Refusal, Row, RowSum, digits_per_byte};
+use axe_row::{BitPlane, Combos, Refusal, Row, RowSum, digits_per_byte};
 use std::alloc::Global;
 use std::process::Abort;
 
@@ -89,6 +92,102 @@ fn sums_of_rows_are_added_from_an_index_on(rt: HostRuntime) -> Result<(), Refusa
     for order in ORDERS {
         for len in LENGTHS {
             adds_at(&rt, rt.alloc(), order, len)?;
+        }
+    }
+    Ok(())
+}
+
+/// As many digits modulo 2 as a row has entries: those of the numbers of the entries.
+fn places_of(alloc: Global, row: &Row) -> Result<BitPlane, Refusal> {
+    let mut numbers = vec![in alloc; 0; row.len()]?;
+    row.copy_to(&mut numbers);
+    Ok(BitPlane::of_numbers(alloc, &numbers, 0)?)
+}
+
+/// The index of the first entry of a row other than 0, or the row's length.
+fn zeros_of(row: &Row) -> usize
+    ensures within { result ≤ length row.now.entries }
+    ensures zeros { AreZerosBefore row.now.entries result }
+{
+    match row.first_nonzero() {
+        Some(index) => index,
+        None => row.len(),
+    }
+}
+
+/// Adds a multiple of a row to another, and then multiples of two rows, each of them twice.
+fn adds_multiples(rt: &impl Abort, row: &mut Row, scalar: u8, first: &Row, second: &Row)
+    ensures { length row.new.entries ≡ length row.old.entries }
+{
+    let (field, len) = (*row.field(), row.len());
+    assert_shape(rt, first, &field, len);
+    assert_shape(rt, second, &field, len);
+    let (factor, other_factor) = (scalar % 4 + 1, 2);
+    assert!(rt; field.degree() == 1 && field.is_element(scalar));
+    assert!(rt; field.is_element(factor) && field.is_element(other_factor));
+    row.add_scaled(scalar, first);
+    let factors = [factor, other_factor, other_factor, factor];
+    row.add_four_multiples(factors, first, second, second, first);
+}
+
+/// The same, in a sum that the row becomes.
+fn adds_multiples_in_sum(
+    rt: &impl Abort,
+    row: &mut Row,
+    scalar: u8,
+    first: &Row,
+    second: &Row,
+) -> RowSum
+    ensures { length result.entries ≡ length row.old.entries }
+{
+    let (field, len) = (*row.field(), row.len());
+    assert_shape(rt, first, &field, len);
+    assert_shape(rt, second, &field, len);
+    let (factor, other_factor) = (scalar % 4 + 1, 2);
+    assert!(rt; field.prime() > 3 && field.is_element(scalar));
+    assert!(rt; field.is_element(factor) && field.is_element(other_factor));
+    let mut sum = RowSum::take(row);
+    sum.add_scaled_from(zeros_of(first), scalar, first);
+    let factors = [factor, other_factor, other_factor, factor];
+    sum.add_four_multiples(factors, first, second, second, first);
+    sum
+}
+
+/// Asserts that the next entry of a sum among places is that of a row, from each index on.
+fn assert_found(rt: &impl Abort, sum: &RowSum, row: &Row, places: &BitPlane)
+    requires { length sum.now.entries ≡ length row.now.entries }
+{
+    assert!(rt; places.len() == row.len());
+    for start in 0..=row.len() {
+        let wanted = row.next_entry_within(start, places);
+        assert!(rt; sum.next_entry_within(start, places) == wanted, "{start}");
+    }
+}
+
+/// A row of this length becomes a sum, to which multiples of other rows are added, and a row again.
+fn becomes_a_row(rt: &impl Abort, alloc: Global, order: u8, len: usize) -> Result<(), Refusal> {
+    let field = field_of_order(rt, order);
+    let mut row = row_of_seed(rt, alloc, field, len, 50)?;
+    let first = row_of_seed(rt, alloc, field, len, order)?;
+    let second = row_of_seed(rt, alloc, field, len, 100)?;
+    let places = places_of(alloc, &second)?;
+    for scalar in 0..order {
+        let mut wanted = row.copy(alloc)?;
+        adds_multiples(rt, &mut wanted, scalar, &first, &second);
+        let sum = adds_multiples_in_sum(rt, &mut row, scalar, &first, &second);
+        assert!(rt; row.is_empty());
+        assert_found(rt, &sum, &wanted, &places);
+        row = sum.into_row();
+        assert!(rt; row.same(&wanted), "{scalar}");
+    }
+    Ok(())
+}
+
+#[test]
+fn rows_become_sums_and_rows_again(rt: HostRuntime) -> Result<(), Refusal> {
+    for order in ORDERS {
+        for len in LENGTHS {
+            becomes_a_row(&rt, rt.alloc(), order, len)?;
         }
     }
     Ok(())

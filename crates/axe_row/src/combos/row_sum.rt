@@ -1,19 +1,27 @@
-//! Sums of rows of tables over the fields of 5 and 7 elements, whose remainders are not taken yet.
-ghost use Rattle.std.specs.Prelude.{◌≡◌, ◌+◌, ◌≤◌, None, length, replicate, slice_index};
+//! Sums of rows over the fields of 5 and 7 elements, whose remainders are not taken yet.
+ghost use Rattle.std.specs.Prelude.{ℕ, ◌≡◌, ◌+◌, ◌<◌, ◌≤◌, [], None, IfSome, MatchOption};
+ghost use Rattle.std.specs.Prelude.{length, replicate, slice_index};
+ghost use Rattle.axe_field.specs.Order.{IsElement};
+ghost use Rattle.axe_lane.specs.Entries.{AreZerosBefore, AreZerosFrom, IsNextNonzero};
+ghost use Rattle.axe_layer.specs.Supports.{restricted};
+ghost use Rattle.axe_row.specs.Addends.{IsRowAddend};
+ghost use Rattle.axe_row.specs.FoundEntries.{IsNextEntry};
 ghost use Rattle.axe_row.specs.Combinations.{combination_at, row_with_four, IsRowFor};
 ghost use Rattle.axe_row.specs.Operations.{row_with_multiple};
 ghost use Rattle.axe_row.specs.Refusals.{Answers};
 ghost use Rattle.axe_row.specs.Rows.{IsRow};
 ghost use Rattle.axe_row.specs.Sums.{HasSums, placed_row};
 
-use crate::{Combos, Refusal, Row};
+use crate::{BitPlane, Combos, Refusal, Row};
 use axe_field::Field;
+use axe_lane::WORD;
+use axe_layer::next_in_word;
 use axe_plane::ByteSums;
 use std::alloc::Global;
 use std::marker::Model;
 
-/// A row over the field of 5 or of 7 elements to which rows of tables are added: the remainders of its entries are taken
-/// only where a byte has no more room, and when it is added to a row.
+/// A row over the field of 5 or of 7 elements to which others are added: the remainders of its entries are taken only
+/// where a byte has no more room, when it is added to a row, and when it becomes one.
 #[derive(Drop)]
 pub struct RowSum {
     field: Field,
@@ -50,6 +58,86 @@ impl RowSum {
         Ok(RowSum { field, sums })
     }
 
+    /// The entries of a row over the field of 5 or of 7 elements as a sum, without a copy. The row has none left.
+    pub fn take(row: &mut Row) -> RowSum
+        requires { HasSums row.old.order }
+        ensures value { result ≡ row.old }
+        ensures left { row.new ≡ record { order = row.old.order; entries = [] } }
+        ensures well_formed { IsRow result }
+    {
+        let field = row.field;
+        let sums = ByteSums::take(&mut row.constant);
+        RowSum { field, sums }
+    }
+
+    /// The row that the sum is, without a copy.
+    pub fn into_row(self) -> Row
+        ensures value { result ≡ self }
+        ensures well_formed { IsRow result }
+    {
+        let RowSum { field, sums } = self;
+        let plane = sums.into_plane();
+        Row::of_plane(field, plane)
+    }
+
+    /// The index of the first entry other than 0 from an index on, among the places where a list of as many digits
+    /// modulo 2 has a 1, and that entry; `None` where there is none.
+    #[inline(always)]
+    pub fn next_entry_within(&self, start: usize, places: &BitPlane) -> Option<(usize, u8)>
+        requires start { start ≤ length self.now.entries }
+        requires fits { length places.now ≡ length self.now.entries }
+        ensures found { MatchOption result (AreZerosFrom (restricted places.now self.now.entries) start)
+            (λ found. IsNextEntry places.now self.now.entries start found.0 found.1) }
+        ensures element { IfSome result (λ found. IsElement self.now.order found.1) }
+    {
+        // `len` is called for what it says of the length: that it is a number of the machine, so that no sum below
+        // wraps.
+        prove!(start <= places.len());
+        let mut from = start;
+        while let Some(index) = next_place(places, from) {
+            let entry = self.sums.digit(index);
+            if entry != 0 {
+                return Some((index, entry));
+            }
+            from = index + 1;
+        }
+        None
+    }
+
+    /// Adds a multiple of a row over the same field and of the same length, whose entries before an index are 0, as
+    /// [`Row::add_scaled_from`] does.
+    #[inline(always)]
+    pub fn add_scaled_from(&mut self, start: usize, scalar: u8, other: &Row)
+        requires within { start ≤ length self.old.entries }
+        requires field { other.now.order ≡ self.old.order }
+        requires fits { length other.now.entries ≡ length self.old.entries }
+        requires element { IsElement self.old.order scalar }
+        requires zeros { AreZerosBefore other.now.entries start }
+        ensures sum { self.new ≡ row_with_multiple self.old scalar other.now }
+        ensures as_long { length self.new.entries ≡ length self.old.entries }
+        ensures well_formed { IsRow self.new }
+    {
+        self.sums.add_scaled_from(start, scalar, &other.constant);
+    }
+
+    /// Adds multiples of four rows over the same field and of the same length, in one pass, as
+    /// [`Row::add_four_multiples`] does.
+    #[inline(always)]
+    pub fn add_four_multiples(&mut self, factors: [u8; 4], a: &Row, b: &Row, c: &Row, d: &Row)
+        requires a { IsRowAddend self.old a.now }
+        requires b { IsRowAddend self.old b.now }
+        requires c { IsRowAddend self.old c.now }
+        requires d { IsRowAddend self.old d.now }
+        requires factors { (i : ℕ) → i < 4 → IsElement self.old.order (slice_index factors i) }
+        ensures sum { self.new ≡ row_with_multiple (row_with_multiple (row_with_multiple
+            (row_with_multiple self.old (slice_index factors 0) a.now)
+            (slice_index factors 1) b.now) (slice_index factors 2) c.now) (slice_index factors 3) d.now }
+        ensures as_long { length self.new.entries ≡ length self.old.entries }
+        ensures well_formed { IsRow self.new }
+    {
+        self.sums.add_four_multiples(factors, &a.constant, &b.constant, &c.constant, &d.constant);
+    }
+
     /// Adds the rows of four tables at these indices, as [`Row::add_four`] does.
     pub fn add_four(&mut self, indices: [usize; 4], a: &Combos, b: &Combos, c: &Combos, d: &Combos)
         requires a { IsRowFor self.old a.now (slice_index indices 0) }
@@ -76,4 +164,16 @@ impl RowSum {
     {
         self.sums.add_to(&mut row.constant, start);
     }
+}
+
+/// The index of the first place from an index on where a list of digits modulo 2 has a 1; `None` where there is none.
+/// Mostly it stands in the word of the index.
+#[inline(always)]
+fn next_place(places: &BitPlane, start: usize) -> Option<usize>
+    ensures { MatchOption result (AreZerosFrom places.now start) (IsNextNonzero places.now start) }
+{
+    if let Some(index) = next_in_word(places.word(start / WORD), start) {
+        return Some(index);
+    }
+    places.next_nonzero(start)
 }

@@ -1,9 +1,9 @@
-use Rattle.std.proofs.Common.{◌≡◌, ◌+◌, ◌*◌, length, refl, subst, sym, ap, ◌∙◌, arith}
+use Rattle.std.proofs.Common.{◌≡◌, ◌+◌, ◌*◌, length, refl, ap, ◌∙◌, arith}
 use Rattle.axe_field.specs.Order.{degree_of}
 use Rattle.axe_layer.specs.Digits.{number_from}
 use Rattle.axe_plane.specs.Planes.{digits_of}
 use Rattle.axe_row.specs.HigherPlanes.{linear_of, quadratic_of}
-use Rattle.axe_row.specs.Combinations.{IsRowFor, combination_at, row_with_four}
+use Rattle.axe_row.specs.Combinations.{combination_at, row_with_four}
 use Rattle.axe_row.specs.Rows.{RowValue}
 use Rattle.axe_row.proofs.KeptPlanes.{alone_is_prime}
 use Rattle.axe_row.proofs.PieceRows.{piece_of_plane, row_of_number, four_of_numbers}
