@@ -3,13 +3,13 @@ use Rattle.std.proofs.Common.{◌≡◌, ℕ, zero, suc, ◌+◌, ◌<◌, List,
 use Rattle.std.specs.List.{All}
 use Rattle.axe_layer.specs.Supports.{AreNextFour}
 use Rattle.axe_field.specs.NumberFields.{number_field}
-use Rattle.axe_field.specs.Order.{order_number, IsElement}
+use Rattle.axe_field.specs.Order.{Order, order_number, IsElement}
 use Rattle.axe_field.proofs.Laws.{field_one-mul}
 use Rattle.axe_row.specs.Addends.{IsRowAddend}
 use Rattle.axe_row.specs.Combinations.{row_with_four}
 use Rattle.axe_lane.specs.Entries.{IsNextNonzero}
 use Rattle.axe_row.specs.Operations.{row_with_multiple}
-use Rattle.axe_row.specs.Rows.{RowValue, four_entries}
+use Rattle.axe_row.specs.Rows.{RowValue, four_entries, IsRow}
 use Rattle.axe_field.proofs.Orders.{one_is_element}
 use Rattle.axe_matrix.specs.Matrices.{MatrixValue, IsMatrix, row_of}
 use Rattle.axe_matrix.proofs.BlockLaws.{length-row_with_terms}
@@ -20,6 +20,14 @@ pub record AreOverField (b : MatrixValue) (r v : List ℕ) : Type 0 where
   pub matrix : IsMatrix b
   pub row : All (IsElement b.order) r
   pub vector : All (IsElement b.order) v
+
+pub over_field : (b : MatrixValue) (r v : RowValue) → IsMatrix b → IsRow r → IsRow v → r.order ≡ b.order → v.order ≡ b.order →
+    AreOverField b r.entries v.entries
+over_field b r v hb hr hv r_field v_field = record {
+  matrix = hb;
+  row = subst (λ (o : Order). All (IsElement o) r.entries) r_field hr.elements;
+  vector = subst (λ (o : Order). All (IsElement o) v.entries) v_field hv.elements;
+}
 
 -- a row with the first n terms
 pub record HasTerms (b : MatrixValue) (r v : List ℕ) (n : ℕ) (row : RowValue) : Type 0 where

@@ -28,6 +28,7 @@ mod TransposedBlocks
 mod StripLaws
 mod PlacedColumns
 mod PieceLaws
+mod LastTerms
 mod WordTerms
 mod WaitingRows
 mod HornerTerms

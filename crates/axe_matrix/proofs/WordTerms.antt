@@ -1,5 +1,5 @@
 -- The terms of the product of a row vector and a matrix, by words of 64 entries of the vector.
-use Rattle.std.proofs.Common.{◌≡◌, ℕ, ◌+◌, ◌-◌, ◌*◌, ◌<◌, ◌≤◌, List, length, get_or, refl, sym, ap, ◌∙◌, subst, arith}
+use Rattle.std.proofs.Common.{◌≡◌, ℕ, ◌+◌, ◌-◌, ◌*◌, ◌<◌, ◌≤◌, List, length, get_or, sym, ap, ◌∙◌, subst, arith}
 use Rattle.std.specs.List.{All}
 use Rattle.std.proofs.lemmas.List.{get_or_past}
 use native.Mathlib.Decide.{dec_lt}
@@ -14,11 +14,9 @@ use Rattle.axe_row.specs.EntryWords.{entries_in_word}
 use Rattle.axe_row.specs.Operations.{sum_with_multiple}
 use Rattle.axe_row.specs.Rows.{RowValue}
 use Rattle.axe_matrix.specs.Matrices.{MatrixValue, IsMatrix, row_of}
-use Rattle.axe_matrix.specs.Products.{row_with_terms}
 use Rattle.axe_matrix.specs.VectorTerms.{row_with_terms_between}
-use Rattle.axe_matrix.proofs.BlockLaws.{row_with_more_terms}
-use Rattle.axe_matrix.proofs.BlockRows.{element-below, elements-below, entries-below}
 use Rattle.axe_matrix.proofs.DirectRows.{one_more_from, so_many_terms, terms_from, zeros_from}
+use Rattle.axe_matrix.proofs.LastTerms.{further_terms}
 
 -- nothing is changed by 1
 pub times_one : (o : Order) (c a : ℕ) → IsElement o a → c ≡ 1 → a ≡ field_mul o c a
@@ -93,17 +91,10 @@ pub word_of_terms : (b : MatrixValue) (r : List ℕ) (c : ℕ) (vector : RowValu
     after.entries ≡ so_many_terms b r c vector.entries ((k + 1) * 64 + 0)
 word_of_terms b r c vector k place before after hb small over_r over_v fits order so_far is =
     let at = k * 64 + place in
-    let n = k * 64 + 64 - at in
-    let v = vector.entries in
-    let all : at + n ≡ (k + 1) * 64 + 0 = omega (arith, fits) in
-    let first : at ≡ 0 + at = omega arith in
-    ap (λ (x : RowValue). x.entries) is
-    ∙ ap (λ (o : Order). row_with_terms (number_field o) b.cols before.entries c v b.rows at n) order
-    ∙ ap (λ (xs : List ℕ). row_with_terms (number_field b.order) b.cols xs c v b.rows at n) so_far
-    ∙ ap (λ j. row_with_terms (number_field b.order) b.cols (so_many_terms b r c v at) c v b.rows j n) first
-    ∙ row_with_more_terms (number_field b.order) b.cols r c v b.rows 0 at n (element-below b.order c small) (elements-below b.order r over_r)
-    (elements-below b.order v over_v) (entries-below b.order b hb refl)
-    ∙ ap (so_many_terms b r c v) all
+    let end = k * 64 + 64 in
+    let next : end ≡ (k + 1) * 64 + 0 = omega arith in
+    further_terms b r c vector at end before after hb small over_r over_v (omega (arith, fits)) order so_far is
+    ∙ ap (so_many_terms b r c vector.entries) next
 
 -- the terms of all words are those of all rows
 pub all_words : (b : MatrixValue) (r : List ℕ) (c : ℕ) (v : List ℕ) (n : ℕ) → IsMatrix b → All (IsElement b.order) v → length v ≡ length b.rows →

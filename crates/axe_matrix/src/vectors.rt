@@ -6,12 +6,14 @@ ghost use Rattle.axe_field.specs.Arithmetic.{field_mul};
 ghost use Rattle.axe_field.specs.Order.{degree_of, order_number, IsElement};
 ghost use Rattle.axe_lane.specs.Entries.{AreZerosFrom, IsNextNonzero};
 ghost use Rattle.axe_row.specs.Rows.{IsRow};
+ghost use Rattle.axe_row.specs.Sums.{HasSums};
 ghost use Rattle.axe_matrix.specs.Products.{row_with_product};
 ghost use Rattle.axe_matrix.specs.VectorTerms.{row_with_first_terms, row_with_terms_between};
 
 use super::{Matrix, Row};
 use axe_lane::WORD;
 use axe_layer::{four_in_word, next_in_word};
+use axe_row::RowSum;
 
 impl Matrix {
     /// Adds a multiple of a row vector times this matrix to a row over its field: each entry d of the row becomes
@@ -34,11 +36,64 @@ impl Matrix {
         if scalar == 1 && self.field().degree() != 1 && self.has_many_entries(vector) {
             return self.add_by_values(vector, row);
         }
+        if scalar == 1 && self.field().prime() > 3 {
+            return self.add_vec_mul_by_sums(vector, row);
+        }
         let at = self.add_fours(scalar, vector, row);
         let mut place = at % WORD;
         for word in at / WORD..vector.len().div_ceil(WORD) {
             self.add_terms_of_word(scalar, vector, word, place, row);
             place = 0;
+        }
+    }
+
+    /// Adds a row vector times this matrix over 5 or 7 elements to a row, as [`Matrix::add_vec_mul`] does for the scalar
+    /// 1: the remainders of the row's entries are taken when all terms are added.
+    fn add_vec_mul_by_sums(&self, vector: &Row, row: &mut Row)
+        requires sums { HasSums self.now.order }
+        requires vector_field { vector.now.order ≡ self.now.order }
+        requires row_field { row.old.order ≡ self.now.order }
+        requires inner_fit { length vector.now.entries ≡ length self.now.rows }
+        requires columns_fit { length row.old.entries ≡ self.now.cols }
+        ensures sum { row.new ≡ row_with_product row.old 1 vector.now self.now }
+        ensures as_long { length row.new.entries ≡ length row.old.entries }
+        ensures well_formed { IsRow row.new }
+    {
+        // `len` is called for what it ensures beside the length: that the entries are elements of the field.
+        prove!(row.len() == self.cols());
+        prove!(vector.len() == self.rows());
+        let mut sum = RowSum::take(row);
+        let mut next = 0;
+        while let Some(four) = next_four(vector, next) {
+            let entries = vector.entries_at(four);
+            let (first, second) = (self.row(four[0]), self.row(four[1]));
+            sum.add_four_multiples(entries, first, second, self.row(four[2]), self.row(four[3]));
+            next = four[3] + 1;
+        }
+        self.add_last_terms(vector, next, &mut sum);
+        *row = sum.into_row();
+    }
+
+    /// Adds the terms of a row vector times this matrix over 5 or 7 elements to a sum that belong to the entries of the
+    /// vector from an index on, one after another.
+    fn add_last_terms(&self, vector: &Row, start: usize, sum: &mut RowSum)
+        requires sums { HasSums self.now.order }
+        requires vector_field { vector.now.order ≡ self.now.order }
+        requires sum_field { sum.old.order ≡ self.now.order }
+        requires inner_fit { length vector.now.entries ≡ length self.now.rows }
+        requires columns_fit { length sum.old.entries ≡ self.now.cols }
+        requires start { start ≤ length vector.now.entries }
+        requires well_formed { IsRow sum.old }
+        ensures sum { sum.new ≡ row_with_terms_between sum.old 1 vector.now self.now start (length vector.now.entries) }
+        ensures as_long { length sum.new.entries ≡ length sum.old.entries }
+        ensures well_formed { IsRow sum.new }
+    {
+        // `len` is called for what it ensures beside the length: that the entries are elements of the field.
+        prove!(vector.len() == self.rows());
+        let mut place = start;
+        while let Some(index) = vector.next_nonzero(place) {
+            sum.add_scaled_from(0, vector.get(index), self.row(index));
+            place = index + 1;
         }
     }
 
