@@ -8,6 +8,7 @@ ghost use Rattle.axe_field.specs.Order.{order_number, prime_of};
 ghost use Rattle.axe_row.specs.Operations.{IsZeroVector};
 ghost use Rattle.axe_row.specs.Refusals.{Answers};
 ghost use Rattle.axe_row.specs.Rows.{IsRow, RowValue};
+ghost use Rattle.axe_row.specs.Sums.{HasSums};
 ghost use Rattle.axe_matrix.specs.Limits.{most_columns};
 ghost use Rattle.axe_matrix.specs.Matrices.{IsMatrix};
 ghost use Rattle.axe_echelon.specs.Echelons.{IsEchelon, IsReducedMatrix, with_row_where};
@@ -20,8 +21,12 @@ use crate::pivot_table::PivotTable;
 use axe_field::Field;
 use axe_lane::WORD;
 use axe_matrix::{Matrix, Refusal, Row};
+use axe_row::RowSum;
 use std::alloc::Global;
 use std::marker::Model;
+
+/// A row has many entries other than 0 where one of so many is.
+const MANY_ENTRIES: usize = 4;
 
 /// A row of the echelon form of a subspace: 1 at its pivot, 0 before it and at the pivots of the rows before.
 #[derive(Drop)]
@@ -192,6 +197,7 @@ impl Subspace {
             2 => self.reduce_in::<2>(row),
             4 => self.reduce_in::<4>(row),
             8 => self.reduce_in::<8>(row),
+            5 | 7 if has_many_entries(row) => self.reduce_by_sums(row),
             _ => self.reduce_by_entries(row),
         }
     }
@@ -235,6 +241,33 @@ impl Subspace {
             block.add_scaled_in::<Q>(entry, self.pivots.block_of(pivot));
             row.add_scaled_in::<Q>(pivot, entry, &self.rows[self.pivots.row_of(pivot)].row);
         }
+    }
+
+    /// What [`Subspace::reduce`] does, over 5 or 7 elements: the remainders of the row's entries are taken when all
+    /// rows are added.
+    #[inline(never)]
+    fn reduce_by_sums(&self, row: &mut Row)
+        requires sums { HasSums self.now.order }
+        requires field { row.old.order ≡ self.now.order }
+        requires fits { length row.old.entries ≡ self.now.cols }
+        requires elements { IsRow row.old }
+        ensures representative { IsRepresentative (number_field self.now.order) self.now.rows
+            row.old.entries row.new.entries }
+        ensures same_field { row.new.order ≡ self.now.order }
+        ensures as_long { length row.new.entries ≡ self.now.cols }
+        ensures row_well_formed { IsRow row.new }
+    {
+        let negatives = self.field.negatives();
+        let mut sum = RowSum::take(row);
+        let mut start = 0;
+        while let Some((pivot, entry)) = self.pivots.next_pivot_of_sum(&sum, start) {
+            // The pivot's row is 0 before it: so what was cleared stays 0, and is not looked at again.
+            let pivot_row = &self.rows[self.pivots.row_of(pivot)];
+            let factor = negatives[usize::from(entry)];
+            sum.add_scaled_from(pivot, factor, &pivot_row.row);
+            start = pivot + 1;
+        }
+        *row = sum.into_row();
     }
 
     /// What [`Subspace::reduce`] does, over any field: entry by entry.
@@ -373,6 +406,16 @@ impl Subspace {
     {
         self.pivots.is_pivot(column)
     }
+}
+
+/// Whether so many entries of a row are other than 0 that it is reduced in less work by sums. Either way gives the same
+/// row.
+fn has_many_entries(row: &Row) -> bool {
+    let mut count: usize = 0;
+    for at in 0..row.len().div_ceil(WORD) {
+        count = count.saturating_add(row.support_word(at).count_ones() as usize);
+    }
+    count >= row.len() / MANY_ENTRIES
 }
 
 /// What is left of a vector, scaled to 1 at its first entry other than 0, or `None` where nothing is left.

@@ -1,10 +1,10 @@
-use Rattle.std.proofs.Common.{◌<◌, ℕ, get_or, replicate, subst, refl, sym, ◌∙◌, ap, arith}
+use Rattle.std.proofs.Common.{◌<◌, get_or, replicate, subst, sym, ◌∙◌, ap, arith}
 use Rattle.axe_field.specs.Order.{IsElement}
 use Rattle.axe_echelon.specs.Echelons.{EchelonValue}
 use Rattle.axe_echelon.specs.Subspaces.{IsRowOfForm}
-use Rattle.axe_echelon.proofs.PivotRowLaws.{form_row_at, pivot_at, rows_fit, echelon_of_rows}
+use Rattle.axe_echelon.proofs.PivotRowLaws.{form_row_at, rows_fit, echelon_of_rows}
 use Rattle.axe_echelon.proofs.StepLaws.{over_of_row}
-use Rattle.axe_echelon.proofs.ClearingLaws.{IsFoundRow, IsClearing, IsNegative, negative_at, cleared_by_none, found_row, room_of_found, place_of_found, clearing_of, zeros_before_pivot, clear_next, cleared_by_all}
+use Rattle.axe_echelon.proofs.ClearingLaws.{IsFoundRow, IsNegative, negative_at, cleared_by_none, found_row, room_of_found, place_of_found, zeros_before_pivot, clear_found, cleared_by_all}
 use Rattle.axe_echelon.proofs.subspace.Subspace.reduce_with.Goals.{In-Some, After-row_of-index, After-index-pivot_row, After-from}
 use Rattle.axe_echelon.proofs.subspace.Subspace.reduce_with.Goals as goal
 
@@ -72,22 +72,14 @@ loop-pivot-smaller c =
 
 pub loop-pivot-preserved : goal.loop-pivot-preserved
 loop-pivot-preserved c =
-    let there : IsFoundRow c.self.inside.rows.items c.in-Some.pivot c.row_of-index.result = found (goal.at.loop-pivot-preserved c).After-row_of-index in
-    let pivot = sym (pivot_at c.self.inside.rows.items c.row_of-index.result c.index-pivot_row.result.now there.within c.index-pivot_row.ensures) ∙ there.pivot in
-    let so_far = c.loop-pivot.invariant.so_far in
-    let multiplier : ℕ = get_or c.negatives-negatives.result.now c.from.result 0 in
-    let negated = negative (goal.at.loop-pivot-preserved c).After-from in
-    let clearing : IsClearing c.self.inside.field c.self.inside.cols c.index-pivot_row.result.now c.loop-pivot.row c.add_scaled_from.new.self
-    multiplier =
-    clearing_of _ c.self.inside.field _ c.index-pivot_row.result.now _ _ _ _ c.in-Some.pivot c.in-Some.entry _ so_far.clear.field so_far.clear.over pivot
-    c.in-Some.ensures.found refl negated.element negated.value c.add_scaled_from.ensures.sum
-    c.add_scaled_from.ensures.as_long c.add_scaled_from.ensures.well_formed in
+    let here = goal.at.loop-pivot-preserved c in
     record {
       fits = omega (arith, place_of_found _ c.loop-pivot.row.entries _ _ c.in-Some.ensures.found.next, c.add_scaled_from.ensures.as_long);
-      so_far = clear_next _ _ c.self.inside.rows.items c.self.inside.pivots c.loop-pivot.column c.in-Some.pivot c.row_of-index.result
+      so_far = clear_found _ _ c.self.inside.rows.items c.self.inside.pivots c.loop-pivot.column c.in-Some.pivot c.in-Some.entry c.row_of-index.result
           c.index-pivot_row.result.now c.args.row.now c.loop-pivot.row c.add_scaled_from.new.self c.loop-pivot.multipliers c.set.new.self
-          multiplier c.self.invariant so_far c.in-Some.ensures.found.next there c.index-pivot_row.ensures clearing c.set.ensures.replaced
-          c.set.ensures.well_formed;
+          (get_or c.negatives-negatives.result.now c.from.result 0) c.self.invariant c.loop-pivot.invariant.so_far c.in-Some.ensures.found
+          (found here.After-row_of-index) c.index-pivot_row.ensures (negative here.After-from) c.add_scaled_from.ensures.sum
+          c.add_scaled_from.ensures.as_long c.add_scaled_from.ensures.well_formed c.set.ensures.replaced c.set.ensures.well_formed;
     }
 
 pub add_scaled_from-requires-clause-element : goal.add_scaled_from-requires-clause-element
