@@ -67,6 +67,7 @@ outer_columns | 8: 7654/3210 | 8: 47/03
 /// - `add_to_diagonal`: a square matrix, a scalar, and the matrix with the scalar added to each entry of the diagonal;
 /// - `add_square`: a matrix, a scalar, and the sum of the matrix and of the multiple of its square;
 /// - `transpose`: a matrix, and its transpose;
+/// - `transpose_from_last`: a matrix, and the transpose of the matrix with its rows in the opposite order;
 /// - `vec_mul`: a matrix, a vector, and the image of the vector.
 const ARITHMETIC: &str = "\
 mul | 2: 11/01 | 2: 10/11 | 2: 01/11
@@ -96,6 +97,10 @@ transpose | 8: 75/16/65/61/14/10/23/55/34/40/42/47/47/12/44/60/26/15/60/01/00/05
 transpose | 9: 812/147/067/554/850/663/516/768/257/348/124/172/643/662/820/208/242/204/262/837/050/601/888/704/151/780/133/252/656/378/276/082/161/213/856/070/022/386/653/432/746/550/135/100/637/171/124/335/165/850/868/015/431/610/302/250/215/205/114/824/183/410/823/861/352/122 | 9: 810586572311668222280687171263201280036475116113188046322218148831/146556165427462040635080583557786157285345303723656131051012812652/277403687842320824270184103268621360263260507145508510205544303122
 transpose | 9: 23863787760405424685424276412744766047133605504657060564333872687/71064446403720568326607568651648078820362208765371100876002822070 | 9: 27/31/80/66/34/74/84/76/74/60/03/47/02/50/45/26/48/63/82/56/46/20/47/25/76/68/46/15/21/76/44/48/70/67/68/08/42/70/13/36/32/62/00/58/57/06/45/63/57/71/01/60/00/58/67/46/30/30/32/88/72/22/60/87/70
 transpose | 3: 00000000000000000000000000000000000000000000000000000000000000000/00000000000000000000000000000000000000000000000000000000000000002 | 3: 00/00/00/00/00/00/00/00/00/00/00/00/00/00/00/00/00/00/00/00/00/00/00/00/00/00/00/00/00/00/00/00/00/00/00/00/00/00/00/00/00/00/00/00/00/00/00/00/00/00/00/00/00/00/00/00/00/00/00/00/00/00/00/00/02
+# The rows from the last to the first: each row of the transpose is read from its end.
+transpose_from_last | 3: 12/01 | 3: 01/12
+transpose_from_last | 5: 123/041 | 5: 01/42/13
+transpose_from_last | 2: 011/001/010/110/100/100/011/101/111/011/110/100/110/100/110/001/011/011/000/010/111/110/001/111/000/001/110/010/000/100/001/100/010/111/100/011/001/111/111/110/010/010/110/101/110/001/110/101/111/101/011/000/111/010/001/111/001/101/100/101/001/101/000/010/000 | 2: 00010111010010011110111001110011010100100101100000111110110111000/01000000010110101010101111110101100001100101110110101011101001101/00011101111010111101010000111101001000010110100111000001111000011
 vec_mul | 2: 01/11 | 2: 11 | 2: 10
 vec_mul | 2: 10/01/11/10/01/11 | 2: 111011 | 2: 10
 vec_mul | 3: 12/01 | 3: 12 | 3: 11
@@ -293,6 +298,7 @@ fn gives_matrix(
 ) -> Result<bool, TableFault> {
     let answer = match call {
         "copy" => matrix.copy(alloc),
+        "transpose_from_last" => matrix.transpose_from_last(alloc),
         _ => matrix.transpose(alloc),
     };
     is_matrix(alloc, answer, one_field(line)?)
@@ -400,7 +406,7 @@ fn answers_of_matrix(
         "reverse" => reverses(alloc, matrix, line),
         "block" => takes_block(rt, alloc, matrix, line),
         "last_columns" | "outer_columns" => takes_columns(rt, alloc, call, matrix, line),
-        "copy" | "transpose" => gives_matrix(alloc, call, matrix, line),
+        "copy" | "transpose" | "transpose_from_last" => gives_matrix(alloc, call, matrix, line),
         "mul" | "add" => combines(alloc, call, matrix, line),
         "add_to_diagonal" => adds_to_diagonal(rt, alloc, matrix, line),
         "add_square" => adds_square(rt, alloc, matrix, line),

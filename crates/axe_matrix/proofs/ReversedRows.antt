@@ -1,10 +1,11 @@
 -- The rows of a matrix in the opposite order, and as rows of their own.
-use Rattle.std.proofs.Common.{◌≡◌, ℕ, ◌-◌, ◌<◌, List, All, [], ◌∷◌, ◌++◌, length, get_or, map, reverse, subst, refl, sym, ap, ◌∙◌, arith}
+use Rattle.std.proofs.Common.{◌≡◌, ℕ, ◌-◌, ◌<◌, Bool, true, false, List, All, [], ◌∷◌, ◌++◌, length, get_or, map, reverse}
+use Rattle.std.proofs.Common.{subst, refl, sym, ap, ◌∙◌, arith}
 use Rattle.std.proofs.lemmas.List.{get_or-reverse, length-reverse, map-append, reverse-append}
 use Rattle.std.proofs.lemmas.List.Elements.{All-from_get_or, All-get_or}
 use Rattle.axe_field.specs.Order.{Order, IsElement}
 use Rattle.axe_row.specs.Rows.{RowValue}
-use Rattle.axe_matrix.specs.Matrices.{MatrixValue, IsMatrix, reversed_matrix}
+use Rattle.axe_matrix.specs.Matrices.{MatrixValue, IsMatrix, reversed_matrix, lines_of}
 use Rattle.axe_matrix.specs.RowLists.{matrix_from_rows, MakeMatrix, AreRowsOf}
 use Rattle.axe_matrix.proofs.RowListLaws.{All-from_entries}
 
@@ -26,7 +27,7 @@ map-reverse f (x ∷ xs) =
 -- ---- matrices with their rows in the opposite order
 
 -- they are a matrix
-IsMatrix-reverse : (m : MatrixValue) → IsMatrix m → IsMatrix (reversed_matrix m)
+pub IsMatrix-reverse : (m : MatrixValue) → IsMatrix m → IsMatrix (reversed_matrix m)
 IsMatrix-reverse m h = record {
   some_column = h.some_column;
   columns_fit = h.columns_fit;
@@ -50,6 +51,28 @@ reversed_of o n rows turned m view_is turned_is =
     ap (matrix_from_rows o n) turned_is
     ∙ ap (λ (l : List (List ℕ)). record { order = o; cols = n; rows = l }) (map-reverse (λ (row : RowValue). row.entries) rows)
     ∙ ap reversed_matrix view_is
+
+-- ---- a matrix, with its rows in the opposite order where that is asked
+
+-- its field is the matrix's
+pub lines_of-order : (from_last : Bool) (m : MatrixValue) → (lines_of from_last m).order ≡ m.order
+lines_of-order true m = refl
+lines_of-order false m = refl
+
+-- it has as many columns
+pub lines_of-cols : (from_last : Bool) (m : MatrixValue) → (lines_of from_last m).cols ≡ m.cols
+lines_of-cols true m = refl
+lines_of-cols false m = refl
+
+-- it has as many rows
+pub lines_of-count : (from_last : Bool) (m : MatrixValue) → length (lines_of from_last m).rows ≡ length m.rows
+lines_of-count true m = length-reverse m.rows
+lines_of-count false m = refl
+
+-- it is a matrix
+pub IsMatrix-lines : (from_last : Bool) (m : MatrixValue) → IsMatrix m → IsMatrix (lines_of from_last m)
+IsMatrix-lines true m h = IsMatrix-reverse m h
+IsMatrix-lines false m h = h
 
 -- ---- rows that were those of a matrix
 

@@ -77,6 +77,10 @@ identity_matrix order n = record { order = order; cols = n; rows = identity n }
 abbrev pub reversed_matrix : MatrixValue → MatrixValue
 reversed_matrix m = record { order = m.order; cols = m.cols; rows = reverse m.rows }
 
+-- a matrix, with its rows in the opposite order where that is asked
+abbrev pub lines_of : Bool → MatrixValue → MatrixValue
+lines_of from_last m = if from_last then reversed_matrix m else m
+
 -- the block of a matrix that has so many rows from a row on, and so many columns from a column on: its entry i, j is
 -- the matrix's entry row + i, column + j
 abbrev pub matrix_block : MatrixValue → ℕ → ℕ → ℕ → ℕ → MatrixValue

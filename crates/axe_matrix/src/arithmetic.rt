@@ -3,9 +3,10 @@
 ghost use Rattle.std.specs.Prelude.{◌≡◌, ◌<◌, None, IfOk, length, slice_set};
 ghost use Rattle.axe_field.specs.Order.{IsElement};
 ghost use Rattle.axe_row.specs.Refusals.{Answers};
-ghost use Rattle.axe_matrix.specs.Matrices.{IsMatrix, row_of};
+ghost use Rattle.axe_matrix.specs.Matrices.{IsMatrix, reversed_matrix, row_of};
 ghost use Rattle.axe_matrix.specs.Matrices.{sum_refusal, sum_of_matrices, transpose_refusal, transposed_matrix};
 
+use super::lines::Lines;
 use super::{Matrix, Refusal};
 use std::alloc::Global;
 
@@ -48,16 +49,17 @@ impl Matrix {
             (λ transpose. transpose ≡ transposed_matrix self.now) result }
         ensures well_formed { IfOk result IsMatrix }
     {
-        if self.rows() == 0 {
-            return Err(Refusal::NoRows);
-        }
-        // The coefficients of entries stand in layers of bits there, which go by blocks.
-        if self.field().prime() <= 3 {
-            let mut transpose = Matrix::zero(alloc, *self.field(), self.cols(), self.rows())?;
-            transpose.put_transpose(self);
-            return Ok(transpose);
-        }
-        self.transpose_by_strips(alloc)
+        transposed_lines(alloc, &Lines::in_order(self))
+    }
+
+    /// The transpose of the matrix with its rows in the opposite order: its row j is column j of this matrix, read from
+    /// the last entry to the first. A matrix without rows is refused as NoRows. No row is copied.
+    pub fn transpose_from_last(&self, alloc: Global) -> Result<Matrix, Refusal>
+        ensures transpose { Answers (transpose_refusal self.now)
+            (λ transpose. transpose ≡ transposed_matrix (reversed_matrix self.now)) result }
+        ensures well_formed { IfOk result IsMatrix }
+    {
+        transposed_lines(alloc, &Lines::from_last(self))
     }
 
     /// Makes an element the entry at a row and a column; all other entries stay.
@@ -71,4 +73,22 @@ impl Matrix {
     {
         self.rows[row].set(column, element);
     }
+}
+
+/// The transpose of a matrix, in either order of its rows. One without rows is refused as NoRows.
+fn transposed_lines(alloc: Global, lines: &Lines) -> Result<Matrix, Refusal>
+    ensures transpose { Answers (transpose_refusal lines.now)
+        (λ transpose. transpose ≡ transposed_matrix lines.now) result }
+    ensures well_formed { IfOk result IsMatrix }
+{
+    if lines.rows() == 0 {
+        return Err(Refusal::NoRows);
+    }
+    // The coefficients of entries stand in layers of bits there, which go by blocks.
+    if lines.field().prime() <= 3 {
+        let mut transpose = Matrix::zero(alloc, *lines.field(), lines.cols(), lines.rows())?;
+        transpose.put_transpose(lines);
+        return Ok(transpose);
+    }
+    lines.transpose_by_strips(alloc)
 }

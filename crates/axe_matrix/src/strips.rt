@@ -6,6 +6,7 @@ ghost use Rattle.axe_row.specs.Refusals.{Answers};
 ghost use Rattle.axe_matrix.specs.Matrices.{IsMatrix, transposed_matrix};
 ghost use Rattle.axe_matrix.specs.Strips.{IsStrip, first_columns};
 
+use super::lines::Lines;
 use super::{Matrix, Refusal, Row};
 use std::alloc::Global;
 
@@ -13,28 +14,11 @@ use std::alloc::Global;
 const STRIP: usize = 64;
 
 impl Matrix {
-    /// The transpose of a matrix with rows, by the numbers of its entries. One strip is held at a time: it stays in the
-    /// processor's cache while its columns are taken, and takes little memory beside the transpose.
-    pub(super) fn transpose_by_strips(&self, alloc: Global) -> Result<Matrix, Refusal>
-        requires some_row { 1 ≤ length self.now.rows }
-        ensures transpose { Answers None (λ transpose. transpose ≡ transposed_matrix self.now) result }
-        ensures well_formed { IfOk result IsMatrix }
-    {
-        let mut transpose = Matrix::with_capacity(alloc, *self.field(), self.rows(), self.cols())?;
-        let mut start = 0;
-        while start < self.cols() {
-            let width = STRIP.min(self.cols() - start);
-            transpose.append_columns(alloc, self, start, width)?;
-            start += width;
-        }
-        Ok(transpose)
-    }
-
     /// Appends columns of another matrix, at most as many as a strip has, to those before them, each as a row.
     fn append_columns(
         &mut self,
         alloc: Global,
-        matrix: &Matrix,
+        matrix: &Lines,
         start: usize,
         width: usize,
     ) -> Result<(), Refusal>
@@ -52,6 +36,25 @@ impl Matrix {
             self.append(row)?;
         }
         Ok(())
+    }
+}
+
+impl<'a> Lines<'a> {
+    /// The transpose of a matrix with rows, by the numbers of its entries. One strip is held at a time: it stays in the
+    /// processor's cache while its columns are taken, and takes little memory beside the transpose.
+    pub(crate) fn transpose_by_strips(&self, alloc: Global) -> Result<Matrix, Refusal>
+        requires some_row { 1 ≤ length self.now.rows }
+        ensures transpose { Answers None (λ transpose. transpose ≡ transposed_matrix self.now) result }
+        ensures well_formed { IfOk result IsMatrix }
+    {
+        let mut transpose = Matrix::with_capacity(alloc, *self.field(), self.rows(), self.cols())?;
+        let mut start = 0;
+        while start < self.cols() {
+            let width = STRIP.min(self.cols() - start);
+            transpose.append_columns(alloc, self, start, width)?;
+            start += width;
+        }
+        Ok(transpose)
     }
 
     /// The entries of `width` columns from column `start` on, a line for each row.

@@ -11,6 +11,7 @@ ghost use Rattle.axe_matrix.specs.Transposes.{coefficients_of, HasCoefficients, 
 ghost use Rattle.axe_matrix.specs.Transposes.{AreZerosWithin, HasRowWords, digit_of_block};
 
 use super::Matrix;
+use super::lines::Lines;
 use axe_lane::any_nonzero;
 use axe_layer::transposed_block;
 
@@ -19,7 +20,7 @@ const BLOCK: usize = 64;
 
 impl Matrix {
     /// Makes a matrix of zeros the transpose of another, over a field whose prime is 2 or 3. It takes no memory.
-    pub(super) fn put_transpose(&mut self, matrix: &Matrix)
+    pub(super) fn put_transpose(&mut self, matrix: &Lines)
         requires prime { prime_of matrix.now.order ≤ 3 }
         requires zeros { self.old ≡ zero_matrix matrix.now.order matrix.now.cols (length matrix.now.rows) }
         ensures transpose { self.new ≡ transposed_matrix matrix.now }
@@ -34,7 +35,7 @@ impl Matrix {
 
     /// Makes the coefficients of a power of x those of the transpose of a matrix, over a field whose prime is 2 or 3.
     /// They are zeros so far. All other coefficients stay.
-    fn put_coefficients(&mut self, power: u8, matrix: &Matrix)
+    fn put_coefficients(&mut self, power: u8, matrix: &Lines)
         requires prime { prime_of matrix.now.order ≤ 3 }
         requires power { power < degree_of matrix.now.order }
         requires shape { IsShapedAsTranspose matrix.now self.old }
@@ -49,7 +50,7 @@ impl Matrix {
 
     /// Writes the coefficients of a power of x of the transpose of a matrix into a block of rows, where they are zeros
     /// so far: the rows from 64 times an index on, as many as a block has or those that there are. All others stay.
-    fn put_block_row(&mut self, power: u8, row_block: usize, matrix: &Matrix)
+    fn put_block_row(&mut self, power: u8, row_block: usize, matrix: &Lines)
         requires prime { prime_of matrix.now.order ≤ 3 }
         requires power { power < degree_of matrix.now.order }
         requires shape { IsShapedAsTranspose matrix.now self.old }
@@ -68,7 +69,7 @@ impl Matrix {
     /// Writes the coefficients of a power of x of the transpose of a matrix into a block, where they are zeros so far:
     /// that of the rows and columns from 64 times an index of each on. All others stay. Where all are 0, nothing is
     /// written.
-    fn put_block(&mut self, power: u8, row_block: usize, column_block: usize, matrix: &Matrix)
+    fn put_block(&mut self, power: u8, row_block: usize, column_block: usize, matrix: &Lines)
         requires prime { prime_of matrix.now.order ≤ 3 }
         requires power { power < degree_of matrix.now.order }
         requires shape { IsShapedAsTranspose matrix.now self.old }
@@ -87,26 +88,6 @@ impl Matrix {
             let (ones, twos) = (transposed(&ones), transposed(&twos));
             self.put_words(power, row_block, column_block, &ones, &twos);
         }
-    }
-
-    /// The words at an index of the coefficients of a power of x in the rows of a matrix from 64 times another index
-    /// on, those of the ones and those of the twos, one of each for each row of a block; where there is no row, both
-    /// are 0. Digit j of those of row i is the coefficient in row i and column j of the block.
-    fn words_of_block(&self, power: u8, row_block: usize, at: usize) -> ([u64; BLOCK], [u64; BLOCK])
-        requires prime { prime_of self.now.order ≤ 3 }
-        requires power { power < degree_of self.now.order }
-        requires within { row_block * 64 < length self.now.rows }
-        ensures { (i j : ℕ) → i < 64 → j < 64 → digit_of_block result.0 result.1 i j
-            ≡ entry (coefficients_of power self.now).rows (row_block * 64 + i) (at * 64 + j) }
-    {
-        let (rows, from) = (self.rows(), row_block * BLOCK);
-        let (mut ones, mut twos) = ([0; BLOCK], [0; BLOCK]);
-        for index in from..rows.min(from + BLOCK) {
-            let words = self.row(index).digit_words(power, at);
-            ones[index - from] = words[0];
-            twos[index - from] = words[1];
-        }
-        (ones, twos)
     }
 
     /// Makes the digits of words the coefficients of a power of x in the rows of a matrix from 64 times an index on, in
@@ -146,6 +127,28 @@ impl Matrix {
         ensures well_formed { IsMatrix self.new }
     {
         self.rows[row].set_digit_words(power, at, words);
+    }
+}
+
+impl<'a> Lines<'a> {
+    /// The words at an index of the coefficients of a power of x in the rows of a matrix from 64 times another index
+    /// on, those of the ones and those of the twos, one of each for each row of a block; where there is no row, both
+    /// are 0. Digit j of those of row i is the coefficient in row i and column j of the block.
+    fn words_of_block(&self, power: u8, row_block: usize, at: usize) -> ([u64; BLOCK], [u64; BLOCK])
+        requires prime { prime_of self.now.order ≤ 3 }
+        requires power { power < degree_of self.now.order }
+        requires within { row_block * 64 < length self.now.rows }
+        ensures { (i j : ℕ) → i < 64 → j < 64 → digit_of_block result.0 result.1 i j
+            ≡ entry (coefficients_of power self.now).rows (row_block * 64 + i) (at * 64 + j) }
+    {
+        let (rows, from) = (self.rows(), row_block * BLOCK);
+        let (mut ones, mut twos) = ([0; BLOCK], [0; BLOCK]);
+        for index in from..rows.min(from + BLOCK) {
+            let words = self.row(index).digit_words(power, at);
+            ones[index - from] = words[0];
+            twos[index - from] = words[1];
+        }
+        (ones, twos)
     }
 }
 

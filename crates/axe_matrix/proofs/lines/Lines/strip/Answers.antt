@@ -2,7 +2,7 @@ use Rattle.std.proofs.Common.{◌≡◌, ◌<◌, ◌+◌, length, get_or, ap, �
 use Rattle.axe_algebra.proofs.ListEntries.{listed_length, listed_at}
 use Rattle.axe_row.specs.Rows.{RowValue}
 use Rattle.axe_matrix.proofs.StripLaws.{IsStrip-none, IsStrip-more}
-use Rattle.axe_matrix.proofs.Matrix.strip.Goals as goal
+use Rattle.axe_matrix.proofs.lines.Lines.strip.Goals as goal
 
 pub loop-index-init : goal.loop-index-init
 loop-index-init c = IsStrip-none _ _ _ _ c.in_ok-lines.ensures.items

@@ -1,7 +1,7 @@
 use Rattle.std.proofs.Common.{◌≡◌, ◌≤◌, ◌-◌}
 use Rattle.axe_matrix.specs.Matrices.{IsMatrix}
 use Rattle.axe_matrix.specs.Strips.{first_columns}
-use Rattle.axe_matrix.proofs.Matrix.transpose_by_strips.Given as goal
+use Rattle.axe_matrix.proofs.lines.Lines.transpose_by_strips.Given as goal
 
 abbrev pub invariant-loop-start : goal.invariant-loop-start
 invariant-loop-start l = record {

@@ -5,7 +5,7 @@ use Rattle.axe_row.specs.Rows.{RowValue}
 use Rattle.axe_matrix.specs.Transposes.{coefficients_of}
 use Rattle.axe_matrix.proofs.CoefficientWrites.{length-coefficients, coefficients-row}
 use Rattle.axe_matrix.proofs.TransposedBlocks.{HaveWordsBelow-none, HaveWordsBelow-more, words_all}
-use Rattle.axe_matrix.proofs.Matrix.words_of_block.Goals as goal
+use Rattle.axe_matrix.proofs.lines.Lines.words_of_block.Goals as goal
 
 pub overflow_mul-from : goal.overflow_mul-from
 overflow_mul-from c = omega (arith, c.requires.within, c.rows-rows.ensures.count, c.rows-rows.type_inv)

@@ -1,6 +1,6 @@
 use Rattle.std.proofs.Common.{arith}
 use Rattle.axe_matrix.proofs.StripLaws.{first_columns-none}
-use Rattle.axe_matrix.proofs.Matrix.transpose_by_strips.Goals as goal
+use Rattle.axe_matrix.proofs.lines.Lines.transpose_by_strips.Goals as goal
 
 pub loop-start-init : goal.loop-start-init
 loop-start-init c = record {
