@@ -332,6 +332,30 @@ reduce_next o n rows table start column t p first row next scalar tabled so_far 
       in_coset = so_far.in_coset;
     }) clearing)
 
+pub clear_next : (o : Order) (n : ℕ) (rows : List PivotRow) (table : PivotTable) (start column t : ℕ) (p : PivotRow)
+    (first row next multipliers following : RowValue) (scalar : ℕ) → AreTabledRows o n rows table →
+    IsClearedBefore o n rows start first row multipliers → IsNextNonzero (restricted (marks_of table) row.entries) start column →
+    IsFoundRow rows column t → p ≡ get_or rows t p → IsClearing o n p row next scalar →
+    following ≡ record { order = multipliers.order; entries = set multipliers.entries t scalar } → IsRow following →
+    IsClearedBefore o n rows (column + 1) first next following
+clear_next o n rows table start column t p first row next multipliers following scalar tabled so_far found at is clearing placed following_row =
+    subst (λ k. IsClearedBefore o n rows k first next following)
+    (let after : suc p.pivot ≡ column + 1 = omega (arith, pivot_is, at.pivot) in after)
+    (cleared_by_row o n rows t p tabled.are_rows at.within is first row next multipliers following scalar
+    (record {
+      clear = clear_up_to o n rows table tabled row start so_far.clear p.pivot
+          (λ j from ahead. found.zeros_between j from (omega (arith, ahead, pivot_is, at.pivot)));
+      multipliers_field = so_far.multipliers_field;
+      multipliers_over = so_far.multipliers_over;
+      offset = so_far.offset;
+      no_others = λ s within past. so_far.no_others s within (omega (arith, past, found.not_before, pivot_is, at.pivot));
+      few = so_far.few;
+    })
+    clearing placed following_row)
+  where
+    pivot_is : get_or (pivots_of rows) t 0 ≡ p.pivot
+    pivot_is = pivot_at rows t p at.within is
+
 -- by the negative of the entry that was found there
 clearing_found : (o : Order) (n : ℕ) (rows : List PivotRow) (start column entry t : ℕ) (p : PivotRow) (places : List ℕ) (row next : RowValue) (scalar : ℕ) →
     IsClearBefore o n rows start row → IsNextEntry places row.entries start column entry → IsFoundRow rows column t → p ≡ get_or rows t p →
@@ -357,20 +381,6 @@ pub clear_found : (o : Order) (n : ℕ) (rows : List PivotRow) (table : PivotTab
     IsClearedBefore o n rows (column + 1) first next following
 clear_found o n rows table start column entry t p first row next multipliers following scalar tabled so_far found at is negative sum long h placed
     following_row =
-    subst (λ k. IsClearedBefore o n rows k first next following)
-    (let after : suc p.pivot ≡ column + 1 = omega (arith, pivot_is, at.pivot) in after)
-    (cleared_by_row o n rows t p tabled.are_rows at.within is first row next multipliers following scalar
-    (record {
-      clear = clear_up_to o n rows table tabled row start so_far.clear p.pivot
-          (λ j from ahead. found.next.zeros_between j from (omega (arith, ahead, pivot_is, at.pivot)));
-      multipliers_field = so_far.multipliers_field;
-      multipliers_over = so_far.multipliers_over;
-      offset = so_far.offset;
-      no_others = λ s within past. so_far.no_others s within (omega (arith, past, found.next.not_before, pivot_is, at.pivot));
-      few = so_far.few;
-    })
+    clear_next o n rows table start column t p first row next multipliers following scalar tabled so_far found.next at is
     (clearing_found o n rows start column entry t p (marks_of table) row next scalar so_far.clear found at is negative sum long h)
-    placed following_row)
-  where
-    pivot_is : get_or (pivots_of rows) t 0 ≡ p.pivot
-    pivot_is = pivot_at rows t p at.within is
+    placed following_row

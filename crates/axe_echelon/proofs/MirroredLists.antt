@@ -1,5 +1,5 @@
 -- Rows and matrices whose entries stand in the opposite order, as vectors read from the last entry to the first.
-use Rattle.std.specs.Prelude.{◌≡◌, ℕ, ◌+◌, ◌-◌, ◌<◌, ◌≤◌, List, [], length, get_or, set, reverse}
+use Rattle.std.specs.Prelude.{◌≡◌, ℕ, ◌-◌, ◌<◌, List, [], length, get_or, set, reverse}
 use Rattle.std.specs.Prelude.{None, Result, IfOk}
 use Rattle.std.proofs.lemmas.List.{length-reverse, length-set, get_or-reverse, get_or-set_same, get_or-set_other}
 use Rattle.std.proofs.lemmas.Grind.{same_number_lists}
@@ -61,43 +61,6 @@ vector_of_reverse K n entries long = same_as_mirrored (field_of K) n (vector_of 
 pub is_row_mirrored : (row : RowValue) → IsRow row → IsRow (mirrored_row row)
 is_row_mirrored row h = record { elements = All-reverse (IsElement row.order) row.entries 0 h.elements }
 
--- ---- the row that is filled from its last entry on
-
--- the last entries are the first ones of the other row
-pub record IsMirroredUpTo (row : RowValue) (i : ℕ) (other : RowValue) : Type 0 where
-  pub field : other.order ≡ row.order
-  pub long : length other.entries ≡ length row.entries
-  pub done : (j : ℕ) → j < i → j < length row.entries → get_or other.entries (length row.entries - 1 - j) 0 ≡ get_or row.entries j 0
-
-pub mirrored_more : (row other next : RowValue) (i p : ℕ) → IsMirroredUpTo row i other → i < length row.entries → p ≡ length row.entries - 1 - i →
-    next ≡ record { order = other.order; entries = set other.entries p (get_or row.entries i 0) } → IsMirroredUpTo row (i + 1) next
-mirrored_more row other next i p so_far below place is = record {
-  field = ap (λ (r : RowValue). r.order) is ∙ so_far.field;
-  long = ap (λ (r : RowValue). length r.entries) is ∙ length-set other.entries p (get_or row.entries i 0) ∙ so_far.long;
-  done = λ j before inside. ap (λ (r : RowValue). get_or r.entries (length row.entries - 1 - j) 0) is ∙ at j before inside (ℕ_discrete j i);
-}
-  where
-    at : (j : ℕ) → j < i + 1 → j < length row.entries → Dec (j ≡ i) →
-        get_or (set other.entries p (get_or row.entries i 0)) (length row.entries - 1 - j) 0 ≡ get_or row.entries j 0
-    at j before inside (yes same) =
-        ap (λ k. get_or (set other.entries p (get_or row.entries i 0)) k 0) (let here : length row.entries - 1 - j ≡ p = omega (arith, same, place) in here)
-        ∙ get_or-set_same other.entries p (get_or row.entries i 0) 0 (omega (arith, place, below, so_far.long))
-        ∙ ap (λ k. get_or row.entries k 0) (sym same)
-    at j before inside (no other_place) =
-        get_or-set_other other.entries p (length row.entries - 1 - j) (get_or row.entries i 0) 0
-        (λ same. other_place (omega (arith, same, place, inside, below)))
-        ∙ so_far.done j (omega (arith, other_place)) inside
-
-pub mirrored_all : (row other : RowValue) (i : ℕ) → IsMirroredUpTo row i other → length row.entries ≤ i → other ≡ mirrored_row row
-mirrored_all row other i so_far all = λ t. record { order = so_far.field t; entries = entries t }
-  where
-    entries : other.entries ≡ reverse row.entries
-    entries = same_number_lists other.entries (reverse row.entries) (so_far.long ∙ sym (length-reverse row.entries)) (λ k below.
-        let inside : k < length row.entries = omega (arith, below, so_far.long) in
-        ap (λ j. get_or other.entries j 0) (let back : k ≡ length row.entries - 1 - (length row.entries - 1 - k) = omega (arith, inside) in back)
-        ∙ so_far.done (length row.entries - 1 - k) (omega (arith, inside, all)) (omega (arith, inside))
-        ∙ sym (get_or-reverse row.entries k 0 inside))
-
 -- ---- matrices
 
 -- the columns of the matrix with its rows in the opposite order
@@ -124,29 +87,11 @@ columns_mirrored m other h is well_formed = record {
         ∙ ap (λ (a : Matrix (gf m.order)). mirrored (gf m.order) (length m.rows) (a t)) (sym (matrix_of_transpose K m.cols m.rows (matrix_over m h)))
 
 -- so they are what a transpose gives, where there are rows
-pub columns_answer : (m reversed : MatrixValue) (result : Result MatrixValue Refusal) → IsMatrix m → 0 < length m.rows → reversed ≡ reversed_matrix m →
-    Answers (transpose_refusal reversed) (λ transpose. transpose ≡ transposed_matrix reversed) result → IfOk result IsMatrix →
+pub columns_answer : (m : MatrixValue) (result : Result MatrixValue Refusal) → IsMatrix m → 0 < length m.rows →
+    Answers (transpose_refusal m) (λ transpose. transpose ≡ transposed_matrix (reversed_matrix m)) result → IfOk result IsMatrix →
     Answers None (IsMirrored (transposed_matrix m)) result
-columns_answer m reversed result h some is answers well_formed =
+columns_answer m result h some answers well_formed =
     answers_with result (λ transpose. transpose ≡ transposed_matrix (reversed_matrix m)) IsMatrix (IsMirrored (transposed_matrix m))
     (subst (λ why. Answers why (λ transpose. transpose ≡ transposed_matrix (reversed_matrix m)) result)
-    (transpose_refusal-none (reversed_matrix m) (λ none. omega (arith, some, none, length-reverse m.rows)))
-    (subst (λ (x : MatrixValue). Answers (transpose_refusal x) (λ transpose. transpose ≡ transposed_matrix x) result) is answers))
+    (transpose_refusal-none m (λ none. omega (arith, some, none))) answers)
     well_formed (λ other transposed_is matrix. columns_mirrored m other h transposed_is matrix)
-
--- there is nothing to read without rows
-pub mirrored_without_rows : (m other : MatrixValue) → length m.rows ≡ 0 → other ≡ m → IsMatrix other → IsMirrored m other
-mirrored_without_rows m other none is well_formed = record {
-  field = ap (λ (x : MatrixValue). x.order) is;
-  columns = ap (λ (x : MatrixValue). x.cols) is;
-  count = ap (λ (x : MatrixValue). length x.rows) is;
-  rows = ap (λ (x : MatrixValue). matrix_of K x.rows) is ∙ fun_ext λ t.
-      same_as_mirrored (gf m.order) m.cols (matrix_of K m.rows t) (matrix_of K m.rows t) (λ j past. empty t j) (λ j below. empty t j ∙ sym (empty t (m.cols - 1 - j)));
-  well_formed = well_formed;
-}
-  where
-    K : NumberField
-    K = number_field m.order
-
-    empty : (t j : ℕ) → matrix_of K m.rows t j ≡ (gf m.order).zero
-    empty t j = row_past K m.rows t (omega (arith, none)) j

@@ -1,5 +1,5 @@
 -- The space of the vectors that are orthogonal to rows is the null space of their transpose.
-use Rattle.std.specs.Prelude.{◌≡◌, ℕ, ◌<◌, List, length, Option, Some, None, Ok}
+use Rattle.std.specs.Prelude.{◌≡◌, ℕ, ◌<◌, List, length}
 use Rattle.axe_algebra.specs.NumberField.{NumberField}
 use Rattle.axe_algebra.specs.Field.{Field}
 use Rattle.axe_algebra.specs.Vectors.{Vector, Matrix, zero_vector, transposed, times, dot}
@@ -18,9 +18,7 @@ use Rattle.axe_algebra.proofs.ListProducts.{matrix_of_transpose, transpose_over}
 use Rattle.axe_algebra.proofs.ProductLaws.{times-at, dot-at, dot_comm}
 use Rattle.axe_field.specs.Order.{Order}
 use Rattle.axe_field.specs.NumberFields.{number_field, gf}
-use Rattle.axe_row.specs.Refusals.{Answers}
-use Rattle.axe_row.specs.declared.refusals.Refusal.{Refusal}
-use Rattle.axe_matrix.specs.Matrices.{MatrixValue, IsMatrix, transposed_matrix, transpose_refusal}
+use Rattle.axe_matrix.specs.Matrices.{MatrixValue, IsMatrix, transposed_matrix}
 use Rattle.axe_matrix.proofs.MatrixLaws.{same_matrix}
 use Rattle.axe_echelon.specs.Echelons.{EchelonValue, IsRowSpace, IsNullSpaceMatrix}
 use Rattle.axe_echelon.specs.Mirrored.{mirrored, IsMirrored, IsOrthogonalMirrored}
@@ -184,18 +182,3 @@ pub null_space_by_columns : (m turned basis : MatrixValue) (e : EchelonValue) �
 null_space_by_columns m turned basis e h mirrored_rows space orthogonal =
     subst (λ (x : MatrixValue). IsNullSpaceMatrix x basis) (twice_transposed m h)
     (null_space_of_transpose (transposed_matrix m) turned basis e (transpose_over (number_field m.order) m.cols m.rows (matrix_over m h)) mirrored_rows space orthogonal)
-
--- what is answered is the transpose
-pub transposed_value : (m columns : MatrixValue) → Answers (transpose_refusal m) (λ transpose. transpose ≡ transposed_matrix m) (Ok columns) →
-    columns ≡ transposed_matrix m
-transposed_value m columns answers = value (transpose_refusal m) answers
-  where
-    value : (why : Option Refusal) → Answers why (λ transpose. transpose ≡ transposed_matrix m) (Ok columns) → columns ≡ transposed_matrix m
-    value (Some refusal) refused = cc
-    value None is = is
-
--- the rows are the columns of the transpose
-pub mirrored_by_columns : (m columns turned : MatrixValue) → IsMatrix m → columns ≡ transposed_matrix m → IsMirrored (transposed_matrix columns) turned →
-    IsMirrored m turned
-mirrored_by_columns m columns turned h is mirrored_rows =
-    subst (λ (x : MatrixValue). IsMirrored x turned) (ap transposed_matrix is ∙ twice_transposed m h) mirrored_rows

@@ -1,10 +1,11 @@
 -- Rows from which the pivots in a word of 64 columns are cleared, by a block of the row's entries there.
-use Rattle.std.specs.Prelude.{◌≡◌, ◌≢◌, ℕ, zero, suc, ◌+◌, ◌-◌, ◌*◌, ◌/◌, ◌<◌, ◌≤◌, List, [], ◌∷◌, All, length, get_or, cond, eqb, ltb, true}
+use Rattle.std.specs.Prelude.{◌≡◌, ◌≢◌, ℕ, zero, suc, ◌+◌, ◌-◌, ◌*◌, ◌/◌, ◌<◌, ◌≤◌, List, [], ◌∷◌, All, length, get_or, set, cond, eqb, ltb, true}
 use Rattle.std.specs.Int.{bit_at}
-use Rattle.std.proofs.lemmas.List.{get_or_past}
+use Rattle.std.proofs.lemmas.List.{get_or_past, length-set}
 use Rattle.std.proofs.lemmas.Bool.{eqb-true, lt-ltb, le-ltb}
-use Rattle.axe_algebra.specs.Bridge.{vector_of}
+use Rattle.axe_algebra.specs.Bridge.{vector_of, matrix_of}
 use Rattle.axe_algebra.specs.Lists.{IsVectorOver}
+use Rattle.axe_algebra.specs.Reduced.{IsZeroAtPivots}
 use Rattle.axe_algebra.specs.SpansOfLists.{IsPivot, IsRepresentative}
 use Rattle.axe_algebra.proofs.ElementNumbers.{entry-below}
 use Rattle.axe_algebra.proofs.ListEntries.{listed_at, listed_length, vector_past}
@@ -24,12 +25,13 @@ use Rattle.axe_row.specs.Operations.{sum_with_multiple, row_with_multiple}
 use Rattle.axe_row.specs.declared.bit_block.BitBlock.{BitBlock}
 use Rattle.axe_echelon.specs.Echelons.{EchelonValue}
 use Rattle.axe_echelon.specs.PivotTables.{marks_of, HasRoom}
-use Rattle.axe_echelon.specs.Subspaces.{pivots_of, space_of, IsRowOfForm, AreFormRows, AreTabledRows, IsReducedBelow}
+use Rattle.axe_echelon.specs.Subspaces.{rows_of, pivots_of, space_of, IsRowOfForm, AreFormRows, AreTabledRows}
+use Rattle.axe_echelon.specs.Subspaces.{IsReducedBelow, IsClearedBelow, IsCleared}
 use Rattle.axe_echelon.specs.declared.subspace.PivotRow.{PivotRow}
 use Rattle.axe_echelon.specs.declared.pivot_table.PivotTable.{PivotTable}
 use Rattle.axe_row.proofs.BlockLaws.{entry_in_word, length-entries_in_word, sum_in_word}
-use Rattle.axe_echelon.proofs.ClearingLaws.{IsReducedBefore, IsFoundRow, IsClearing, clearing_of, clear_up_to, found_row, room_of_found}
-use Rattle.axe_echelon.proofs.ClearingLaws.{place_of_found, reduce_next, zeros_before_pivot}
+use Rattle.axe_echelon.proofs.ClearingLaws.{IsClearBefore, IsReducedBefore, IsClearedBefore, IsFoundRow, IsClearing, clearing_of, clear_up_to}
+use Rattle.axe_echelon.proofs.ClearingLaws.{found_row, room_of_found, place_of_found, reduce_next, clear_next, zeros_before_pivot}
 use Rattle.axe_echelon.proofs.PivotLaws.{row_of_pivot, pivot_of_row_at}
 use Rattle.axe_echelon.proofs.PivotRowLaws.{length-rows_of, form_row_at, pivot_at}
 use Rattle.axe_echelon.proofs.StepLaws.{element_of_below}
@@ -187,6 +189,27 @@ pub record IsHalfCleared (e : EchelonValue) (o : Order) (n : ℕ) (rows : List P
   pub over : IsVectorOver (number_field o) n row.entries
   pub so_far : (first : RowValue) → IsReducedBelow e (at * 64) first given → IsReducedBefore o n rows (at * 64 + start) first row
 
+-- the same with the multipliers of the rows that were added for that: those kept so far, and those of this word
+pub record IsHalfClearedWith (e : EchelonValue) (o : Order) (n : ℕ) (rows : List PivotRow) (table : PivotTable) (at : ℕ) (given row : RowValue)
+    (places : ℕ)
+    (block : BitBlock) (kept multipliers : RowValue) : Type 0 where
+  pub half : IsHalfCleared e o n rows table at given row places block
+  pub start_low : half.start ≤ 64
+  pub multipliers_field : multipliers.order ≡ o
+  pub multipliers_long : length multipliers.entries ≡ n
+  pub so_far : (first : RowValue) → IsClearedBelow e (at * 64) first given kept →
+      IsClearedBefore o n rows (at * 64 + half.start) first row multipliers
+
+-- a row that is 0 at the pivots of the rows before a column is so at those of their span
+zeros_below : (o : Order) (n : ℕ) (rows : List PivotRow) (column : ℕ) (row : RowValue) → AreFormRows o n rows → IsClearBefore o n rows column row →
+    (j : ℕ) → IsPivot (number_field o) (rows_of rows) j → j < column → vector_of (number_field o) row.entries j ≡ (gf o).zero
+zeros_below o n rows column row are clear j pivot ahead = at (row_of_pivot o n rows j are pivot)
+  where
+    at : (t : ℕ) × (t < length rows) × (get_or (pivots_of rows) t 0 ≡ j) → vector_of (number_field o) row.entries j ≡ (gf o).zero
+    at (t, inside, is) =
+        subst (λ k. vector_of (number_field o) row.entries k ≡ (gf o).zero) is
+        (clear.cleared t (omega (arith, inside, length-rows_of rows)) (omega (arith, ahead, is)))
+
 -- a row that is 0 at the pivots before a column, as callers see it
 module _ (e : EchelonValue) (o : Order) (n : ℕ) (rows : List PivotRow) (view : space_of o n rows ≡ e) (are : AreFormRows o n rows) (column : ℕ) (first row : RowValue) where
   pub before_of_below : IsReducedBelow e column first row → IsReducedBefore o n rows column first row
@@ -207,13 +230,47 @@ module _ (e : EchelonValue) (o : Order) (n : ℕ) (rows : List PivotRow) (view :
     field = h.clear.field;
     over = h.clear.over;
     in_coset = h.in_coset;
-    zeros = λ j pivot ahead. at j ahead (row_of_pivot o n rows j are pivot);
+    zeros = zeros_below o n rows column row are h.clear;
+  })
+
+-- with the multipliers
+module _ (e : EchelonValue) (o : Order) (n : ℕ) (rows : List PivotRow) (view : space_of o n rows ≡ e) (are : AreFormRows o n rows) (column : ℕ)
+    (first row multipliers : RowValue) where
+  pub cleared_before_of_below : IsClearedBelow e column first row multipliers → IsClearedBefore o n rows column first row multipliers
+  cleared_before_of_below below = at (subst (λ (x : EchelonValue). IsClearedBelow x column first row multipliers) (sym view) below)
+    where
+      at : IsClearedBelow (space_of o n rows) column first row multipliers → IsClearedBefore o n rows column first row multipliers
+      at h = record {
+        clear = record {
+          field = h.row_field;
+          over = h.row_over;
+          cleared = λ s inside ahead. h.zeros (get_or (pivots_of rows) s 0) (pivot_of_row_at o n rows s are (omega (arith, inside, length-rows_of rows))) ahead;
+        };
+        multipliers_field = h.multipliers_field;
+        multipliers_over = h.multipliers_over;
+        offset = h.offset;
+        no_others = λ t inside past. h.no_others t inside (λ i ahead. are.form.before t i inside (omega (arith, ahead, past)));
+        few = h.few;
+      }
+
+  pub cleared_below_of_before : IsClearedBefore o n rows column first row multipliers → IsClearedBelow e column first row multipliers
+  cleared_below_of_before h = subst (λ (x : EchelonValue). IsClearedBelow x column first row multipliers) view (record {
+    row_field = h.clear.field;
+    multipliers_field = h.multipliers_field;
+    row_over = h.clear.over;
+    multipliers_over = h.multipliers_over;
+    offset = h.offset;
+    zeros = zeros_below o n rows column row are h.clear;
+    no_others = λ t inside zeros. h.no_others t inside (past t inside zeros (dec_lt (get_or (pivots_of rows) t 0) column));
+    few = h.few;
   })
     where
-      at : (j : ℕ) → j < column → (t : ℕ) × (t < length rows) × (get_or (pivots_of rows) t 0 ≡ j) → vector_of (number_field o) row.entries j ≡ (gf o).zero
-      at j ahead (t, inside, is) =
-          subst (λ k. vector_of (number_field o) row.entries k ≡ (gf o).zero) is
-          (h.clear.cleared t (omega (arith, inside, length-rows_of rows)) (omega (arith, ahead, is)))
+      -- a row that is 0 before the column has its pivot, at which it is 1, there or after it
+      past : (t : ℕ) → t < length (rows_of rows) → ((i : ℕ) → i < column → matrix_of (number_field o) (rows_of rows) t i ≡ (gf o).zero) →
+          Dec (get_or (pivots_of rows) t 0 < column) → column ≤ get_or (pivots_of rows) t 0
+      past t inside zeros (yes ahead) =
+          absurd ((gf o).one-not-zero (sym (are.form.one t inside) ∙ zeros (get_or (pivots_of rows) t 0) ahead))
+      past t inside zeros (no after) = omega (arith, after)
 
 elements_in_word : (o : Order) (n : ℕ) (entries : List ℕ) (k : ℕ) → IsVectorOver (number_field o) n entries → All (IsElement o) (entries_in_word entries k)
 elements_in_word o n entries k over i d inside =
@@ -307,6 +364,25 @@ module _ (e : EchelonValue) (o : Order) (n : ℕ) (rows : List PivotRow) (table 
             is clearing);
       }
 
+      -- the entry is the multiplier, and takes the place of the row
+      pub half_more_with : (kept multipliers following : RowValue) → multipliers.order ≡ o → length multipliers.entries ≡ n →
+          ((first : RowValue) → IsClearedBelow e (at * 64) first given kept →
+          IsClearedBefore o n rows (at * 64 + half.start) first row multipliers) →
+          following ≡ record { order = multipliers.order; entries = set multipliers.entries t entry } → IsRow following →
+          IsHalfClearedWith e o n rows table at given next left after kept following
+      unfolding half_more
+      half_more_with kept multipliers following field as_long so_far placed following_row = record {
+        half = half_more;
+        start_low = let low : place + 1 ≤ 64 = omega (arith, low_place) in low;
+        multipliers_field = ap (λ (r : RowValue). r.order) placed ∙ field;
+        multipliers_long = ap (λ (r : RowValue). length r.entries) placed ∙ length-set multipliers.entries t entry ∙ as_long;
+        so_far = λ first before.
+            subst (λ k. IsClearedBefore o n rows k first next following)
+            (let same : at * 64 + place + 1 ≡ at * 64 + (place + 1) = omega arith in same)
+            (clear_next o n rows table (at * 64 + half.start) (at * 64 + place) t p first row next multipliers following entry tabled
+            (so_far first before) in_row.next there is clearing placed following_row);
+      }
+
 -- nothing is gone through yet
 pub half_begun : (e : EchelonValue) (o : Order) (n : ℕ) (rows : List PivotRow) (table : PivotTable) (at : ℕ) (given : RowValue) (places : ℕ)
     (block : BitBlock) → space_of o n rows ≡ e → AreFormRows o n rows → given.order ≡ o → IsVectorOver (number_field o) n given.entries →
@@ -321,6 +397,21 @@ half_begun e o n rows table at given places block view are field over places_are
   over = over;
   so_far = λ first before. subst (λ k. IsReducedBefore o n rows k first given) (let same : at * 64 ≡ at * 64 + 0 = omega arith in same)
       (before_of_below e o n rows view are (at * 64) first given before);
+}
+
+pub half_begun_with : (e : EchelonValue) (o : Order) (n : ℕ) (rows : List PivotRow) (table : PivotTable) (at : ℕ) (given : RowValue) (places : ℕ)
+    (block : BitBlock) (kept : RowValue) → space_of o n rows ≡ e → AreFormRows o n rows → given.order ≡ o →
+    IsVectorOver (number_field o) n given.entries → ((i : ℕ) → i < 64 → bit_at places i ≡ get_or (marks_of table) (at * 64 + i) 0) →
+    elements_of_block block ≡ entries_in_word given.entries at → kept.order ≡ o → length kept.entries ≡ n →
+    IsHalfClearedWith e o n rows table at given given places block kept kept
+unfolding half_begun
+half_begun_with e o n rows table at given places block kept view are field over places_are block_is kept_field kept_long = record {
+  half = half_begun e o n rows table at given places block view are field over places_are block_is;
+  start_low = let low : 0 ≤ 64 = omega arith in low;
+  multipliers_field = kept_field;
+  multipliers_long = kept_long;
+  so_far = λ first before. subst (λ k. IsClearedBefore o n rows k first given kept) (let same : at * 64 ≡ at * 64 + 0 = omega arith in same)
+      (cleared_before_of_below e o n rows view are (at * 64) first given kept before);
 }
 
 -- nothing is left in the word
@@ -339,6 +430,30 @@ word_cleared e o n rows table at given row places block view tabled half none fi
     so_far : IsReducedBefore o n rows (at * 64 + half.start) first row
     so_far = half.so_far first before
 
+pub word_cleared_with : (e : EchelonValue) (o : Order) (n : ℕ) (rows : List PivotRow) (table : PivotTable) (at : ℕ) (given row : RowValue)
+    (places : ℕ)
+    (block : BitBlock) (kept multipliers : RowValue) → space_of o n rows ≡ e → AreTabledRows o n rows table →
+    IsHalfClearedWith e o n rows table at given row places block kept multipliers →
+    AreZerosFrom (restricted (bits_of_word places) (elements_of_block block)) 0 → (first : RowValue) → IsClearedBelow e (at * 64) first given kept →
+    IsClearedBelow e (at * 64 + 64) first row multipliers
+word_cleared_with e o n rows table at given row places block kept multipliers view tabled h none first before =
+    cleared_below_of_before e o n rows view tabled.are_rows (at * 64 + 64) first row multipliers (record {
+      clear = clear_up_to o n rows table tabled row (at * 64 + half.start) so_far.clear (at * 64 + 64)
+          (none_in_row (marks_of table) row.entries places at half.start half.passed half.ahead
+          (subst (λ (l : List ℕ). AreZerosFrom (restricted (bits_of_word places) l) 0) half.block_is none));
+      multipliers_field = so_far.multipliers_field;
+      multipliers_over = so_far.multipliers_over;
+      offset = so_far.offset;
+      no_others = λ t inside past. so_far.no_others t inside (omega (arith, past, h.start_low));
+      few = so_far.few;
+    })
+  where
+    half : IsHalfCleared e o n rows table at given row places block
+    half = h.half
+
+    so_far : IsClearedBefore o n rows (at * 64 + half.start) first row multipliers
+    so_far = h.so_far first before
+
 -- ---- none, and all
 
 pub reduced_below_none : (e : EchelonValue) (row : RowValue) → row.order ≡ e.order → IsVectorOver (number_field e.order) e.cols row.entries →
@@ -350,10 +465,32 @@ reduced_below_none e row field over = record {
   zeros = λ j pivot ahead. absurd (omega (arith, ahead));
 }
 
+-- where there are no columns after it, the row is 0 at all pivots
+zero_below_all : (e : EchelonValue) (column : ℕ) (row : RowValue) → IsVectorOver (number_field e.order) e.cols row.entries →
+    ((j : ℕ) → IsPivot (number_field e.order) e.rows j → j < column → vector_of (number_field e.order) row.entries j ≡ (gf e.order).zero) →
+    e.cols ≤ column → IsZeroAtPivots (gf e.order) (length e.rows) (matrix_of (number_field e.order) e.rows)
+    (vector_of (number_field e.order) row.entries)
+zero_below_all e column row over zeros whole j pivot = at (dec_lt j column)
+  where
+    at : Dec (j < column) → vector_of (number_field e.order) row.entries j ≡ (gf e.order).zero
+    at (yes ahead) = zeros j pivot ahead
+    at (no past) = vector_past (number_field e.order) row.entries j (omega (arith, past, whole, over.length_is))
+
 pub reduced_below_all : (e : EchelonValue) (column : ℕ) (first row : RowValue) → IsReducedBelow e column first row → e.cols ≤ column →
     IsRepresentative (number_field e.order) e.rows first.entries row.entries
-reduced_below_all e column first row below whole = record { in_coset = below.in_coset; at_pivots = λ j pivot. at j pivot (dec_lt j column) }
-  where
-    at : (j : ℕ) → IsPivot (number_field e.order) e.rows j → Dec (j < column) → vector_of (number_field e.order) row.entries j ≡ (gf e.order).zero
-    at j pivot (yes ahead) = below.zeros j pivot ahead
-    at j pivot (no past) = vector_past (number_field e.order) row.entries j (omega (arith, past, whole, below.over.length_is))
+reduced_below_all e column first row below whole = record {
+  in_coset = below.in_coset;
+  at_pivots = zero_below_all e column row below.over below.zeros whole;
+}
+
+pub cleared_below_all : (e : EchelonValue) (column : ℕ) (first row multipliers : RowValue) → IsClearedBelow e column first row multipliers →
+    e.cols ≤ column → IsCleared e first row multipliers
+cleared_below_all e column first row multipliers below whole = record {
+  row_field = below.row_field;
+  multipliers_field = below.multipliers_field;
+  row_over = below.row_over;
+  multipliers_over = below.multipliers_over;
+  offset = below.offset;
+  at_pivots = zero_below_all e column row below.row_over below.zeros whole;
+  few = below.few;
+}

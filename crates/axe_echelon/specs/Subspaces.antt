@@ -85,6 +85,23 @@ pub record IsReducedBelow (e : EchelonValue) (column : ℕ) (first row : RowValu
   pub zeros : (j : ℕ) → IsPivot (number_field e.order) e.rows j → j < column →
       vector_of (number_field e.order) row.entries j ≡ (gf e.order).zero
 
+-- a row that is 0 at the pivots of the space before a column: it is the first row plus the combination of the space's
+-- rows with these multipliers, which are 0 at each row that is 0 before the column
+pub record IsClearedBelow (e : EchelonValue) (column : ℕ) (first row multipliers : RowValue) : Type 0 where
+  pub row_field : row.order ≡ e.order
+  pub multipliers_field : multipliers.order ≡ e.order
+  pub row_over : IsVectorOver (number_field e.order) e.cols row.entries
+  pub multipliers_over : IsVectorOver (number_field e.order) e.cols multipliers.entries
+  pub offset : vector_of (number_field e.order) row.entries ≡
+      add_vectors (gf e.order) (vector_of (number_field e.order) first.entries)
+      (times (gf e.order) (length e.rows) (vector_of (number_field e.order) multipliers.entries) (matrix_of (number_field e.order) e.rows))
+  pub zeros : (j : ℕ) → IsPivot (number_field e.order) e.rows j → j < column →
+      vector_of (number_field e.order) row.entries j ≡ (gf e.order).zero
+  pub no_others : (t : ℕ) → t < length e.rows →
+      ((i : ℕ) → i < column → matrix_of (number_field e.order) e.rows t i ≡ (gf e.order).zero) →
+      vector_of (number_field e.order) multipliers.entries t ≡ (gf e.order).zero
+  pub few : HasLength (gf e.order) (length e.rows) (vector_of (number_field e.order) multipliers.entries)
+
 -- a row from which all pivots were cleared: it is the first row plus the combination of the space's rows with these
 -- multipliers
 pub record IsCleared (e : EchelonValue) (first row multipliers : RowValue) : Type 0 where

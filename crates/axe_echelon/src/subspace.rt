@@ -13,8 +13,8 @@ ghost use Rattle.axe_matrix.specs.Limits.{most_columns};
 ghost use Rattle.axe_matrix.specs.Matrices.{IsMatrix};
 ghost use Rattle.axe_echelon.specs.Echelons.{IsEchelon, IsReducedMatrix, with_row_where};
 ghost use Rattle.axe_echelon.specs.Orthogonal.{IsPivotOfRow};
-ghost use Rattle.axe_echelon.specs.Subspaces.{IsCleared, IsNextRow, IsPivotRow, IsReducedBelow};
-ghost use Rattle.axe_echelon.specs.Subspaces.{IsScaledRest, SpansOneMore};
+ghost use Rattle.axe_echelon.specs.Subspaces.{IsCleared, IsClearedBelow, IsNextRow, IsPivotRow};
+ghost use Rattle.axe_echelon.specs.Subspaces.{IsReducedBelow, IsScaledRest, SpansOneMore};
 
 use crate::leading_rows::{clear_after, take_row};
 use crate::pivot_table::PivotTable;
@@ -304,6 +304,97 @@ impl Subspace {
     {
         // `len` is called for what it ensures beside the number: that the entries are elements.
         prove!(row.len() == multipliers.len());
+        match self.field.order() {
+            2 => self.reduce_with_in::<2>(row, multipliers),
+            4 => self.reduce_with_in::<4>(row, multipliers),
+            8 => self.reduce_with_in::<8>(row, multipliers),
+            5 | 7 if has_many_entries(row) => self.reduce_with_by_sums(row, multipliers),
+            _ => self.reduce_with_by_entries(row, multipliers),
+        }
+    }
+
+    /// What [`Subspace::reduce_with`] does, over a field of Q elements, of characteristic 2: word by word.
+    #[inline(never)]
+    fn reduce_with_in<const Q: u8>(&self, row: &mut Row, multipliers: &mut Row)
+        requires order { order_number self.now.order ≡ Q }
+        requires characteristic { prime_of self.now.order ≡ 2 }
+        requires field { row.old.order ≡ self.now.order }
+        requires fits { length row.old.entries ≡ self.now.cols }
+        requires elements { IsRow row.old }
+        requires zeros { multipliers.old
+            ≡ record { order = row.old.order; entries = replicate (length row.old.entries) 0 } }
+        requires zeros_well_formed { IsRow multipliers.old }
+        ensures { IsCleared self.now row.old row.new multipliers.new }
+    {
+        for word in 0..self.cols.div_ceil(WORD) {
+            self.reduce_word_with_in::<Q>(row, multipliers, word);
+        }
+    }
+
+    /// Clears the pivots in one word of 64 columns from a row that is 0 at those before, as `reduce_word_in` does, and
+    /// keeps the multiplier of each row that is added for that.
+    #[inline(always)]
+    fn reduce_word_with_in<const Q: u8>(&self, row: &mut Row, multipliers: &mut Row, word: usize)
+        requires order { order_number self.now.order ≡ Q }
+        requires characteristic { prime_of self.now.order ≡ 2 }
+        requires within { word * 64 < self.now.cols }
+        requires field { row.old.order ≡ self.now.order }
+        requires fits { length row.old.entries ≡ self.now.cols }
+        requires multipliers_field { multipliers.old.order ≡ self.now.order }
+        requires multipliers_fit { length multipliers.old.entries ≡ self.now.cols }
+        ensures { (first : RowValue) → IsClearedBelow self.now (word * 64) first row.old multipliers.old →
+            IsClearedBelow self.now (word * 64 + 64) first row.new multipliers.new }
+    {
+        let mut places = self.pivots.word(word);
+        let mut block = row.bit_block(word);
+        while let Some((place, entry)) = block.next_within(&mut places) {
+            let column = word * WORD + place;
+            let index = self.pivots.row_of(column);
+            // An element is its own negative.
+            block.add_scaled_in::<Q>(entry, self.pivots.block_of(column));
+            row.add_scaled_in::<Q>(column, entry, &self.rows[index].row);
+            multipliers.set(index, entry);
+        }
+    }
+
+    /// What [`Subspace::reduce_with`] does, over 5 or 7 elements: the remainders of the row's entries are taken when all
+    /// rows are added.
+    #[inline(never)]
+    fn reduce_with_by_sums(&self, row: &mut Row, multipliers: &mut Row)
+        requires sums { HasSums self.now.order }
+        requires field { row.old.order ≡ self.now.order }
+        requires fits { length row.old.entries ≡ self.now.cols }
+        requires elements { IsRow row.old }
+        requires zeros { multipliers.old
+            ≡ record { order = row.old.order; entries = replicate (length row.old.entries) 0 } }
+        requires zeros_well_formed { IsRow multipliers.old }
+        ensures { IsCleared self.now row.old row.new multipliers.new }
+    {
+        let negatives = self.field.negatives();
+        let mut sum = RowSum::take(row);
+        let mut start = 0;
+        while let Some((pivot, entry)) = self.pivots.next_pivot_of_sum(&sum, start) {
+            // The pivot's row is 0 before it: so what was cleared stays 0, and is not looked at again.
+            let row_index = self.pivots.row_of(pivot);
+            let pivot_row = &self.rows[row_index];
+            let negative = negatives[usize::from(entry)];
+            sum.add_scaled_from(pivot, negative, &pivot_row.row);
+            multipliers.set(row_index, negative);
+            start = pivot + 1;
+        }
+        *row = sum.into_row();
+    }
+
+    /// What [`Subspace::reduce_with`] does, over any field: entry by entry.
+    fn reduce_with_by_entries(&self, row: &mut Row, multipliers: &mut Row)
+        requires field { row.old.order ≡ self.now.order }
+        requires fits { length row.old.entries ≡ self.now.cols }
+        requires elements { IsRow row.old }
+        requires zeros { multipliers.old
+            ≡ record { order = row.old.order; entries = replicate (length row.old.entries) 0 } }
+        requires zeros_well_formed { IsRow multipliers.old }
+        ensures { IsCleared self.now row.old row.new multipliers.new }
+    {
         let negatives = self.field.negatives();
         let mut column = 0;
         while let Some((pivot, entry)) = self.pivots.next_pivot(row, column) {

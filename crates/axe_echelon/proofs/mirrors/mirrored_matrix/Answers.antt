@@ -4,7 +4,7 @@ use Rattle.axe_row.specs.Rows.{RowValue}
 use Rattle.axe_echelon.specs.Mirrored.{mirrored_row}
 use Rattle.axe_echelon.proofs.Exits.{no_memory}
 use Rattle.axe_echelon.proofs.MirroredRows.{mirrored_rows_none, mirrored_rows_more, mirrored_rows_all}
-use Rattle.axe_echelon.proofs.mirrors.mirrored_by_rows.Goals as goal
+use Rattle.axe_echelon.proofs.mirrors.mirrored_matrix.Goals as goal
 
 pub loop-index-init : goal.loop-index-init
 loop-index-init c =
@@ -29,17 +29,18 @@ loop-index-preserved c =
     mirrored_rows_more c.loop-index.index c.args.matrix.now c.loop-index.mirrored _ c.in_ok-row.row c.loop-index.invariant
     (c.in_ok-row.ensures ∙ ap mirrored_row c.row.ensures.value) c.in_ok-append.ensures.appended c.append.ensures.well_formed
 
-pub returns : goal.returns
-returns c =
+pub returns-clause-mirrored : goal.returns-clause-mirrored
+returns-clause-mirrored c =
     let all : c.loop-index.index ≡ length c.args.matrix.now.rows =
     omega (arith, c.loop-index-test.false, c.loop-index.auto.index-end, c.rows-index-end.ensures.count) in
     mirrored_rows_all c.loop-index.index c.args.matrix.now c.loop-index.mirrored c.loop-index.invariant c.rows.ensures.well_formed all
 
-pub returns-in_err-mirrored : goal.returns-in_err-mirrored
-returns-in_err-mirrored c = no_memory _ c.from_residual.result _ c.from_residual.ensures.1 c.in_err-mirrored.ensures.no_rows
+pub returns-in_err-mirrored-clause-mirrored : goal.returns-in_err-mirrored-clause-mirrored
+returns-in_err-mirrored-clause-mirrored c = no_memory _ c.from_residual.result _ c.from_residual.ensures.1 c.in_err-mirrored.ensures.no_rows
 
-pub returns-in_err-row : goal.returns-in_err-row
-returns-in_err-row c = no_memory _ c.from_residual-in_err-row.result _ c.from_residual-in_err-row.ensures.1 c.in_err-row.ensures
+pub returns-in_err-row-clause-mirrored : goal.returns-in_err-row-clause-mirrored
+returns-in_err-row-clause-mirrored c = no_memory _ c.from_residual-in_err-row.result _ c.from_residual-in_err-row.ensures.1 c.in_err-row.ensures
 
-pub returns-in_err-append : goal.returns-in_err-append
-returns-in_err-append c = no_memory _ c.from_residual-in_err-append.result _ c.from_residual-in_err-append.ensures.1 c.in_err-append.ensures.appended
+pub returns-in_err-append-clause-mirrored : goal.returns-in_err-append-clause-mirrored
+returns-in_err-append-clause-mirrored c =
+    no_memory _ c.from_residual-in_err-append.result _ c.from_residual-in_err-append.ensures.1 c.in_err-append.ensures.appended

@@ -1,6 +1,6 @@
 use Rattle.std.proofs.Common.{◌≤◌, ◌-◌, length}
 use Rattle.axe_echelon.proofs.ClearingLaws.{IsClearedBefore}
-use Rattle.axe_echelon.proofs.subspace.Subspace.reduce_with.Given as goal
+use Rattle.axe_echelon.proofs.subspace.Subspace.reduce_with_by_entries.Given as goal
 
 abbrev pub invariant-loop-pivot : goal.invariant-loop-pivot
 invariant-loop-pivot l = record {
