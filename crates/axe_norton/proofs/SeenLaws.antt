@@ -271,6 +271,34 @@ pairing_accepted m basis images others columns are is same =
     product_refusal-none images columns (ap order_number (are.field ∙ sym (ap (λ (a : MatrixValue). a.order) same ∙ is.field)))
     (are.columns ∙ sym (ap (λ (a : MatrixValue). length a.rows) same ∙ transpose_length others.cols others.rows ∙ is.columns))
 
+-- where the call is accepted, its value has the images under a generator
+pub images_next : (m : ModuleValue) (basis images g next : MatrixValue) (i : ℕ) → AreImages m basis images → IsModule m → g ≡ generator_of m i →
+    length g.rows ≡ m.dim → i < length m.generators →
+    Answers (product_refusal images g) (λ (made : MatrixValue). made ≡ matrix_product images g) (Ok next) → AreImages m basis next
+images_next m basis images g next i are formed is square below answer =
+    images_more m basis images are formed i next below
+    (value_if_accepted (product_refusal images g) (λ (made : MatrixValue). made ≡ matrix_product images g) next
+    (image_accepted m basis images g i are is square) answer
+    ∙ ap (matrix_product images) is)
+
+-- where the calls are accepted, the value of the last is a pairing: it has the dot products of the images with the null
+-- vectors of the transpose
+pub pairing_made : (m : ModuleValue) (basis images others columns pairing : MatrixValue) → AreNullSpaces m basis others → AreImages m basis images →
+    Answers (transpose_refusal others) (λ (made : MatrixValue). made ≡ transposed_matrix others) (Ok columns) →
+    Answers (product_refusal images columns) (λ (made : MatrixValue). made ≡ matrix_product images columns) (Ok pairing) →
+    IsPairing m basis others pairing
+pairing_made m basis images others columns pairing spaces are transpose_answer product_answer =
+    pairing_is m basis images are others columns pairing within spaces.well_formed same
+    (value_if_accepted (product_refusal images columns) (λ (made : MatrixValue). made ≡ matrix_product images columns) pairing
+    (pairing_accepted m basis images others columns are within same) product_answer)
+  where
+    within : IsReducedIn m others
+    within = others_in m basis others spaces
+
+    same : columns ≡ transposed_matrix others
+    same = value_if_accepted (transpose_refusal others) (λ (made : MatrixValue). made ≡ transposed_matrix others) columns
+        (some_columns m basis others spaces) transpose_answer
+
 -- ---- spans of pairings
 
 -- a pairing takes the coordinates of a point to its dot products

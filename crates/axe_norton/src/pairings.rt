@@ -22,11 +22,18 @@ use axe_matrix::{Matrix, Refusal, Row};
 use axe_spin::Module;
 use std::alloc::Global;
 
-/// How many more products of generators are taken than a null space has dimensions: a guess.
+/// How many more products of generators are taken than show that the first point generates everything: a guess.
 const MORE_PRODUCTS: usize = 6;
+
+/// How many products of generators are taken at most for each dimension of a null space and each of those more: a guess.
+const PRODUCTS_PER_DIMENSION: usize = 4;
 
 /// The dot products of the images of the rows of a basis with the rows of another: one matrix for each of some products
 /// of generators, with a row for each row of the first and a column for each of the second.
+///
+/// The first point, the last row of the basis, generates everything, so that products are taken until it is seen to, and
+/// then a few more. Where the word's value is 1 plus a product of generators, many pairings are alike, since vectors of
+/// both null spaces are fixed by that product: so a number that goes by the dimension alone is too small for it.
 pub(crate) fn pairings(
     alloc: Global,
     module: &Module,
@@ -40,12 +47,23 @@ pub(crate) fn pairings(
     let columns = transposed.transpose(alloc)?;
     let mut images = basis.copy(alloc)?;
     let mut found = Vec::new(alloc);
-    for place in 0..basis.rows() + MORE_PRODUCTS {
+    let mut seen = Subspace::zero(alloc, *module.field(), transposed.rows());
+    let mut more = MORE_PRODUCTS;
+    for place in 0..PRODUCTS_PER_DIMENSION * (basis.rows() + MORE_PRODUCTS) {
+        if seen.dim() == seen.cols() {
+            if more == 0 {
+                break;
+            }
+            more -= 1;
+        }
         // The ones among the binary digits of a number make no stretch of generators repeat itself three times (Thue
         // 1912), so that the products differ.
         let number = place.count_ones() as usize % module.gens();
         images = images.mul(alloc, module.generator(number))?;
-        found.push(images.mul(alloc, &columns)?)?;
+        let pairing = images.mul(alloc, &columns)?;
+        let first = pairing.row(basis.rows() - 1).copy(alloc)?;
+        seen.insert(first)?;
+        found.push(pairing)?;
     }
     Ok(found)
 }
