@@ -12,7 +12,7 @@ use Rattle.axe_layer.specs.Digits.{digits_with_multiple}
 use Rattle.axe_layer.proofs.DigitLaws.{AreDigits-sum, digits_with_multiple-none}
 use Rattle.axe_plane.specs.Planes.{prime_of_plane, digits_of, IsPlane, IsPlaneOf}
 use Rattle.axe_plane.specs.declared.Plane.{Plane}
-use Rattle.axe_plane.specs.declared.Plane.TheVariants.{Bits}
+use Rattle.axe_plane.specs.declared.Plane.TheVariants.{Bits, Trits}
 use Rattle.axe_plane.proofs.PlaneLaws.{prime_of_plane-positive}
 use Rattle.axe_row.specs.MadePlanes.{row_of_planes}
 use Rattle.axe_row.specs.Operations.{row_with_multiple}
@@ -30,6 +30,25 @@ degree_of_two Five two = absurd (omega arith)
 degree_of_two Seven two = absurd (omega arith)
 degree_of_two Eight two = absurd (omega arith)
 degree_of_two Nine two = absurd (omega arith)
+
+pub prime_of_two : (o : Order) → order_number o ≡ 2 → prime_of o ≡ 2
+prime_of_two Two two = refl
+prime_of_two Three two = absurd (omega arith)
+prime_of_two Four two = absurd (omega arith)
+prime_of_two Five two = absurd (omega arith)
+prime_of_two Seven two = absurd (omega arith)
+prime_of_two Eight two = absurd (omega arith)
+prime_of_two Nine two = absurd (omega arith)
+
+-- all others than four, eight and nine are prime
+pub degree_of_prime : (o : Order) → order_number o ≢ 4 → order_number o ≢ 8 → order_number o ≢ 9 → degree_of o ≡ 1
+degree_of_prime Two not_four not_eight not_nine = refl
+degree_of_prime Three not_four not_eight not_nine = refl
+degree_of_prime Four not_four not_eight not_nine = absurd (not_four refl)
+degree_of_prime Five not_four not_eight not_nine = refl
+degree_of_prime Seven not_four not_eight not_nine = refl
+degree_of_prime Eight not_four not_eight not_nine = absurd (not_eight refl)
+degree_of_prime Nine not_four not_eight not_nine = absurd (not_nine refl)
 
 pub degree_of_four : (o : Order) → order_number o ≡ 4 → degree_of o ≡ 2
 degree_of_four Two four = absurd (omega arith)
@@ -272,4 +291,15 @@ pub bits_with_three : {d a b e : Plane} {y u v w z : List ℕ} (factors : List �
 bits_with_three factors ed ea eb ee is = record {
   prime = refl;
   digits_are = is ∙ (λ i. digits_with_multiples 2 (digits_of (sym ed i)) factors (digits_of (sym ea i)) (digits_of (sym eb i)) (digits_of (sym ee i)));
+}
+
+-- ---- planes modulo 3, where multiples of two other lists are added
+
+pub trits_with_two : {c d a b : Plane} {x y u v z : List ℕ} (factors : ℕ → List ℕ) → c ≡ Trits x → d ≡ Trits y → a ≡ Trits u → b ≡ Trits v →
+    z ≡ digits_with_two 3 y (factors 3) u v →
+    IsPlane (prime_of_plane c) (digits_with_two (prime_of_plane c) (digits_of d) (factors (prime_of_plane c)) (digits_of a) (digits_of b)) (Trits z)
+trits_with_two {c} {d} {a} {b} factors ec ed ea eb is = record {
+  prime = sym (ap prime_of_plane ec);
+  digits_are =
+      is ∙ (λ i. digits_with_two (prime_of_plane (sym ec i)) (digits_of (sym ed i)) (factors (prime_of_plane (sym ec i))) (digits_of (sym ea i)) (digits_of (sym eb i)));
 }

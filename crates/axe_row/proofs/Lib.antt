@@ -35,3 +35,4 @@ pub mod FormLaws
 pub mod PieceRows
 pub mod PlacedRows
 pub mod SumRows
+pub mod KnownFieldLaws

@@ -4,17 +4,16 @@ ghost use Rattle.std.specs.Prelude.{ℕ, ◌≡◌, ◌≢◌, ◌+◌, ◌*◌,
 ghost use Rattle.std.specs.Prelude.{slice_index};
 ghost use Rattle.axe_field.specs.NumberFields.{number_field};
 ghost use Rattle.axe_field.specs.Order.{IsElement, Order, order_number, prime_of};
-ghost use Rattle.axe_lane.specs.Entries.{AreZerosBefore, AreZerosFrom};
+ghost use Rattle.axe_lane.specs.Entries.{AreZerosFrom};
 ghost use Rattle.axe_layer.specs.Supports.{restricted};
 ghost use Rattle.axe_plane.specs.Planes.{digits_of, prime_of_plane};
 ghost use Rattle.axe_row.specs.BitBlocks.{bits_after, bits_of_word, elements_of_block, IsBlockOf};
 ghost use Rattle.axe_row.specs.FoundEntries.{IsNextEntry};
-ghost use Rattle.axe_row.specs.Operations.{row_with_multiple, sum_with_multiple};
+ghost use Rattle.axe_row.specs.Operations.{sum_with_multiple};
 ghost use Rattle.axe_row.specs.Rows.{IsRow};
 
 use crate::Row;
 use crate::found::entry_of_bits;
-use crate::planes::{add_bits, add_planes_in};
 use axe_lane::{xor_multiple_over_eight, xor_multiple_over_four};
 use axe_layer::next_in_word;
 use axe_plane::Plane;
@@ -50,44 +49,6 @@ impl Row {
             linear: word_of_bits(&higher.linear, at),
             quadratic: word_of_bits(&higher.quadratic, at),
         }
-    }
-
-    /// Adds a multiple of another row over a field of Q elements, of characteristic 2, by a scalar other than 0, as
-    /// [`Row::add_scaled_from`] does. The field is known where it is called, so that nothing is told apart here.
-    #[inline(always)]
-    pub fn add_scaled_in<const Q: u8>(&mut self, start: usize, scalar: u8, other: &Row)
-        requires order { order_number self.old.order ≡ Q }
-        requires characteristic { prime_of self.old.order ≡ 2 }
-        requires within { start ≤ length self.old.entries }
-        requires field { other.now.order ≡ self.old.order }
-        requires fits { length other.now.entries ≡ length self.old.entries }
-        requires element { IsElement self.old.order scalar }
-        requires nonzero { scalar ≢ 0 }
-        requires zeros { AreZerosBefore other.now.entries start }
-        ensures sum { self.new ≡ row_with_multiple self.old scalar other.now }
-        ensures as_long { length self.new.entries ≡ length self.old.entries }
-        ensures well_formed { IsRow self.new }
-    {
-        if Q == 2 {
-            add_bits(start, &mut self.constant, &other.constant);
-            return;
-        }
-        let Some(others) = &other.higher else {
-            unreachable!();
-        };
-        let Some(higher) = &mut self.higher else {
-            unreachable!();
-        };
-        let (field, constant) = (&self.field, &mut self.constant);
-        add_planes_in::<Q>(
-            field,
-            start,
-            scalar,
-            constant,
-            higher,
-            &other.constant,
-            others,
-        );
     }
 }
 

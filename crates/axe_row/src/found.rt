@@ -213,7 +213,7 @@ pub(crate) fn entry_of_bits(constant: u64, linear: u64, quadratic: u64, place: u
 
 /// The number of the element whose coefficients of 1 and x modulo 3 two pairs of words have at a place.
 #[inline(always)]
-fn entry_of_trits(constant: [u64; 2], linear: [u64; 2], place: usize) -> u8
+pub(crate) fn entry_of_trits(constant: [u64; 2], linear: [u64; 2], place: usize) -> u8
     requires { place < 64 }
     ensures { result ≡ digit_of_words constant place + 3 * digit_of_words linear place }
 {
@@ -225,7 +225,7 @@ fn entry_of_trits(constant: [u64; 2], linear: [u64; 2], place: usize) -> u8
 /// The words of the ones and of the twos of a plane at an index, as [`TritPlane::digit_words`] gives them, but without
 /// a call: a search reads them at each step.
 #[inline(always)]
-fn words_of_trits(plane: &TritPlane, at: usize) -> [u64; 2]
+pub(crate) fn words_of_trits(plane: &TritPlane, at: usize) -> [u64; 2]
     ensures { (i : ℕ) → i < 64 → digit_of_words result i ≡ slice_index plane.now (at * 64 + i) }
 {
     let (ones, twos) = plane.layers();

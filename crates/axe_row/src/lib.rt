@@ -23,6 +23,7 @@ mod entry_word;
 mod forms;
 mod found;
 mod higher;
+mod known_field;
 mod lanes;
 mod packed;
 mod parts;

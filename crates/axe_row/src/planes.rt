@@ -2,6 +2,7 @@
 ghost use Rattle.std.specs.Prelude.{◌≡◌, ◌≢◌, ◌<◌, ◌≤◌, IfOk, cond, length, ltb, slice_index};
 ghost use Rattle.axe_field.specs.Order.{order_number, prime_of, degree_of, IsElement};
 ghost use Rattle.axe_field.specs.Planes.{IsCoefficient, element_of};
+ghost use Rattle.axe_lane.specs.Bytes.{AreDigits};
 ghost use Rattle.axe_lane.specs.Entries.{AreZerosBefore};
 ghost use Rattle.axe_layer.specs.Digits.{digits_with_multiple};
 ghost use Rattle.axe_plane.specs.Planes.{prime_of_plane, digits_of, IsPlane};
@@ -10,6 +11,7 @@ ghost use Rattle.axe_row.specs.Operations.{row_with_multiple};
 ghost use Rattle.axe_row.specs.Planes.{coefficients_at, ArePlanes, HaveZerosBefore};
 
 use crate::higher::Higher;
+use axe_bits::TritPlane;
 use axe_field::Field;
 use axe_plane::{BitPlane, Plane};
 use std::alloc::{AllocError, Global};
@@ -126,8 +128,29 @@ pub(crate) fn add_bits(start: usize, plane: &mut Plane, other: &Plane)
     }
 }
 
-/// Adds a multiple of planes as [`add_planes`] does, over a field of Q elements, of characteristic 2. The field is known
-/// where it is called, so that no order is told apart here.
+/// Adds a multiple of a plane modulo an odd prime, whose digits before an index are 0, to another of its length.
+#[inline(always)]
+pub(crate) fn add_digits(start: usize, factor: u8, plane: &mut Plane, other: &Plane)
+    requires odd { prime_of_plane plane.old ≢ 2 }
+    requires prime { prime_of_plane other.now ≡ prime_of_plane plane.old }
+    requires factor { factor < prime_of_plane plane.old }
+    requires fits { length (digits_of other.now) ≡ length (digits_of plane.old) }
+    requires within { start ≤ length (digits_of plane.old) }
+    requires zeros { AreZerosBefore (digits_of other.now) start }
+    requires digits { AreDigits (prime_of_plane plane.old) (digits_of plane.old) }
+    ensures { IsPlane (prime_of_plane plane.old)
+        (digits_with_multiple (prime_of_plane plane.old) (digits_of plane.old) factor (digits_of other.now)) plane.new }
+{
+    match (plane, other) {
+        (Plane::Trits(plane), Plane::Trits(other)) => plane.add_scaled_from(start, factor, other),
+        (Plane::Bytes(plane), Plane::Bytes(other)) => plane.add_scaled_from(start, factor, other),
+        // Two planes modulo one prime are of one kind.
+        _ => unreachable!(),
+    }
+}
+
+/// Adds a multiple of planes as [`add_planes`] does, over a field of Q elements. The field is known where it is called,
+/// so that no order is told apart here.
 #[inline(always)]
 pub(crate) fn add_planes_in<const Q: u8>(
     field: &Field,
@@ -139,7 +162,6 @@ pub(crate) fn add_planes_in<const Q: u8>(
     others: &Higher,
 )
     requires order { order_number field.now ≡ Q }
-    requires characteristic { prime_of field.now ≡ 2 }
     requires planes { ArePlanes field.now (length (digits_of constant.old)) constant.old higher.old.linear
         higher.old.quadratic }
     requires others { ArePlanes field.now (length (digits_of constant.old)) other.now others.now.linear
@@ -160,6 +182,16 @@ pub(crate) fn add_planes_in<const Q: u8>(
         match (constant, linear, other, &others.linear) {
             (Plane::Bits(c), Plane::Bits(l), Plane::Bits(a), Plane::Bits(b)) => {
                 BitPlane::add_multiple_of_two(c, l, start, p, q, a, b);
+            }
+            _ => unreachable!(),
+        }
+        return;
+    }
+    if Q == 9 {
+        let (q, p) = (scalar / 3, scalar % 3);
+        match (constant, linear, other, &others.linear) {
+            (Plane::Trits(c), Plane::Trits(l), Plane::Trits(a), Plane::Trits(b)) => {
+                TritPlane::add_multiple_of_two(c, l, start, p, q, a, b);
             }
             _ => unreachable!(),
         }
