@@ -97,6 +97,7 @@ impl Matrix {
     /// Adds the rows that waited.
     #[inline(always)]
     fn add_waiting(&self, waiting: &Waiting, row: &mut Row)
+        requires not_prime { degree_of self.now.order ≢ 1 }
         requires row_field { row.old.order ≡ self.now.order }
         requires columns_fit { length row.old.entries ≡ self.now.cols }
         requires waiting { AreWaiting self.now waiting.now }
@@ -107,7 +108,7 @@ impl Matrix {
         // `len` is called for what it ensures beside the length: that the entries are elements of the field.
         prove!(row.len() == self.cols());
         for place in 0..waiting.count {
-            row.add_scaled(1, self.row(waiting.indices[place]));
+            add_row(row, self.row(waiting.indices[place]));
         }
     }
 
@@ -173,6 +174,23 @@ impl Matrix {
             row.add_four_rows(self.row(a), self.row(b), self.row(c), self.row(index));
             waiting.count = 0;
         }
+    }
+}
+
+/// Adds a row over a field that is not prime to another. The field is told apart before, so that no factor is.
+#[inline(always)]
+fn add_row(row: &mut Row, other: &Row)
+    requires not_prime { degree_of row.old.order ≢ 1 }
+    requires field { other.now.order ≡ row.old.order }
+    requires fits { length other.now.entries ≡ length row.old.entries }
+    ensures sum { row.new ≡ row_with_multiple row.old 1 other.now }
+    ensures as_long { length row.new.entries ≡ length row.old.entries }
+    ensures well_formed { IsRow row.new }
+{
+    match row.field().order() {
+        4 => row.add_scaled_in::<4>(0, 1, other),
+        8 => row.add_scaled_in::<8>(0, 1, other),
+        _ => row.add_scaled_in::<9>(0, 1, other),
     }
 }
 

@@ -17,12 +17,12 @@ pub loop-place-preserved : goal.loop-place-preserved
 loop-place-preserved c =
     let invariant = c.loop-place.invariant in
     record {
-      field = ap (λ (r : RowValue). r.order) c.add_scaled.ensures.sum ∙ invariant.field;
-      as_long = c.add_scaled.ensures.as_long ∙ invariant.as_long;
+      field = ap (λ (r : RowValue). r.order) c.add_row.ensures.sum ∙ invariant.field;
+      as_long = c.add_row.ensures.as_long ∙ invariant.as_long;
       so_far =
-          c.add_scaled.ensures.sum
+          c.add_row.ensures.sum
           ∙ ap (λ (r : RowValue). row_with_multiple c.loop-place.row 1 r) c.row.ensures.value
           ∙ ap (λ (r : RowValue). row_with_multiple r 1 (row_of c.args.self.now (slice_index c.args.waiting.now.indices c.loop-place.place))) invariant.so_far
           ∙ one_more_row_at c.args.self.now c.args.row.now c.args.waiting.now.indices c.loop-place.place;
-      well_formed = c.add_scaled.ensures.well_formed;
+      well_formed = c.add_row.ensures.well_formed;
     }
