@@ -319,7 +319,8 @@ cleared_by_all o n rows table start first row multipliers tabled so_far zeros = 
 
 -- ---- the next pivot, as the code finds and clears it
 
-pub reduce_next : (o : Order) (n : ℕ) (rows : List PivotRow) (table : PivotTable) (start column t : ℕ) (p : PivotRow) (first row next : RowValue) (scalar : ℕ) →
+reduce_next : (o : Order) (n : ℕ) (rows : List PivotRow) (table : PivotTable) (start column t : ℕ) (p : PivotRow) (first row next : RowValue)
+    (scalar : ℕ) →
     AreTabledRows o n rows table → IsReducedBefore o n rows start first row → IsNextNonzero (restricted (marks_of table) row.entries) start column →
     IsFoundRow rows column t → p ≡ get_or rows t p → IsClearing o n p row next scalar → IsReducedBefore o n rows (column + 1) first next
 reduce_next o n rows table start column t p first row next scalar tabled so_far found at is clearing =
@@ -332,7 +333,7 @@ reduce_next o n rows table start column t p first row next scalar tabled so_far 
       in_coset = so_far.in_coset;
     }) clearing)
 
-pub clear_next : (o : Order) (n : ℕ) (rows : List PivotRow) (table : PivotTable) (start column t : ℕ) (p : PivotRow)
+clear_next : (o : Order) (n : ℕ) (rows : List PivotRow) (table : PivotTable) (start column t : ℕ) (p : PivotRow)
     (first row next multipliers following : RowValue) (scalar : ℕ) → AreTabledRows o n rows table →
     IsClearedBefore o n rows start first row multipliers → IsNextNonzero (restricted (marks_of table) row.entries) start column →
     IsFoundRow rows column t → p ≡ get_or rows t p → IsClearing o n p row next scalar →

@@ -1,4 +1,4 @@
--- Rows from which the pivots in a word of 64 columns are cleared, by a block of the row's entries there.
+-- Rows from which the pivots in a word of 64 columns are cleared.
 use Rattle.std.specs.Prelude.{◌≡◌, ◌≢◌, ℕ, zero, suc, ◌+◌, ◌-◌, ◌*◌, ◌/◌, ◌<◌, ◌≤◌, List, [], ◌∷◌, All, length, get_or, set, cond, eqb, ltb, true}
 use Rattle.std.specs.Int.{bit_at}
 use Rattle.std.proofs.lemmas.List.{get_or_past, length-set}
@@ -30,11 +30,11 @@ use Rattle.axe_echelon.specs.Subspaces.{IsReducedBelow, IsClearedBelow, IsCleare
 use Rattle.axe_echelon.specs.declared.subspace.PivotRow.{PivotRow}
 use Rattle.axe_echelon.specs.declared.pivot_table.PivotTable.{PivotTable}
 use Rattle.axe_row.proofs.BlockLaws.{entry_in_word, length-entries_in_word, sum_in_word}
-use Rattle.axe_echelon.proofs.ClearingLaws.{IsClearBefore, IsReducedBefore, IsClearedBefore, IsFoundRow, IsClearing, clearing_of, clear_up_to}
-use Rattle.axe_echelon.proofs.ClearingLaws.{found_row, room_of_found, place_of_found, reduce_next, clear_next, zeros_before_pivot}
+use Rattle.axe_echelon.proofs.ClearingLaws.{IsClearBefore, IsReducedBefore, IsClearedBefore, IsFoundRow, IsNegative, clear_up_to}
+use Rattle.axe_echelon.proofs.ClearingLaws.{found_row, room_of_found, place_of_found, reduce_found, clear_found, zeros_before_pivot}
 use Rattle.axe_echelon.proofs.PivotLaws.{row_of_pivot, pivot_of_row_at}
-use Rattle.axe_echelon.proofs.PivotRowLaws.{length-rows_of, form_row_at, pivot_at}
-use Rattle.axe_echelon.proofs.StepLaws.{element_of_below}
+use Rattle.axe_echelon.proofs.PivotRowLaws.{length-rows_of, form_row_at}
+use Rattle.axe_echelon.proofs.StepLaws.{element_of_below, over_of_row}
 use Rattle.axe_echelon.proofs.PivotTableLaws.{restricted_at, restricted_zero, found_is_marked}
 use mathlib.Core.Path.{refl, sym, ◌∙◌, ap, ap₂, subst}
 use native.Mathlib.Omega.{arith}
@@ -54,8 +54,7 @@ negates_eight : passes_below 8 (λ a. eqb (field_neg Eight a) a) ≡ true
 unfolding passes_below field_neg number_of polynomial_negative polynomial_of coefficients
 negates_eight = refl
 
--- an element is its own negative
-pub own_negative : (o : Order) (a : ℕ) → prime_of o ≡ 2 → IsElement o a → a ≡ field_neg o a
+own_negative : (o : Order) (a : ℕ) → prime_of o ≡ 2 → IsElement o a → a ≡ field_neg o a
 own_negative Two a two element = sym (eqb-true _ _ (passes_below-at 2 (λ a. eqb (field_neg Two a) a) negates_two a element))
 own_negative Three a two element = absurd (omega (arith, two))
 own_negative Four a two element = sym (eqb-true _ _ (passes_below-at 4 (λ a. eqb (field_neg Four a) a) negates_four a element))
@@ -63,6 +62,10 @@ own_negative Five a two element = absurd (omega (arith, two))
 own_negative Seven a two element = absurd (omega (arith, two))
 own_negative Eight a two element = sym (eqb-true _ _ (passes_below-at 8 (λ a. eqb (field_neg Eight a) a) negates_eight a element))
 own_negative Nine a two element = absurd (omega (arith, two))
+
+-- an element is its own negative
+pub negative_of_two : (o : Order) (a : ℕ) → prime_of o ≡ 2 → IsElement o a → IsNegative o a a
+negative_of_two o a two element = record { element = element; value = own_negative o a two element }
 
 -- ---- how many zeros a list begins with
 
@@ -177,23 +180,20 @@ module _ (marks entries : List ℕ) (places at start : ℕ) (passed : (i : ℕ) 
 
 -- ---- the row, while a word is gone through
 
--- a row from which the pivots in a word of 64 columns are cleared up to a start: the places are the marks from there on, and the block has the row's
--- entries of the word
-pub record IsHalfCleared (e : EchelonValue) (o : Order) (n : ℕ) (rows : List PivotRow) (table : PivotTable) (at : ℕ) (given row : RowValue) (places : ℕ)
-    (block : BitBlock) : Type 0 where
+-- a row from which the pivots in a word of 64 columns are cleared up to a start: the places are the marks from there on
+pub record IsHalfCleared (e : EchelonValue) (o : Order) (n : ℕ) (rows : List PivotRow) (table : PivotTable) (at : ℕ) (given row : RowValue)
+    (places : ℕ) : Type 0 where
   pub start : ℕ
   pub passed : (i : ℕ) → i < 64 → i < start → bit_at places i ≡ 0
   pub ahead : (i : ℕ) → i < 64 → start ≤ i → bit_at places i ≡ get_or (marks_of table) (at * 64 + i) 0
-  pub block_is : elements_of_block block ≡ entries_in_word row.entries at
   pub field : row.order ≡ o
-  pub over : IsVectorOver (number_field o) n row.entries
+  pub as_long : length row.entries ≡ n
   pub so_far : (first : RowValue) → IsReducedBelow e (at * 64) first given → IsReducedBefore o n rows (at * 64 + start) first row
 
 -- the same with the multipliers of the rows that were added for that: those kept so far, and those of this word
 pub record IsHalfClearedWith (e : EchelonValue) (o : Order) (n : ℕ) (rows : List PivotRow) (table : PivotTable) (at : ℕ) (given row : RowValue)
-    (places : ℕ)
-    (block : BitBlock) (kept multipliers : RowValue) : Type 0 where
-  pub half : IsHalfCleared e o n rows table at given row places block
+    (places : ℕ) (kept multipliers : RowValue) : Type 0 where
+  pub half : IsHalfCleared e o n rows table at given row places
   pub start_low : half.start ≤ 64
   pub multipliers_field : multipliers.order ≡ o
   pub multipliers_long : length multipliers.entries ≡ n
@@ -277,24 +277,34 @@ elements_in_word o n entries k over i d inside =
     subst (IsElement o) (sym (listed_at 64 (λ i. get_or entries (k * 64 + i) 0) i d (omega (arith, inside, length-entries_in_word entries k))))
     (element_of_below o o (get_or entries (k * 64 + i) 0) refl (entry-below (number_field o) entries (k * 64 + i) over.elements))
 
--- the next entry that the block has among the places
-module _ (e : EchelonValue) (o : Order) (n : ℕ) (rows : List PivotRow) (table : PivotTable) (at : ℕ) (given row : RowValue) (places : ℕ) (block : BitBlock)
-    (tabled : AreTabledRows o n rows table) (half : IsHalfCleared e o n rows table at given row places block) (place entry : ℕ)
-    (found : IsNextEntry (bits_of_word places) (elements_of_block block) 0 place entry) where
-  in_word : IsNextEntry (bits_of_word places) (entries_in_word row.entries at) 0 place entry
-  in_word = subst (λ (l : List ℕ). IsNextEntry (bits_of_word places) l 0 place entry) half.block_is found
+-- what is found by a block that has the entries of a word
+module _ (block : BitBlock) (word : List ℕ) (places : ℕ) (block_is : elements_of_block block ≡ word) where
+  pub found_by_block : (place entry : ℕ) → IsNextEntry (bits_of_word places) (elements_of_block block) 0 place entry →
+      IsNextEntry (bits_of_word places) word 0 place entry
+  found_by_block place entry found = subst (λ (l : List ℕ). IsNextEntry (bits_of_word places) l 0 place entry) block_is found
 
-  pub in_row : IsNextEntry (marks_of table) row.entries (at * 64 + half.start) (at * 64 + place) entry
-  in_row = found_in_row (marks_of table) row.entries places at half.start half.passed half.ahead place entry in_word
+  pub none_by_block : AreZerosFrom (restricted (bits_of_word places) (elements_of_block block)) 0 →
+      AreZerosFrom (restricted (bits_of_word places) word) 0
+  none_by_block none = subst (λ (l : List ℕ). AreZerosFrom (restricted (bits_of_word places) l) 0) block_is none
 
-  pub low_place : place < 64
-  low_place = place_low (marks_of table) row.entries places at half.start half.passed half.ahead place in_word.next
+-- the next entry that the row's word has among the places
+module _ (e : EchelonValue) (o : Order) (n : ℕ) (rows : List PivotRow) (table : PivotTable) (at : ℕ) (given row : RowValue) (places : ℕ)
+    (tabled : AreTabledRows o n rows table) (half : IsHalfCleared e o n rows table at given row places) (place entry : ℕ)
+    (found : IsNextEntry (bits_of_word places) (entries_in_word row.entries at) 0 place entry) where
+  in_row : IsNextEntry (marks_of table) row.entries (at * 64 + half.start) (at * 64 + place) entry
+  in_row = found_in_row (marks_of table) row.entries places at half.start half.passed half.ahead place entry found
 
-  pub marked_place : get_or (bits_of_word places) place 0 ≢ 0
-  marked_place = place_marked (marks_of table) row.entries places at half.start half.passed half.ahead place in_word.next
+  low_place : place < 64
+  low_place = place_low (marks_of table) row.entries places at half.start half.passed half.ahead place found.next
+
+  pub still_fewer : (left : ℕ) → bits_of_word left ≡ bits_after places place →
+      64 - zeros_ahead (bits_of_word left) < 64 - zeros_ahead (bits_of_word places)
+  still_fewer left rest =
+      fewer_places places left place rest low_place
+      (place_marked (marks_of table) row.entries places at half.start half.passed half.ahead place found.next)
 
   pub pivot_inside : at * 64 + place < n
-  pivot_inside = omega (arith, place_of_found (marks_of table) row.entries (at * 64 + half.start) (at * 64 + place) in_row.next, half.over.length_is)
+  pivot_inside = omega (arith, place_of_found (marks_of table) row.entries (at * 64 + half.start) (at * 64 + place) in_row.next, half.as_long)
 
   room : HasRoom n table
   room = room_of_found o n rows table row.entries (at * 64 + half.start) (at * 64 + place) tabled in_row.next
@@ -309,104 +319,105 @@ module _ (e : EchelonValue) (o : Order) (n : ℕ) (rows : List PivotRow) (table 
   entry_nonzero none = in_row.next.nonzero
       (restricted_zero (marks_of table) row.entries (at * 64 + place) (sym in_row.entry_is ∙ none))
 
-  pub entry_element : IsElement o entry
-  entry_element = element_of_below o o entry refl
-      (subst (λ a. a < (number_field o).order) (sym in_row.entry_is) (entry-below (number_field o) row.entries (at * 64 + place) half.over.elements))
+  over : IsRow row → IsVectorOver (number_field o) n row.entries
+  over well = over_of_row o n row half.field well half.as_long
+
+  pub entry_element : IsRow row → IsElement o entry
+  entry_element well = element_of_below o o entry refl
+      (subst (λ a. a < (number_field o).order) (sym in_row.entry_is)
+      (entry-below (number_field o) row.entries (at * 64 + place) (over well).elements))
 
   -- the row that has its pivot there
-  module _ (t : ℕ) (p : PivotRow) (told : t ≡ get_or table.rows.items (at * 64 + place) 0) (is : p ≡ get_or rows t p) where
+  module _ (t : ℕ) (told : t ≡ get_or table.rows.items (at * 64 + place) 0) where
     pub there : IsFoundRow rows (at * 64 + place) t
     there = found_row o n rows table row.entries (at * 64 + half.start) (at * 64 + place) t tabled in_row.next told
 
-    pub row_there : IsRowOfForm o n p
-    row_there = form_row_at o n rows t p tabled.are_rows there.within is
+    module _ (p : PivotRow) (is : p ≡ get_or rows t p) where
+      pub row_there : IsRowOfForm o n p
+      row_there = form_row_at o n rows t p tabled.are_rows there.within is
 
-    pub zeros_there : AreZerosBefore p.row.entries (at * 64 + place)
-    zeros_there = zeros_before_pivot o n rows t p tabled.are_rows there.within is (at * 64 + place) there.pivot
+      pub zeros_there : AreZerosBefore p.row.entries (at * 64 + place)
+      zeros_there = zeros_before_pivot o n rows t p tabled.are_rows there.within is (at * 64 + place) there.pivot
 
-    -- the row and the block with a multiple of it and of its block
-    module _ (two : prime_of o ≡ 2) (other : BitBlock) (other_is : other ≡ get_or table.blocks.items (at * 64 + place) other) (next : RowValue) (left : ℕ)
-        (after : BitBlock) (sum : next ≡ row_with_multiple row entry p.row) (long : length next.entries ≡ length row.entries) (well : IsRow next)
-        (rest : bits_of_word left ≡ bits_after places place)
-        (block_sum : IsElement o entry → All (IsElement o) (elements_of_block block) → All (IsElement o) (elements_of_block other) →
-        elements_of_block after ≡ sum_with_multiple (number_field o) (elements_of_block block) entry (elements_of_block other)) where
-      clearing : IsClearing o n p row next entry
-      clearing = clearing_of o o n p row next (marks_of table) (at * 64 + half.start) (at * 64 + place) entry entry half.field half.over
-          (sym (pivot_at rows t p there.within is) ∙ there.pivot) in_row refl entry_element (own_negative o entry two entry_element) sum long well
+      -- the row with the multiple of it by the negative of the entry
+      module _ (scalar : ℕ) (negative : IsNegative o entry scalar) (next : RowValue) (left : ℕ) (sum : next ≡ row_with_multiple row scalar p.row)
+          (long : length next.entries ≡ length row.entries) (well : IsRow next) (rest : bits_of_word left ≡ bits_after places place) where
+        pub half_more : IsHalfCleared e o n rows table at given next left
+        half_more = record {
+          start = place + 1;
+          passed = bit_passed places left place rest;
+          ahead = λ i low from. bit_ahead places left place rest i low from ∙ half.ahead i low (omega (arith, from, in_row.next.not_before));
+          field = ap (λ (r : RowValue). r.order) sum ∙ half.field;
+          as_long = long ∙ half.as_long;
+          so_far = λ first before.
+              subst (λ k. IsReducedBefore o n rows k first next) (let same : at * 64 + place + 1 ≡ at * 64 + (place + 1) = omega arith in same)
+              (reduce_found o n rows table (at * 64 + half.start) (at * 64 + place) entry t p first row next scalar tabled (half.so_far first before)
+              in_row there is negative sum long well);
+        }
 
-      block_there : elements_of_block other ≡ entries_in_word p.row.entries at
-      block_there =
-          tabled.has_blocks (at * 64 + place) p other (found_is_marked (marks_of table) row.entries (at * 64 + half.start) (at * 64 + place) in_row.next)
-          (is ∙ ap (λ k. get_or rows k p) told) other_is (ap prime_of row_there.row_field ∙ two)
-          ∙ ap (entries_in_word p.row.entries) (let word : (at * 64 + place) / 64 ≡ at = omega (arith, low_place) in word)
+        -- the scalar is the multiplier, and takes the place of the row
+        pub half_more_with : (kept multipliers following : RowValue) → multipliers.order ≡ o → length multipliers.entries ≡ n →
+            ((first : RowValue) → IsClearedBelow e (at * 64) first given kept →
+            IsClearedBefore o n rows (at * 64 + half.start) first row multipliers) →
+            following ≡ record { order = multipliers.order; entries = set multipliers.entries t scalar } → IsRow following →
+            IsHalfClearedWith e o n rows table at given next left kept following
+        unfolding half_more
+        half_more_with kept multipliers following field as_long so_far placed following_row = record {
+          half = half_more;
+          start_low = let low : place + 1 ≤ 64 = omega (arith, low_place) in low;
+          multipliers_field = ap (λ (r : RowValue). r.order) placed ∙ field;
+          multipliers_long = ap (λ (r : RowValue). length r.entries) placed ∙ length-set multipliers.entries t scalar ∙ as_long;
+          so_far = λ first before.
+              subst (λ k. IsClearedBefore o n rows k first next following)
+              (let same : at * 64 + place + 1 ≡ at * 64 + (place + 1) = omega arith in same)
+              (clear_found o n rows table (at * 64 + half.start) (at * 64 + place) entry t p first row next multipliers following scalar tabled
+              (so_far first before) in_row there is negative sum long well placed following_row);
+        }
 
-      block_after : elements_of_block after ≡ entries_in_word next.entries at
-      block_after =
-          block_sum entry_element
-          (subst (λ (l : List ℕ). All (IsElement o) l) (sym half.block_is) (elements_in_word o n row.entries at half.over))
-          (subst (λ (l : List ℕ). All (IsElement o) l) (sym block_there) (elements_in_word o n p.row.entries at row_there.row_over))
-          ∙ ap₂ (λ (x y : List ℕ). sum_with_multiple (number_field o) x entry y) half.block_is block_there
-          ∙ sym (ap (λ (r : RowValue). entries_in_word r.entries at) sum
-          ∙ ap (λ q. entries_in_word (sum_with_multiple (number_field q) row.entries entry p.row.entries) at) half.field
-          ∙ sum_in_word o row.entries p.row.entries entry at (row_there.row_over.length_is ∙ sym half.over.length_is) entry_element)
+      -- over a field of characteristic 2, a block of the row's word with the multiple of the block of that row
+      module _ (two : prime_of o ≡ 2) (well : IsRow row) (block other after : BitBlock)
+          (block_is : elements_of_block block ≡ entries_in_word row.entries at)
+          (other_is : other ≡ get_or table.blocks.items (at * 64 + place) other)
+          (block_sum : IsElement o entry → All (IsElement o) (elements_of_block block) → All (IsElement o) (elements_of_block other) →
+          elements_of_block after ≡ sum_with_multiple (number_field o) (elements_of_block block) entry (elements_of_block other)) where
+        block_there : elements_of_block other ≡ entries_in_word p.row.entries at
+        block_there =
+            tabled.has_blocks (at * 64 + place) p other
+            (found_is_marked (marks_of table) row.entries (at * 64 + half.start) (at * 64 + place) in_row.next)
+            (is ∙ ap (λ k. get_or rows k p) told) other_is (ap prime_of row_there.row_field ∙ two)
+            ∙ ap (entries_in_word p.row.entries) (let word : (at * 64 + place) / 64 ≡ at = omega (arith, low_place) in word)
 
-      pub half_more : IsHalfCleared e o n rows table at given next left after
-      half_more = record {
-        start = place + 1;
-        passed = bit_passed places left place rest;
-        ahead = λ i low from. bit_ahead places left place rest i low from ∙ half.ahead i low (omega (arith, from, in_row.next.not_before));
-        block_is = block_after;
-        field = clearing.field;
-        over = clearing.over;
-        so_far = λ first before.
-            subst (λ k. IsReducedBefore o n rows k first next) (let same : at * 64 + place + 1 ≡ at * 64 + (place + 1) = omega arith in same)
-            (reduce_next o n rows table (at * 64 + half.start) (at * 64 + place) t p first row next entry tabled (half.so_far first before) in_row.next there
-            is clearing);
-      }
-
-      -- the entry is the multiplier, and takes the place of the row
-      pub half_more_with : (kept multipliers following : RowValue) → multipliers.order ≡ o → length multipliers.entries ≡ n →
-          ((first : RowValue) → IsClearedBelow e (at * 64) first given kept →
-          IsClearedBefore o n rows (at * 64 + half.start) first row multipliers) →
-          following ≡ record { order = multipliers.order; entries = set multipliers.entries t entry } → IsRow following →
-          IsHalfClearedWith e o n rows table at given next left after kept following
-      unfolding half_more
-      half_more_with kept multipliers following field as_long so_far placed following_row = record {
-        half = half_more;
-        start_low = let low : place + 1 ≤ 64 = omega (arith, low_place) in low;
-        multipliers_field = ap (λ (r : RowValue). r.order) placed ∙ field;
-        multipliers_long = ap (λ (r : RowValue). length r.entries) placed ∙ length-set multipliers.entries t entry ∙ as_long;
-        so_far = λ first before.
-            subst (λ k. IsClearedBefore o n rows k first next following)
-            (let same : at * 64 + place + 1 ≡ at * 64 + (place + 1) = omega arith in same)
-            (clear_next o n rows table (at * 64 + half.start) (at * 64 + place) t p first row next multipliers following entry tabled
-            (so_far first before) in_row.next there is clearing placed following_row);
-      }
+        pub block_more : (next : RowValue) → next ≡ row_with_multiple row entry p.row → elements_of_block after ≡ entries_in_word next.entries at
+        block_more next sum =
+            block_sum (entry_element well)
+            (subst (λ (l : List ℕ). All (IsElement o) l) (sym block_is) (elements_in_word o n row.entries at (over well)))
+            (subst (λ (l : List ℕ). All (IsElement o) l) (sym block_there) (elements_in_word o n p.row.entries at row_there.row_over))
+            ∙ ap₂ (λ (x y : List ℕ). sum_with_multiple (number_field o) x entry y) block_is block_there
+            ∙ sym (ap (λ (r : RowValue). entries_in_word r.entries at) sum
+            ∙ ap (λ q. entries_in_word (sum_with_multiple (number_field q) row.entries entry p.row.entries) at) half.field
+            ∙ sum_in_word o row.entries p.row.entries entry at (row_there.row_over.length_is ∙ sym half.as_long) (entry_element well))
 
 -- nothing is gone through yet
-pub half_begun : (e : EchelonValue) (o : Order) (n : ℕ) (rows : List PivotRow) (table : PivotTable) (at : ℕ) (given : RowValue) (places : ℕ)
-    (block : BitBlock) → space_of o n rows ≡ e → AreFormRows o n rows → given.order ≡ o → IsVectorOver (number_field o) n given.entries →
-    ((i : ℕ) → i < 64 → bit_at places i ≡ get_or (marks_of table) (at * 64 + i) 0) → elements_of_block block ≡ entries_in_word given.entries at →
-    IsHalfCleared e o n rows table at given given places block
-half_begun e o n rows table at given places block view are field over places_are block_is = record {
+pub half_begun : (e : EchelonValue) (o : Order) (n : ℕ) (rows : List PivotRow) (table : PivotTable) (at : ℕ) (given : RowValue) (places : ℕ) →
+    space_of o n rows ≡ e → AreFormRows o n rows → given.order ≡ o → length given.entries ≡ n →
+    ((i : ℕ) → i < 64 → bit_at places i ≡ get_or (marks_of table) (at * 64 + i) 0) → IsHalfCleared e o n rows table at given given places
+half_begun e o n rows table at given places view are field as_long places_are = record {
   start = 0;
   passed = λ i low before. absurd (omega (arith, before));
   ahead = λ i low from. places_are i low;
-  block_is = block_is;
   field = field;
-  over = over;
+  as_long = as_long;
   so_far = λ first before. subst (λ k. IsReducedBefore o n rows k first given) (let same : at * 64 ≡ at * 64 + 0 = omega arith in same)
       (before_of_below e o n rows view are (at * 64) first given before);
 }
 
 pub half_begun_with : (e : EchelonValue) (o : Order) (n : ℕ) (rows : List PivotRow) (table : PivotTable) (at : ℕ) (given : RowValue) (places : ℕ)
-    (block : BitBlock) (kept : RowValue) → space_of o n rows ≡ e → AreFormRows o n rows → given.order ≡ o →
-    IsVectorOver (number_field o) n given.entries → ((i : ℕ) → i < 64 → bit_at places i ≡ get_or (marks_of table) (at * 64 + i) 0) →
-    elements_of_block block ≡ entries_in_word given.entries at → kept.order ≡ o → length kept.entries ≡ n →
-    IsHalfClearedWith e o n rows table at given given places block kept kept
+    (kept : RowValue) → space_of o n rows ≡ e → AreFormRows o n rows → given.order ≡ o → length given.entries ≡ n →
+    ((i : ℕ) → i < 64 → bit_at places i ≡ get_or (marks_of table) (at * 64 + i) 0) → kept.order ≡ o → length kept.entries ≡ n →
+    IsHalfClearedWith e o n rows table at given given places kept kept
 unfolding half_begun
-half_begun_with e o n rows table at given places block kept view are field over places_are block_is kept_field kept_long = record {
-  half = half_begun e o n rows table at given places block view are field over places_are block_is;
+half_begun_with e o n rows table at given places kept view are field as_long places_are kept_field kept_long = record {
+  half = half_begun e o n rows table at given places view are field as_long places_are;
   start_low = let low : 0 ≤ 64 = omega arith in low;
   multipliers_field = kept_field;
   multipliers_long = kept_long;
@@ -415,15 +426,14 @@ half_begun_with e o n rows table at given places block kept view are field over 
 }
 
 -- nothing is left in the word
-pub word_cleared : (e : EchelonValue) (o : Order) (n : ℕ) (rows : List PivotRow) (table : PivotTable) (at : ℕ) (given row : RowValue) (places : ℕ)
-    (block : BitBlock) → space_of o n rows ≡ e → AreTabledRows o n rows table → IsHalfCleared e o n rows table at given row places block →
-    AreZerosFrom (restricted (bits_of_word places) (elements_of_block block)) 0 → (first : RowValue) → IsReducedBelow e (at * 64) first given →
+pub word_cleared : (e : EchelonValue) (o : Order) (n : ℕ) (rows : List PivotRow) (table : PivotTable) (at : ℕ) (given row : RowValue) (places : ℕ) →
+    space_of o n rows ≡ e → AreTabledRows o n rows table → IsHalfCleared e o n rows table at given row places →
+    AreZerosFrom (restricted (bits_of_word places) (entries_in_word row.entries at)) 0 → (first : RowValue) → IsReducedBelow e (at * 64) first given →
     IsReducedBelow e (at * 64 + 64) first row
-word_cleared e o n rows table at given row places block view tabled half none first before =
+word_cleared e o n rows table at given row places view tabled half none first before =
     below_of_before e o n rows view tabled.are_rows (at * 64 + 64) first row (record {
       clear = clear_up_to o n rows table tabled row (at * 64 + half.start) so_far.clear (at * 64 + 64)
-          (none_in_row (marks_of table) row.entries places at half.start half.passed half.ahead
-          (subst (λ (l : List ℕ). AreZerosFrom (restricted (bits_of_word places) l) 0) half.block_is none));
+          (none_in_row (marks_of table) row.entries places at half.start half.passed half.ahead none);
       in_coset = so_far.in_coset;
     })
   where
@@ -431,16 +441,14 @@ word_cleared e o n rows table at given row places block view tabled half none fi
     so_far = half.so_far first before
 
 pub word_cleared_with : (e : EchelonValue) (o : Order) (n : ℕ) (rows : List PivotRow) (table : PivotTable) (at : ℕ) (given row : RowValue)
-    (places : ℕ)
-    (block : BitBlock) (kept multipliers : RowValue) → space_of o n rows ≡ e → AreTabledRows o n rows table →
-    IsHalfClearedWith e o n rows table at given row places block kept multipliers →
-    AreZerosFrom (restricted (bits_of_word places) (elements_of_block block)) 0 → (first : RowValue) → IsClearedBelow e (at * 64) first given kept →
-    IsClearedBelow e (at * 64 + 64) first row multipliers
-word_cleared_with e o n rows table at given row places block kept multipliers view tabled h none first before =
+    (places : ℕ) (kept multipliers : RowValue) → space_of o n rows ≡ e → AreTabledRows o n rows table →
+    IsHalfClearedWith e o n rows table at given row places kept multipliers →
+    AreZerosFrom (restricted (bits_of_word places) (entries_in_word row.entries at)) 0 → (first : RowValue) →
+    IsClearedBelow e (at * 64) first given kept → IsClearedBelow e (at * 64 + 64) first row multipliers
+word_cleared_with e o n rows table at given row places kept multipliers view tabled h none first before =
     cleared_below_of_before e o n rows view tabled.are_rows (at * 64 + 64) first row multipliers (record {
       clear = clear_up_to o n rows table tabled row (at * 64 + half.start) so_far.clear (at * 64 + 64)
-          (none_in_row (marks_of table) row.entries places at half.start half.passed half.ahead
-          (subst (λ (l : List ℕ). AreZerosFrom (restricted (bits_of_word places) l) 0) half.block_is none));
+          (none_in_row (marks_of table) row.entries places at half.start half.passed half.ahead none);
       multipliers_field = so_far.multipliers_field;
       multipliers_over = so_far.multipliers_over;
       offset = so_far.offset;
@@ -448,7 +456,7 @@ word_cleared_with e o n rows table at given row places block kept multipliers vi
       few = so_far.few;
     })
   where
-    half : IsHalfCleared e o n rows table at given row places block
+    half : IsHalfCleared e o n rows table at given row places
     half = h.half
 
     so_far : IsClearedBefore o n rows (at * 64 + half.start) first row multipliers

@@ -25,6 +25,8 @@ use axe_row::RowSum;
 use std::alloc::Global;
 use std::marker::Model;
 
+mod words;
+
 /// A row has many entries other than 0 where one of so many is.
 const MANY_ENTRIES: usize = 4;
 
@@ -198,7 +200,10 @@ impl Subspace {
             4 => self.reduce_in::<4>(row),
             8 => self.reduce_in::<8>(row),
             5 | 7 if has_many_entries(row) => self.reduce_by_sums(row),
-            _ => self.reduce_by_entries(row),
+            3 => self.reduce_by_words::<3>(row),
+            5 => self.reduce_by_words::<5>(row),
+            7 => self.reduce_by_words::<7>(row),
+            _ => self.reduce_by_words::<9>(row),
         }
     }
 
@@ -270,28 +275,6 @@ impl Subspace {
         *row = sum.into_row();
     }
 
-    /// What [`Subspace::reduce`] does, over any field: entry by entry.
-    fn reduce_by_entries(&self, row: &mut Row)
-        requires field { row.old.order ≡ self.now.order }
-        requires fits { length row.old.entries ≡ self.now.cols }
-        requires elements { IsRow row.old }
-        ensures representative { IsRepresentative (number_field self.now.order) self.now.rows
-            row.old.entries row.new.entries }
-        ensures same_field { row.new.order ≡ self.now.order }
-        ensures as_long { length row.new.entries ≡ self.now.cols }
-        ensures row_well_formed { IsRow row.new }
-    {
-        let negatives = self.field.negatives();
-        let mut start = 0;
-        while let Some((pivot, entry)) = self.pivots.next_pivot(row, start) {
-            // The pivot's row is 0 before it: so what was cleared stays 0, and is not looked at again.
-            let pivot_row = &self.rows[self.pivots.row_of(pivot)];
-            let factor = negatives[usize::from(entry)];
-            row.add_scaled_from(pivot, factor, &pivot_row.row);
-            start = pivot + 1;
-        }
-    }
-
     /// Clears the pivots from a vector as [`Subspace::reduce`] does, and keeps in a row of zeros the multiplier of each
     /// row that is added for that.
     pub(crate) fn reduce_with(&self, row: &mut Row, multipliers: &mut Row)
@@ -309,7 +292,10 @@ impl Subspace {
             4 => self.reduce_with_in::<4>(row, multipliers),
             8 => self.reduce_with_in::<8>(row, multipliers),
             5 | 7 if has_many_entries(row) => self.reduce_with_by_sums(row, multipliers),
-            _ => self.reduce_with_by_entries(row, multipliers),
+            3 => self.reduce_with_by_words::<3>(row, multipliers),
+            5 => self.reduce_with_by_words::<5>(row, multipliers),
+            7 => self.reduce_with_by_words::<7>(row, multipliers),
+            _ => self.reduce_with_by_words::<9>(row, multipliers),
         }
     }
 
@@ -383,29 +369,6 @@ impl Subspace {
             start = pivot + 1;
         }
         *row = sum.into_row();
-    }
-
-    /// What [`Subspace::reduce_with`] does, over any field: entry by entry.
-    fn reduce_with_by_entries(&self, row: &mut Row, multipliers: &mut Row)
-        requires field { row.old.order ≡ self.now.order }
-        requires fits { length row.old.entries ≡ self.now.cols }
-        requires elements { IsRow row.old }
-        requires zeros { multipliers.old
-            ≡ record { order = row.old.order; entries = replicate (length row.old.entries) 0 } }
-        requires zeros_well_formed { IsRow multipliers.old }
-        ensures { IsCleared self.now row.old row.new multipliers.new }
-    {
-        let negatives = self.field.negatives();
-        let mut column = 0;
-        while let Some((pivot, entry)) = self.pivots.next_pivot(row, column) {
-            // The pivot's row is 0 before it: so what was cleared stays 0, and is not looked at again.
-            let index = self.pivots.row_of(pivot);
-            let pivot_row = &self.rows[index];
-            let multiplier = negatives[usize::from(entry)];
-            row.add_scaled_from(pivot, multiplier, &pivot_row.row);
-            multipliers.set(index, multiplier);
-            column = pivot + 1;
-        }
     }
 
     /// The reduced basis: for each pivot, in ascending order, the vector of the space that is 1 there and 0 at all
