@@ -13,6 +13,8 @@ pub mod MinimalPolynomials
 pub mod MinimalLists
 pub mod VectorRows
 pub mod VectorFits
+pub mod CyclicVectors
+pub mod CyclicLists
 pub mod RuleOneVector
 pub mod RuleLists
 pub mod PolynomialNumbers

@@ -1,14 +1,15 @@
 -- What the law functions promise of polynomials that are lists of element numbers.
-use Rattle.std.specs.Prelude.{◌≡◌, ◌≢◌, ◌↔◌, ℕ, ◌<◌, List, length}
+use Rattle.std.specs.Prelude.{◌≡◌, ◌≢◌, ◌↔◌, ℕ, ◌+◌, ◌<◌, List, length}
 use Rattle.std.specs.List.{All}
 use Rattle.axe_algebra.specs.NumberField.{NumberField}
-use Rattle.axe_algebra.specs.Vectors.{zero_vector}
-use Rattle.axe_algebra.specs.Bridge.{field_of, vector_of}
+use Rattle.axe_algebra.specs.Vectors.{zero_vector, times}
+use Rattle.axe_algebra.specs.Bridge.{field_of, vector_of, matrix_of}
 use Rattle.axe_algebra.specs.Lists.{IsVectorOver, IsMatrixOver, IsSquareOver}
 use Rattle.axe_algebra.specs.ListArithmetic.{transpose, transposed_generators}
-use Rattle.axe_algebra.specs.SpansOfLists.{IsNullVector, IsNullSpaceBasis}
+use Rattle.axe_algebra.specs.SpansOfLists.{HaveSameSpan, IsNullVector, IsNullSpaceBasis}
 use Rattle.axe_algebra.specs.ModulesOfLists.{GeneratesEverything, IsIrreducible}
 use Rattle.axe_algebra.specs.WordsOfLists.{IsWordOver, IsWordValue}
+use Rattle.axe_polynomial_algebra.specs.PolynomialValues.{power_rows}
 use Rattle.axe_polynomial_algebra.specs.PolynomialsOfLists.{degree_of, IsMonicOver, polynomial_number, Divides}
 use Rattle.axe_polynomial_algebra.specs.PolynomialsOfLists.{IsIrreduciblePolynomial, AreIrreduciblesOfDegree}
 use Rattle.axe_polynomial_algebra.specs.PolynomialsOfLists.{AreFactorsOfDegree, AreFactorsUpTo, IsPolynomialValue}
@@ -102,6 +103,24 @@ module _ (K : NumberField) where
   FitsExactlyByNullity = (x : List (List ℕ)) (p : List ℕ) (value basis : List (List ℕ)) → IsMonicOver K p →
       IsPolynomialValue K p x value → IsMatrixOver K (length x) basis → IsNullSpaceBasis K value basis →
       Fits K x p ↔ (length basis ≡ degree_of p)
+
+  -- where the minimal polynomial of a row v has as many degrees as x has rows, each monic divisor of it fits x
+  abbrev pub ListCyclicDivisorFits : Type 0
+  ListCyclicDivisorFits = (n : ℕ) (x : List (List ℕ)) (v g p : List ℕ) → IsSquareOver K n x → IsVectorOver K n v →
+      IsMinimalPolynomial K x v g → degree_of g ≡ n → IsMonicOver K p → Divides K p g → Fits K x p
+
+  -- and the rows v p(x), v x p(x) and so on, as many as n exceeds the degree of p, span what the rows of p(x) span;
+  -- they are the combinations, with the coefficients of p, of the rows v x^t from each place on
+  abbrev pub ListCyclicRowsSpanValue : Type 0
+  ListCyclicRowsSpanValue = (n : ℕ) (x value basis rows : List (List ℕ)) (v g p : List ℕ) → IsSquareOver K n x →
+      IsVectorOver K n v → IsMinimalPolynomial K x v g → degree_of g ≡ n → IsMonicOver K p → Divides K p g →
+      IsPolynomialValue K p x value → length basis ≡ n →
+      ((t : ℕ) → t < n →
+      matrix_of K basis t ≡ power_rows (field_of K) n (matrix_of K x) (vector_of K v) t) →
+      length rows + degree_of p ≡ n →
+      ((t : ℕ) → t < length rows →
+      matrix_of K rows t ≡ times (field_of K) (length p) (vector_of K p) (λ j. matrix_of K basis (t + j))) →
+      HaveSameSpan K rows value
 
   -- the one-vector rule: where an irreducible p fits the value x of a word, one nonzero null vector of p(x) generates
   -- everything, and one null vector of the transpose of p(x) generates everything under the transposes, the module is

@@ -4,7 +4,7 @@ use Rattle.std.specs.Prelude.{◌≡◌, ◌≢◌, ◌↔◌, ℕ, suc, ◌+◌
 use Rattle.axe_algebra.specs.Field.{Field}
 use Rattle.axe_algebra.specs.Vectors.{Vector, Matrix, HasLength, HasShape, zero_vector, add_vectors}
 use Rattle.axe_algebra.specs.Vectors.{scale, add_matrices, unit_matrix, transposed, times, multiply}
-use Rattle.axe_algebra.specs.Spans.{InSpan, IsIndependent, IsNullVector}
+use Rattle.axe_algebra.specs.Spans.{InSpan, IsIndependent, IsNullVector, SameSpan}
 use Rattle.axe_algebra.specs.Modules.{Module, HasSquareMatrices, transposed_module, VectorGeneratesAll}
 use Rattle.axe_algebra.specs.Words.{Word, IsWordOf, word_value}
 use Rattle.axe_algebra.specs.Irreducible.{IsIrreducible}
@@ -78,6 +78,18 @@ module _ (F : Field) where
       IsIrreduciblePolynomial F d p → Fits F n x d p → v ≢ zero_vector F →
       IsNullVector F n (polynomial_value F n (suc d) p x) v → IsNullVector F n (polynomial_value F n (suc d) p x) w →
       InSpan F d (power_rows F n x v) w
+
+  -- where the minimal polynomial of v has as many degrees as x has rows, each monic divisor of it fits x
+  abbrev pub CyclicDivisorFits : Type 0
+  CyclicDivisorFits = (n : ℕ) (x : Matrix F) (v g : Vector F) (d : ℕ) (p : Vector F) → HasShape F n n x →
+      HasLength F n v → IsMinimalPolynomial F n x v n g → IsMonic F d p → Divides F p g → Fits F n x d p
+
+  -- and the rows v p(x), v x p(x) and so on, as many as n exceeds the degree of p, span what the rows of p(x) span
+  abbrev pub CyclicRowsSpanValue : Type 0
+  CyclicRowsSpanValue = (n : ℕ) (x : Matrix F) (v g : Vector F) (d : ℕ) (p : Vector F) (r : ℕ) → HasShape F n n x →
+      HasLength F n v → IsMinimalPolynomial F n x v n g → IsMonic F d p → Divides F p g → r + d ≡ n →
+      SameSpan F r (multiply F n (power_rows F n x v) (polynomial_value F n (suc d) p x)) n
+      (polynomial_value F n (suc d) p x)
 
   -- a polynomial at the value of a word is the value of a word
   abbrev pub PolynomialValueIsWordValue : Type 0

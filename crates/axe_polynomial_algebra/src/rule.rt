@@ -6,6 +6,9 @@ ghost use Rattle.axe_polynomial_algebra.specs.PolynomialValueTheorems.{Irreducib
 ghost use Rattle.axe_polynomial_algebra.specs.PolynomialValueTheorems.{FittingRowsSpanNullSpace, OneVectorRule};
 ghost use Rattle.axe_polynomial_algebra.specs.PolynomialListTheorems.{FitsIsDecidable, FitsExactlyByNullity};
 ghost use Rattle.axe_polynomial_algebra.specs.PolynomialListTheorems.{ListOneVectorRule};
+ghost use Rattle.axe_polynomial_algebra.specs.PolynomialValueTheorems.{CyclicDivisorFits, CyclicRowsSpanValue};
+ghost use Rattle.axe_polynomial_algebra.specs.PolynomialListTheorems.{ListCyclicDivisorFits};
+ghost use Rattle.axe_polynomial_algebra.specs.PolynomialListTheorems.{ListCyclicRowsSpanValue};
 
 /// For an irreducible `p` and a nonzero `v` with `v p(x) = 0` the rows `v`, `v x`, .., below the degree of `p` are
 /// independent.
@@ -23,6 +26,20 @@ pub fn fitting_rows_span_null_space()
 pub fn fits_is_decidable()
     ensures decidable { (K : NumberField) → FitsIsDecidable K }
     ensures nullity { (K : NumberField) → FitsExactlyByNullity K }
+{}
+
+/// Where the minimal polynomial of a vector under `x` has as many degrees as `x` has rows, so that the vector is cyclic,
+/// each monic divisor `p` of it fits: its degree is the dimension of the null space of `p(x)`.
+pub fn cyclic_divisors_fit()
+    ensures vectors { (K : NumberField) → CyclicDivisorFits (field_of K) }
+    ensures lists { (K : NumberField) → ListCyclicDivisorFits K }
+{}
+
+/// And for such a `p` and a cyclic vector `v` of `x` the rows `v p(x)`, `v x p(x)`, .., as many as `x` has rows beyond
+/// the degree of `p`, span what the rows of `p(x)` span.
+pub fn cyclic_rows_span_value()
+    ensures vectors { (K : NumberField) → CyclicRowsSpanValue (field_of K) }
+    ensures lists { (K : NumberField) → ListCyclicRowsSpanValue K }
 {}
 
 /// The one-vector rule: where the degree of an irreducible `p` is the dimension of the null space of `p(x)`, `x` being
