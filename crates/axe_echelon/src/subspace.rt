@@ -1,20 +1,18 @@
 //! Subspaces, each by an echelon form of it.
 
-ghost use Rattle.std.specs.Prelude.{⊤, ◌≡◌, ◌+◌, ◌*◌, ◌<◌, ◌≤◌, ◌↔◌, ◌++◌, ◌∷◌, [], length, get_or, replicate};
+ghost use Rattle.std.specs.Prelude.{⊤, ◌≡◌, ◌<◌, ◌≤◌, ◌↔◌, ◌++◌, ◌∷◌, [], length, get_or, replicate};
 ghost use Rattle.std.specs.Prelude.{IsTrue, true, None, IfOk, MatchOption, OnErr};
 ghost use Rattle.axe_algebra.specs.SpansOfLists.{IsPivot, IsRepresentative, IsSpanned};
 ghost use Rattle.axe_field.specs.NumberFields.{number_field};
-ghost use Rattle.axe_field.specs.Order.{order_number, prime_of};
 ghost use Rattle.axe_row.specs.Operations.{IsZeroVector};
 ghost use Rattle.axe_row.specs.Refusals.{Answers};
-ghost use Rattle.axe_row.specs.Rows.{IsRow, RowValue};
+ghost use Rattle.axe_row.specs.Rows.{IsRow};
 ghost use Rattle.axe_row.specs.Sums.{HasSums};
 ghost use Rattle.axe_matrix.specs.Limits.{most_columns};
 ghost use Rattle.axe_matrix.specs.Matrices.{IsMatrix};
 ghost use Rattle.axe_echelon.specs.Echelons.{IsEchelon, IsReducedMatrix, with_row_where};
 ghost use Rattle.axe_echelon.specs.Orthogonal.{IsPivotOfRow};
-ghost use Rattle.axe_echelon.specs.Subspaces.{IsCleared, IsClearedBelow, IsNextRow, IsPivotRow};
-ghost use Rattle.axe_echelon.specs.Subspaces.{IsReducedBelow, IsScaledRest, SpansOneMore};
+ghost use Rattle.axe_echelon.specs.Subspaces.{IsCleared, IsNextRow, IsPivotRow, IsScaledRest, SpansOneMore};
 
 use crate::leading_rows::{clear_after, take_row};
 use crate::pivot_table::PivotTable;
@@ -196,55 +194,14 @@ impl Subspace {
         // `len` is called for what it ensures beside the number: that the entries are elements.
         prove!(row.len() == self.cols);
         match self.field.order() {
-            2 => self.reduce_in::<2>(row),
-            4 => self.reduce_in::<4>(row),
-            8 => self.reduce_in::<8>(row),
             5 | 7 if has_many_entries(row) => self.reduce_by_sums(row),
+            2 => self.reduce_by_words::<2>(row),
             3 => self.reduce_by_words::<3>(row),
+            4 => self.reduce_by_words::<4>(row),
             5 => self.reduce_by_words::<5>(row),
             7 => self.reduce_by_words::<7>(row),
+            8 => self.reduce_by_words::<8>(row),
             _ => self.reduce_by_words::<9>(row),
-        }
-    }
-
-    /// What [`Subspace::reduce`] does, over a field of Q elements, of characteristic 2: word by word.
-    #[inline(never)]
-    fn reduce_in<const Q: u8>(&self, row: &mut Row)
-        requires order { order_number self.now.order ≡ Q }
-        requires characteristic { prime_of self.now.order ≡ 2 }
-        requires field { row.old.order ≡ self.now.order }
-        requires fits { length row.old.entries ≡ self.now.cols }
-        requires elements { IsRow row.old }
-        ensures representative { IsRepresentative (number_field self.now.order) self.now.rows
-            row.old.entries row.new.entries }
-        ensures same_field { row.new.order ≡ self.now.order }
-        ensures as_long { length row.new.entries ≡ self.now.cols }
-        ensures row_well_formed { IsRow row.new }
-    {
-        for at in 0..self.cols.div_ceil(WORD) {
-            self.reduce_word_in::<Q>(row, at);
-        }
-    }
-
-    /// Clears the pivots in one word of 64 columns from a row that is 0 at those before. The word's entries are kept in
-    /// registers, and changed with the row: so the next of them is known before the row is written.
-    #[inline(always)]
-    fn reduce_word_in<const Q: u8>(&self, row: &mut Row, at: usize)
-        requires order { order_number self.now.order ≡ Q }
-        requires characteristic { prime_of self.now.order ≡ 2 }
-        requires within { at * 64 < self.now.cols }
-        requires field { row.old.order ≡ self.now.order }
-        requires fits { length row.old.entries ≡ self.now.cols }
-        ensures { (first : RowValue) → IsReducedBelow self.now (at * 64) first row.old →
-            IsReducedBelow self.now (at * 64 + 64) first row.new }
-    {
-        let mut places = self.pivots.word(at);
-        let mut block = row.bit_block(at);
-        while let Some((place, entry)) = block.next_within(&mut places) {
-            let pivot = at * WORD + place;
-            // An element is its own negative.
-            block.add_scaled_in::<Q>(entry, self.pivots.block_of(pivot));
-            row.add_scaled_in::<Q>(pivot, entry, &self.rows[self.pivots.row_of(pivot)].row);
         }
     }
 
@@ -288,58 +245,14 @@ impl Subspace {
         // `len` is called for what it ensures beside the number: that the entries are elements.
         prove!(row.len() == multipliers.len());
         match self.field.order() {
-            2 => self.reduce_with_in::<2>(row, multipliers),
-            4 => self.reduce_with_in::<4>(row, multipliers),
-            8 => self.reduce_with_in::<8>(row, multipliers),
             5 | 7 if has_many_entries(row) => self.reduce_with_by_sums(row, multipliers),
+            2 => self.reduce_with_by_words::<2>(row, multipliers),
             3 => self.reduce_with_by_words::<3>(row, multipliers),
+            4 => self.reduce_with_by_words::<4>(row, multipliers),
             5 => self.reduce_with_by_words::<5>(row, multipliers),
             7 => self.reduce_with_by_words::<7>(row, multipliers),
+            8 => self.reduce_with_by_words::<8>(row, multipliers),
             _ => self.reduce_with_by_words::<9>(row, multipliers),
-        }
-    }
-
-    /// What [`Subspace::reduce_with`] does, over a field of Q elements, of characteristic 2: word by word.
-    #[inline(never)]
-    fn reduce_with_in<const Q: u8>(&self, row: &mut Row, multipliers: &mut Row)
-        requires order { order_number self.now.order ≡ Q }
-        requires characteristic { prime_of self.now.order ≡ 2 }
-        requires field { row.old.order ≡ self.now.order }
-        requires fits { length row.old.entries ≡ self.now.cols }
-        requires elements { IsRow row.old }
-        requires zeros { multipliers.old
-            ≡ record { order = row.old.order; entries = replicate (length row.old.entries) 0 } }
-        requires zeros_well_formed { IsRow multipliers.old }
-        ensures { IsCleared self.now row.old row.new multipliers.new }
-    {
-        for word in 0..self.cols.div_ceil(WORD) {
-            self.reduce_word_with_in::<Q>(row, multipliers, word);
-        }
-    }
-
-    /// Clears the pivots in one word of 64 columns from a row that is 0 at those before, as `reduce_word_in` does, and
-    /// keeps the multiplier of each row that is added for that.
-    #[inline(always)]
-    fn reduce_word_with_in<const Q: u8>(&self, row: &mut Row, multipliers: &mut Row, word: usize)
-        requires order { order_number self.now.order ≡ Q }
-        requires characteristic { prime_of self.now.order ≡ 2 }
-        requires within { word * 64 < self.now.cols }
-        requires field { row.old.order ≡ self.now.order }
-        requires fits { length row.old.entries ≡ self.now.cols }
-        requires multipliers_field { multipliers.old.order ≡ self.now.order }
-        requires multipliers_fit { length multipliers.old.entries ≡ self.now.cols }
-        ensures { (first : RowValue) → IsClearedBelow self.now (word * 64) first row.old multipliers.old →
-            IsClearedBelow self.now (word * 64 + 64) first row.new multipliers.new }
-    {
-        let mut places = self.pivots.word(word);
-        let mut block = row.bit_block(word);
-        while let Some((place, entry)) = block.next_within(&mut places) {
-            let column = word * WORD + place;
-            let index = self.pivots.row_of(column);
-            // An element is its own negative.
-            block.add_scaled_in::<Q>(entry, self.pivots.block_of(column));
-            row.add_scaled_in::<Q>(column, entry, &self.rows[index].row);
-            multipliers.set(index, entry);
         }
     }
 

@@ -10,10 +10,10 @@ loop-place-init g c =
     let field = c.requires.field ∙ sym (ap (λ (e : EchelonValue). e.order) c.self.view_is) in
     let fits = c.requires.fits ∙ sym (ap (λ (e : EchelonValue). e.cols) c.self.view_is) in
     half_begun c.args.self.now _ _ c.self.inside.rows.items c.self.inside.pivots c.args.at c.args.row.now _ c.self.view_is
-    c.self.invariant.are_rows field fits c.word-places.ensures
+    c.self.invariant.are_rows field fits c.word-marks.ensures
 
-pub overflow_add-pivot : goal.overflow_add-pivot
-overflow_add-pivot g c =
+pub overflow_add-column : goal.overflow_add-column
+overflow_add-column g c =
     omega (
       arith,
       pivot_inside _ _ _ _ _ _ _ _ _ c.self.invariant c.loop-place.invariant _ _ c.in-Some.ensures.found,

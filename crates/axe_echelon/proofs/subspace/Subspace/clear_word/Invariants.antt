@@ -5,7 +5,7 @@ use Rattle.axe_echelon.proofs.subspace.Subspace.clear_word.Given as goal
 
 abbrev pub invariant-loop-place : goal.invariant-loop-place
 invariant-loop-place g l =
-    IsHalfCleared l.self l.self-inside.field l.self-inside.cols l.self-inside.rows.items l.self-inside.pivots l.fn.at l.fn.row l.row l.places
+    IsHalfCleared l.self l.self-inside.field l.self-inside.cols l.self-inside.rows.items l.self-inside.pivots l.fn.at l.fn.row l.row l.marks
 
 abbrev pub decreases-loop-place : goal.decreases-loop-place
-decreases-loop-place g l = 64 - zeros_ahead (bits_of_word l.places)
+decreases-loop-place g l = 64 - zeros_ahead (bits_of_word l.marks)

@@ -11,12 +11,12 @@ loop-place-init g c =
     let field = c.requires.field ∙ sym (ap (λ (e : EchelonValue). e.order) c.self.view_is) in
     let fits = c.requires.fits ∙ sym (ap (λ (e : EchelonValue). e.cols) c.self.view_is) in
     half_begun_with c.args.self.now _ _ c.self.inside.rows.items c.self.inside.pivots c.args.word c.args.row.now _ c.args.multipliers.now
-    c.self.view_is c.self.invariant.are_rows field fits c.word-places.ensures
+    c.self.view_is c.self.invariant.are_rows field fits c.word-marks.ensures
     (c.requires.multipliers_field ∙ sym (ap (λ (e : EchelonValue). e.order) c.self.view_is))
     (c.requires.multipliers_fit ∙ sym (ap (λ (e : EchelonValue). e.cols) c.self.view_is))
 
-pub overflow_add-column : goal.overflow_add-column
-overflow_add-column g c =
+pub overflow_add-pivot : goal.overflow_add-pivot
+overflow_add-pivot g c =
     omega (
       arith,
       pivot_inside _ _ _ _ _ _ _ _ _ c.self.invariant c.loop-place.invariant.half _ _ c.in-Some.ensures.found,

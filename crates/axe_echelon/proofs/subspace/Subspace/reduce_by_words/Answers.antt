@@ -10,15 +10,15 @@ loop-at-init g c =
     reduced_below_none c.args.self.now c.args.row.now c.requires.field
     (over_of_row _ _ c.args.row.now c.requires.field c.requires.elements c.requires.fits)
 
-pub clear_word-requires-clause-within : goal.clear_word-requires-clause-within
-clear_word-requires-clause-within g c =
+pub reduce_word-requires-clause-within : goal.reduce_word-requires-clause-within
+reduce_word-requires-clause-within g c =
     omega (arith, c.div_ceil-at-end.ensures, c.loop-at-test.true, ap (λ (e : EchelonValue). e.cols) c.self.view_is)
 
 pub loop-at-preserved : goal.loop-at-preserved
 loop-at-preserved g c =
-    subst (λ k. IsReducedBelow c.args.self.now k c.args.row.now c.clear_word.new.row)
+    subst (λ k. IsReducedBelow c.args.self.now k c.args.row.now c.reduce_word.new.row)
     (let next : c.loop-at.at * 64 + 64 ≡ (c.loop-at.at + 1) * 64 = omega arith in next)
-    (c.clear_word.ensures c.args.row.now c.loop-at.invariant)
+    (c.reduce_word.ensures c.args.row.now c.loop-at.invariant)
 
 pub returns-clause-representative : goal.returns-clause-representative
 returns-clause-representative g c =

@@ -15,15 +15,15 @@ loop-word-init g c =
     (cleared_by_none _ _ _ _ _ field (over_of_row _ _ _ field c.requires.elements fits)
     (c.requires.zeros ∙ (λ i. record { order = field i; entries = replicate (fits i) 0 })))
 
-pub clear_word_with-requires-clause-within : goal.clear_word_with-requires-clause-within
-clear_word_with-requires-clause-within g c =
+pub reduce_word_with-requires-clause-within : goal.reduce_word_with-requires-clause-within
+reduce_word_with-requires-clause-within g c =
     omega (arith, c.div_ceil-word-end.ensures, c.loop-word-test.true, ap (λ (e : EchelonValue). e.cols) c.self.view_is)
 
 pub loop-word-preserved : goal.loop-word-preserved
 loop-word-preserved g c =
-    subst (λ k. IsClearedBelow c.args.self.now k c.args.row.now c.clear_word_with.new.row c.clear_word_with.new.multipliers)
+    subst (λ k. IsClearedBelow c.args.self.now k c.args.row.now c.reduce_word_with.new.row c.reduce_word_with.new.multipliers)
     (let next : c.loop-word.word * 64 + 64 ≡ (c.loop-word.word + 1) * 64 = omega arith in next)
-    (c.clear_word_with.ensures c.args.row.now c.loop-word.invariant)
+    (c.reduce_word_with.ensures c.args.row.now c.loop-word.invariant)
 
 pub returns : goal.returns
 returns g c =

@@ -2,13 +2,14 @@ use Rattle.std.proofs.Common.{◌≡◌, ◌-◌}
 use Rattle.axe_row.specs.BitBlocks.{bits_of_word, elements_of_block}
 use Rattle.axe_row.specs.EntryWords.{entries_in_word}
 use Rattle.axe_row.specs.Rows.{IsRow}
-use Rattle.axe_echelon.proofs.WordsOfPivots.{IsHalfCleared, zeros_ahead}
-use Rattle.axe_echelon.proofs.subspace.Subspace.reduce_word_in.Given as goal
+use Rattle.axe_echelon.proofs.WordsOfPivots.{IsHalfClearedWith, zeros_ahead}
+use Rattle.axe_echelon.proofs.subspace.Subspace.clear_word_with_by_block.Given as goal
 
 abbrev pub invariant-loop-place : goal.invariant-loop-place
 invariant-loop-place g l = record {
-  half : IsHalfCleared l.self l.self-inside.field l.self-inside.cols l.self-inside.rows.items l.self-inside.pivots l.fn.at l.fn.row l.row l.places;
-  block_is : elements_of_block l.block ≡ entries_in_word l.row.entries l.fn.at;
+  cleared : IsHalfClearedWith l.self l.self-inside.field l.self-inside.cols l.self-inside.rows.items l.self-inside.pivots l.fn.word l.fn.row l.row
+      l.places l.fn.multipliers l.multipliers;
+  block_is : elements_of_block l.block ≡ entries_in_word l.row.entries l.fn.word;
   row_well_formed : IsRow l.row;
 }
 

@@ -2,7 +2,7 @@ use Rattle.std.proofs.Common.{◌∙◌, ap, sym, subst, arith}
 use Rattle.axe_field.specs.Order.{IsElement, order_number, prime_of}
 use Rattle.axe_echelon.specs.Echelons.{EchelonValue}
 use Rattle.axe_echelon.proofs.WordsOfPivots.{half_begun, found_by_block, none_by_block, negative_of_two, pivot_inside, row_told, block_told, entry_nonzero, entry_element, there, row_there, zeros_there, still_fewer, half_more, block_more, word_cleared}
-use Rattle.axe_echelon.proofs.subspace.Subspace.reduce_word_in.Goals as goal
+use Rattle.axe_echelon.proofs.subspace.Subspace.clear_word_by_block.Goals as goal
 
 pub loop-place-init : goal.loop-place-init
 loop-place-init g c =

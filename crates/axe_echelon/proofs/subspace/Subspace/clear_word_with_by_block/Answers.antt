@@ -3,7 +3,7 @@ use Rattle.axe_field.specs.Order.{IsElement, order_number, prime_of}
 use Rattle.axe_echelon.specs.Echelons.{EchelonValue}
 use Rattle.axe_echelon.proofs.PivotRowLaws.{rows_fit}
 use Rattle.axe_echelon.proofs.WordsOfPivots.{half_begun_with, found_by_block, none_by_block, negative_of_two, pivot_inside, row_told, block_told, entry_nonzero, entry_element, there, row_there, zeros_there, still_fewer, half_more_with, block_more, word_cleared_with}
-use Rattle.axe_echelon.proofs.subspace.Subspace.reduce_word_with_in.Goals as goal
+use Rattle.axe_echelon.proofs.subspace.Subspace.clear_word_with_by_block.Goals as goal
 
 pub loop-place-init : goal.loop-place-init
 loop-place-init g c =
