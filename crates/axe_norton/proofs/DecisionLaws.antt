@@ -23,7 +23,9 @@ use Rattle.axe_norton.specs.declared.verdicts.At.TheVariants.{Irreducible, Reduc
 use Rattle.axe_norton.specs.Spaces.{HasFewPoints, TriedGenerate, TransposeGenerates, point_of}
 use Rattle.axe_norton.specs.SmallFactors.{IsFittingFactor, IsFirstFitting}
 use Rattle.axe_norton.specs.OneVector.{TellsByOne}
-use Rattle.axe_norton.specs.Searches.{IsReducedIn, IsSquareIn, TellsByFirst}
+use Rattle.axe_norton.specs.declared.value_spaces.ValueSpaces.{ValueSpaces}
+use Rattle.axe_norton.specs.ValueSpaces.{AreSpacesOf}
+use Rattle.axe_norton.specs.Searches.{IsReducedIn, IsSquareIn, AreSingularSpaces, TellsByFirst}
 use Rattle.axe_norton.specs.Verdicts.{IsLeftByPoints, TellsByPoints, Tells, Says, LeavesOpen, LeaveOpenBefore, DecidesAt, word_of_seed, IsTrueOf}
 use Rattle.axe_norton.proofs.OpenLaws.{own_square, invertible_without_rows, no_rows_of_invertible, word_zero}
 use Rattle.axe_norton.proofs.TestedLaws.{null_in_module}
@@ -77,7 +79,7 @@ module _ (m : ModuleValue) (matrix null : MatrixValue) (square : IsSquareIn m ma
 
 -- p(x), where p fits the square matrix x
 module _ (m : ModuleValue) (x : MatrixValue) (square : IsSquareIn m x) (p : PolyValue) (fitting : IsFittingFactor x p) (t : Tested) (is : IsTestedAt p x t) where
-  pub fitted_square : IsSquareIn m t.matrix
+  fitted_square : IsSquareIn m t.matrix
   fitted_square = record {
     field = is.value.field ∙ square.field;
     columns = is.value.columns ∙ square.columns;
@@ -85,12 +87,16 @@ module _ (m : ModuleValue) (x : MatrixValue) (square : IsSquareIn m x) (p : Poly
         (subst (λ o. IsSquareOver (number_field o) (length x.rows) t.matrix.rows) square.field is.value.value_is.square);
   }
 
-  pub fitted_rows : 0 < length t.null_space.rows
+  fitted_rows : 0 < length t.null_space.rows
   fitted_rows =
       let rows : length t.null_space.rows ≡ degree_of p.coefficients =
       (fits_by_rows x p t fitting.factor.field
       (subst (λ o. IsMonicOver (number_field o) p.coefficients) (sym fitting.factor.field) fitting.factor.factor.irreducible.over) is).0 fitting.fits in
       omega (arith, rows, fitting.factor.factor.irreducible.over.positive)
+
+  -- it is singular
+  pub fitted_spaces : (spaces : ValueSpaces) → AreSpacesOf t spaces → AreSingularSpaces m t spaces
+  fitted_spaces spaces are = record { square = fitted_square; tested = is.tested; some_row = fitted_rows; of_tested = are }
 
 module _ (m : ModuleValue) (x : MatrixValue) where
   -- it tells by one vector

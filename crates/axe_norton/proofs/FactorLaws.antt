@@ -34,6 +34,7 @@ use Rattle.axe_word.specs.declared.tested.Tested.{Tested}
 use Rattle.axe_word.specs.Tested.{IsTested, IsTestedAt}
 use Rattle.axe_norton.specs.declared.factors.Fitted.{Fitted}
 use Rattle.axe_norton.specs.SmallFactors.{first_unit_row, IsFittingFactor, NoneFits}
+use Rattle.axe_norton.specs.ValueSpaces.{AreSpacesAt, FitsWithSpaces}
 use Rattle.axe_norton.specs.Searches.{FindsFittingIn, IsFittingOfDegree, IsFirstOfDegree, FindsFittingOf, FindsFitting}
 use Rattle.axe_norton.proofs.TestedLaws.{IsNullSpaceOver, null_space_over}
 use mathlib.Core.Path.{refl, sym, ◌∙◌, ap, subst}
@@ -128,15 +129,15 @@ module _ (x : MatrixValue) where
 
     -- it fits
     pub first_found : (index : ℕ) (p : PolyValue) (found : Fitted) → index < length polys → p ≡ get_or polys index p → NoneBefore index →
-        All (λ r. r.order ≡ x.order) polys → found.poly ≡ p → FitsHere p.coefficients → IsTestedAt p x found.tested → FindsFittingIn x polys (Some found)
-    first_found index p found inside is before fields copied fits is_tested = record {
+        All (λ r. r.order ≡ x.order) polys → found.poly ≡ p → FitsWithSpaces x p found.spaces → FindsFittingIn x polys (Some found)
+    first_found index p found inside is before fields copied fits = record {
       number = index;
       below = inside;
       before = before;
       is = ap (λ (r : PolyValue). r.coefficients) copied ∙ coefficients_at index p inside is;
       field = ap (λ (r : PolyValue). r.order) (copied ∙ is) ∙ fields index p inside;
-      fits = subst (λ (r : PolyValue). FitsHere r.coefficients) (sym copied) fits;
-      is_tested = subst (λ (r : PolyValue). IsTestedAt r x found.tested) (sym copied) is_tested;
+      fits = subst (λ (r : PolyValue). FitsHere r.coefficients) (sym copied) fits.0;
+      spaces = subst (λ (r : PolyValue). AreSpacesAt x r found.spaces) (sym copied) fits.1;
     }
 
     pub none_of_all : (index : ℕ) → length polys ≤ index → NoneBefore index → FindsFittingIn x polys None
@@ -153,6 +154,13 @@ module _ (x : MatrixValue) where
 
     long : length (coefficients_of factors) ≡ length factors
     long = length-map factors (λ (p : PolyValue). p.coefficients)
+
+    -- they divide
+    pub divide_here : All (λ p. Divides K p.coefficients f.coefficients) factors
+    divide_here i default below =
+        let factor : IsFactorOfDegree K f.coefficients d (get_or (coefficients_of factors) i []) =
+        All-get_or (IsFactorOfDegree K f.coefficients d) (coefficients_of factors) i [] (omega (arith, below, long)) listed_here.each in
+        subst (λ (c : List ℕ). Divides K c f.coefficients) (get_or-map (λ (r : PolyValue). r.coefficients) factors i default [] below) factor.divides
 
     -- each divisor of the degree has a place in the list
     place : (p : List ℕ) → IsFactorOfDegree K f.coefficients d p →
@@ -175,7 +183,7 @@ module _ (x : MatrixValue) where
         fits = is.fits;
       };
       first = λ other fitting. no_smaller other fitting (place other fitting.factor);
-      is_tested = is.is_tested;
+      spaces = is.spaces;
     }
       where
         no_smaller : (other : List ℕ) → IsFittingOfDegree x f d other → (i : ℕ) × (i < length factors) × (get_or (coefficients_of factors) i [] ≡ other) →
@@ -234,7 +242,7 @@ module _ (x : MatrixValue) where
     }
 
     -- its degree is no greater than that of f
-    divisor_degree : (p : List ℕ) → IsMonicOver K p → Divides K p f.coefficients → degree_of p ≤ degree_of f.coefficients
+    pub divisor_degree : (p : List ℕ) → IsMonicOver K p → Divides K p f.coefficients → degree_of p ≤ degree_of f.coefficients
     divisor_degree p over divides = by_cofactor (cofactor_is_monic (field_of K) (degree_of p) (degree_of f.coefficients) (vector_of K p) (vector_of K f.coefficients)
         (monic_of_list K p over) (monic_of_list K f.coefficients minimal.minimal.over) divides)
       where
@@ -270,7 +278,7 @@ module _ (x : MatrixValue) where
         };
         first = λ other fitting. no_smaller other (as_divisor other fitting);
       },
-      of_degree.is_tested,
+      of_degree.spaces,
     )
       where
         no_smaller : (other : PolyValue) → IsFittingOfDegree x f (degree_of other.coefficients) other.coefficients →

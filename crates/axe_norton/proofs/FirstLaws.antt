@@ -1,7 +1,7 @@
 -- The null space of the value of a word by its points: which spaces have few, and what the first of many tells.
 use Rattle.std.specs.Prelude.{◌≡◌, ◌≢◌, ℕ, zero, suc, ◌+◌, ◌-◌, ◌*◌, ◌<◌, ◌≤◌, ◌↔◌, length, Some, None, Result, Ok}
 use Rattle.std.proofs.lemmas.Bool.{ne_eqb}
-use Rattle.axe_algebra.specs.Lists.{IsSquareOver}
+use Rattle.axe_algebra.specs.Lists.{IsMatrixOver}
 use Rattle.axe_algebra.proofs.PointLists.{count_next, count_grows}
 use Rattle.axe_field.specs.Order.{order_number}
 use Rattle.axe_field.specs.NumberFields.{number_field}
@@ -10,7 +10,6 @@ use Rattle.axe_row.specs.Operations.{IsZeroVector}
 use Rattle.axe_row.specs.Refusals.{Answers}
 use Rattle.axe_row.specs.declared.refusals.Refusal.{Refusal}
 use Rattle.axe_matrix.specs.Matrices.{MatrixValue}
-use Rattle.axe_reduction.specs.Solutions.{IsInvertibleMatrix}
 use Rattle.axe_echelon.specs.Echelons.{null_space_refusal}
 use Rattle.axe_echelon.specs.NullPoints.{IsSmallNullSpace, IsFirstNullPoint, IsNullPoints}
 use Rattle.axe_echelon.specs.declared.first_points.NullPoints.{NullPoints}
@@ -23,11 +22,11 @@ use Rattle.axe_word.proofs.PointSums.{last_row_is_first_point}
 use Rattle.axe_norton.specs.declared.verdicts.At.{At}
 use Rattle.axe_norton.specs.declared.verdicts.At.TheVariants.{Irreducible, Reducible, Left}
 use Rattle.axe_norton.specs.Spaces.{GeneratesModule, GeneratesProper, HasFewPoints}
-use Rattle.axe_norton.specs.Searches.{IsSquareIn, FindsFirst, IsValueOfWord, IsTestedWord, IsFirstOfMany, IsTransposedPointRow, IsAnnihilatorOf, TellsByNullSpace, TellsByFirst}
+use Rattle.axe_norton.specs.Searches.{HasOrthogonalVector, IsSquareIn, FindsFirst, IsValueOfWord, IsTestedWord, IsFirstOfMany, IsTransposedPointRow, IsAnnihilatorOf, TellsByNullSpace, TellsByFirst}
 use Rattle.axe_norton.specs.Verdicts.{TellsByPoints, Tells, Says}
 use Rattle.axe_norton.proofs.SearchLaws.{none_of_first, transpose_generates, transposed_space_is}
 use Rattle.axe_norton.proofs.DecisionLaws.{left_told, told_where_left, said_by}
-use Rattle.axe_norton.proofs.TriedLaws.{square_in, own, singular, first_field, first_fits, first_nonzero, first_generates, first_found}
+use Rattle.axe_norton.proofs.TriedLaws.{square_in, rows_over, has_orthogonal, first_field, first_fits, first_nonzero, first_generates, first_found}
 use mathlib.Core.Logic.{inl, inr}
 use mathlib.Core.Path.{refl, sym, ◌∙◌, ap, subst}
 use native.Mathlib.Nat.{le-mul_of_pos_right}
@@ -117,11 +116,11 @@ module _ (m : ModuleValue) (matrix : MatrixValue) (point : RowValue) (is : IsFir
   pub many_square : IsSquareIn m matrix
   many_square = square_in m matrix is.null_space is.value
 
-  pub many_own : IsSquareOver (number_field matrix.order) matrix.cols matrix.rows
-  many_own = own m matrix is.null_space is.value is.some_row
+  pub many_over : IsMatrixOver (number_field matrix.order) matrix.cols matrix.rows
+  many_over = rows_over m matrix is.null_space is.value is.some_row
 
-  pub many_singular : ¬ (IsInvertibleMatrix matrix)
-  many_singular = singular m matrix is.null_space is.value is.some_row
+  pub many_orthogonal : HasOrthogonalVector matrix
+  many_orthogonal = has_orthogonal m matrix is.null_space is.value is.some_row
 
   pub many_field : point.order ≡ m.order
   many_field = first_field m matrix is.null_space is.value is.some_row point is.first

@@ -2,6 +2,7 @@ pub mod PointLaws
 pub mod TestedLaws
 pub mod TruthLaws
 pub mod OpenLaws
+pub mod OrthogonalLaws
 pub mod SearchLaws
 pub mod FactorLaws
 pub mod DecisionLaws
@@ -11,6 +12,8 @@ pub mod OneVectorLaws
 pub mod FittingLaws
 pub mod SaidLaws
 pub mod MisfitLaws
+pub mod NullRowLaws
+pub mod NullSpaceLaws
 pub mod PairingLaws
 pub mod SeenLaws
 pub mod TriedLaws
@@ -20,3 +23,4 @@ pub mod ZeroFactors
 pub mod ZeroLaws
 pub mod CutWords
 pub mod CutValues
+pub mod CyclicLaws

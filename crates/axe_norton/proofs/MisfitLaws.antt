@@ -4,21 +4,20 @@ use Rattle.std.proofs.lemmas.List.{length-set}
 use Rattle.std.proofs.lemmas.List.Elements.{All-get_or, All-append, All-cons, All-nil}
 use Rattle.axe_algebra.specs.NumberField.{NumberField}
 use Rattle.axe_algebra.specs.Bridge.{field_of, vector_of, matrix_of}
-use Rattle.axe_algebra.specs.ListArithmetic.{combination}
-use Rattle.axe_algebra.specs.Lists.{IsMatrixOver, IsSquareOver, unit_row}
+use Rattle.axe_algebra.specs.Lists.{IsVectorOver, IsMatrixOver, IsSquareOver, unit_row}
 use Rattle.axe_algebra.specs.Field.{Field}
-use Rattle.axe_algebra.specs.Vectors.{Matrix, HasLength, times, zero_vector}
+use Rattle.axe_algebra.specs.Vectors.{times, zero_vector}
 use Rattle.axe_algebra.specs.Spans.{IsNullVector}
 use Rattle.axe_algebra.specs.SpansOfLists.{IsIndependent}
 use Rattle.axe_algebra.proofs.Exchange.{exchange}
-use Rattle.axe_algebra.proofs.ListEntries.{listed_length, listed_at, rows_length}
+use Rattle.axe_algebra.proofs.ListEntries.{listed_length, listed_at, row_over, vector_length}
 use Rattle.axe_polynomial_algebra.specs.PolynomialValues.{polynomial_value}
 use Rattle.axe_polynomial_algebra.specs.PolynomialsOfLists.{Annihilates, Fits, degree_of, IsMonicOver}
 use Rattle.axe_field.specs.Order.{Order}
 use Rattle.axe_field.specs.NumberFields.{number_field}
 use Rattle.axe_row.specs.Operations.{IsZeroVector, row_with_multiple}
 use Rattle.axe_row.specs.Rows.{RowValue}
-use Rattle.axe_matrix.specs.Matrices.{MatrixValue, vector_product}
+use Rattle.axe_matrix.specs.Matrices.{MatrixValue}
 use Rattle.axe_echelon.specs.Echelons.{EchelonValue, IsEchelon, with_row_where}
 use Rattle.axe_poly.specs.declared.minimal.CyclicBasis.{CyclicBasis}
 use Rattle.axe_poly.specs.Polys.{PolyValue, IsPoly}
@@ -35,14 +34,6 @@ pub like_set : (o : Order) (n : ℕ) (row new : RowValue) (i e : ℕ) → IsRowL
 like_set o n row new i e like is = record {
   field = ap (λ (r : RowValue). r.order) is ∙ like.field;
   long = ap (λ (r : RowValue). length r.entries) is ∙ length-set row.entries i e ∙ like.long;
-}
-
--- a product with a matrix has as many entries as the matrix has columns
-pub like_product : (m : MatrixValue) (row product : RowValue) → product ≡ vector_product row m → IsRowLike m.order m.cols product
-unfolding combination
-like_product m row product is = record {
-  field = ap (λ (r : RowValue). r.order) is;
-  long = ap (λ (r : RowValue). length r.entries) is ∙ listed_length {A = ℕ} m.cols _;
 }
 
 -- a sum with a multiple of a row has as many entries
@@ -101,27 +92,28 @@ module _ (K : NumberField) where
   abbrev F : Field
   F = field_of K
 
+  -- a row that p annihilates is a null vector of p(x)
+  pub null_of_annihilated : (n : ℕ) (x : List (List ℕ)) (p row : List ℕ) → length x ≡ n → IsMonicOver K p → IsVectorOver K n row →
+      Annihilates K x row p →
+      IsNullVector F (length x) (polynomial_value F (length x) (suc (degree_of p)) (vector_of K p) (matrix_of K x)) (vector_of K row)
+  null_of_annihilated n x p row square monic over null = record {
+    length = vector_length K (length x) row (over.length_is ∙ sym square);
+    vanishes =
+        (let coefficients : length p ≡ suc (degree_of p) = omega (arith, monic.positive) in
+        subst (λ m. times F (length x) (vector_of K row) (polynomial_value F (length x) m (vector_of K p) (matrix_of K x)) ≡ zero_vector F)
+        coefficients null);
+  }
+
   -- independent null vectors of p(x) that are more than the degree of p: p doesn't fit x
   pub many_null_rows : (n : ℕ) (x : List (List ℕ)) (p : List ℕ) (rows : List (List ℕ)) → length x ≡ n → IsMonicOver K p → IsMatrixOver K n rows →
       IsIndependent K rows → All (λ row. Annihilates K x row p) rows → degree_of p < length rows → ¬ (Fits K x p)
   many_null_rows n x p rows square monic over independent null many fits = omega (arith, many, few)
     where
-      value : ℕ → Matrix F
-      value m = polynomial_value F (length x) m (vector_of K p) (matrix_of K x)
-
-      coefficients : length p ≡ suc (degree_of p)
-      coefficients = omega (arith, monic.positive)
-
-      null_at : (t : ℕ) → t < length rows → IsNullVector F (length x) (value (suc (degree_of p))) (matrix_of K rows t)
-      null_at t below = record {
-        length = subst (λ k. HasLength F k (matrix_of K rows t)) (sym square) (rows_length K n rows over t);
-        vanishes = subst (λ m. times F (length x) (matrix_of K rows t) (value m) ≡ zero_vector F) coefficients
-            (All-get_or (λ row. Annihilates K x row p) rows t [] below null);
-      }
-
       few : length rows ≤ degree_of p
       few = exchange F (length rows) (matrix_of K rows) (degree_of p) fits.basis independent
-          (λ t below. fits.spans.back (matrix_of K rows t) (null_at t below))
+          (λ t below. fits.spans.back (matrix_of K rows t)
+          (null_of_annihilated n x p (get_or rows t []) square monic (row_over K n rows t over below)
+          (All-get_or (λ row. Annihilates K x row p) rows t [] below null)))
 
 pub seen_misfit : (x : MatrixValue) (p : PolyValue) (found : EchelonValue) → IsSquareOver (number_field x.order) x.cols x.rows → p.order ≡ x.order →
     IsPoly p → AreNullRows x p found → IsEchelon found → degree_of p.coefficients < length found.rows →

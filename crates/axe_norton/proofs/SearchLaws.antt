@@ -1,20 +1,20 @@
 -- The steps of the test: seeds of one row, first points, and what points generate.
 use Rattle.std.specs.Prelude.{◌≡◌, ◌≢◌, ℕ, ◌-◌, ◌<◌, ◌⊎◌, List, [], ◌∷◌, ◌++◌, length, Option, Some, None, Result, Bool, false, IsTrue}
 use Rattle.std.proofs.lemmas.Bool.{eq-eqb}
-use Rattle.axe_algebra.specs.Vectors.{Matrix, zero_vector}
+use Rattle.axe_algebra.specs.Field.{Field}
+use Rattle.axe_algebra.specs.Vectors.{Vector, Matrix, HasShape, zero_vector, transposed}
 use Rattle.axe_algebra.specs.Spans
 use Rattle.axe_algebra.specs.Bridge.{vector_of, matrix_of}
 use Rattle.axe_algebra.specs.Lists.{IsMatrixOver, IsSquareOver}
-use Rattle.axe_algebra.specs.ListArithmetic.{transpose, IsInverse}
+use Rattle.axe_algebra.specs.ListArithmetic.{IsInverse}
 use Rattle.axe_algebra.specs.SpansOfLists.{IsIndependent, IsReducedBasis}
 use Rattle.axe_algebra.specs.PointTheorems.{IsNonzeroSpanned}
-use Rattle.axe_algebra.proofs.SquareMatrices.{transpose_criterion}
+use Rattle.axe_algebra.proofs.SquareMatrices.{null_vector_or_inverse, transpose_criterion}
 use Rattle.axe_algebra.proofs.ReducedBases.{reduced_independent}
 use Rattle.axe_algebra.proofs.ListGenerated.{generates_everything, everything_is_full}
 use Rattle.axe_algebra.proofs.ListLaws.{inverse_list}
-use Rattle.axe_algebra.proofs.ListProducts.{matrix_of_transpose}
+use Rattle.axe_algebra.proofs.ListEntries.{square_shape}
 use Rattle.axe_algebra.proofs.ListIrreducible.{transpose_length}
-use Rattle.axe_algebra.proofs.NortonLists.{transpose_square, invertible_without_null_rows}
 use Rattle.axe_field.specs.Order.{Order, order_number}
 use Rattle.axe_field.specs.NumberFields.{number_field, gf}
 use Rattle.axe_row.specs.Rows.{RowValue}
@@ -36,14 +36,14 @@ use Rattle.axe_action.specs.Actions.{dual_module, IsAnnihilatorMatrix}
 use Rattle.axe_word.specs.PointsOfMatrix.{points_of}
 use Rattle.axe_word.proofs.PointSums.{last_row_is_first_point}
 use Rattle.axe_word.proofs.ReducedNullSpaces.{null_is_reduced}
-use Rattle.axe_norton.specs.Spaces.{GeneratesModule, GeneratesProper, one_row, point_of, HasFewPoints, IsTried, TransposedPoint, TransposeGenerates, IsTransposedSpace}
-use Rattle.axe_norton.specs.Searches.{IsReducedIn, IsSquareIn, FindsProper, IsProperSpaceOf, FindsFirstOf, FindsFirst, IsTransposedPointRow, IsAnnihilatorOf}
+use Rattle.axe_norton.specs.Spaces.{GeneratesModule, GeneratesProper, one_row, point_of, HasFewPoints, IsTried, TransposeGenerates, IsTransposedSpace}
+use Rattle.axe_norton.specs.Searches.{HasOrthogonalVector, IsReducedIn, IsSquareIn, FindsProper, IsProperSpaceOf, FindsFirstOf, FindsFirst, IsTransposedPointRow, IsAnnihilatorOf}
 use Rattle.axe_norton.proofs.PointLaws.{point_is, some_point}
+use Rattle.axe_norton.proofs.OrthogonalLaws.{orthogonal_rows}
 use Rattle.axe_norton.proofs.TruthLaws.{rows_over_field}
 use mathlib.Core.Logic.{inl, inr}
 use mathlib.Core.Path.{refl, sym, ◌∙◌, ap, subst}
 use native.Mathlib.Omega.{arith}
-use native.Mathlib.Decide.{dec_lt}
 
 -- ---- one row as a seed
 
@@ -176,28 +176,31 @@ invertible_matrix matrix square invertible = make (inverse_list (number_field ma
       },
     )
 
+-- something other than zero is orthogonal to the rows of a singular matrix
+pub singular_has_orthogonal : (matrix : MatrixValue) → IsSquareOver (number_field matrix.order) matrix.cols matrix.rows → ¬ (IsInvertibleMatrix matrix) →
+    HasOrthogonalVector matrix
+singular_has_orthogonal matrix square singular = found (null_vector_or_inverse F matrix.cols (transposed F a) shape)
+  where
+    F : Field
+    F = gf matrix.order
+
+    a : Matrix F
+    a = matrix_of (number_field matrix.order) matrix.rows
+
+    of_a : HasShape F matrix.cols matrix.cols a
+    of_a = square_shape (number_field matrix.order) matrix.cols matrix.rows square
+
+    shape : HasShape F matrix.cols matrix.cols (transposed F a)
+    shape = record { rows = λ i j past. of_a.columns j i past; columns = λ i j past. of_a.rows j i past }
+
+    found : ((v : Vector F) × (v ≢ zero_vector F) × Spans.IsNullVector F matrix.cols (transposed F a) v) ⊎ Spans.IsInvertible F matrix.cols (transposed F a) →
+        HasOrthogonalVector matrix
+    found (inl (v, nonzero, null)) = record { vector = v; nonzero = nonzero; orthogonal = null }
+    found (inr invertible) = absurd (singular (invertible_matrix matrix square ((transpose_criterion F matrix.cols a).1 invertible)))
+
 pub transposed_null_rows : (matrix null : MatrixValue) → IsSquareOver (number_field matrix.order) matrix.cols matrix.rows → ¬ (IsInvertibleMatrix matrix) →
     IsNullSpaceMatrix (transposed_matrix matrix) null → 0 < length null.rows
-transposed_null_rows matrix null square singular is = by_size (dec_lt 0 (length null.rows))
-  where
-    by_size : Dec (0 < length null.rows) → 0 < length null.rows
-    by_size (yes some) = some
-    by_size (no none) =
-        absurd (singular (invertible_matrix matrix square
-        ((transpose_criterion (gf matrix.order) matrix.cols (matrix_of (number_field matrix.order) matrix.rows)).1
-        (subst (λ (a : Matrix (gf matrix.order)). Spans.IsInvertible (gf matrix.order) matrix.cols a)
-        (matrix_of_transpose (number_field matrix.order) matrix.cols matrix.rows square.matrix)
-        (invertible_without_null_rows (number_field matrix.order) matrix.cols (transpose matrix.cols matrix.rows) null.rows
-        (transpose_square (number_field matrix.order) matrix.cols matrix.rows square) is.basis_of_null_space (omega arith))))))
-
-pub transposed_point_is : (matrix null : MatrixValue) → IsSquareOver (number_field matrix.order) matrix.cols matrix.rows → ¬ (IsInvertibleMatrix matrix) →
-    IsNullSpaceMatrix (transposed_matrix matrix) null → IsMatrix null → TransposedPoint matrix
-transposed_point_is matrix null square singular is well_formed = record {
-  null_space = null;
-  is_null_space = is;
-  well_formed = well_formed;
-  some_point = some_point null.order null.cols null refl refl (matrix_over null well_formed) (transposed_null_rows matrix null square singular is);
-}
+transposed_null_rows matrix null square singular is = orthogonal_rows matrix null square.matrix (singular_has_orthogonal matrix square singular) is
 
 -- it is a nonzero vector of the module
 module _ (m : ModuleValue) (matrix : MatrixValue) (is : IsSquareIn m matrix) (v : RowValue) (found : IsTransposedPointRow matrix v) where
@@ -246,28 +249,31 @@ annihilator_is m dual v generated space same proper annihilator well_formed = re
   well_formed = well_formed;
 }
 
--- ---- the null space of the transpose of a matrix
+-- ---- the first point of the null space of the transpose of rows, where something other than zero is orthogonal to them
 
--- a row that is the first point of the null space of the transpose
-pub transposed_row_is : (matrix null : MatrixValue) (v : RowValue) → IsSquareOver (number_field matrix.order) matrix.cols matrix.rows → ¬ (IsInvertibleMatrix matrix) →
-    IsNullSpaceMatrix (transposed_matrix matrix) null → IsMatrix null → v ≡ record { order = null.order; entries = point_of null 0 } → IsTransposedPointRow matrix v
-unfolding transposed_point_is
-transposed_row_is matrix null v square singular is well_formed same = record {
-  point = transposed_point_is matrix null square singular is well_formed;
-  field = ap (λ (r : RowValue). r.order) same ∙ is.field;
-  first = ap (λ (r : RowValue). r.entries) same;
-}
+module _ (rows : MatrixValue) (over : IsMatrixOver (number_field rows.order) rows.cols rows.rows) (has : HasOrthogonalVector rows) where
+  -- a row that is that
+  pub transposed_row_is : (null : MatrixValue) (v : RowValue) → IsNullSpaceMatrix (transposed_matrix rows) null → IsMatrix null →
+      v ≡ record { order = null.order; entries = point_of null 0 } → IsTransposedPointRow rows v
+  transposed_row_is null v is well_formed same = record {
+    point = record {
+      null_space = null;
+      is_null_space = is;
+      well_formed = well_formed;
+      some_point = some_point null.order null.cols null refl refl (matrix_over null well_formed) (orthogonal_rows rows null over has is);
+    };
+    field = ap (λ (r : RowValue). r.order) same ∙ is.field;
+    first = ap (λ (r : RowValue). r.entries) same;
+  }
 
--- the first point of the space of all vectors that are orthogonal to the rows is that
-pub orthogonal_point_is : (matrix : MatrixValue) (v : RowValue) → IsSquareOver (number_field matrix.order) matrix.cols matrix.rows → ¬ (IsInvertibleMatrix matrix) →
-    IsOrthogonalPoint matrix (Some v) → IsTransposedPointRow matrix v
-orthogonal_point_is matrix v square singular point = transposed_row_is matrix point.basis v square singular point.is_basis point.well_formed
-    (point.first.1 ∙ last_row_is_first_point point.basis (length point.basis.rows - 1) point.well_formed point.first.0 refl)
+  -- the first point of the space of all vectors that are orthogonal to the rows is that
+  pub orthogonal_point_is : (v : RowValue) → IsOrthogonalPoint rows (Some v) → IsTransposedPointRow rows v
+  orthogonal_point_is v point = transposed_row_is point.basis v point.is_basis point.well_formed
+      (point.first.1 ∙ last_row_is_first_point point.basis (length point.basis.rows - 1) point.well_formed point.first.0 refl)
 
--- and there is one where the matrix is singular
-pub some_orthogonal_point : (matrix : MatrixValue) → IsSquareOver (number_field matrix.order) matrix.cols matrix.rows → ¬ (IsInvertibleMatrix matrix) →
-    ¬ (IsOrthogonalPoint matrix None)
-some_orthogonal_point matrix square singular point = omega (arith, point.first, transposed_null_rows matrix point.basis square singular point.is_basis)
+  -- and there is one
+  pub some_orthogonal_point : ¬ (IsOrthogonalPoint rows None)
+  some_orthogonal_point point = omega (arith, point.first, orthogonal_rows rows point.basis over has point.is_basis)
 
 -- a test is not both
 pub not_both : (b : Bool) → IsTrue b → b ≡ false → ⊥

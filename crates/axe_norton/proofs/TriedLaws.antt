@@ -1,6 +1,6 @@
 -- Trying the points of the null space of a word's value, which is singular: the first, and all where there are few.
 use Rattle.std.specs.Prelude.{◌≡◌, ℕ, ◌*◌, ◌<◌, List, length, None}
-use Rattle.axe_algebra.specs.Lists.{IsSquareOver}
+use Rattle.axe_algebra.specs.Lists.{IsMatrixOver, IsSquareOver}
 use Rattle.axe_algebra.specs.PointsOfLists.{point_coordinates}
 use Rattle.axe_algebra.proofs.PointLists.{no_coordinates, count_next}
 use Rattle.axe_algebra.proofs.PointSpans.{points_length}
@@ -8,17 +8,16 @@ use Rattle.axe_field.specs.NumberFields.{number_field}
 use Rattle.axe_row.specs.Rows.{RowValue}
 use Rattle.axe_row.specs.Operations.{IsZeroVector}
 use Rattle.axe_matrix.specs.Matrices.{MatrixValue, IsMatrix, transposed_matrix}
-use Rattle.axe_reduction.specs.Solutions.{IsInvertibleMatrix}
 use Rattle.axe_echelon.specs.Echelons.{IsNullSpaceMatrix}
 use Rattle.axe_spin.specs.Modules.{ModuleValue}
 use Rattle.axe_word.specs.PointsOfMatrix.{points_of}
 use Rattle.axe_norton.specs.Spaces.{GeneratesModule, GeneratesProper, HasFewPoints, point_of}
-use Rattle.axe_norton.specs.Searches.{IsTestedWord, IsReducedIn, IsSquareIn, FindsFirst, FindsFirstOf, FindsTried}
+use Rattle.axe_norton.specs.Searches.{HasOrthogonalVector, IsTestedWord, IsReducedIn, IsSquareIn, FindsFirst, FindsFirstOf, FindsTried}
 use Rattle.axe_norton.specs.Pairings.{AreNullSpaces}
 use Rattle.axe_norton.specs.declared.spaces.Tried.TheVariants.{Proper, Generate}
 use Rattle.axe_norton.proofs.TestedLaws.{value_square, null_in_module}
 use Rattle.axe_norton.proofs.OpenLaws.{own_square}
-use Rattle.axe_norton.proofs.SearchLaws.{point_fits, point_nonzero, some_point_in, found_at_first, found_of_all, transposed_row_is}
+use Rattle.axe_norton.proofs.SearchLaws.{point_fits, point_nonzero, some_point_in, found_at_first, found_of_all, singular_has_orthogonal, transposed_row_is}
 use Rattle.axe_norton.proofs.DecisionLaws.{singular_with_rows}
 use mathlib.Core.Path.{sym, ◌∙◌, ap, subst}
 use native.Mathlib.Nat.{zero-mul}
@@ -48,11 +47,16 @@ module _ (m : ModuleValue) (matrix null : MatrixValue) (value : IsTestedWord m (
   null_in = null_in_module m matrix null square_in value.is_tested.tested.null_space
 
   module _ (some : 0 < length null.rows) where
-    pub own : IsSquareOver (number_field matrix.order) matrix.cols matrix.rows
+    own : IsSquareOver (number_field matrix.order) matrix.cols matrix.rows
     own = own_square m matrix square_in
 
-    pub singular : ¬ (IsInvertibleMatrix matrix)
-    singular = singular_with_rows m matrix null square_in value.is_tested.tested.null_space value.is_tested.tested.well_formed some
+    pub rows_over : IsMatrixOver (number_field matrix.order) matrix.cols matrix.rows
+    rows_over = own.matrix
+
+    -- something other than zero is orthogonal to its rows
+    pub has_orthogonal : HasOrthogonalVector matrix
+    has_orthogonal = singular_has_orthogonal matrix own
+        (singular_with_rows m matrix null square_in value.is_tested.tested.null_space value.is_tested.tested.well_formed some)
 
     -- with the null space of the transpose
     pub null_spaces : (others : MatrixValue) → IsNullSpaceMatrix (transposed_matrix matrix) others → IsMatrix others → AreNullSpaces m null others
@@ -87,4 +91,4 @@ module _ (m : ModuleValue) (matrix null : MatrixValue) (value : IsTestedWord m (
         IsNullSpaceMatrix (transposed_matrix matrix) others → IsMatrix others → v ≡ record { order = others.order; entries = point_of others 0 } →
         FindsTried m matrix null (Generate v)
     all_generate others v few none is well_formed same =
-        (found_of_all m null None few none, transposed_row_is matrix others v own singular is well_formed same)
+        (found_of_all m null None few none, transposed_row_is matrix rows_over has_orthogonal others v is well_formed same)

@@ -31,7 +31,7 @@ use Rattle.axe_norton.specs.SmallFactors.{NoneFits}
 use Rattle.axe_norton.specs.Searches.{IsFirstOfMany, IsTransposedPointRow, IsAnnihilatorOf, TellsByNullSpace}
 use Rattle.axe_norton.specs.Verdicts.{Says}
 use Rattle.axe_norton.proofs.SearchLaws.{orthogonal_point_is}
-use Rattle.axe_norton.proofs.FirstLaws.{many_own, many_singular, many_fits, many_nonzero, many_proper, many_transposed, many_left, said_by_points, said_where_left}
+use Rattle.axe_norton.proofs.FirstLaws.{many_over, many_orthogonal, many_fits, many_nonzero, many_proper, many_transposed, many_left, said_by_points, said_where_left}
 use Rattle.axe_norton.proofs.LastLaws.{first_is_last_unit}
 use Rattle.axe_norton.proofs.ZeroFactors.{none_fits_zero}
 use mathlib.Core.Path.{refl, sym, ◌∙◌, ap, subst}
@@ -128,7 +128,7 @@ module _ (m : ModuleValue) (is : IsModule m) (large : most_points < point_count 
 
   transposed_point : (w : RowValue) → w ≡ last_row m → IsTransposedPointRow value w
   transposed_point w same =
-      orthogonal_point_is value w (many_own m value (last_row m) first_of_many) (many_singular m value (last_row m) first_of_many)
+      orthogonal_point_is value (many_over m value (last_row m) first_of_many) (many_orthogonal m value (last_row m) first_of_many) w
       (point_of_zeros value m.order m.dim (m.dim - 1) w value_well_formed (zero_rows m.order m.dim) refl refl refl same)
 
   module _ (v : RowValue) (same : v ≡ last_row m) where

@@ -2,7 +2,9 @@ pub mod Spaces
 pub mod SmallFactors
 pub mod OneVector
 pub mod Verdicts
+pub mod ValueSpaces
 pub mod Searches
 pub mod Misfits
+pub mod NullRows
 pub mod Pairings
 pub mod Known

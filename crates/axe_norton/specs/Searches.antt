@@ -1,9 +1,12 @@
 -- What the steps of the test find: proper spaces that points generate, or none.
-use Rattle.std.specs.Prelude.{◌≡◌, ℕ, ◌<◌, ◌≤◌, List, [], ◌∷◌, length, get_or, Option, Some, None, ⊤}
+use Rattle.std.specs.Prelude.{◌≡◌, ◌≢◌, ℕ, ◌<◌, ◌≤◌, List, [], ◌∷◌, length, get_or, Option, Some, None, ⊤}
+use Rattle.axe_algebra.specs.Vectors.{Vector, zero_vector, transposed}
+use Rattle.axe_algebra.specs.Spans.{IsNullVector}
+use Rattle.axe_algebra.specs.Bridge.{matrix_of}
 use Rattle.axe_algebra.specs.Lists.{IsSquareOver}
 use Rattle.axe_polynomial_algebra.specs.PolynomialsOfLists.{IsFactorOfDegree, polynomial_number, Fits}
 use Rattle.axe_field.specs.Order.{order_number}
-use Rattle.axe_field.specs.NumberFields.{number_field}
+use Rattle.axe_field.specs.NumberFields.{number_field, gf}
 use Rattle.axe_row.specs.Rows.{RowValue}
 use Rattle.axe_matrix.specs.Matrices.{MatrixValue, IsMatrix}
 use Rattle.axe_echelon.specs.Echelons.{EchelonValue}
@@ -17,12 +20,14 @@ use Rattle.axe_word.specs.Words.{WordValue, IsWordIn, IsValueOf}
 use Rattle.axe_word.specs.PointsOfMatrix.{IsReduced}
 use Rattle.axe_norton.specs.declared.factors.Fitted.{Fitted}
 use Rattle.axe_norton.specs.declared.spaces.Tried
+use Rattle.axe_norton.specs.declared.value_spaces.ValueSpaces.{ValueSpaces}
 use Rattle.axe_norton.specs.declared.verdicts.At.{At}
 use Rattle.axe_norton.specs.declared.verdicts.At.TheVariants.{Irreducible, Reducible, Left}
 use Rattle.axe_norton.specs.Spaces.{HasFewPoints, GeneratesModule, GeneratesProper, TriedGenerate, IsFirstProperSpace}
 use Rattle.axe_norton.specs.Spaces.{point_of, TransposedPoint}
 use Rattle.axe_norton.specs.SmallFactors.{IsFirstFitting, NoneFits}
 use Rattle.axe_norton.specs.OneVector.{FitsWord, TellsByOne}
+use Rattle.axe_norton.specs.ValueSpaces.{AreSpacesOf, AreSpacesAt, FitsWithSpaces}
 use Rattle.axe_norton.specs.Verdicts.{TellsByPoints}
 
 -- the matrix has as rows the reduced basis of a space of vectors of the module
@@ -69,7 +74,14 @@ abbrev pub FindsFirst : ModuleValue → MatrixValue → Option MatrixValue → T
 FindsFirst m basis None = TriedGenerate m basis
 FindsFirst m basis (Some space) = IsFirstProperSpace m basis space
 
--- the row is the first point of the null space of the transpose of a singular matrix
+-- something other than zero is orthogonal to the rows: a null vector of their transpose
+pub record HasOrthogonalVector (rows : MatrixValue) : Type 0 where
+  pub vector : Vector (gf rows.order)
+  pub nonzero : vector ≢ zero_vector (gf rows.order)
+  pub orthogonal : IsNullVector (gf rows.order) rows.cols
+      (transposed (gf rows.order) (matrix_of (number_field rows.order) rows.rows)) vector
+
+-- the row is the first point of the null space of the transpose of a matrix; there is one where it is singular
 pub record IsTransposedPointRow (matrix : MatrixValue) (v : RowValue) : Type 0 where
   pub point : TransposedPoint matrix
   pub field : v.order ≡ matrix.order
@@ -128,10 +140,17 @@ pub record TellsByNullSpace (m : ModuleValue) (matrix : MatrixValue) (answer : A
 
 -- ---- the first small factor that fits a square matrix
 
--- whether p fits the square matrix x: p(x) with its null space where it does
-abbrev pub FindsFits : MatrixValue → PolyValue → Option Tested → Type 0
+-- the spaces are those of a singular matrix, which is square over the module's field
+pub record AreSingularSpaces (m : ModuleValue) (t : Tested) (spaces : ValueSpaces) : Type 0 where
+  pub square : IsSquareIn m t.matrix
+  pub tested : IsTested t
+  pub some_row : 0 < length t.null_space.rows
+  pub of_tested : AreSpacesOf t spaces
+
+-- whether p fits the square matrix x: the spaces of p(x) where it does
+abbrev pub FindsFits : MatrixValue → PolyValue → Option ValueSpaces → Type 0
 FindsFits x p None = ¬ (Fits (number_field x.order) x.rows p.coefficients)
-FindsFits x p (Some t) = Fits (number_field x.order) x.rows p.coefficients × IsTestedAt p x t
+FindsFits x p (Some spaces) = FitsWithSpaces x p spaces
 
 -- whether p is irreducible and fits the value x of a word: p(x) with its null space where it does
 abbrev pub FindsFitsWord : ModuleValue → WordValue → PolyValue → Option Tested → Type 0
@@ -146,7 +165,7 @@ pub record IsFirstIn (x : MatrixValue) (polys : List PolyValue) (found : Fitted)
   pub is : found.poly.coefficients ≡ get_or (coefficients_of polys) number []
   pub field : found.poly.order ≡ x.order
   pub fits : Fits (number_field x.order) x.rows found.poly.coefficients
-  pub is_tested : IsTestedAt found.poly x found.tested
+  pub spaces : AreSpacesAt x found.poly found.spaces
 
 -- whether one of them does
 abbrev pub FindsFittingIn : MatrixValue → List PolyValue → Option Fitted → Type 0
@@ -165,7 +184,7 @@ pub record IsFirstOfDegree (x : MatrixValue) (f : PolyValue) (d : ℕ) (found : 
   pub fitting : IsFittingOfDegree x f d found.poly.coefficients
   pub first : (other : List ℕ) → IsFittingOfDegree x f d other →
       polynomial_number (order_number x.order) found.poly.coefficients ≤ polynomial_number (order_number x.order) other
-  pub is_tested : IsTestedAt found.poly x found.tested
+  pub spaces : AreSpacesAt x found.poly found.spaces
 
 -- whether there is one
 abbrev pub FindsFittingOf : MatrixValue → PolyValue → ℕ → Option Fitted → Type 0
@@ -175,7 +194,7 @@ FindsFittingOf x f d (Some found) = IsFirstOfDegree x f d found
 -- the first small factor that fits x, if one does
 abbrev pub FindsFitting : MatrixValue → Option Fitted → Type 0
 FindsFitting x None = NoneFits x
-FindsFitting x (Some found) = IsFirstFitting x found.poly × IsTestedAt found.poly x found.tested
+FindsFitting x (Some found) = IsFirstFitting x found.poly × AreSpacesAt x found.poly found.spaces
 
 -- the first small factor that fits x tells this of the module by one vector
 pub record IsToldByFirst (m : ModuleValue) (x : MatrixValue) (answer : At) : Type 0 where

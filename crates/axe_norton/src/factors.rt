@@ -2,6 +2,7 @@
 
 ghost use Rattle.std.specs.Prelude.{◌≡◌, ◌+◌, ◌≤◌, IfSome, None, All};
 ghost use Rattle.axe_algebra.specs.Lists.{IsSquareOver};
+ghost use Rattle.axe_polynomial_algebra.specs.PolynomialsOfLists.{Divides};
 ghost use Rattle.axe_field.specs.NumberFields.{number_field};
 ghost use Rattle.axe_row.specs.Refusals.{Answers};
 ghost use Rattle.axe_poly.specs.Limits.{greatest_degree};
@@ -10,17 +11,19 @@ ghost use Rattle.axe_norton.specs.Misfits.{IsBasisLike};
 ghost use Rattle.axe_norton.specs.SmallFactors.{first_unit_row};
 ghost use Rattle.axe_norton.specs.Searches.{FindsFitting, FindsFittingOf, FindsFittingIn, FindsFits};
 
+use crate::cyclic::spaces_where_cyclic;
 use crate::misfits::is_seen_not_to_fit;
+use crate::value_spaces::ValueSpaces;
 use axe_matrix::{Matrix, Refusal, Row};
 use axe_poly::{CyclicBasis, Irreducibles, Poly, cyclic_basis, greatest_degree};
 use axe_word::Tested;
 use std::alloc::Global;
 
-/// A polynomial p that fits a matrix x, and p(x) with its null space.
+/// A polynomial p that fits a matrix x, and the spaces of p(x).
 #[derive(Drop)]
 pub(crate) struct Fitted {
     pub poly: Poly,
-    pub tested: Tested,
+    pub spaces: ValueSpaces,
 }
 
 /// The first small factor that fits a square matrix x: of the irreducible divisors of the minimal polynomial of the
@@ -80,7 +83,7 @@ fn fitting_of_degree(
     degree: usize,
 ) -> Result<Option<Fitted>, Refusal>
     requires field { table.old.order ≡ matrix.now.order }
-    requires first { IsBasisLike matrix.now first.now }
+    requires first { IsCyclicBasis matrix.now (first_unit_row matrix.now) first.now }
     requires second { IfSome second.old (IsBasisLike matrix.now) }
     requires square { IsSquareOver (number_field matrix.now.order) matrix.now.cols matrix.now.rows }
     requires some { 1 ≤ degree }
@@ -106,45 +109,51 @@ fn first_that_fits(
     second: &mut Option<CyclicBasis>,
     polys: &[Poly],
 ) -> Result<Option<Fitted>, Refusal>
-    requires first { IsBasisLike matrix.now first.now }
+    requires first { IsCyclicBasis matrix.now (first_unit_row matrix.now) first.now }
     requires second { IfSome second.old (IsBasisLike matrix.now) }
     requires square { IsSquareOver (number_field matrix.now.order) matrix.now.cols matrix.now.rows }
     requires fields { All (λ p. p.order ≡ matrix.now.order) polys.now }
+    requires divisors { All (λ p. Divides (number_field matrix.now.order) p.coefficients
+        first.now.minimal.coefficients) polys.now }
     ensures found { Answers None (FindsFittingIn matrix.now polys.now) result }
     ensures second { Answers None (λ _. IfSome second.new (IsBasisLike matrix.now)) result }
 {
     for index in 0..polys.len() {
         let candidate = &polys[index];
-        if let Some(tested) = tested_where_fits(alloc, matrix, first, second, candidate)? {
+        if let Some(spaces) = spaces_where_fits(alloc, matrix, first, second, candidate)? {
             let poly = candidate.copy(alloc)?;
-            return Ok(Some(Fitted { poly, tested }));
+            return Ok(Some(Fitted { poly, spaces }));
         }
     }
     Ok(None)
 }
 
-/// The value p(x) of such a divisor p at a square matrix x, with its null space, where p fits x: where that has as many
-/// dimensions as p has degrees.
-fn tested_where_fits(
+/// The spaces of p(x) for such a divisor p and a square matrix x, where p fits x: where the null space of p(x) has as
+/// many dimensions as p has degrees. Where the first unit vector is cyclic, p(x) need not be made for them.
+fn spaces_where_fits(
     alloc: Global,
     matrix: &Matrix,
     first: &CyclicBasis,
     second: &mut Option<CyclicBasis>,
     poly: &Poly,
-) -> Result<Option<Tested>, Refusal>
+) -> Result<Option<ValueSpaces>, Refusal>
     requires square { IsSquareOver (number_field matrix.now.order) matrix.now.cols matrix.now.rows }
     requires field { poly.now.order ≡ matrix.now.order }
-    requires first { IsBasisLike matrix.now first.now }
+    requires first { IsCyclicBasis matrix.now (first_unit_row matrix.now) first.now }
+    requires divides { Divides (number_field matrix.now.order) poly.now.coefficients first.now.minimal.coefficients }
     requires second { IfSome second.old (IsBasisLike matrix.now) }
     ensures found { Answers None (FindsFits matrix.now poly.now) result }
     ensures second { Answers None (λ _. IfSome second.new (IsBasisLike matrix.now)) result }
 {
+    if let Some(spaces) = spaces_where_cyclic(alloc, matrix, first, poly)? {
+        return Ok(Some(spaces));
+    }
     if is_seen_not_to_fit(alloc, matrix, poly, first, second)? {
         return Ok(None);
     }
     let tested = Tested::of(alloc, poly.value_at(alloc, matrix)?)?;
     if tested.null_space.rows() == poly.degree() {
-        Ok(Some(tested))
+        Ok(Some(ValueSpaces::of(tested)))
     } else {
         Ok(None)
     }

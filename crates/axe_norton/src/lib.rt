@@ -1,15 +1,18 @@
 //! Norton's test: whether a module is irreducible, and a submodule where it is not.
 #![tactic(auto)]
 
+mod cyclic;
 mod decisions;
 mod factors;
 mod fitting;
 mod known;
 pub mod laws;
 mod misfits;
+mod null_rows;
 mod one_vector;
 mod pairings;
 mod spaces;
+mod value_spaces;
 mod verdicts;
 
 pub use decisions::{decide, decide_at, decide_at_with, decide_knowing, decide_with};

@@ -1,24 +1,25 @@
 //! What a polynomial at the value of a word says of a module, by one vector.
 
-ghost use Rattle.std.specs.Prelude.{◌≡◌, ◌<◌, ◌≤◌, length, None, IfSome};
+ghost use Rattle.std.specs.Prelude.{◌≡◌, ◌≤◌, None, IfSome};
 ghost use Rattle.axe_polynomial_algebra.specs.PolynomialsOfLists.{degree_of};
 ghost use Rattle.axe_row.specs.Refusals.{Answers};
 ghost use Rattle.axe_poly.specs.Limits.{greatest_degree};
 ghost use Rattle.axe_spin.specs.Modules.{IsModule};
 ghost use Rattle.axe_word.specs.Words.{IsWordIn};
-ghost use Rattle.axe_word.specs.Tested.{IsTested};
-ghost use Rattle.axe_norton.specs.Searches.{IsSquareIn, TellsByFirst, IsKeptTranspose};
+ghost use Rattle.axe_word.specs.declared.tested.Tested.{Tested};
+ghost use Rattle.axe_norton.specs.Searches.{IsSquareIn, TellsByFirst, IsKeptTranspose, AreSingularSpaces};
 ghost use Rattle.axe_norton.specs.Verdicts.{IsTrueOf};
 ghost use Rattle.axe_norton.specs.OneVector.{FitsWord, TellsByOne, SaysByPoly, SaysWhereFits};
 
 use crate::factors::first_fitting;
 use crate::fitting::tested_where_word_fits;
 use crate::spaces::{proper_space, transposed_point, transposed_space};
+use crate::value_spaces::ValueSpaces;
 use crate::verdicts::At;
 use axe_matrix::{Matrix, Refusal};
 use axe_poly::{Irreducibles, Poly};
 use axe_spin::Module;
-use axe_word::{Tested, Word, first_point};
+use axe_word::{Word, first_point};
 use std::alloc::Global;
 
 /// What an irreducible polynomial p says of a module by a word of it, at whose value x it fits: the degree of p is the
@@ -34,7 +35,8 @@ pub fn decide_poly(alloc: Global, module: &Module, word: &Word, poly: &Poly) -> 
 {
     let tested = word.tested_by_poly(alloc, module, poly)?;
     let poly = poly.copy(alloc)?;
-    test_by_one(alloc, module, poly, tested, &mut None)
+    let spaces = ValueSpaces::of(tested);
+    test_by_one(alloc, module, poly, spaces, &mut None)
 }
 
 /// What [`decide_poly`] says by a polynomial p over the module's field, of at most the greatest degree; nothing exactly
@@ -55,7 +57,8 @@ pub fn decide_poly_where_fits(
         return Ok(None);
     };
     let poly = poly.copy(alloc)?;
-    Ok(Some(test_by_one(alloc, module, poly, tested, &mut None)?))
+    let spaces = ValueSpaces::of(tested);
+    Ok(Some(test_by_one(alloc, module, poly, spaces, &mut None)?))
 }
 
 /// What the first small factor that fits a square matrix tells of a module by one vector; the module is left open where
@@ -78,31 +81,30 @@ pub(crate) fn test_by_factor(
     // `dim` is called for what it ensures beside the number: that the module is one.
     prove!(matrix.cols() == module.dim());
     match first_fitting(alloc, table, matrix)? {
-        Some(found) => test_by_one(alloc, module, found.poly, found.tested, kept),
+        Some(found) => test_by_one(alloc, module, found.poly, found.spaces, kept),
         None => Ok(At::Left),
     }
 }
 
 /// What a polynomial p that fits a square matrix x tells of a module by the first points of the null spaces of p(x) and
-/// of its transpose. The matrix is p(x), which is singular.
+/// of its transpose. The spaces are those of p(x), which is singular.
 fn test_by_one(
     alloc: Global,
     module: &Module,
     poly: Poly,
-    tested: Tested,
+    spaces: ValueSpaces,
     kept: &mut Option<Module>,
 ) -> Result<At, Refusal>
-    requires square { IsSquareIn «module».now tested.matrix }
-    requires tested { IsTested tested }
-    requires some_row { 0 < length tested.null_space.rows }
+    requires spaces { (t : Tested) × AreSingularSpaces «module».now t spaces }
     requires kept { IsKeptTranspose «module».now kept.old }
-    ensures tells { Answers None (TellsByOne «module».now poly tested.matrix tested.null_space) result }
+    ensures tells { (t : Tested) → AreSingularSpaces «module».now t spaces →
+        Answers None (TellsByOne «module».now poly t.matrix t.null_space) result }
     ensures well_formed { IsModule «module».now }
     ensures kept { IsKeptTranspose «module».now kept.new }
 {
-    let Tested { matrix, null_space } = tested;
-    // `dim` is called for what it ensures beside the number: that the module is one.
-    prove!(matrix.cols() == module.dim());
+    let ValueSpaces { null_space, rows } = spaces;
+    // `dim` and `cols` are called for what they ensure beside the numbers: that the two are a module and a matrix.
+    prove!(rows.cols() == module.dim());
     let point = first_point(alloc, &null_space)?;
     // Its memory is free again before the point is spun.
     drop(null_space);
@@ -110,9 +112,9 @@ fn test_by_one(
     if let Some(space) = proper_space(alloc, module, point)? {
         return Ok(At::Reducible(space));
     }
-    let transposed = transposed_point(alloc, &matrix)?;
-    // Its memory is free again before the transposed module is made.
-    drop(matrix);
+    let transposed = transposed_point(alloc, &rows)?;
+    // Their memory is free again before the transposed module is made.
+    drop(rows);
     if let Some(space) = transposed_space(alloc, module, transposed, kept)? {
         return Ok(At::Reducible(space));
     }

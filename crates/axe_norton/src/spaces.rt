@@ -1,18 +1,15 @@
 //! The spaces that points of null spaces generate in a module and in the transposed one.
 
 ghost use Rattle.std.specs.Prelude.{◌≡◌, ◌<◌, length, All, None};
-ghost use Rattle.axe_algebra.specs.Lists.{IsSquareOver};
-ghost use Rattle.axe_field.specs.NumberFields.{number_field};
 ghost use Rattle.axe_row.specs.Operations.{IsZeroVector};
 ghost use Rattle.axe_row.specs.Refusals.{Answers};
 ghost use Rattle.axe_matrix.specs.Matrices.{vector_product};
 ghost use Rattle.axe_spin.specs.Modules.{ModuleValue};
 ghost use Rattle.axe_action.specs.Actions.{dual_module};
-ghost use Rattle.axe_reduction.specs.Solutions.{IsInvertibleMatrix};
 ghost use Rattle.axe_word.specs.PointsOfMatrix.{points_of};
 ghost use Rattle.axe_norton.specs.Spaces.{GeneratesModule, HasFewPoints, point_of};
 ghost use Rattle.axe_norton.specs.Searches.{IsTestedWord, FindsProper, FindsProperSpace, FindsFirstOf, FindsTried};
-ghost use Rattle.axe_norton.specs.Searches.{IsTransposedPointRow, FindsTransposed, IsKeptTranspose};
+ghost use Rattle.axe_norton.specs.Searches.{HasOrthogonalVector, IsTransposedPointRow, FindsTransposed, IsKeptTranspose};
 ghost use Rattle.axe_norton.specs.Pairings.{AreNullSpaces, AreCoordinatesOfPoint, IsPairing};
 
 use crate::pairings::{is_seen_to_generate, pairings};
@@ -179,17 +176,16 @@ fn proper_combination(
     proper_space(alloc, module, point)
 }
 
-/// The first point of the null space of the transpose of a singular matrix.
-pub(crate) fn transposed_point(alloc: Global, matrix: &Matrix) -> Result<Row, Refusal>
-    requires square { IsSquareOver (number_field matrix.now.order) matrix.now.cols matrix.now.rows }
-    requires singular { ¬ (IsInvertibleMatrix matrix.now) }
-    ensures { Answers None (IsTransposedPointRow matrix.now) result }
+/// The first point of the null space of the transpose of a matrix with these rows, or with others that span the same. It
+/// need not be square, but something other than zero is orthogonal to the rows.
+pub(crate) fn transposed_point(alloc: Global, rows: &Matrix) -> Result<Row, Refusal>
+    requires { HasOrthogonalVector rows.now }
+    ensures { Answers None (IsTransposedPointRow rows.now) result }
 {
     // `cols` is called for what it ensures beside the number: that the matrix is one.
-    prove!(matrix.cols() >= 1);
-    match orthogonal_point(alloc, matrix)? {
+    prove!(rows.cols() >= 1);
+    match orthogonal_point(alloc, rows)? {
         Some(point) => Ok(point),
-        // Some vector other than zero is orthogonal to the rows of a singular matrix.
         None => unreachable!(),
     }
 }

@@ -28,7 +28,8 @@ use Rattle.axe_norton.specs.Searches.{IsReducedIn, IsSquareIn, FindsProper, Find
 use Rattle.axe_norton.proofs.TestedLaws.{IsNullSpaceOver, transposed_over, null_point}
 use Rattle.axe_norton.proofs.TruthLaws.{dual_is_module}
 use Rattle.axe_norton.proofs.OpenLaws.{own_square}
-use Rattle.axe_norton.proofs.SearchLaws.{everything_generated, proper_generated, proper_reduced, point_in, some_point_in, found_of_all, found_of_first, transposed_point_is}
+use Rattle.axe_norton.proofs.SearchLaws.{everything_generated, proper_generated, proper_reduced, point_in, some_point_in, found_of_all, found_of_first}
+use Rattle.axe_norton.proofs.SearchLaws.{singular_has_orthogonal, transposed_row_is}
 use Rattle.axe_series.proofs.SomeAnnihilator.{some_annihilator}
 use mathlib.Core.Logic.{inl, inr}
 use mathlib.Core.Path.{refl, sym, subst}
@@ -186,7 +187,9 @@ module _ (m : ModuleValue) (is : IsModule m) (matrix : MatrixValue) (in_module :
       (omega (arith, well.some_column, transposed.length_is)))
     where
       from : SomeMatrix (IsNullSpaceMatrix (transposed_matrix matrix)) → TransposedPoint matrix
-      from (null, (is_null, formed)) = transposed_point_is matrix null square singular is_null formed
+      from (null, (is_null, formed)) =
+          (transposed_row_is matrix square.matrix (singular_has_orthogonal matrix square singular) null
+          (record { order = null.order; entries = point_of null 0 }) is_null formed refl).point
 
   -- the first point of the transpose's null space generates everything under the transposes, or a proper space
   pub some_transposed : ¬ (IsInvertibleMatrix matrix) → SomeFound (FindsInTranspose m matrix)

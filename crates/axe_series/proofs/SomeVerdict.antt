@@ -1,6 +1,7 @@
 -- A word says something of every module, and the words of a seed decide something.
 use Rattle.std.specs.Prelude.{ℕ, zero, suc, ◌<◌, ◌≤◌, ◌⊎◌, length, Some, None}
 use Rattle.axe_algebra.specs.Lists.{IsSquareOver}
+use Rattle.axe_algebra.proofs.ListVectors.{same_span_refl}
 use Rattle.axe_field.specs.Order.{order_number}
 use Rattle.axe_field.specs.NumberFields.{number_field}
 use Rattle.axe_row.specs.Rows.{RowValue}
@@ -17,7 +18,7 @@ use Rattle.axe_norton.specs.declared.verdicts.Verdict
 use Rattle.axe_norton.specs.declared.verdicts.At.{At}
 use Rattle.axe_norton.specs.declared.verdicts.At.TheVariants.{Irreducible, Reducible, Left}
 use Rattle.axe_norton.specs.Spaces.{point_of, GeneratesModule, TriedGenerate}
-use Rattle.axe_norton.specs.Searches.{FindsProper, FindsFirst, IsReducedIn, IsSquareIn}
+use Rattle.axe_norton.specs.Searches.{FindsProper, FindsFirst, IsReducedIn, IsSquareIn, AreSingularSpaces}
 use Rattle.axe_norton.specs.SmallFactors.{IsFirstFitting, NoneFits}
 use Rattle.axe_norton.specs.OneVector.{TellsByOne}
 use Rattle.axe_norton.specs.Verdicts.{IsLeftByPoints, TellsByPoints, TellsByFactor, Tells, Says, Decides, LeaveOpenBefore}
@@ -26,7 +27,7 @@ use Rattle.axe_norton.proofs.OpenLaws.{own_square}
 use Rattle.axe_norton.proofs.SearchLaws.{point_in, some_point_in}
 use Rattle.axe_norton.proofs.TestedLaws.{value_square, null_in_module}
 use Rattle.axe_norton.proofs.DecisionLaws.{left_without_rows, singular_with_rows, irreducible_told, left_told}
-use Rattle.axe_norton.proofs.DecisionLaws.{fitted_square, fitted_rows, none_before, open_more, undecided}
+use Rattle.axe_norton.proofs.DecisionLaws.{fitted_spaces, none_before, open_more, undecided}
 use Rattle.axe_iso.proofs.SomeForm.{some_value}
 use Rattle.axe_series.proofs.SomeFactor.{SomeTested, some_first_fitting, some_tested}
 use Rattle.axe_series.proofs.SomeSearch.{SomeFound, SomeMatrix, FindsInTranspose, some_proper, some_first, some_transposed}
@@ -141,10 +142,18 @@ module _ (m : ModuleValue) (is : IsModule m) (matrix : MatrixValue) (in_module :
   told_by_factor : IsLeftByPoints m matrix null → (p : PolyValue) → IsFirstFitting matrix p → SomeTested p matrix →
       SomeToldByFactor m matrix null
   told_by_factor left p first (t, (is_tested, formed)) =
-      from (some_told_by_one m is t.matrix (fitted_square m matrix in_module p first.fitting t is_tested) formed
-      t.null_space is_tested.tested.null_space is_tested.tested.well_formed
-      (fitted_rows m matrix in_module p first.fitting t is_tested) p)
+      from (some_told_by_one m is t.matrix singular.square formed t.null_space is_tested.tested.null_space
+      is_tested.tested.well_formed singular.some_row p)
     where
+      -- p(x) is singular, by its own rows
+      singular : AreSingularSpaces m t (record { null_space = t.null_space; rows = t.matrix })
+      singular = fitted_spaces m matrix in_module p first.fitting t is_tested _ (record {
+        null_space = refl;
+        field = refl;
+        columns = refl;
+        span = same_span_refl (number_field t.matrix.order) t.matrix.rows;
+      })
+
       from : SomeToldByOne m p t.matrix t.null_space → SomeToldByFactor m matrix null
       from (answer, tells) = (
         answer,

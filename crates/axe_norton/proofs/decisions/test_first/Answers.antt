@@ -1,5 +1,5 @@
 use Rattle.axe_norton.proofs.SearchLaws.{transposed_point_field, transposed_point_fits, transposed_point_nonzero}
-use Rattle.axe_norton.proofs.FirstLaws.{many_square, many_own, many_singular, many_field, many_fits, many_nonzero, many_proper, many_transposed, many_left}
+use Rattle.axe_norton.proofs.FirstLaws.{many_square, many_orthogonal, many_field, many_fits, many_nonzero, many_proper, many_transposed, many_left}
 use Rattle.axe_norton.proofs.decisions.test_first.Goals as goal
 
 pub proper_space-requires-clause-field : goal.proper_space-requires-clause-field
@@ -15,11 +15,8 @@ pub returns-in-Some-clause-tells : goal.returns-in-Some-clause-tells
 returns-in-Some-clause-tells c =
     many_proper c.args.module.now c.args.matrix.now c.args.point c.requires.value c.in-Some.space (rw c.in-Some.is at c.in_ok-space.ensures)
 
-pub transposed_point-requires-clause-square : goal.transposed_point-requires-clause-square
-transposed_point-requires-clause-square c = many_own c.args.module.now c.args.matrix.now c.args.point c.requires.value
-
-pub transposed_point-requires-clause-singular : goal.transposed_point-requires-clause-singular
-transposed_point-requires-clause-singular c = many_singular c.args.module.now c.args.matrix.now c.args.point c.requires.value
+pub transposed_point-requires : goal.transposed_point-requires
+transposed_point-requires c = many_orthogonal c.args.module.now c.args.matrix.now c.args.point c.requires.value
 
 pub transposed_space-requires-clause-field : goal.transposed_space-requires-clause-field
 transposed_space-requires-clause-field c =

@@ -1,7 +1,5 @@
 use Rattle.std.proofs.Common.{◌+◌, ap, arith}
 use Rattle.axe_poly.specs.Limits.{greatest_degree}
-use Rattle.axe_norton.specs.SmallFactors.{first_unit_row}
-use Rattle.axe_norton.proofs.MisfitLaws.{basis_like}
 use Rattle.axe_norton.proofs.FactorLaws.{none_up_to_0, first_where_some, none_where_none, none_fits}
 use Rattle.axe_norton.proofs.factors.first_fitting_divisor.Goals as goal
 
@@ -18,10 +16,6 @@ fitting_of_degree-requires-clause-field c = c.loop-below.invariant.field
 
 pub fitting_of_degree-requires-clause-next : goal.fitting_of_degree-requires-clause-next
 fitting_of_degree-requires-clause-next c = omega (arith, c.loop-below.invariant.reached)
-
-pub fitting_of_degree-requires-clause-first : goal.fitting_of_degree-requires-clause-first
-fitting_of_degree-requires-clause-first c =
-    basis_like c.args.matrix.now (first_unit_row c.args.matrix.now) c.args.first.now c.requires.first
 
 pub fitting_of_degree-requires-clause-second : goal.fitting_of_degree-requires-clause-second
 fitting_of_degree-requires-clause-second c = c.loop-below.invariant.second

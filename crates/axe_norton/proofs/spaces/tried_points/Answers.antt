@@ -1,7 +1,7 @@
 use Rattle.std.proofs.Common.{◌≡◌, length, arith}
 use Rattle.axe_word.proofs.ReducedNullSpaces.{null_is_reduced}
 use Rattle.axe_norton.specs.Spaces.{GeneratesModule, point_of}
-use Rattle.axe_norton.proofs.TriedLaws.{none_of_one, singular, first_fits, first_nonzero, first_generates, first_found}
+use Rattle.axe_norton.proofs.TriedLaws.{none_of_one, has_orthogonal, first_fits, first_nonzero, first_generates, first_found}
 use Rattle.axe_norton.proofs.spaces.tried_points.Goals as goal
 
 pub first_point-requires-clause-reduced : goal.first_point-requires-clause-reduced
@@ -20,8 +20,8 @@ returns-in-Some c =
     first_found c.args.module.now c.args.matrix.now c.args.null_space.now c.requires.value c.requires.some_row c.in_ok-point.point c.in_ok-point.ensures.first
     c.in-Some.space (rw c.in-Some.is at c.in_ok-space.ensures)
 
-pub transposed_point-requires-clause-singular : goal.transposed_point-requires-clause-singular
-transposed_point-requires-clause-singular c = singular c.args.module.now c.args.matrix.now c.args.null_space.now c.requires.value c.requires.some_row
+pub transposed_point-requires : goal.transposed_point-requires
+transposed_point-requires c = has_orthogonal c.args.module.now c.args.matrix.now c.args.null_space.now c.requires.value c.requires.some_row
 
 pub returns : goal.returns
 returns c =

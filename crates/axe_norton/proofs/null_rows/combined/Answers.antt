@@ -1,5 +1,5 @@
 use Rattle.axe_norton.proofs.MisfitLaws.{like_sum}
-use Rattle.axe_norton.proofs.misfits.combined.Goals as goal
+use Rattle.axe_norton.proofs.null_rows.combined.Goals as goal
 
 pub loop-index-preserved : goal.loop-index-preserved
 loop-index-preserved c =
