@@ -1,6 +1,7 @@
 //! Products of a row vector and a matrix, row by row.
 
 ghost use Rattle.std.specs.Prelude.{◌≡◌, ◌+◌, ◌*◌, ◌/◌, ◌<◌, ◌≤◌, IfSome, MatchOption, length};
+ghost use Rattle.std.specs.Prelude.{slice_index};
 ghost use Rattle.axe_layer.specs.Supports.{AreNextFour, IsSupportWord};
 ghost use Rattle.axe_field.specs.Arithmetic.{field_mul};
 ghost use Rattle.axe_field.specs.Order.{degree_of, order_number, IsElement};
@@ -64,7 +65,8 @@ impl Matrix {
         prove!(vector.len() == self.rows());
         let mut sum = RowSum::take(row);
         let mut next = 0;
-        while let Some(four) = next_four(vector, next) {
+        let mut word = vector.support_word(0);
+        while let Some(four) = next_four(vector, next, &mut word) {
             let entries = vector.entries_at(four);
             let (first, second) = (self.row(four[0]), self.row(four[1]));
             sum.add_four_multiples(entries, first, second, self.row(four[2]), self.row(four[3]));
@@ -184,7 +186,8 @@ impl Matrix {
         prove!(row.len() == self.cols());
         prove!(vector.len() == self.rows());
         let mut at = 0;
-        while let Some(four) = next_four(vector, at) {
+        let mut word = vector.support_word(0);
+        while let Some(four) = next_four(vector, at, &mut word) {
             let (first, second) = (self.row(four[0]), self.row(four[1]));
             row.add_four_rows(first, second, self.row(four[2]), self.row(four[3]));
             at = four[3] + 1;
@@ -209,7 +212,8 @@ impl Matrix {
         prove!(row.len() == self.cols());
         prove!(vector.len() == self.rows());
         let mut start = 0;
-        while let Some(four) = next_four(vector, start) {
+        let mut word = vector.support_word(0);
+        while let Some(four) = next_four(vector, start, &mut word) {
             let factors = vector.entries_at(four);
             let (first, second) = (self.row(four[0]), self.row(four[1]));
             row.add_four_multiples(factors, first, second, self.row(four[2]), self.row(four[3]));
@@ -256,17 +260,26 @@ fn next_in_row(row: &Row, start: usize, word: &mut u64) -> Option<usize>
 }
 
 /// The indices of the next four entries of a row other than 0 from an index on, or `None` where there are fewer. Mostly
-/// one word of the row's support has all four.
+/// one word of the row's support has all four. The word in which that index stands is given, and becomes the one in
+/// which the index after the four stands, so that a word is read once for all its entries.
 #[inline(always)]
-fn next_four(row: &Row, start: usize) -> Option<[usize; 4]>
-    requires { start ≤ length row.now.entries }
-    ensures { IfSome result (AreNextFour row.now.entries start) }
+fn next_four(row: &Row, start: usize, word: &mut u64) -> Option<[usize; 4]>
+    requires start { start ≤ length row.now.entries }
+    requires word { IsSupportWord row.now.entries (start / 64) word.old }
+    ensures four { IfSome result (AreNextFour row.now.entries start) }
+    ensures word { IfSome result (λ four. IsSupportWord row.now.entries ((slice_index four 3 + 1) / 64) word.new) }
 {
-    let word = row.support_word(start / WORD);
-    if let Some(four) = four_in_word(word, start) {
-        return Some(four);
+    // `len` is called for what it says of the length: that it is a number of the machine, so that no sum below wraps.
+    prove!(start <= row.len());
+    let four = match four_in_word(*word, start) {
+        Some(four) => four,
+        None => next_four_by_entries(row, start, *word)?,
+    };
+    let next = (four[3] + 1) / WORD;
+    if next != start / WORD {
+        *word = row.support_word(next);
     }
-    next_four_by_entries(row, start, word)
+    Some(four)
 }
 
 /// The indices of the next four entries of a row other than 0 from an index on, one after another, or `None` where

@@ -17,6 +17,7 @@ loop-four-init c = record {
   field = c.requires.row_field;
   so_far = no_terms c.args.self.now c.args.row.now.entries 1 c.args.vector.now.entries (one_is_element c.args.self.now.order)
       (subst (λ (o : Order). All (IsElement o) c.args.row.now.entries) c.requires.row_field c.len.ensures.well_formed.elements) c.requires.columns_fit;
+  word = c.support_word-word.ensures;
   well_formed = c.len.ensures.well_formed;
 }
 
@@ -45,12 +46,13 @@ loop-four-preserved c =
       row = subst (λ (o : Order). All (IsElement o) c.args.row.now.entries) c.requires.row_field c.len.ensures.well_formed.elements;
       vector = subst (λ (o : Order). All (IsElement o) c.args.vector.now.entries) c.requires.vector_field c.len-2.ensures.well_formed.elements;
     })
-    (record { field = c.loop-four.invariant.field; entries = c.loop-four.invariant.so_far }) c.in-Some.ensures
+    (record { field = c.loop-four.invariant.field; entries = c.loop-four.invariant.so_far }) c.in-Some.ensures.four
     c.row-first.ensures.value c.row-second.ensures.value c.row.ensures.value c.row-in-Some.ensures.value in
     record {
-      fits = omega (arith, c.in-Some.ensures.fourth.within);
+      fits = omega (arith, c.in-Some.ensures.four.fourth.within);
       field = ap (λ (r : RowValue). r.order) c.add_four_rows.ensures.sum ∙ after.field;
       so_far = ap (λ (r : RowValue). r.entries) c.add_four_rows.ensures.sum ∙ after.entries;
+      word = c.in-Some.ensures.word;
       well_formed = c.add_four_rows.ensures.well_formed;
     }
 

@@ -17,11 +17,12 @@ loop-four-init c = record {
   field = c.requires.row_field;
   so_far = no_terms c.args.self.now c.args.row.now.entries 1 c.args.vector.now.entries (one_is_element c.args.self.now.order)
       (subst (λ (o : Order). All (IsElement o) c.args.row.now.entries) c.requires.row_field c.len.ensures.well_formed.elements) c.requires.columns_fit;
+  word = c.support_word-word.ensures;
   well_formed = c.len.ensures.well_formed;
 }
 
 pub entries_at-factors-requires : goal.entries_at-factors-requires
-entries_at-factors-requires c = four_within c.args.vector.now.entries c.in-Some.four c.loop-four.start c.in-Some.ensures
+entries_at-factors-requires c = four_within c.args.vector.now.entries c.in-Some.four c.loop-four.start c.in-Some.ensures.four
 
 pub add_four_multiples-requires-clause-prime : goal.add_four_multiples-requires-clause-prime
 add_four_multiples-requires-clause-prime c = ap degree_of c.loop-four.invariant.field ∙ c.requires.prime
@@ -30,7 +31,7 @@ pub add_four_multiples-requires-clause-factors : goal.add_four_multiples-require
 add_four_multiples-requires-clause-factors c =
     four_factors (IsElement c.loop-four.row.order) c.args.vector.now.entries c.in-Some.four c.entries_at-factors.result c.loop-four.start c.entries_at-factors.ensures.entries
     (subst (λ (o : Order). All (IsElement o) c.entries_at-factors.result) (c.requires.vector_field ∙ sym c.loop-four.invariant.field) c.entries_at-factors.ensures.elements)
-    c.in-Some.ensures
+    c.in-Some.ensures.four
 
 pub add_four_multiples-requires-clause-a : goal.add_four_multiples-requires-clause-a
 add_four_multiples-requires-clause-a c =
@@ -59,12 +60,13 @@ loop-four-preserved c =
       row = subst (λ (o : Order). All (IsElement o) c.args.row.now.entries) c.requires.row_field c.len.ensures.well_formed.elements;
       vector = subst (λ (o : Order). All (IsElement o) c.args.vector.now.entries) c.requires.vector_field c.len-2.ensures.well_formed.elements;
     })
-    (record { field = c.loop-four.invariant.field; entries = c.loop-four.invariant.so_far }) c.in-Some.ensures (is 0) (is 1) (is 2) (is 3)
+    (record { field = c.loop-four.invariant.field; entries = c.loop-four.invariant.so_far }) c.in-Some.ensures.four (is 0) (is 1) (is 2) (is 3)
     c.row-first.ensures.value c.row-second.ensures.value c.row.ensures.value c.row-in-Some.ensures.value in
     record {
-      fits = omega (arith, c.in-Some.ensures.fourth.within);
+      fits = omega (arith, c.in-Some.ensures.four.fourth.within);
       field = ap (λ (r : RowValue). r.order) c.add_four_multiples.ensures.sum ∙ after.field;
       so_far = ap (λ (r : RowValue). r.entries) c.add_four_multiples.ensures.sum ∙ after.entries;
+      word = c.in-Some.ensures.word;
       well_formed = c.add_four_multiples.ensures.well_formed;
     }
 

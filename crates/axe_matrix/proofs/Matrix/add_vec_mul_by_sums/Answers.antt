@@ -22,11 +22,12 @@ loop-four-init c =
       so_far =
           ap (λ (r : RowValue). r.entries) c.take-sum.ensures.value
           ∙ no_terms c.args.self.now c.args.row.now.entries 1 c.args.vector.now.entries (one_is_element c.args.self.now.order) over.row c.requires.columns_fit;
+      word = c.support_word-word.ensures;
       well_formed = c.take-sum.ensures.well_formed;
     }
 
 pub entries_at-entries-requires : goal.entries_at-entries-requires
-entries_at-entries-requires c = four_within c.args.vector.now.entries c.in-Some.four c.loop-four.next c.in-Some.ensures
+entries_at-entries-requires c = four_within c.args.vector.now.entries c.in-Some.four c.loop-four.next c.in-Some.ensures.four
 
 pub add_four_multiples-requires-clause-factors : goal.add_four_multiples-requires-clause-factors
 add_four_multiples-requires-clause-factors c = λ i below.
@@ -57,12 +58,13 @@ loop-four-preserved c =
     c.requires.row_field c.requires.vector_field in
     let after =
     next_four_multiples c.args.self.now c.args.row.now.entries c.args.vector.now.entries c.loop-four.next c.in-Some.four _ _ _ _ c.loop-four.sum _ _ _ _ over
-    (record { field = c.loop-four.invariant.field; entries = c.loop-four.invariant.so_far }) c.in-Some.ensures (is 0) (is 1) (is 2) (is 3)
+    (record { field = c.loop-four.invariant.field; entries = c.loop-four.invariant.so_far }) c.in-Some.ensures.four (is 0) (is 1) (is 2) (is 3)
     c.row-first.ensures.value c.row-second.ensures.value c.row.ensures.value c.row-in-Some.ensures.value in
     record {
-      fits = omega (arith, c.in-Some.ensures.fourth.within);
+      fits = omega (arith, c.in-Some.ensures.four.fourth.within);
       field = ap (λ (r : RowValue). r.order) c.add_four_multiples.ensures.sum ∙ after.field;
       so_far = ap (λ (r : RowValue). r.entries) c.add_four_multiples.ensures.sum ∙ after.entries;
+      word = c.in-Some.ensures.word;
       well_formed = c.add_four_multiples.ensures.well_formed;
     }
 
