@@ -39,13 +39,18 @@ pub fn reduce_bytes(bytes: &mut [u8], p: u8)
     requires small { p ≤ 7 }
     ensures { bytes.new ≡ map (λ byte. byte % p) bytes.old }
 {
-    let whole = bytes.len() / BLOCK;
+    if bytes.len() < BLOCK {
+        reduce_one_by_one(bytes, p);
+        return;
+    }
+    let end = bytes.len() - BLOCK;
+    // The last block may overlap with the one before it: its remainders are taken first and put last.
+    let last = remainders(u8x32::from_slice(&bytes[end..]), p);
+    let whole = (bytes.len() - 1) / BLOCK;
     for block in 0..whole {
         reduce_block(bytes, p, block * BLOCK);
     }
-    for at in whole * BLOCK..bytes.len() {
-        bytes[at] %= p;
-    }
+    last.copy_to_slice(&mut bytes[end..]);
 }
 
 /// Adds a multiple of a row over the field of 5 or 7 elements to a list of sums, bytes below 16 p that stand for their
@@ -146,6 +151,16 @@ fn sum4_of(dst: &[u8], a: &[u8], b: &[u8], c: &[u8], d: &[u8], at: usize) -> u8x
     let two = u8x32::from_slice(&a[at..]) + u8x32::from_slice(&b[at..]);
     let four = two + u8x32::from_slice(&c[at..]) + u8x32::from_slice(&d[at..]);
     u8x32::from_slice(&dst[at..]) + four
+}
+
+/// Makes each byte its remainder, as [`reduce_bytes`] does, byte by byte.
+fn reduce_one_by_one(bytes: &mut [u8], p: u8)
+    requires large { 4 ≤ p }
+    ensures { bytes.new ≡ map (λ byte. byte % p) bytes.old }
+{
+    for at in 0..bytes.len() {
+        bytes[at] %= p;
+    }
 }
 
 /// The block of remainders from an index on.

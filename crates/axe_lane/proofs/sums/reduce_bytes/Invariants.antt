@@ -4,6 +4,3 @@ use Rattle.axe_lane.proofs.sums.reduce_bytes.Given as goal
 
 abbrev pub invariant-loop-block : goal.invariant-loop-block
 invariant-loop-block l = l.bytes ≡ combined_to (λ x y. x % l.p) (l.block * 32) l.fn.bytes l.fn.bytes
-
-abbrev pub invariant-loop-at : goal.invariant-loop-at
-invariant-loop-at l = l.bytes ≡ combined_to (λ x y. x % l.p) l.at l.fn.bytes l.fn.bytes
