@@ -19,6 +19,7 @@ mod parts;
 mod products;
 mod strips;
 mod sums;
+mod terms;
 mod transposes;
 mod vectors;
 

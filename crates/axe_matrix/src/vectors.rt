@@ -34,8 +34,11 @@ impl Matrix {
         // `len` is called for what it ensures beside the length: that the entries are elements of the field.
         prove!(row.len() == self.cols());
         prove!(vector.len() == self.rows());
-        if scalar == 1 && self.field().degree() != 1 && self.has_many_entries(vector) {
-            return self.add_by_values(vector, row);
+        if self.field().degree() != 1 {
+            if scalar == 1 && self.has_many_entries(vector) {
+                return self.add_by_values(vector, row);
+            }
+            return self.add_terms(scalar, vector, row);
         }
         if scalar == 1 && self.field().prime() > 3 {
             return self.add_vec_mul_by_sums(vector, row);
@@ -129,7 +132,7 @@ impl Matrix {
 
     /// The product of a scalar and an entry. Nothing is multiplied by 1, which most scalars are.
     #[inline(always)]
-    fn factor(&self, scalar: u8, entry: u8) -> u8
+    pub(crate) fn factor(&self, scalar: u8, entry: u8) -> u8
         requires scalar { IsElement self.now.order scalar }
         requires entry { IsElement self.now.order entry }
         ensures value { result ≡ field_mul self.now.order scalar entry }
@@ -143,14 +146,15 @@ impl Matrix {
         }
     }
 
-    /// Adds the first terms of a multiple of a row vector times this matrix to a row over its field, and answers how
-    /// many they are. Where the multiple is that by 1 over a prime field, they go as far as there are four more entries
-    /// of the vector that are not 0: multiples of four rows are added in one pass. Else there are none.
+    /// Adds the first terms of a multiple of a row vector times this matrix over a prime field to a row, and answers how
+    /// many they are. Where the multiple is that by 1, they go as far as there are four more entries of the vector that
+    /// are not 0: multiples of four rows are added in one pass. Else there are none.
     fn add_fours(&self, scalar: u8, vector: &Row, row: &mut Row) -> usize
         requires vector_field { vector.now.order ≡ self.now.order }
         requires row_field { row.old.order ≡ self.now.order }
         requires inner_fit { length vector.now.entries ≡ length self.now.rows }
         requires columns_fit { length row.old.entries ≡ self.now.cols }
+        requires prime { degree_of self.now.order ≡ 1 }
         requires element { IsElement self.now.order scalar }
         ensures within { result ≤ length vector.now.entries }
         ensures sum { row.new ≡ row_with_first_terms row.old scalar vector.now self.now result }
@@ -159,7 +163,7 @@ impl Matrix {
     {
         // `len` is called for what it ensures beside the length: that the entries are elements of the field.
         prove!(row.len() == self.cols());
-        if scalar != 1 || self.field().degree() != 1 {
+        if scalar != 1 {
             return 0;
         }
         if self.field().order() == 2 {
