@@ -93,15 +93,16 @@ pub fn add_multiple_over_nine(
         b.entry.0.now b.entry.1.now linear_ones.new linear_twos.new }
 {
     let (o, t, lo, lt) = (ones, twos, linear_ones, linear_twos);
-    match 3 * p + q {
+    // This is the number of the element p + q x: a caller that takes p and q from it has it at hand.
+    match p + 3 * q {
         0 => add_multiples::<0, 0, 0, 0>(o, t, lo, lt, a, b),
-        1 => add_multiples::<0, 1, 1, 1>(o, t, lo, lt, a, b),
-        2 => add_multiples::<0, 2, 2, 2>(o, t, lo, lt, a, b),
-        3 => add_multiples::<1, 0, 0, 1>(o, t, lo, lt, a, b),
+        1 => add_multiples::<1, 0, 0, 1>(o, t, lo, lt, a, b),
+        2 => add_multiples::<2, 0, 0, 2>(o, t, lo, lt, a, b),
+        3 => add_multiples::<0, 1, 1, 1>(o, t, lo, lt, a, b),
         4 => add_multiples::<1, 1, 1, 2>(o, t, lo, lt, a, b),
-        5 => add_multiples::<1, 2, 2, 0>(o, t, lo, lt, a, b),
-        6 => add_multiples::<2, 0, 0, 2>(o, t, lo, lt, a, b),
-        7 => add_multiples::<2, 1, 1, 0>(o, t, lo, lt, a, b),
+        5 => add_multiples::<2, 1, 1, 0>(o, t, lo, lt, a, b),
+        6 => add_multiples::<0, 2, 2, 2>(o, t, lo, lt, a, b),
+        7 => add_multiples::<1, 2, 2, 0>(o, t, lo, lt, a, b),
         _ => add_multiples::<2, 2, 2, 1>(o, t, lo, lt, a, b),
     }
 }
