@@ -93,17 +93,26 @@ pub fn add_multiple_over_nine(
         b.entry.0.now b.entry.1.now linear_ones.new linear_twos.new }
 {
     let (o, t, lo, lt) = (ones, twos, linear_ones, linear_twos);
-    // This is the number of the element p + q x: a caller that takes p and q from it has it at hand.
-    match p + 3 * q {
-        0 => add_multiples::<0, 0, 0, 0>(o, t, lo, lt, a, b),
+    // An element is told by its number. Either it or its negative is monic, or it is 0; and a row's negative is the row
+    // with its words exchanged. So there are four loops, and not nine, in each function that this one becomes part of.
+    let (minus_a, minus_b) = ((a.1, a.0), (b.1, b.0));
+    let (monic, a, b) = match p + 3 * q {
+        0 => (0, a, b),
+        1 => (1, a, b),
+        2 => (1, minus_a, minus_b),
+        3 => (3, a, b),
+        4 => (4, a, b),
+        5 => (5, a, b),
+        6 => (3, minus_a, minus_b),
+        7 => (5, minus_a, minus_b),
+        _ => (4, minus_a, minus_b),
+    };
+    match monic {
+        0 => {}
         1 => add_multiples::<1, 0, 0, 1>(o, t, lo, lt, a, b),
-        2 => add_multiples::<2, 0, 0, 2>(o, t, lo, lt, a, b),
         3 => add_multiples::<0, 1, 1, 1>(o, t, lo, lt, a, b),
         4 => add_multiples::<1, 1, 1, 2>(o, t, lo, lt, a, b),
-        5 => add_multiples::<2, 1, 1, 0>(o, t, lo, lt, a, b),
-        6 => add_multiples::<0, 2, 2, 2>(o, t, lo, lt, a, b),
-        7 => add_multiples::<1, 2, 2, 0>(o, t, lo, lt, a, b),
-        _ => add_multiples::<2, 2, 2, 1>(o, t, lo, lt, a, b),
+        _ => add_multiples::<2, 1, 1, 0>(o, t, lo, lt, a, b),
     }
 }
 
