@@ -13,6 +13,7 @@ ghost use Rattle.axe_lane.specs.Multiples.{to_constant_of_two, to_linear_of_two}
 ghost use Rattle.axe_lane.specs.Multiples.{to_constant_of_three, to_linear_of_three, to_quadratic_of_three};
 ghost use Rattle.axe_bits.specs.Combinations.{digits_with_two, digits_with_multiples, HasEntryOf};
 ghost use Rattle.axe_layer.specs.Packed.{packed_bit};
+ghost use Rattle.axe_layer.specs.Runs.{AreFollowed};
 
 use crate::BitTable;
 use axe_lane::{
@@ -163,14 +164,22 @@ impl BitPlane {
         })
     }
 
-    /// The plane of the digits at these indices, in their order.
-    pub fn select(&self, alloc: Global, indices: &[usize]) -> Result<BitPlane, AllocError>
-        requires { All (λ index. index < length self.now) indices.now }
+    /// The plane of the digits at these indices, in their order. Where bit e of `followed` is 1, index e is followed by
+    /// the next number, so that digits at consecutive indices are taken at once; a bit that is 0 or missing tells
+    /// nothing.
+    pub fn select(
+        &self,
+        alloc: Global,
+        indices: &[usize],
+        followed: &[u64],
+    ) -> Result<BitPlane, AllocError>
+        requires within { All (λ index. index < length self.now) indices.now }
+        requires followed { AreFollowed indices.now followed.now }
         ensures { IfOk result (λ plane. plane ≡ map (slice_index self.now) indices.now) }
     {
         let len = indices.len();
         let mut words = vec![in alloc; 0; len.div_ceil(WORD)]?;
-        fill_with_selected(&mut words, &self.words, indices);
+        fill_with_selected(&mut words, &self.words, indices, followed);
         Ok(BitPlane { len, words })
     }
 

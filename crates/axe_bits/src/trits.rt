@@ -12,6 +12,7 @@ ghost use Rattle.axe_bits.specs.Combinations.{digits_with_two};
 ghost use Rattle.axe_layer.specs.Digits.{digits_with_four, digits_with_multiple};
 ghost use Rattle.axe_layer.specs.Digits.{AreSmallSums, numbers_with_multiple, numbers_from, number_bound};
 ghost use Rattle.axe_layer.specs.Lanes.{in_lanes};
+ghost use Rattle.axe_layer.specs.Runs.{AreFollowed};
 
 use axe_lane::{WORD, add_multiple_over_nine, add_trits, add4_trits, any_nonzero, dot_trits};
 use axe_layer::{
@@ -147,9 +148,17 @@ impl TritPlane {
         })
     }
 
-    /// The plane of the digits at these indices, in their order.
-    pub fn select(&self, alloc: Global, indices: &[usize]) -> Result<TritPlane, AllocError>
-        requires { All (λ index. index < length self.now) indices.now }
+    /// The plane of the digits at these indices, in their order. Where bit e of `followed` is 1, index e is followed by
+    /// the next number, so that digits at consecutive indices are taken at once; a bit that is 0 or missing tells
+    /// nothing.
+    pub fn select(
+        &self,
+        alloc: Global,
+        indices: &[usize],
+        followed: &[u64],
+    ) -> Result<TritPlane, AllocError>
+        requires within { All (λ index. index < length self.now) indices.now }
+        requires followed { AreFollowed indices.now followed.now }
         ensures { IfOk result (λ plane. plane ≡ map (slice_index self.now) indices.now) }
     {
         let len = indices.len();
@@ -157,8 +166,8 @@ impl TritPlane {
         let mut words = vec![in alloc; 0; 2 * width]?;
         let (own_ones, own_twos) = self.layers();
         let (ones, twos) = words.split_at_mut(width);
-        fill_with_selected(ones, own_ones, indices);
-        fill_with_selected(twos, own_twos, indices);
+        fill_with_selected(ones, own_ones, indices, followed);
+        fill_with_selected(twos, own_twos, indices, followed);
         Ok(TritPlane { len, words })
     }
 

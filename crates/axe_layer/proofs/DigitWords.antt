@@ -1,5 +1,5 @@
 -- Words that are written one after another, from the digits modulo 2 that they are to hold.
-use Rattle.std.proofs.Common.{◌≡◌, ℕ, ◌+◌, ◌-◌, ◌⊎◌, ◌*◌, ◌/◌, ◌%◌, ◌^◌, ◌<◌, ◌≤◌, List, length, ◌++◌, take, drop, get_or, map, set, min, max, sym, ap, ap₂, subst, below_more, ◌∙◌, arith, inl, inr, get_or-set_same, get_or-set_other}
+use Rattle.std.proofs.Common.{◌≡◌, ℕ, ◌+◌, ◌-◌, ◌⊎◌, ◌*◌, ◌/◌, ◌%◌, ◌^◌, ◌<◌, ◌≤◌, List, length, ◌++◌, take, drop, get_or, map, set, min, max, sym, ap, ap₂, subst, ◌∙◌, arith, inl, inr, get_or-set_same, get_or-set_other}
 use Rattle.std.specs.Int.{bit_at}
 use Rattle.std.specs.Int.Bits.{bit_and, bit_or}
 use Rattle.std.proofs.lemmas.Bool.{cases_eq}
@@ -7,8 +7,8 @@ use Rattle.std.specs.List.{All}
 use Rattle.std.proofs.lemmas.List.{ext_get_or, get_or_past, get_or-map, length-map, length-set}
 use Rattle.std.proofs.lemmas.Nat.{pow_pos}
 use Rattle.std.proofs.lemmas.Nat.Bits.{shr_and_one, bit_at-lt, bit_at-zero, bit_at_above, bit_at_and, bit_at_or, bit_at_cat_high, bit_at_cat_low, bit_at_ones, bit_at_ones_above}
-use Rattle.std.proofs.lemmas.Simd.{get_or-chunk, length-put_chunk, put_chunk_is, get_or-put_chunk_below, get_or-put_chunk_at}
-use Rattle.std.specs.Simd.Lanes.{chunk, put_chunk}
+use Rattle.std.proofs.lemmas.Simd.{length-put_chunk, put_chunk_is, get_or-put_chunk_below, get_or-put_chunk_at}
+use Rattle.std.specs.Simd.Lanes.{put_chunk}
 use native.Mathlib.Decide.{dec_lt}
 use Rattle.axe_algebra.specs.Lists.{listed}
 use Rattle.axe_algebra.proofs.ListEntries.{listed_length, listed_at}
@@ -106,28 +106,14 @@ pub record AreGathered (words indices : List ℕ) (from at word : ℕ) : Type 0 
   pub done : (i : ℕ) → i < 64 → from + i < at → bit_at word i ≡ bit_of words (get_or indices (from + i) 0)
   pub left : (i : ℕ) → i < 64 → at ≤ from + i → bit_at word i ≡ 0
 
--- so many of the first indices, one at least, are numbers one after another
-pub record IsRunBelow (indices : List ℕ) (most count : ℕ) : Type 0 where
-  pub some : 1 ≤ count
-  pub within : count ≤ most
-  pub run : (i : ℕ) → i < count → get_or indices i 0 ≡ get_or indices 0 0 + i
-
-pub run_more : (indices : List ℕ) (most count : ℕ) → IsRunBelow indices most count → count < most →
-    get_or indices count 0 ≡ get_or indices 0 0 + count → IsRunBelow indices most (count + 1)
-run_more indices most count h room next = record {
-  some = omega arith;
-  within = omega arith;
-  run = below_more _ _ h.run next;
-}
-
 -- the digits of a run more
 pub gathered_more : (words indices : List ℕ) (from at end word low count : ℕ) → from ≤ at → end ≤ from + 64 → 1 ≤ count → count ≤ end - at →
     AreGathered words indices from at word →
-    ((i : ℕ) → i < count → get_or (chunk at (end - at) indices) i 0 ≡ get_or (chunk at (end - at) indices) 0 0 + i) →
+    ((k : ℕ) → k < count → get_or indices (at + k) 0 ≡ get_or indices at 0 + k) →
     ((i : ℕ) → i < 64 → i < count → bit_at low i ≡ bit_of words (get_or indices at 0 + i)) →
     ((i : ℕ) → i < 64 → count ≤ i → bit_at low i ≡ 0) →
     AreGathered words indices from (at + count) (bit_or word (low * 2 ^ (at - from) % 2 ^ 64))
-gathered_more words indices from at end word low count begun within some short h run taken cleared = record {
+gathered_more words indices from at end word low count begun within some short h index taken cleared = record {
   done = λ i small before. bit_at_or word up i ∙ elim (dec_lt i (at - from)) [
     | yes earlier ↦
         ap (max (bit_at word i)) (shifted_up_low low (at - from) i small earlier) ∙ max-zero (bit_at word i) ∙ h.done i small (omega arith)
@@ -146,14 +132,6 @@ gathered_more words indices from at end word low count begun within some short h
   where
     up : ℕ
     up = low * 2 ^ (at - from) % 2 ^ 64
-
-    there : (k : ℕ) → k < count → get_or (chunk at (end - at) indices) k 0 ≡ get_or indices (at + k) 0
-    there k below = get_or-chunk at (end - at) indices k 0 (omega arith)
-
-    index : (k : ℕ) → k < count → get_or indices (at + k) 0 ≡ get_or indices at 0 + k
-    index k below =
-        let first : at + 0 ≡ at = omega arith in
-        sym (there k below) ∙ run k below ∙ ap (λ n. n + k) (there 0 (omega arith) ∙ ap (λ j. get_or indices j 0) first)
 
 -- the word when all indices are done
 pub gathered_word : (words indices : List ℕ) (from at word i : ℕ) → AreGathered words indices from at word → i < 64 →

@@ -20,3 +20,4 @@ pub mod LowestBits
 pub mod FourPlaces
 pub mod LaneBits
 pub mod LaneSums
+pub mod RunLaws

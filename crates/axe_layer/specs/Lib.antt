@@ -5,3 +5,4 @@ pub mod Words
 pub mod Earlier
 pub mod Supports
 pub mod Lanes
+pub mod Runs

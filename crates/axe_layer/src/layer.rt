@@ -11,10 +11,12 @@ ghost use Rattle.axe_layer.specs.Bits.{bits, HoldsBits};
 ghost use Rattle.axe_layer.specs.Digits.{AreSmallSums, digits_at, numbers_with_multiple};
 ghost use Rattle.axe_layer.specs.Digits.{number_from, numbers_from, number_bound};
 ghost use Rattle.axe_layer.specs.Packed.{pieces_in_base};
+ghost use Rattle.axe_layer.specs.Runs.{AreFollowed};
 
 use crate::base_three::in_base_three;
 use crate::packed::numbers_of_pieces;
-use crate::parts::{add_spread, gathered, lowest, spread, word_from};
+use crate::parts::{add_spread, lowest, spread, with_bit, word_from};
+use crate::runs::gathered;
 use axe_lane::{WORD, bits_of_bytes, first_set};
 
 /// Makes words, as many as the digits take, the layer of the bits that numbers have at a place, the lowest being at 0.
@@ -30,16 +32,26 @@ pub fn fill_with_bits(words: &mut [u64], numbers: &[u8], place: u8)
 }
 
 /// Makes words, as many as the digits take, the layer of the digits that another layer has at these indices, in their
-/// order. Indices are counted from 0.
-pub fn fill_with_selected(words: &mut [u64], layer: &[u64], indices: &[usize])
+/// order. Indices are counted from 0. Where bit e of `followed` is 1, index e is followed by the next number, so that
+/// digits at consecutive indices are taken at once; a bit that is 0 or missing tells nothing.
+pub fn fill_with_selected(words: &mut [u64], layer: &[u64], indices: &[usize], followed: &[u64])
     requires long { length words.old ≡ (length indices.now + 63) / 64 }
     requires within { All (λ index. index / 64 < length layer.now) indices.now }
+    requires followed { AreFollowed indices.now followed.now }
     ensures holds { HoldsBits (length indices.now) words.new }
     ensures digits { bits (length indices.now) words.new ≡ map (bit_of layer.now) indices.now }
 {
     for at in 0..words.len() {
-        words[at] = gathered(layer, indices, at * WORD);
+        words[at] = gathered(layer, indices, at * WORD, word_at(followed, at));
     }
+}
+
+/// The word of a list at an index, or 0 where there is none.
+#[inline]
+fn word_at(words: &[u64], index: usize) -> u64
+    ensures { result ≡ slice_index words.now index }
+{
+    if index < words.len() { words[index] } else { 0 }
 }
 
 /// Makes words, as many as the digits take, the layer of the `len` digits that another layer has from an index on,
@@ -276,21 +288,6 @@ fn number_of_bits(word: u64, base: usize, count: usize) -> usize
             }
             number
         }
-    }
-}
-
-/// A word with another bit at a place, counted from the lowest.
-fn with_bit(word: u64, place: usize, bit: u8) -> u64
-    requires place { place < 64 }
-    requires bit { bit < 2 }
-    ensures fits { result < 2 ^ 64 }
-    ensures changed { bit_at result place ≡ bit }
-    ensures kept { (i : ℕ) → i < 64 → i ≢ place → bit_at result i ≡ bit_at word i }
-{
-    if bit == 0 {
-        word & !(1 << place)
-    } else {
-        word | 1 << place
     }
 }
 

@@ -9,6 +9,7 @@ mod layer;
 mod packed;
 mod parts;
 mod places;
+mod runs;
 mod supports;
 
 pub use blocks::transposed_block;
@@ -20,4 +21,5 @@ pub use layer::{
 pub use packed::{WORD_BYTES, packed_word, piece_number, word_of_packed};
 pub use parts::{lowest, word_from};
 pub use places::earlier;
+pub use runs::mark_followed;
 pub use supports::{four_in_word, next_in_word};

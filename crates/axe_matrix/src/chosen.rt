@@ -3,19 +3,24 @@
 ghost use Rattle.std.specs.Prelude.{◌≡◌, ℕ, ◌<◌, ◌↔◌, List, length, map, slice_index, All, IsTrue, None};
 ghost use Rattle.axe_row.specs.Rows.{IsRow};
 ghost use Rattle.axe_row.specs.Refusals.{Answers};
-ghost use Rattle.axe_matrix.specs.ConsecutiveColumns.{AreConsecutive};
+ghost use Rattle.axe_matrix.specs.ConsecutiveColumns.{AreConsecutive, AreKnownRuns};
 
-use super::{Refusal, Row};
+use super::{MAX_COLUMNS, Refusal, Row};
+use axe_lane::WORD;
+use axe_layer::mark_followed;
 use std::alloc::Global;
 use std::marker::Model;
 
-/// Columns of a matrix, in any order, by which entries are taken from its rows. A column may stand more than once. Whether
-/// they are consecutive is found once for all rows.
+/// Columns of a matrix, in any order, by which entries are taken from its rows. A column may stand more than once.
+/// Which of them follow one another is found once for all rows.
 #[derive(Drop)]
 pub struct ChosenColumns<'a> {
     columns: &'a [usize],
     /// Whether the columns are consecutive, so that the entries there are a part of a row.
     consecutive: bool,
+    /// Bits that tell which columns are followed by the next one, as many as a matrix has columns at most. They tell
+    /// nothing where all are consecutive.
+    followed: [u64; MAX_COLUMNS / WORD],
 }
 
 impl<'a> Model for ChosenColumns<'a> {
@@ -23,7 +28,7 @@ impl<'a> Model for ChosenColumns<'a> {
 
     ghost view = { λ chosen. chosen.columns.now };
 
-    ghost invariant = { λ chosen. IsTrue chosen.consecutive → AreConsecutive chosen.columns.now };
+    ghost invariant = { λ chosen. AreKnownRuns chosen.columns.now chosen.consecutive chosen.followed };
 }
 
 impl<'a> ChosenColumns<'a> {
@@ -32,9 +37,14 @@ impl<'a> ChosenColumns<'a> {
         ensures { result ≡ columns.now }
     {
         let consecutive = are_consecutive(columns);
+        let mut followed = [0; MAX_COLUMNS / WORD];
+        if !consecutive {
+            mark_followed(&mut followed, columns);
+        }
         ChosenColumns {
             columns,
             consecutive,
+            followed,
         }
     }
 
@@ -57,7 +67,7 @@ impl<'a> ChosenColumns<'a> {
         if self.consecutive {
             row.part(alloc, self.columns[0], self.columns.len())
         } else {
-            row.select(alloc, self.columns)
+            row.select(alloc, self.columns, &self.followed)
         }
     }
 }

@@ -9,6 +9,7 @@ ghost use Rattle.axe_lane.specs.Bytes.{multiple_modulo, sum_of_products, AreDigi
 ghost use Rattle.axe_lane.specs.Entries.{IsFirstNonzero, AreZerosBefore, AreZerosFrom, IsNextNonzero};
 ghost use Rattle.axe_layer.specs.Digits.{digits_at, digits_with_four, digits_with_multiple, AreSmallSums};
 ghost use Rattle.axe_layer.specs.Digits.{numbers_with_multiple};
+ghost use Rattle.axe_layer.specs.Runs.{AreFollowed};
 ghost use Rattle.axe_plane.specs.Planes.{negative_modulo};
 ghost use Rattle.axe_plane.specs.Tables.{plane_at, IsEntryFor};
 
@@ -125,14 +126,22 @@ impl Plane {
         })
     }
 
-    /// The plane of the digits at these indices, in their order.
-    pub fn select(&self, alloc: Global, indices: &[usize]) -> Result<Plane, AllocError>
-        requires { All (λ index. index < length (digits_of self.now)) indices.now }
+    /// The plane of the digits at these indices, in their order. Where bit e of `followed` is 1, index e is followed by
+    /// the next number, so that digits at consecutive indices are taken at once; a bit that is 0 or missing tells
+    /// nothing.
+    pub fn select(
+        &self,
+        alloc: Global,
+        indices: &[usize],
+        followed: &[u64],
+    ) -> Result<Plane, AllocError>
+        requires within { All (λ index. index < length (digits_of self.now)) indices.now }
+        requires followed { AreFollowed indices.now followed.now }
         ensures { IfOk result (IsPlane (prime_of_plane self.now) (map (slice_index (digits_of self.now)) indices.now)) }
     {
         Ok(match self {
-            Plane::Bits(plane) => Plane::Bits(plane.select(alloc, indices)?),
-            Plane::Trits(plane) => Plane::Trits(plane.select(alloc, indices)?),
+            Plane::Bits(plane) => Plane::Bits(plane.select(alloc, indices, followed)?),
+            Plane::Trits(plane) => Plane::Trits(plane.select(alloc, indices, followed)?),
             Plane::Bytes(plane) => Plane::Bytes(plane.select(alloc, indices)?),
         })
     }

@@ -1,6 +1,7 @@
 //! Row vectors: copies, sums, multiples and dot products.
 
 use crate::tables::{Topic, each_call, two_numbers};
+use axe_layer::mark_followed;
 use axe_row::{Refusal, Row};
 use axe_test_values::{
     TableFault, element_in, field_of, first_field, four_fields, is_row, is_row_answer, number_of,
@@ -373,11 +374,14 @@ fn row_given(rt: &impl Abort, alloc: Global, call: &str, row: &Row) -> Result<Ro
     match call {
         "first_and_last" => {
             assert!(rt; !row.is_empty());
-            row.select(alloc, &[0, row.len() - 1])
+            row.select(alloc, &[0, row.len() - 1], &[])
         }
         "runs" => {
             assert!(rt; row.len() >= 67);
-            row.select(alloc, &[62, 63, 64, 65, 1, 2, 3, 66])
+            let columns = [62, 63, 64, 65, 1, 2, 3, 66];
+            let mut followed = [0];
+            mark_followed(&mut followed, &columns);
+            row.select(alloc, &columns, &followed)
         }
         _ => copied_entries(alloc, row),
     }

@@ -2,12 +2,17 @@ use Rattle.std.proofs.Common.{◌*◌, ◌<◌, ◌≤◌, ◌+◌, ◌/◌, len
 use Rattle.std.proofs.lemmas.List.{length-map}
 use Rattle.axe_lane.specs.Words.{bit_of}
 use Rattle.axe_layer.proofs.DigitWords.{have_no_digits, have_next_word, HoldsBits-digits, bits-digits}
+use Rattle.axe_layer.proofs.RunLaws.{followed_in_word}
 use Rattle.axe_layer.proofs.layer.fill_with_selected.Goals as goal
 
 pub loop-at-init : goal.loop-at-init
 loop-at-init c =
     have_no_digits _ _ _ (λ k. (c.type_inv.words k).fits)
     (c.requires.long ∙ ap (λ n. (n + 63) / 64) (sym (length-map c.args.indices.now (bit_of c.args.layer.now)))) refl
+
+pub gathered-requires-clause-followed : goal.gathered-requires-clause-followed
+gathered-requires-clause-followed c = λ i low inside one.
+    followed_in_word c.args.indices.now c.args.followed.now c.loop-at.at _ i c.requires.followed c.word_at.ensures low inside one
 
 pub loop-at-preserved : goal.loop-at-preserved
 loop-at-preserved c =

@@ -7,11 +7,11 @@ use Rattle.axe_row.proofs.RowPlanes.{with_length}
 use Rattle.axe_row.proofs.TakenEntries.{taken_planes, entries_within, columns_within, columns_in_linear, selected_plane, selected_whole, selected_all, selected_row, selected_alone}
 use Rattle.axe_row.proofs.Row.select.Goals as goal
 
-pub select-requires : goal.select-requires
-select-requires c =
+pub select-requires-clause-within : goal.select-requires-clause-within
+select-requires-clause-within c =
     let l = linear_of c.self.inside.field c.self.inside.higher in
     let q = quadratic_of c.self.inside.field c.self.inside.higher in
-    entries_within _ c.self.inside.constant l q _ _ c.self.view_is c.requires
+    entries_within _ c.self.inside.constant l q _ _ c.self.view_is c.requires.within
 
 -- over a prime field
 pub of_plane-requires-clause-plane : goal.of_plane-requires-clause-plane
@@ -24,19 +24,19 @@ returns-in_default-clause-selected c =
     ∙ ap (λ (r : RowValue). record { order = r.order; entries = map (λ column. get_or r.entries column 0) c.args.columns.now }) (alone_row _ _ _ _ c.self.invariant c.self.view_is c.in_default.is)
 
 -- over the others
-pub select-linear-requires : goal.select-linear-requires
-select-linear-requires c =
+pub select-linear-requires-clause-within : goal.select-linear-requires-clause-within
+select-linear-requires-clause-within c =
     let l = linear_of c.self.inside.field c.self.inside.higher in
     let q = quadratic_of c.self.inside.field c.self.inside.higher in
     columns_in_linear _ _ _ _ (kept_planes _ _ _ _ c.self.invariant _ _ _ c.in-Some.is c.deref.ensures c.deref.ensures).linear (kept_not_prime _ _ _ _ c.self.invariant _ c.in-Some.is)
-    (entries_within _ c.self.inside.constant l q _ _ c.self.view_is c.requires)
+    (entries_within _ c.self.inside.constant l q _ _ c.self.view_is c.requires.within)
 
-pub select-quadratic-requires : goal.select-quadratic-requires
-select-quadratic-requires c =
+pub select-quadratic-requires-clause-within : goal.select-quadratic-requires-clause-within
+select-quadratic-requires-clause-within c =
     let l = linear_of c.self.inside.field c.self.inside.higher in
     let q = quadratic_of c.self.inside.field c.self.inside.higher in
     columns_within _ _ _ _ _ (kept_planes _ _ _ _ c.self.invariant _ _ _ c.in-Some.is c.deref.ensures c.deref-2.ensures).quadratic.long c.digits_in_plane.ensures
-    (entries_within _ c.self.inside.constant l q _ _ c.self.view_is c.requires)
+    (entries_within _ c.self.inside.constant l q _ _ c.self.view_is c.requires.within)
 
 pub of_planes-requires-clause-planes : goal.of_planes-requires-clause-planes
 of_planes-requires-clause-planes c =
@@ -57,4 +57,4 @@ returns-clause-selected c =
       linear = selected_all _ _ _ _ _ _ (kept_planes _ _ _ _ c.self.invariant _ _ _ c.in-Some.is c.deref.ensures c.deref-2.ensures).linear (kept_not_prime _ _ _ _ c.self.invariant _ c.in-Some.is) hl;
       quadratic = selected_plane _ _ _ _ _ _ _ (kept_planes _ _ _ _ c.self.invariant _ _ _ c.in-Some.is c.deref.ensures c.deref-2.ensures).quadratic c.digits_in_plane.ensures hq;
     })
-    (kept_view _ c.self.inside.constant _ _ _ _ _ c.self.view_is c.in-Some.is c.deref.ensures c.deref-2.ensures) c.requires)
+    (kept_view _ c.self.inside.constant _ _ _ _ _ c.self.view_is c.in-Some.is c.deref.ensures c.deref-2.ensures) c.requires.within)

@@ -8,11 +8,11 @@ use Rattle.axe_bits.proofs.trits.TritPlane.select.Goals as goal
 
 pub fill_with_selected-requires-clause-within : goal.fill_with_selected-requires-clause-within
 fill_with_selected-requires-clause-within c = λ k d inside.
-    omega (arith, c.requires k d inside, c.layers.ensures.holds.ones_held.long)
+    omega (arith, c.requires.within k d inside, c.layers.ensures.holds.ones_held.long)
 
 pub fill_with_selected-requires-2-clause-within : goal.fill_with_selected-requires-2-clause-within
 fill_with_selected-requires-2-clause-within c = λ k d inside.
-    omega (arith, c.requires k d inside, c.layers.ensures.holds.twos_held.long)
+    omega (arith, c.requires.within k d inside, c.layers.ensures.holds.twos_held.long)
 
 pub invariant_of-result : goal.invariant_of-result
 invariant_of-result c =
@@ -23,8 +23,8 @@ invariant_of-result c =
     let first = c.fill_with_selected.ensures in
     let second = c.fill_with_selected-2.ensures in
     HalvesHold-made (length indices) _ _ _ _ _ _ first.holds second.holds
-    (first.digits ∙ digits_gathered n a (bits n a) indices refl (λ k d inside. omega (arith, c.requires k d inside, length-bits n a)))
-    (second.digits ∙ digits_gathered n b (bits n b) indices refl (λ k d inside. omega (arith, c.requires k d inside, length-bits n b)))
+    (first.digits ∙ digits_gathered n a (bits n a) indices refl (λ k d inside. omega (arith, c.requires.within k d inside, length-bits n a)))
+    (second.digits ∙ digits_gathered n b (bits n b) indices refl (λ k d inside. omega (arith, c.requires.within k d inside, length-bits n b)))
     (layers_selected (bits n a) (bits n b) indices c.layers.ensures.holds.together) c.in_ok-words.words.ok.0
     (omega (arith, c.in_ok-words.words.ok.0, c.in_ok-words.ensures.len, c.div_ceil-width.ensures))
 
@@ -37,8 +37,8 @@ returns c =
     let first = c.fill_with_selected.ensures in
     let second = c.fill_with_selected-2.ensures in
     half_trits-made (length indices) _ _ _ _ _ _ first.holds second.holds
-    (first.digits ∙ digits_gathered n a (bits n a) indices refl (λ k d inside. omega (arith, c.requires k d inside, length-bits n a)))
-    (second.digits ∙ digits_gathered n b (bits n b) indices refl (λ k d inside. omega (arith, c.requires k d inside, length-bits n b)))
+    (first.digits ∙ digits_gathered n a (bits n a) indices refl (λ k d inside. omega (arith, c.requires.within k d inside, length-bits n a)))
+    (second.digits ∙ digits_gathered n b (bits n b) indices refl (λ k d inside. omega (arith, c.requires.within k d inside, length-bits n b)))
     (layers_selected (bits n a) (bits n b) indices c.layers.ensures.holds.together) c.in_ok-words.words.ok.0
     (omega (arith, c.in_ok-words.words.ok.0, c.in_ok-words.ensures.len, c.div_ceil-width.ensures))
     ∙ trits_selected (bits n a) (bits n b) c.args.self.now indices c.layers.ensures.holds.together c.layers.ensures.digits

@@ -7,6 +7,6 @@ use Rattle.axe_matrix.proofs.chosen.ChosenColumns.entries.Goals as goal
 pub returns-then-self-clause-selected : goal.returns-then-self-clause-selected
 returns-then-self-clause-selected c =
     subst (λ (v : RowValue). Answers {T = RowValue} None (λ entries. entries ≡ v) c.part.result)
-    (part_is c.self.inside.columns.now c.args.row.now (c.self.invariant c.if-self.true)
+    (part_is c.self.inside.columns.now c.args.row.now (c.self.invariant.whole c.if-self.true)
     ∙ ap (λ (columns : List ℕ). record { order = c.args.row.now.order; entries = map (slice_index c.args.row.now.entries) columns }) c.self.view_is)
     c.part.ensures.part

@@ -1,6 +1,6 @@
 use Rattle.std.proofs.Common.{◌-◌, ◌≤◌}
 use Rattle.axe_layer.proofs.DigitWords.{AreGathered}
-use Rattle.axe_layer.proofs.parts.gathered.Given as goal
+use Rattle.axe_layer.proofs.runs.gathered.Given as goal
 
 abbrev pub invariant-loop-at : goal.invariant-loop-at
 invariant-loop-at l = record {

@@ -2,7 +2,7 @@ use Rattle.std.proofs.Common.{◌≡◌, ◌*◌, ◌%◌, ◌^◌, ◌∙◌, s
 use Rattle.std.specs.Int.{w64}
 use Rattle.std.proofs.lemmas.Nat.{or_lt, mod_below}
 use Rattle.std.proofs.lemmas.Nat.Bits.{bit_at_set_same, bit_at_set_other, bit_at_clear_same, bit_at_clear_other}
-use Rattle.axe_layer.proofs.layer.with_bit.Goals as goal
+use Rattle.axe_layer.proofs.parts.with_bit.Goals as goal
 
 pub returns-then-bit-eq0-clause-changed : goal.returns-then-bit-eq0-clause-changed
 returns-then-bit-eq0-clause-changed c = bit_at_clear_same w64 c.args.word c.args.place c.requires.place ∙ sym c.if-bit-eq0.true

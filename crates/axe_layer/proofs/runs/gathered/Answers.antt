@@ -1,22 +1,22 @@
-use Rattle.std.proofs.Common.{◌≡◌, ℕ, ◌-◌, ◌⊎◌, ◌+◌, ◌≤◌, length, arith, inl, inr}
-use Rattle.std.specs.Simd.Lanes.{chunk}
-use Rattle.std.proofs.lemmas.Simd.{length-chunk}
+use Rattle.std.proofs.Common.{◌≡◌, ◌-◌, ◌⊎◌, ◌+◌, ◌≤◌, length, arith, inl, inr}
 use native.Mathlib.Decide.{dec_lt}
 use Rattle.axe_layer.proofs.DigitWords.{gathered_more, gathered_word}
-use Rattle.axe_layer.proofs.parts.gathered.Goals as goal
+use Rattle.axe_layer.proofs.RunLaws.{run_index}
+use Rattle.axe_layer.proofs.runs.gathered.Goals as goal
 
 pub loop-at-preserved : goal.loop-at-preserved
 loop-at-preserved c =
-    let width : ℕ = c.min-end.result - c.loop-at.at in
-    let room : c.loop-at.at + width ≤ length c.args.indices.now = omega (arith, c.loop-at-test.true, c.min-end.ensures) in
-    let long : length (chunk c.loop-at.at width c.args.indices.now) ≡ width = length-chunk c.loop-at.at width c.args.indices.now room in
-    let short : c.run_length-count.result ≤ width = omega (arith, c.run_length-count.ensures.within, long) in
+    let short : c.min-count.result ≤ c.min-end.result - c.loop-at.at = omega (arith, c.min-count.ensures) in
+    let some : 1 ≤ c.min-count.result = omega (arith, c.min-count.ensures, c.run_length.ensures.some, c.loop-at-test.true) in
+    let index = run_index c.args.indices.now c.args.followed c.args.from c.loop-at.at c.min-count.result c.loop-at.invariant.begun
+    (omega (arith, short, c.min-end.ensures)) (omega (arith, short, c.min-end.ensures, c.loop-at-test.true)) c.requires.followed
+    (λ i inside low. c.run_length.ensures.run i (omega (arith, inside, c.min-count.ensures)) low) in
     record {
       begun = omega (arith, c.loop-at.invariant.begun);
       within = omega (arith, short, c.loop-at-test.true);
       so_far = gathered_more c.args.words.now c.args.indices.now c.args.from c.loop-at.at c.min-end.result c.loop-at.word c.digits_from.result
-          c.run_length-count.result c.loop-at.invariant.begun (omega (arith, c.min-end.ensures)) c.run_length-count.ensures.some short
-          c.loop-at.invariant.so_far c.run_length-count.ensures.run c.digits_from.ensures.taken c.digits_from.ensures.cleared;
+          c.min-count.result c.loop-at.invariant.begun (omega (arith, c.min-end.ensures)) some short
+          c.loop-at.invariant.so_far index c.digits_from.ensures.taken c.digits_from.ensures.cleared;
     }
 
 pub returns : goal.returns
