@@ -12,7 +12,7 @@ ghost use Rattle.axe_echelon.specs.PivotTables.{marks_of, FitsColumns, HasBlocks
 ghost use Rattle.axe_echelon.specs.declared.subspace.PivotRow.{PivotRow};
 
 use axe_matrix::Row;
-use axe_row::{BitBlock, BitPlane, RowSum};
+use axe_row::{BitBlock, BitPlane};
 use std::alloc::{AllocError, Global};
 
 /// For each column whether it is the pivot of a row of an echelon form, and of which row. It takes no memory until it
@@ -108,22 +108,6 @@ impl PivotTable {
             return None;
         };
         row.next_entry_within(start, marks)
-    }
-
-    /// The next pivot at which a sum of rows over 5 or 7 elements is not 0, as [`PivotTable::next_pivot`] finds it in a
-    /// row.
-    #[inline(always)]
-    pub(crate) fn next_pivot_of_sum(&self, sum: &RowSum, start: usize) -> Option<(usize, u8)>
-        requires start { start ≤ length sum.now.entries }
-        requires fits { FitsColumns (length sum.now.entries) self.now }
-        ensures found { MatchOption result (AreZerosFrom (restricted (marks_of self.now) sum.now.entries) start)
-            (λ found. IsNextEntry (marks_of self.now) sum.now.entries start found.0 found.1) }
-        ensures element { IfSome result (λ found. IsElement sum.now.order found.1) }
-    {
-        let Some(marks) = &self.marks else {
-            return None;
-        };
-        sum.next_entry_within(start, marks)
     }
 
     /// The word at an index of the marks, and 0 where there are none.

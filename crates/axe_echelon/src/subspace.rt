@@ -19,10 +19,10 @@ use crate::pivot_table::PivotTable;
 use axe_field::Field;
 use axe_lane::WORD;
 use axe_matrix::{Matrix, Refusal, Row};
-use axe_row::RowSum;
 use std::alloc::Global;
 use std::marker::Model;
 
+mod sums;
 mod words;
 
 /// A row has many entries other than 0 where one of so many is.
@@ -205,33 +205,6 @@ impl Subspace {
         }
     }
 
-    /// What [`Subspace::reduce`] does, over 5 or 7 elements: the remainders of the row's entries are taken when all
-    /// rows are added.
-    #[inline(never)]
-    fn reduce_by_sums(&self, row: &mut Row)
-        requires sums { HasSums self.now.order }
-        requires field { row.old.order ≡ self.now.order }
-        requires fits { length row.old.entries ≡ self.now.cols }
-        requires elements { IsRow row.old }
-        ensures representative { IsRepresentative (number_field self.now.order) self.now.rows
-            row.old.entries row.new.entries }
-        ensures same_field { row.new.order ≡ self.now.order }
-        ensures as_long { length row.new.entries ≡ self.now.cols }
-        ensures row_well_formed { IsRow row.new }
-    {
-        let negatives = self.field.negatives();
-        let mut sum = RowSum::take(row);
-        let mut start = 0;
-        while let Some((pivot, entry)) = self.pivots.next_pivot_of_sum(&sum, start) {
-            // The pivot's row is 0 before it: so what was cleared stays 0, and is not looked at again.
-            let pivot_row = &self.rows[self.pivots.row_of(pivot)];
-            let factor = negatives[usize::from(entry)];
-            sum.add_scaled_from(pivot, factor, &pivot_row.row);
-            start = pivot + 1;
-        }
-        *row = sum.into_row();
-    }
-
     /// Clears the pivots from a vector as [`Subspace::reduce`] does, and keeps in a row of zeros the multiplier of each
     /// row that is added for that.
     pub(crate) fn reduce_with(&self, row: &mut Row, multipliers: &mut Row)
@@ -254,34 +227,6 @@ impl Subspace {
             8 => self.reduce_with_by_words::<8>(row, multipliers),
             _ => self.reduce_with_by_words::<9>(row, multipliers),
         }
-    }
-
-    /// What [`Subspace::reduce_with`] does, over 5 or 7 elements: the remainders of the row's entries are taken when all
-    /// rows are added.
-    #[inline(never)]
-    fn reduce_with_by_sums(&self, row: &mut Row, multipliers: &mut Row)
-        requires sums { HasSums self.now.order }
-        requires field { row.old.order ≡ self.now.order }
-        requires fits { length row.old.entries ≡ self.now.cols }
-        requires elements { IsRow row.old }
-        requires zeros { multipliers.old
-            ≡ record { order = row.old.order; entries = replicate (length row.old.entries) 0 } }
-        requires zeros_well_formed { IsRow multipliers.old }
-        ensures { IsCleared self.now row.old row.new multipliers.new }
-    {
-        let negatives = self.field.negatives();
-        let mut sum = RowSum::take(row);
-        let mut start = 0;
-        while let Some((pivot, entry)) = self.pivots.next_pivot_of_sum(&sum, start) {
-            // The pivot's row is 0 before it: so what was cleared stays 0, and is not looked at again.
-            let row_index = self.pivots.row_of(pivot);
-            let pivot_row = &self.rows[row_index];
-            let negative = negatives[usize::from(entry)];
-            sum.add_scaled_from(pivot, negative, &pivot_row.row);
-            multipliers.set(row_index, negative);
-            start = pivot + 1;
-        }
-        *row = sum.into_row();
     }
 
     /// The reduced basis: for each pivot, in ascending order, the vector of the space that is 1 there and 0 at all

@@ -35,4 +35,5 @@ pub mod FormLaws
 pub mod PieceRows
 pub mod PlacedRows
 pub mod SumRows
+pub mod SumWords
 pub mod KnownFieldLaws

@@ -6,6 +6,7 @@ ghost use Rattle.axe_lane.specs.Entries.{AreZerosBefore};
 
 use crate::row_sweep::{assert_shape, entry_of, field_of_order, row_of_seed, sum_with_product};
 use axe_field::Field;
+use axe_lane::WORD;
 use axe_row::{BitPlane, Combos, Refusal, Row, RowSum, digits_per_byte};
 use std::alloc::Global;
 use std::process::Abort;
@@ -153,14 +154,33 @@ fn adds_multiples_in_sum(
     sum
 }
 
-/// Asserts that the next entry of a sum among places is that of a row, from each index on.
+/// Asserts that the entries of a sum among places in a word, one after another, are those of a row.
+fn assert_found_in_word(rt: &impl Abort, sum: &RowSum, row: &Row, places: &BitPlane, at: usize)
+    requires { length sum.now.entries ≡ length row.now.entries }
+{
+    assert!(rt; places.len() == row.len() && at <= row.len() / WORD && at < 1 << 32);
+    let (mut left, mut start) = (places.word(at), at * WORD);
+    let end = row.len().min(start + WORD);
+    for _ in 0..=WORD {
+        assert!(rt; start <= row.len());
+        let wanted = match row.next_entry_within(start, places) {
+            Some((index, entry)) if index < end => Some((index % WORD, entry)),
+            _ => None,
+        };
+        assert!(rt; sum.next_in_word(at, &mut left) == wanted, "{at}");
+        let Some((place, _)) = wanted else {
+            return;
+        };
+        start = at * WORD + place + 1;
+    }
+}
+
+/// Asserts that the entries of a sum among places, word by word, are those of a row.
 fn assert_found(rt: &impl Abort, sum: &RowSum, row: &Row, places: &BitPlane)
     requires { length sum.now.entries ≡ length row.now.entries }
 {
-    assert!(rt; places.len() == row.len());
-    for start in 0..=row.len() {
-        let wanted = row.next_entry_within(start, places);
-        assert!(rt; sum.next_entry_within(start, places) == wanted, "{start}");
+    for at in 0..=row.len() / WORD {
+        assert_found_in_word(rt, sum, row, places, at);
     }
 }
 

@@ -1,10 +1,12 @@
 //! Sums of rows over the fields of 5 and 7 elements, whose remainders are not taken yet.
-ghost use Rattle.std.specs.Prelude.{ℕ, ◌≡◌, ◌+◌, ◌<◌, ◌≤◌, [], None, IfSome, MatchOption};
+ghost use Rattle.std.specs.Prelude.{ℕ, ◌≡◌, ◌+◌, ◌*◌, ◌^◌, ◌<◌, ◌≤◌, [], None, IfSome, MatchOption};
 ghost use Rattle.std.specs.Prelude.{length, replicate, slice_index};
 ghost use Rattle.axe_field.specs.Order.{IsElement};
-ghost use Rattle.axe_lane.specs.Entries.{AreZerosBefore, AreZerosFrom, IsNextNonzero};
+ghost use Rattle.axe_lane.specs.Entries.{AreZerosBefore, AreZerosFrom};
 ghost use Rattle.axe_layer.specs.Supports.{restricted};
 ghost use Rattle.axe_row.specs.Addends.{IsRowAddend};
+ghost use Rattle.axe_row.specs.BitBlocks.{bits_after, bits_of_word};
+ghost use Rattle.axe_row.specs.EntryWords.{entries_in_word};
 ghost use Rattle.axe_row.specs.FoundEntries.{IsNextEntry};
 ghost use Rattle.axe_row.specs.Combinations.{combination_at, row_with_four, IsRowFor};
 ghost use Rattle.axe_row.specs.Operations.{row_with_multiple};
@@ -12,7 +14,7 @@ ghost use Rattle.axe_row.specs.Refusals.{Answers};
 ghost use Rattle.axe_row.specs.Rows.{IsRow};
 ghost use Rattle.axe_row.specs.Sums.{HasSums, placed_row};
 
-use crate::{BitPlane, Combos, Refusal, Row};
+use crate::{Combos, Refusal, Row};
 use axe_field::Field;
 use axe_lane::WORD;
 use axe_layer::next_in_word;
@@ -80,26 +82,24 @@ impl RowSum {
         Row::of_plane(field, plane)
     }
 
-    /// The index of the first entry other than 0 from an index on, among the places where a list of as many digits
-    /// modulo 2 has a 1, and that entry; `None` where there is none.
+    /// The place of the first entry other than 0 in the word at an index, among the places where a word has a 1, counted
+    /// from 0, and that entry, as [`Row::next_in_word`] finds it; `None` where every one of these is 0. The word keeps
+    /// the ones after that place alone.
     #[inline(always)]
-    pub fn next_entry_within(&self, start: usize, places: &BitPlane) -> Option<(usize, u8)>
-        requires start { start ≤ length self.now.entries }
-        requires fits { length places.now ≡ length self.now.entries }
-        ensures found { MatchOption result (AreZerosFrom (restricted places.now self.now.entries) start)
-            (λ found. IsNextEntry places.now self.now.entries start found.0 found.1) }
+    pub fn next_in_word(&self, at: usize, places: &mut u64) -> Option<(usize, u8)>
+        requires counted { at * 64 + 64 ≤ 2 ^ 64 }
+        ensures found { MatchOption result
+            (AreZerosFrom (restricted (bits_of_word places.old) (entries_in_word self.now.entries at)) 0)
+            (λ found. IsNextEntry (bits_of_word places.old) (entries_in_word self.now.entries at) 0 found.0 found.1) }
+        ensures rest { IfSome result (λ found. bits_of_word places.new ≡ bits_after places.old found.0) }
         ensures element { IfSome result (λ found. IsElement self.now.order found.1) }
     {
-        // `len` is called for what it says of the length: that it is a number of the machine, so that no sum below
-        // wraps.
-        prove!(start <= places.len());
-        let mut from = start;
-        while let Some(index) = next_place(places, from) {
-            let entry = self.sums.digit(index);
+        while let Some(place) = next_in_word(*places, 0) {
+            *places &= u64::MAX - 1 << place;
+            let entry = self.sums.digit(at * WORD + place);
             if entry != 0 {
-                return Some((index, entry));
+                return Some((place, entry));
             }
-            from = index + 1;
         }
         None
     }
@@ -164,16 +164,4 @@ impl RowSum {
     {
         self.sums.add_to(&mut row.constant, start);
     }
-}
-
-/// The index of the first place from an index on where a list of digits modulo 2 has a 1; `None` where there is none.
-/// Mostly it stands in the word of the index.
-#[inline(always)]
-fn next_place(places: &BitPlane, start: usize) -> Option<usize>
-    ensures { MatchOption result (AreZerosFrom places.now start) (IsNextNonzero places.now start) }
-{
-    if let Some(index) = next_in_word(places.word(start / WORD), start) {
-        return Some(index);
-    }
-    places.next_nonzero(start)
 }

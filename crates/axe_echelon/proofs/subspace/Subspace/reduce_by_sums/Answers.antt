@@ -1,95 +1,35 @@
-use Rattle.std.proofs.Common.{◌<◌, get_or, length, subst, sym, ◌∙◌, ap, arith}
-use Rattle.axe_field.specs.Order.{IsElement}
+use Rattle.std.proofs.Common.{◌≡◌, ◌+◌, ◌*◌, ◌≤◌, ◌∙◌, length, ap, subst, arith}
 use Rattle.axe_row.specs.Rows.{RowValue}
 use Rattle.axe_echelon.specs.Echelons.{EchelonValue}
-use Rattle.axe_echelon.specs.Subspaces.{IsRowOfForm}
-use Rattle.axe_echelon.proofs.PivotRowLaws.{form_row_at}
+use Rattle.axe_echelon.specs.Subspaces.{IsReducedBelow}
 use Rattle.axe_echelon.proofs.StepLaws.{over_of_row}
-use Rattle.axe_echelon.proofs.ClearingLaws.{IsFoundRow, IsNegative, negative_at, reduced_before_none, found_row, room_of_found, place_of_found, zeros_before_pivot, reduce_found, reduced_all}
-use Rattle.axe_echelon.proofs.subspace.Subspace.reduce_by_sums.Goals.{In-Some, After-row_of, After-index-pivot_row, After-from}
+use Rattle.axe_echelon.proofs.WordsOfPivots.{reduced_below_none, reduced_below_all}
 use Rattle.axe_echelon.proofs.subspace.Subspace.reduce_by_sums.Goals as goal
 
-pub loop-pivot-init : goal.loop-pivot-init
-loop-pivot-init c =
-    let field = c.requires.field ∙ sym (ap (λ (e : EchelonValue). e.order) c.self.view_is) in
-    let fits = c.requires.fits ∙ sym (ap (λ (e : EchelonValue). e.cols) c.self.view_is) in
-    record {
-      fits = omega arith;
-      so_far = rw c.take-sum.ensures.value (reduced_before_none _ _ _ _ field (over_of_row _ _ _ field c.requires.elements fits));
-    }
+pub loop-at-init : goal.loop-at-init
+loop-at-init c =
+    rw c.take-sum.ensures.value (
+    reduced_below_none c.args.self.now c.args.row.now c.requires.field
+    (over_of_row _ _ c.args.row.now c.requires.field c.requires.elements c.requires.fits))
 
-place : (c : goal.In-Some) → c.in-Some.pivot < c.self.inside.cols
-place c = omega (arith, place_of_found _ c.loop-pivot.sum.entries _ _ c.in-Some.ensures.found.next, c.loop-pivot.invariant.so_far.clear.over.length_is)
+pub clear_word_of_sum-requires-clause-within : goal.clear_word_of_sum-requires-clause-within
+clear_word_of_sum-requires-clause-within c =
+    omega (arith, c.div_ceil-at-end.ensures, c.loop-at-test.true, ap (λ (e : EchelonValue). e.cols) c.self.view_is)
 
-pub row_of-requires : goal.row_of-requires
-row_of-requires c =
-    let room = room_of_found _ _ _ _ c.loop-pivot.sum.entries _ _ c.self.invariant c.in-Some.ensures.found.next in
-    omega (arith, place (goal.at.row_of-requires c).In-Some, room.rows)
-
-found : (c : goal.After-row_of) → IsFoundRow c.self.inside.rows.items c.in-Some.pivot c.row_of.result
-found c = found_row _ _ c.self.inside.rows.items c.self.inside.pivots c.loop-pivot.sum.entries _ _ _ c.self.invariant c.in-Some.ensures.found.next c.row_of.ensures
-
-pub index-pivot_row-requires : goal.index-pivot_row-requires
-index-pivot_row-requires c = omega (arith, (found (goal.at.index-pivot_row-requires c).After-row_of).within, c.self.inside.rows.ok.0)
-
-at : (c : goal.After-index-pivot_row) → IsRowOfForm c.self.inside.field c.self.inside.cols c.index-pivot_row.result.now
-at c = form_row_at _ _ c.self.inside.rows.items c.row_of.result c.index-pivot_row.result.now c.self.invariant.are_rows (found c.before).within
-    c.index-pivot_row.ensures
-
-pub add_scaled_from-requires-clause-within : goal.add_scaled_from-requires-clause-within
-add_scaled_from-requires-clause-within c = omega (arith, place_of_found _ c.loop-pivot.sum.entries _ _ c.in-Some.ensures.found.next)
-
-pub add_scaled_from-requires-clause-field : goal.add_scaled_from-requires-clause-field
-add_scaled_from-requires-clause-field c = (at (goal.at.add_scaled_from-requires-clause-field c).After-index-pivot_row).row_field ∙ sym c.loop-pivot.invariant.so_far.clear.field
-
-pub add_scaled_from-requires-clause-fits : goal.add_scaled_from-requires-clause-fits
-add_scaled_from-requires-clause-fits c =
-    (at (goal.at.add_scaled_from-requires-clause-fits c).After-index-pivot_row).row_over.length_is ∙ sym c.loop-pivot.invariant.so_far.clear.over.length_is
-
-pub add_scaled_from-requires-clause-zeros : goal.add_scaled_from-requires-clause-zeros
-add_scaled_from-requires-clause-zeros c =
-    let there = found (goal.at.add_scaled_from-requires-clause-zeros c).After-row_of in
-    zeros_before_pivot _ _ c.self.inside.rows.items c.row_of.result c.index-pivot_row.result.now c.self.invariant.are_rows
-    there.within c.index-pivot_row.ensures c.in-Some.pivot there.pivot
-
-negative : (c : goal.After-from) → IsNegative c.self.inside.field c.in-Some.entry (get_or c.negatives-negatives.result.now c.from.result 0)
-negative c =
-    negative_at _ _ _ _ _ c.negatives-negatives.ensures.values c.negatives-negatives.ensures.elements c.loop-pivot.invariant.so_far.clear.field c.in-Some.ensures.element
-    c.from.ensures
-
-pub overflow_add-start : goal.overflow_add-start
-overflow_add-start c = omega (arith, place (goal.at.overflow_add-start c).In-Some, c.self.invariant.are_rows.columns_fit)
-
-pub loop-pivot-smaller : goal.loop-pivot-smaller
-loop-pivot-smaller c =
-    omega (arith, place (goal.at.loop-pivot-smaller c).In-Some, c.in-Some.ensures.found.next.not_before, c.requires.fits, ap (λ (e : EchelonValue). e.cols) c.self.view_is)
-
-pub loop-pivot-preserved : goal.loop-pivot-preserved
-loop-pivot-preserved c =
-    let here = goal.at.loop-pivot-preserved c in
-    record {
-      fits = omega (arith, place_of_found _ c.loop-pivot.sum.entries _ _ c.in-Some.ensures.found.next, c.add_scaled_from.ensures.as_long);
-      so_far = reduce_found _ _ c.self.inside.rows.items c.self.inside.pivots c.loop-pivot.start c.in-Some.pivot c.in-Some.entry c.row_of.result
-          c.index-pivot_row.result.now c.args.row.now c.loop-pivot.sum c.add_scaled_from.new.self (get_or c.negatives-negatives.result.now c.from.result 0)
-          c.self.invariant c.loop-pivot.invariant.so_far c.in-Some.ensures.found (found here.After-row_of) c.index-pivot_row.ensures (negative here.After-from)
-          c.add_scaled_from.ensures.sum c.add_scaled_from.ensures.as_long c.add_scaled_from.ensures.well_formed;
-    }
-
-pub add_scaled_from-requires-clause-element : goal.add_scaled_from-requires-clause-element
-add_scaled_from-requires-clause-element c =
-    subst (λ o. IsElement o (get_or c.negatives-negatives.result.now c.from.result 0)) (sym c.loop-pivot.invariant.so_far.clear.field)
-    (negative (goal.at.add_scaled_from-requires-clause-element c).After-from).element
+pub loop-at-preserved : goal.loop-at-preserved
+loop-at-preserved c =
+    subst (λ k. IsReducedBelow c.args.self.now k c.args.row.now c.clear_word_of_sum.new.sum)
+    (let next : c.loop-at.at * 64 + 64 ≡ (c.loop-at.at + 1) * 64 = omega arith in next)
+    (c.clear_word_of_sum.ensures c.args.row.now c.loop-at.invariant)
 
 pub returns-clause-representative : goal.returns-clause-representative
 returns-clause-representative c =
-    rw (← c.self.view_is, c.into_row.ensures.value) (
-    reduced_all _ _ _ c.self.inside.pivots c.loop-pivot.start _ _ c.self.invariant c.loop-pivot.invariant.so_far c.in_default.ensures.found)
+    let whole : c.args.self.now.cols ≤ c.loop-at.at * 64 =
+    omega (arith, c.div_ceil-at-end.ensures, c.loop-at-test.false, ap (λ (e : EchelonValue). e.cols) c.self.view_is) in
+    rw c.into_row.ensures.value (reduced_below_all c.args.self.now (c.loop-at.at * 64) c.args.row.now c.loop-at.sum c.loop-at.invariant whole)
 
 pub returns-clause-same_field : goal.returns-clause-same_field
-returns-clause-same_field c =
-    ap (λ (r : RowValue). r.order) c.into_row.ensures.value ∙ c.loop-pivot.invariant.so_far.clear.field ∙ ap (λ (e : EchelonValue). e.order) c.self.view_is
+returns-clause-same_field c = ap (λ (r : RowValue). r.order) c.into_row.ensures.value ∙ c.loop-at.invariant.field
 
 pub returns-clause-as_long : goal.returns-clause-as_long
-returns-clause-as_long c =
-    ap (λ (r : RowValue). length r.entries) c.into_row.ensures.value ∙ c.loop-pivot.invariant.so_far.clear.over.length_is
-    ∙ ap (λ (e : EchelonValue). e.cols) c.self.view_is
+returns-clause-as_long c = ap (λ (r : RowValue). length r.entries) c.into_row.ensures.value ∙ c.loop-at.invariant.over.length_is
