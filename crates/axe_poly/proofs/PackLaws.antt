@@ -1,9 +1,10 @@
 -- Words and their lanes.
-use Rattle.std.specs.Prelude.{◌≡◌, ℕ, zero, suc, ◌+◌, ◌*◌, ◌/◌, ◌%◌, ◌^◌, ◌<◌, ◌≤◌, List, length, get_or, set}
+use Rattle.std.specs.Prelude.{◌≡◌, ℕ, zero, suc, ◌+◌, ◌-◌, ◌*◌, ◌/◌, ◌%◌, ◌^◌, ◌<◌, ◌≤◌, List, length, get_or, set}
+use Rattle.std.specs.Prelude.{bit_and}
 use Rattle.std.proofs.Common.{get_or-set_other, get_or-set_same, pow-add}
-use Rattle.std.proofs.lemmas.Nat.{div-mul-add, mod-mul-add}
+use Rattle.std.proofs.lemmas.Nat.{div-mul-add, mod-mul-add, and_mask}
 use Rattle.axe_poly.specs.Lanes.{packed}
-use mathlib.Core.Path.{refl, sym, ◌∙◌, ap, ap₂, fun_ext}
+use mathlib.Core.Path.{refl, sym, ◌∙◌, ap, ap₂, subst, fun_ext}
 use native.Mathlib.Nat.{pow-suc, pow-zero, mul-zero, mul-suc, mul-le-mul_right, div-one, div-div-eq-div-mul}
 use native.Mathlib.Omega.{arith}
 use native.Mathlib.Decide.{ℕ_discrete}
@@ -107,6 +108,10 @@ table_next f i v xs ys inside is set_is before j below = cases (ℕ_discrete j i
     cases (no other) =
         ap (λ (list : List ℕ). get_or list j 0) set_is ∙ get_or-set_other xs i j v 0 other
         ∙ before j (omega (arith, below, other))
+
+-- the lowest lane, by a mask
+pub masked : (x bits base : ℕ) → 2 ^ bits ≡ base → bit_and x (base - 1) ≡ x % base
+masked x bits base is = subst (λ b. bit_and x (b - 1) ≡ x % b) is (and_mask x bits)
 
 pub packed_none : (w : ℕ) (a : ℕ → ℕ) → 0 ≡ packed w 0 a
 unfolding packed

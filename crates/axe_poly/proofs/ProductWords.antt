@@ -1,8 +1,10 @@
 -- The product of a polynomial and one with a number, in one word: digit by digit from the highest on, the lanes move up
 -- and a multiple of the polynomial is added.
 use Rattle.std.specs.Prelude.{◌≡◌, ℕ, zero, suc, ◌+◌, ◌*◌, ◌-◌, ◌/◌, ◌%◌, ◌^◌, ◌<◌, ◌≤◌, min, List, length, get_or}
+use Rattle.std.specs.Prelude.{bit_and}
 use Rattle.std.proofs.lemmas.List.{get_or_past}
 use Rattle.std.proofs.lemmas.Nat.{div-mul-add, mod-mul-add}
+use Rattle.std.proofs.Math.Nat.{div-lt_iff_lt-mul}
 use Rattle.std.proofs.lemmas.List.FromFn.{length-map-range_with_len}
 use Rattle.axe_algebra.specs.Bridge.{element, vector_of}
 use Rattle.axe_algebra.specs.Field.{Field}
@@ -24,7 +26,7 @@ use Rattle.axe_poly.specs.Lanes.{AreCodes, AreMeanings}
 use Rattle.axe_poly.specs.Sieve.{polynomial_of_number, IsProductNumber, IsProductWord}
 use Rattle.axe_poly.specs.Sieve.{AreScalings, IsNumberOfLanes}
 use Rattle.axe_poly.proofs.CodeLaws.{sum_is_lane, meaning-below, weight-zero, meaning-zero, code-zero}
-use Rattle.axe_poly.proofs.PackLaws.{moved, packed_zeros, packed_below, lane_at, power_of_power}
+use Rattle.axe_poly.proofs.PackLaws.{moved, packed_zeros, packed_below, lane_at, power_of_power, masked}
 use Rattle.axe_poly.proofs.WindowLaws.{window_at, window_past, next_word, light_enough, word_fits}
 use Rattle.axe_poly.proofs.WindowLaws.{base-positive, entry_is_element, terms_small}
 use mathlib.Core.Path.{refl, sym, ◌∙◌, ap, ap₂, subst, fun_ext}
@@ -375,28 +377,41 @@ module _ (o : Order) where
   number_small count few = omega (arith, order-greatest o, pow-le-pow_right (zero-order o) few)
 
 -- ---- the steps of the loops
-pub place_next : (q count step place : ℕ) → 0 < q → step < count → place ≡ q ^ (count - step) →
-    place / q ≡ q ^ (count - (step + 1))
-place_next q count step place positive inside is =
-    ap (λ x. x / q)
-    (is ∙ (let e : count - step ≡ suc (count - (step + 1)) = omega (arith, inside) in ap (λ k. q ^ k) e)
-    ∙ pow-suc q (count - (step + 1))
-    ∙ (let e : q ^ (count - (step + 1)) * q ≡ q ^ (count - (step + 1)) * q + 0 = omega arith in e))
-    ∙ div-mul-add (q ^ (count - (step + 1))) q 0 positive
+pub higher_small : (q count c higher : ℕ) → 0 < q → 0 < count → c < q ^ count → higher ≡ c / q → higher < q ^ (count - 1)
+higher_small q count c higher positive some small is = omega (
+  arith,
+  is,
+  (div-lt_iff_lt-mul {k = q} {x = c} {y = q ^ (count - 1)} positive).1 (omega (
+    arith,
+    small,
+    pow-suc q (count - 1),
+    (let e : suc (count - 1) ≡ count = omega (arith, some) in ap (λ k. q ^ k) e),
+  )),
+)
 
-pub digits_before : (q count step c : ℕ) → step < count →
-    c / q ^ (count - (step + 1)) / q ≡ c / q ^ (count - step)
-digits_before q count step c inside =
-    div-div-eq-div-mul c (q ^ (count - (step + 1))) q
-    ∙ ap (λ t. c / t)
-    (sym (pow-suc q (count - (step + 1)))
-    ∙ (let e : suc (count - (step + 1)) ≡ count - step = omega (arith, inside) in ap (λ k. q ^ k) e))
+-- the product with a cofactor that has a digit more, and its number
+pub product_with_digit : (o : Order) (p scalings : List ℕ) (d higher digit word new number : ℕ) →
+    IsMonicOver (number_field o) p → degree_of p < d → d ≤ greatest_degree o → AreScalings o p scalings →
+    digit < order_number o → IsProductWord o p higher (degree_of p + (d + 1 - length p)) word →
+    new ≡ word * lane_base o + get_or scalings digit 0 → IsNumberOfLanes o 0 (d + 1) new number →
+    IsProductNumber o p (higher * order_number o + digit) number
+product_with_digit o p scalings d higher digit word new number over smaller fits are inside h new_is is =
+    number_of_product o p (higher * order_number o + digit) (suc d) new number
+    (word_next o p over scalings d (higher * order_number o + digit) word digit new
+    (omega (arith, smaller, fits)) are (omega (arith, smaller))
+    (sym (mod-mul-add higher (order_number o) digit inside)) new_is
+    (subst (λ c. IsProductWord o p c d word) (sym (div-mul-add higher (order_number o) digit inside))
+    (subst (λ n. IsProductWord o p higher n word)
+    (let e : degree_of p + (d + 1 - length p) ≡ d = omega (arith, smaller, over.positive) in e) h)))
+    (subst (λ n. IsNumberOfLanes o 0 n new number) (let e : d + 1 ≡ suc d = omega arith in e) is)
 
 pub lane_read : (o : Order) (meanings : List ℕ) (word bits k base t : ℕ) → AreMeanings o meanings →
-    2 ^ bits ≡ lane_base o → base ≡ lane_base o → t ≡ get_or meanings (word / 2 ^ (bits * k) % base) 0 →
+    2 ^ bits ≡ lane_base o → base ≡ lane_base o →
+    t ≡ get_or meanings (bit_and (word / 2 ^ (bits * k)) (base - 1)) 0 →
     t ≡ meaning o (word / lane_base o ^ k % lane_base o)
 lane_read o meanings word bits k base t are bits_is base_is is =
     is
+    ∙ ap (λ j. get_or meanings j 0) (masked (word / 2 ^ (bits * k)) bits base (bits_is ∙ sym base_is))
     ∙ ap₂ (λ b d. get_or meanings (word / d % b) 0) base_is
     (power_of_power 2 bits k ∙ ap (λ b. b ^ k) bits_is)
     ∙ are.each (word / lane_base o ^ k % lane_base o) (mod-lt (word / lane_base o ^ k) (base-positive o))

@@ -19,7 +19,7 @@ use Rattle.axe_poly.proofs.NumberPolynomials.{product_is_monic, product_is_multi
 use Rattle.axe_poly.proofs.NumberLaws.{polynomial_is_monic, polynomial_degree}
 use Rattle.axe_poly.proofs.TrialLaws.{irreducible_by_first, reducible_of_table}
 use mathlib.Core.Path.{refl, sym, ◌∙◌, ap, subst}
-use native.Mathlib.Nat.{pow-suc, mul-le-mul_left}
+use native.Mathlib.Nat.{pow-suc, mul-le-mul_left, mul-le-mul_right}
 use native.Mathlib.Omega.{arith}
 use native.Mathlib.Decide.{ℕ_discrete, dec_lt}
 
@@ -41,6 +41,11 @@ products_none o p start first marks = record { long = refl; each = λ index insi
         IsTrue (get_or marks index false)
     before index (inl was) = was
     before index (inr (c, from, to, product)) = absurd (omega arith)
+
+pub products_none_from : (o : Order) (p : List ℕ) (start first bound : ℕ) (marks : List Bool) → bound ≡ first →
+    MarksProducts o p start first bound marks marks
+products_none_from o p start first bound marks is =
+    subst (λ k. MarksProducts o p start first k marks marks) (sym is) (products_none o p start first marks)
 
 pub products_more : (o : Order) (p : List ℕ) (start first c x place : ℕ) (before now after : List Bool) → first ≤ c →
     IsProductNumber o p c x → x ≡ start + place → place < length now → after ≡ set now place true →
@@ -91,7 +96,60 @@ products_more o p start first c x place before now after from product x_is insid
         less (inl was) = inl was
         less (inr (k, low, high, is)) = less_at k low high is (ℕ_discrete k c)
 
+-- the products with the cofactors up to a number, and then with those from there on
+pub products_after : (o : Order) (p : List ℕ) (start first middle bound : ℕ) (before now after : List Bool) →
+    first ≤ middle → middle ≤ bound → MarksProducts o p start first middle before now →
+    MarksProducts o p start middle bound now after → MarksProducts o p start first bound before after
+products_after o p start first middle bound before now after low high h g = record {
+  long = g.long ∙ h.long;
+  each = λ index within. (
+    λ marked. forth index within ((g.each index (omega (arith, h.long, within))).0 marked),
+    λ known. (g.each index (omega (arith, h.long, within))).1 (back index within known),
+  );
+}
+  where
+    Known : ℕ → ℕ → List Bool → ℕ → Type 0
+    Known from to marks index =
+        IsTrue (get_or marks index false) ⊎ IsProductNumberBelow o p from to (start + index)
+
+    longer : (index : ℕ) → Known first middle before index → Known first bound before index
+    longer index (inl was) = inl was
+    longer index (inr (c, from, to, product)) = inr (c, from, omega (arith, to, high), product)
+
+    forth : (index : ℕ) → index < length before → Known middle bound now index → Known first bound before index
+    forth index within (inl marked) = longer index ((h.each index within).0 marked)
+    forth index within (inr (c, from, to, product)) = inr (c, omega (arith, from, low), to, product)
+
+    back_at : (index c : ℕ) → index < length before → first ≤ c → c < bound →
+        IsProductNumber o p c (start + index) → Dec (c < middle) → Known middle bound now index
+    back_at index c within from to product (yes early) = inl ((h.each index within).1 (inr (c, from, early, product)))
+    back_at index c within from to product (no late) = inr (c, omega (arith, late), to, product)
+
+    back : (index : ℕ) → index < length before → Known first bound before index → Known middle bound now index
+    back index within (inl was) = inl ((h.each index within).1 (inl was))
+    back index within (inr (c, from, to, product)) = back_at index c within from to product (dec_lt c middle)
+
 -- ---- the cofactors of one polynomial, by their numbers
+-- those that have a digit more
+pub cofactor_with_digit : (q k rest first higher digit : ℕ) → rest ≡ suc k → first ≡ q ^ rest → q ^ k ≤ higher →
+    higher < 2 * q ^ k → digit < q → (first ≤ higher * q + digit) × (higher * q + digit < 2 * first)
+cofactor_with_digit q k rest first higher digit rest_is first_is from to inside = (
+  omega (arith, power, mul-le-mul_right q from),
+  omega (arith, power, twice (q ^ k) q, suc_times higher q, mul-le-mul_right q above, inside),
+)
+  where
+    power : first ≡ q ^ k * q
+    power = first_is ∙ ap (λ n. q ^ n) rest_is ∙ pow-suc q k
+
+    above : suc higher ≤ 2 * q ^ k
+    above = omega (arith, to)
+
+    twice : (x q : ℕ) → 2 * x * q ≡ x * q + x * q
+    twice x q = grind arith
+
+    suc_times : (x q : ℕ) → suc x * q ≡ x * q + q
+    suc_times x q = grind arith
+
 pub first_of_power : (field o : Order) (p : List ℕ) (d first : ℕ) → IsMonicOver (number_field o) p →
     degree_of p < d → field ≡ o → first ≡ order_number field ^ (d + 1 - length p) →
     first ≡ order_number o ^ (d - degree_of p)
@@ -99,6 +157,17 @@ first_of_power field o p d first over smaller same is =
     is ∙ ap (λ r. order_number r ^ (d + 1 - length p)) same
     ∙ (let e : d + 1 - length p ≡ d - degree_of p = omega (arith, smaller, over.positive) in
     ap (λ k. order_number o ^ k) e)
+
+pub higher_has_digits : (o : Order) (k rest higher : ℕ) → rest ≡ suc k → higher < 2 * order_number o ^ k →
+    higher < order_number o ^ rest
+higher_has_digits o k rest higher rest_is small = omega (
+  arith,
+  small,
+  ap (λ n. order_number o ^ n) rest_is,
+  pow-suc (order_number o) k,
+  mul-le-mul_left (order_number o ^ k)
+      (let e : 2 ≤ order_number o = omega (arith, (number_field o).one-below, same_order o) in e),
+)
 
 module _ (o : Order) (p : List ℕ) (d count first : ℕ) (over : IsMonicOver (number_field o) p)
     (smaller : degree_of p < d) (count_is : count ≡ order_number o ^ d)
@@ -134,6 +203,28 @@ module _ (o : Order) (p : List ℕ) (d count first : ℕ) (over : IsMonicOver (n
         (let e : 2 ≤ order_number o = omega (arith, (number_field o).one-below, same_order o) in e),
     (let e : suc (d - degree_of p) ≡ d - degree_of p + 1 = omega arith in ap (λ k. order_number o ^ k) e),
   )
+
+-- the first cofactor, where its last digit is left out
+pub first_with_digit : (o : Order) (p : List ℕ) (d first : ℕ) → IsMonicOver (number_field o) p → degree_of p < d →
+    first ≡ order_number o ^ (d - length p) → first * order_number o ≡ order_number o ^ (d - degree_of p)
+first_with_digit o p d first over smaller is =
+    ap (λ x. x * order_number o) is ∙ sym (pow-suc (order_number o) (d - length p))
+    ∙ (let e : suc (d - length p) ≡ d - degree_of p = omega (arith, smaller, over.positive) in
+    ap (λ k. order_number o ^ k) e)
+
+-- where the cofactor has a digit more
+pub digit_has_mark : (o : Order) (p : List ℕ) (d count higher digit x : ℕ) → IsMonicOver (number_field o) p →
+    degree_of p < d → count ≡ order_number o ^ d → order_number o ^ (d - length p) ≤ higher →
+    higher < 2 * order_number o ^ (d - length p) → digit < order_number o →
+    IsProductNumber o p (higher * order_number o + digit) x → (count ≤ x) × (x < count + count)
+digit_has_mark o p d count higher digit x over smaller count_is from to inside product =
+    product_has_mark o p d count (order_number o ^ (d - degree_of p)) over smaller count_is refl
+    (higher * order_number o + digit) x bounds.0 bounds.1 product
+  where
+    bounds : (order_number o ^ (d - degree_of p) ≤ higher * order_number o + digit)
+        × (higher * order_number o + digit < 2 * order_number o ^ (d - degree_of p))
+    bounds = cofactor_with_digit (order_number o) (d - length p) (d - degree_of p) (order_number o ^ (d - degree_of p))
+        higher digit (omega (arith, smaller, over.positive)) refl from to inside
 
 -- the products with all monic polynomials of the degree that is left are the monic multiples
 pub products_all : (o : Order) (p : List ℕ) (d first bound : ℕ) (before after : List Bool) →

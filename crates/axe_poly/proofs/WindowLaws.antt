@@ -1,5 +1,6 @@
 -- A window of lanes that goes down over the coefficients of a polynomial.
 use Rattle.std.specs.Prelude.{◌≡◌, ℕ, zero, suc, ◌+◌, ◌*◌, ◌-◌, ◌/◌, ◌%◌, ◌^◌, ◌<◌, ◌≤◌, List, length, get_or, take, ◌++◌}
+use Rattle.std.specs.Prelude.{bit_and}
 use Rattle.std.specs.List.{All}
 use Rattle.std.proofs.lemmas.List.{get_or_past, get_or-take, length-take-le, get_or_append_left, get_or-append-add}
 use Rattle.std.proofs.lemmas.List.Elements.{All-take, All-append}
@@ -17,6 +18,7 @@ use Rattle.axe_poly.specs.Limits.{greatest_degree}
 use Rattle.axe_poly.specs.Lanes.{part_base, lane_base, code, meaning, packed, term, IsLane, window, IsWindow, AreCodes, AreMeanings, AreMultiples}
 use Rattle.axe_poly.proofs.CodeLaws.{code_is_lane, sum_is_lane, meaning-below, weight-zero, meaning-zero}
 use Rattle.axe_poly.proofs.PackLaws.{moved, packed_sum, packed_moved, packed_zeros, packed_below, packed_top, lane_at, power_of_power}
+use Rattle.axe_poly.proofs.PackLaws.{masked}
 use mathlib.Core.Path.{refl, sym, ◌∙◌, ap, ap₂, subst, fun_ext}
 use native.Mathlib.Nat.{mul-le-mul_left, mul-le-mul_right, pow-le-pow_right, pow-suc, mod-lt}
 use native.Mathlib.Omega.{arith}
@@ -520,11 +522,11 @@ remainder_next o p f step word bits top base x m monic small over bits_is base_i
     long = omega (arith, monic.positive)
 
 -- the lowest lane of what is left of a word
-pub lane_value : (o : Order) (meanings : List ℕ) (word i left base : ℕ) → AreMeanings o meanings →
-    left ≡ word / lane_base o ^ i → base ≡ lane_base o →
-    get_or meanings (left % base) 0 ≡ meaning o (word / lane_base o ^ i % lane_base o)
-lane_value o meanings word i left base are left_is base_is =
-    ap (λ t. get_or meanings t 0) (ap₂ (λ a b. a % b) left_is base_is)
+pub lane_value : (o : Order) (meanings : List ℕ) (word i left bits base : ℕ) → AreMeanings o meanings →
+    left ≡ word / lane_base o ^ i → 2 ^ bits ≡ lane_base o → base ≡ lane_base o →
+    get_or meanings (bit_and left (base - 1)) 0 ≡ meaning o (word / lane_base o ^ i % lane_base o)
+lane_value o meanings word i left bits base are left_is bits_is base_is =
+    ap (λ t. get_or meanings t 0) (masked left bits base (bits_is ∙ sym base_is) ∙ ap₂ (λ a b. a % b) left_is base_is)
     ∙ are.each (word / lane_base o ^ i % lane_base o) (mod-lt (word / lane_base o ^ i) (base-positive o))
 
 pub zeros_next : (o : Order) (word i : ℕ) →

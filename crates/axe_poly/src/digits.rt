@@ -1,6 +1,6 @@
 //! Lists of coefficients that are changed in place.
 
-ghost use Rattle.std.specs.Prelude.{◌≡◌, ◌-◌, ◌<◌, length, slice_set, replicate, None};
+ghost use Rattle.std.specs.Prelude.{◌≡◌, ◌-◌, ◌/◌, ◌%◌, ◌<◌, length, slice_set, replicate, None};
 ghost use Rattle.axe_field.specs.Order.{IsElement, order_number};
 ghost use Rattle.axe_row.specs.Refusals.{Answers};
 ghost use Rattle.axe_row.specs.Rows.{IsRow};
@@ -83,11 +83,28 @@ impl Digits {
         } }
         ensures as_long { length self.new.entries ≡ length self.old.entries }
     {
-        let order = usize::from(self.field().order());
         let mut left = number;
         for index in 0..self.len() {
-            self.set(index, (left % order) as u8);
-            left /= order;
+            let (higher, digit) = without_last_digit(self.field(), left);
+            self.set(index, digit as u8);
+            left = higher;
         }
+    }
+}
+
+/// A number without its last digit, to the base of how many elements a field has, and that digit.
+pub(crate) fn without_last_digit(field: &Field, number: usize) -> (usize, usize)
+    ensures higher { result.0 ≡ number / order_number field.now }
+    ensures digit { result.1 ≡ number % order_number field.now }
+{
+    // Divided by constants: that is a multiplication and a shift, where a division takes ten times as long.
+    match field.order() {
+        2 => (number / 2, number % 2),
+        3 => (number / 3, number % 3),
+        4 => (number / 4, number % 4),
+        5 => (number / 5, number % 5),
+        7 => (number / 7, number % 7),
+        8 => (number / 8, number % 8),
+        _ => (number / 9, number % 9),
     }
 }

@@ -8,6 +8,7 @@ ghost use Rattle.axe_poly.specs.Lanes.{AreMeanings};
 ghost use Rattle.axe_poly.specs.Limits.{greatest_degree};
 ghost use Rattle.axe_poly.specs.Sieve.{AreScalings, IsProductNumber, IsProductWord, IsNumberOfLanes};
 
+use crate::digits::without_last_digit;
 use crate::lanes::{Lanes, lane_base, lane_bits};
 use crate::windows::multiple;
 use axe_field::Field;
@@ -30,31 +31,9 @@ impl Lanes {
     }
 }
 
-/// The number of a monic polynomial times the one that has a number of at most so many digits.
-pub(crate) fn number_of_product(
-    lanes: &Lanes,
-    divisor: &[u8],
-    scalings: &[u64; 9],
-    count: usize,
-    cofactor: usize,
-) -> usize
-    requires scalings { AreScalings lanes.now divisor.now scalings.now }
-    requires monic { IsMonicOver (number_field lanes.now) divisor.now }
-    requires fits { degree_of divisor.now + count ≤ greatest_degree lanes.now + 1 }
-    requires small { cofactor < order_number lanes.now ^ count }
-    ensures { IsProductNumber lanes.now divisor.now cofactor result }
-{
-    let field = *lanes.field();
-    if field.order() == 2 {
-        return product_of_bits(divisor, cofactor);
-    }
-    let word = word_of_product(&field, divisor, scalings, count, cofactor);
-    number_of_lanes(&field, lanes.meanings(), divisor.len() - 1 + count, word)
-}
-
 /// Over two elements the bits of a number are the coefficients: the exclusive or of the second number, moved up by the
 /// exponents of the first polynomial.
-fn product_of_bits(coefficients: &[u8], cofactor: usize) -> usize
+pub(crate) fn product_of_bits(coefficients: &[u8], cofactor: usize) -> usize
     requires elements { All (IsElement Two) coefficients.now }
     requires short { length coefficients.now ≤ 14 }
     requires small { cofactor < 65536 }
@@ -72,7 +51,7 @@ fn product_of_bits(coefficients: &[u8], cofactor: usize) -> usize
 
 /// The word whose lanes stand for a monic polynomial times the one that has a number: by Horner's rule, from the highest
 /// digit on. The lanes move up, and a multiple of the monic polynomial is added.
-fn word_of_product(
+pub(crate) fn word_of_product(
     field: &Field,
     divisor: &[u8],
     scalings: &[u64; 9],
@@ -85,18 +64,16 @@ fn word_of_product(
     requires small { cofactor < order_number field.now ^ count }
     ensures { IsProductWord field.now divisor.now cofactor (degree_of divisor.now + count) result }
 {
-    let (order, base) = (usize::from(field.order()), lane_base(field));
-    let mut place = order.pow(count as u32);
-    let mut word = 0;
-    for _ in 0..count {
-        place /= order;
-        word = word * base + scalings[cofactor / place % order];
+    if count == 0 {
+        return 0;
     }
-    word
+    let (higher, digit) = without_last_digit(field, cofactor);
+    word_of_product(field, divisor, scalings, count - 1, higher) * lane_base(field)
+        + scalings[digit]
 }
 
 /// The number whose digits are what the lowest lanes of a word, so many, stand for.
-fn number_of_lanes(field: &Field, meanings: &[u8; 512], count: usize, word: u64) -> usize
+pub(crate) fn number_of_lanes(field: &Field, meanings: &[u8; 512], count: usize, word: u64) -> usize
     requires meanings { AreMeanings field.now meanings.now }
     requires few { count ≤ greatest_degree field.now + 1 }
     ensures { IsNumberOfLanes field.now 0 count word result }
@@ -108,7 +85,7 @@ fn number_of_lanes(field: &Field, meanings: &[u8; 512], count: usize, word: u64)
     );
     let mut number = 0;
     for step in 0..count {
-        let lane = (word >> (bits * (count - 1 - step) as u32)) % base;
+        let lane = (word >> (bits * (count - 1 - step) as u32)) & (base - 1);
         number = number * order + usize::from(meanings[lane as usize]);
     }
     number

@@ -67,13 +67,13 @@ fn are_zeros(field: &Field, meanings: &[u8; 512], count: usize, word: u64) -> bo
     ensures { IsTrue result ↔ ((j : ℕ) → j < count →
         meaning field.now (word / lane_base field.now ^ j % lane_base field.now) ≡ 0) }
 {
-    let base = lane_base(field);
+    let (base, bits) = (lane_base(field), lane_bits(field));
     let mut left = word;
     for index in 0..count {
-        if meanings[(left % base) as usize] != 0 {
+        if meanings[(left & (base - 1)) as usize] != 0 {
             return false;
         }
-        left /= base;
+        left >>= bits;
     }
     true
 }

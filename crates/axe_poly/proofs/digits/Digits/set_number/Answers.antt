@@ -20,18 +20,17 @@ pub loop-index-preserved : goal.loop-index-preserved
 loop-index-preserved c =
     let h = c.loop-index.invariant in
     let q : ℕ = order_number c.args.self.now.order in
-    let same : c.from-order.result ≡ order_number c.args.self.now.order = c.from-order.ensures ∙ c.order.ensures.value
-    ∙ ap order_number c.field.ensures.order in
+    let same : order_number c.field.result.now ≡ q = ap order_number (c.field.ensures.order ∙ h.order) in
     record {
       order = ap (λ (r : RowValue). r.order) c.set.ensures.replaced ∙ h.order;
       as_long = ap (λ (r : RowValue). length r.entries) c.set.ensures.replaced
           ∙ length-set c.loop-index.self.entries c.loop-index.index _ ∙ h.as_long;
-      left_is = ap (λ n. c.loop-index.left / n) same
+      left_is = c.without_last_digit-higher.ensures.higher ∙ ap (λ n. c.loop-index.left / n) same
           ∙ left_next q c.args.number c.loop-index.index c.loop-index.left h.left_is;
       digits = digits_next q c.args.number c.loop-index.index c.loop-index.left
-          (c.loop-index.left % c.from-order.result) c.loop-index.self.entries c.set.new.self.entries
+          c.without_last_digit-higher.result.1 c.loop-index.self.entries c.set.new.self.entries
           (omega (arith, c.loop-index-test.true, c.len-index-end.ensures.count, h.as_long)) h.left_is
-          (ap (λ n. c.loop-index.left % n) same)
+          (c.without_last_digit-higher.ensures.digit ∙ ap (λ n. c.loop-index.left % n) same)
           (ap (λ (r : RowValue). r.entries) c.set.ensures.replaced) h.digits;
     }
 
