@@ -96,39 +96,6 @@ products_more o p start first c x place before now after from product x_is insid
         less (inl was) = inl was
         less (inr (k, low, high, is)) = less_at k low high is (ℕ_discrete k c)
 
--- the products with the cofactors up to a number, and then with those from there on
-pub products_after : (o : Order) (p : List ℕ) (start first middle bound : ℕ) (before now after : List Bool) →
-    first ≤ middle → middle ≤ bound → MarksProducts o p start first middle before now →
-    MarksProducts o p start middle bound now after → MarksProducts o p start first bound before after
-products_after o p start first middle bound before now after low high h g = record {
-  long = g.long ∙ h.long;
-  each = λ index within. (
-    λ marked. forth index within ((g.each index (omega (arith, h.long, within))).0 marked),
-    λ known. (g.each index (omega (arith, h.long, within))).1 (back index within known),
-  );
-}
-  where
-    Known : ℕ → ℕ → List Bool → ℕ → Type 0
-    Known from to marks index =
-        IsTrue (get_or marks index false) ⊎ IsProductNumberBelow o p from to (start + index)
-
-    longer : (index : ℕ) → Known first middle before index → Known first bound before index
-    longer index (inl was) = inl was
-    longer index (inr (c, from, to, product)) = inr (c, from, omega (arith, to, high), product)
-
-    forth : (index : ℕ) → index < length before → Known middle bound now index → Known first bound before index
-    forth index within (inl marked) = longer index ((h.each index within).0 marked)
-    forth index within (inr (c, from, to, product)) = inr (c, omega (arith, from, low), to, product)
-
-    back_at : (index c : ℕ) → index < length before → first ≤ c → c < bound →
-        IsProductNumber o p c (start + index) → Dec (c < middle) → Known middle bound now index
-    back_at index c within from to product (yes early) = inl ((h.each index within).1 (inr (c, from, early, product)))
-    back_at index c within from to product (no late) = inr (c, omega (arith, late), to, product)
-
-    back : (index : ℕ) → index < length before → Known first bound before index → Known middle bound now index
-    back index within (inl was) = inl ((h.each index within).1 (inl was))
-    back index within (inr (c, from, to, product)) = back_at index c within from to product (dec_lt c middle)
-
 -- ---- the cofactors of one polynomial, by their numbers
 -- those that have a digit more
 pub cofactor_with_digit : (q k rest first higher digit : ℕ) → rest ≡ suc k → first ≡ q ^ rest → q ^ k ≤ higher →
@@ -191,18 +158,6 @@ module _ (o : Order) (p : List ℕ) (d count first : ℕ) (over : IsMonicOver (n
     where
       monic : IsMonicNumber o d x
       monic = product_is_monic o p d over smaller c x (cofactor_is_monic c from to) product
-
-  -- its cofactor has one digit more than its degree
-  pub cofactor_has_digits : (c : ℕ) → c < 2 * first → c < order_number o ^ (d - degree_of p + 1)
-  cofactor_has_digits c to = omega (
-    arith,
-    to,
-    first_is,
-    pow-suc (order_number o) (d - degree_of p),
-    mul-le-mul_left (order_number o ^ (d - degree_of p))
-        (let e : 2 ≤ order_number o = omega (arith, (number_field o).one-below, same_order o) in e),
-    (let e : suc (d - degree_of p) ≡ d - degree_of p + 1 = omega arith in ap (λ k. order_number o ^ k) e),
-  )
 
 -- the first cofactor, where its last digit is left out
 pub first_with_digit : (o : Order) (p : List ℕ) (d first : ℕ) → IsMonicOver (number_field o) p → degree_of p < d →

@@ -2,6 +2,8 @@
 use Rattle.std.specs.Prelude.{◌≡◌, ℕ, zero, suc, ◌+◌, ◌*◌, ◌-◌, ◌/◌, ◌%◌, ◌^◌, ◌<◌, ◌≤◌, List, length, get_or, take, ◌++◌}
 use Rattle.std.specs.Prelude.{bit_and}
 use Rattle.std.specs.List.{All}
+use Rattle.std.proofs.Math.Nat.{mod-eq_of_lt, mod-eq-sub-div-mul}
+use Rattle.std.proofs.lemmas.Nat.{and_mask, one_shl}
 use Rattle.std.proofs.lemmas.List.{get_or_past, get_or-take, length-take-le, get_or_append_left, get_or-append-add}
 use Rattle.std.proofs.lemmas.List.Elements.{All-take, All-append}
 use Rattle.std.proofs.lemmas.List.FromFn.{get_or-map-range_with_len, length-map-range_with_len}
@@ -548,11 +550,6 @@ term_of_table o p codes c i word place t base are monic small element inside bas
     (code_in_table o codes t (field_mul o c (get_or p i 0)) are is
     (product_is_element o c (get_or p i 0) element (entry_is_element o p i monic.elements (omega (arith, inside)))))
 
-pub top_small : (o : Order) (p : List ℕ) (base : ℕ) → degree_of p ≤ greatest_degree o → base ≡ lane_base o →
-    base ^ (length p - 2) < 2 ^ 53
-top_small o p base small base_is =
-    omega (arith, ap (λ b. b ^ (length p - 2)) base_is, word_fits o (length p - 2) (omega (arith, small)))
-
 pub bits_small : (o : Order) (p : List ℕ) (bits : ℕ) → degree_of p ≤ greatest_degree o → 2 ^ bits ≡ lane_base o →
     bits * (length p - 2) < 64
 bits_small o p bits small bits_is = cases (dec_lt (bits * (length p - 2)) 64)
@@ -567,6 +564,38 @@ bits_small o p bits small bits_is = cases (dec_lt (bits * (length p - 2)) 64)
         let two : 0 < 2 = omega arith in
         let e : 2 ^ 64 ≤ 2 ^ (bits * (length p - 2)) = pow-le-pow_right two long in
         absurd (omega (arith, e, power, word_fits o (length p - 2) (omega (arith, small))))
+
+-- a lane has fewer bits than a word
+pub lane_bits-small : (o : Order) (bits : ℕ) → 2 ^ bits ≡ lane_base o → bits < 64
+lane_bits-small o bits bits_is = cases (dec_lt bits 64)
+  where
+    cases : Dec (bits < 64) → bits < 64
+    cases (yes below) = below
+    cases (no past) =
+        let long : 64 ≤ bits = omega (arith, past) in
+        let two : 0 < 2 = omega arith in
+        let e : 2 ^ 64 ≤ 2 ^ bits = pow-le-pow_right two long in
+        absurd (omega (arith, e, bits_is, base-small o))
+
+pub one_lane : (o : Order) (bits : ℕ) → 2 ^ bits ≡ lane_base o → 1 * 2 ^ bits % 2 ^ 64 ≡ lane_base o
+one_lane o bits bits_is = one_shl bits 64 (lane_bits-small o bits bits_is) ∙ bits_is
+
+-- the lanes below the highest one, by a mask, and moved up
+pub others_moved : (o : Order) (p : List ℕ) (word bits : ℕ) → degree_of p ≤ greatest_degree o → 2 ^ bits ≡ lane_base o →
+    IsWithinWord o p word bits (lane_base o ^ (length p - 2)) (lane_base o) →
+    bit_and word (1 * 2 ^ (bits * (length p - 2)) % 2 ^ 64 - 1) * 2 ^ bits % 2 ^ 64
+    ≡ (word - word / 2 ^ (bits * (length p - 2)) * lane_base o ^ (length p - 2)) * lane_base o
+others_moved o p word bits small bits_is within =
+    ap (λ x. x % 2 ^ 64) (ap₂ (λ x y. x * y) others bits_is) ∙ mod-eq_of_lt (omega (arith, within.others))
+  where
+    places : ℕ
+    places = bits * (length p - 2)
+
+    others : bit_and word (1 * 2 ^ places % 2 ^ 64 - 1) ≡ word - word / 2 ^ places * lane_base o ^ (length p - 2)
+    others = ap (λ t. bit_and word (t - 1)) (one_shl places 64 (bits_small o p bits small bits_is))
+        ∙ and_mask word places ∙ mod-eq-sub-div-mul word (2 ^ places)
+        ∙ ap (λ t. word - word / 2 ^ places * t)
+        (power_of_power 2 bits (length p - 2) ∙ ap (λ b. b ^ (length p - 2)) bits_is)
 
 pub order-small : (o : Order) → order_number o ≤ 9
 order-small Two = omega arith

@@ -47,15 +47,16 @@ fn remainder(
     requires elements { All (IsElement field.now) dividend.now }
     ensures { IsWindow field.now divisor.now dividend.now (length divisor.now - 1) 0 result }
 {
-    let base = lane_base(field);
-    let bits = lane_bits(field) * (divisor.len() - 2) as u32;
-    let top = base.pow((divisor.len() - 2) as u32);
+    let bits = lane_bits(field);
+    // So many bits have the lanes below the top one.
+    let others = bits * (divisor.len() - 2) as u32;
+    let top = 1u64 << others;
     let len = dividend.len();
     let mut word = 0;
     for step in 0..len {
-        let lead = word >> bits;
+        let lead = word >> others;
         let element = meanings[lead as usize];
-        let moved = (word - lead * top) * base + codes[usize::from(dividend[len - 1 - step])];
+        let moved = ((word & (top - 1)) << bits) + codes[usize::from(dividend[len - 1 - step])];
         word = moved + multiples[usize::from(element)];
     }
     word
@@ -67,7 +68,8 @@ fn are_zeros(field: &Field, meanings: &[u8; 512], count: usize, word: u64) -> bo
     ensures { IsTrue result ↔ ((j : ℕ) → j < count →
         meaning field.now (word / lane_base field.now ^ j % lane_base field.now) ≡ 0) }
 {
-    let (base, bits) = (lane_base(field), lane_bits(field));
+    let bits = lane_bits(field);
+    let base = 1u64 << bits;
     let mut left = word;
     for index in 0..count {
         if meanings[(left & (base - 1)) as usize] != 0 {

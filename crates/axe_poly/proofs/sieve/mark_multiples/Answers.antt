@@ -1,10 +1,8 @@
-use Rattle.std.proofs.Common.{◌≡◌, ◌+◌, ◌-◌, ◌*◌, ◌^◌, length, sym, subst, ◌∙◌, ap, arith}
-use Rattle.axe_field.specs.NumberFields.{number_field}
-use Rattle.axe_field.specs.Order.{Two, order_number}
+use Rattle.std.proofs.Common.{◌≡◌, ◌-◌, ◌*◌, ◌^◌, length, sym, ◌∙◌, ap, arith}
+use Rattle.axe_field.specs.Order.{order_number}
 use Rattle.axe_polynomial_algebra.specs.PolynomialsOfLists.{degree_of}
-use Rattle.axe_poly.specs.Sieve.{MarksMultiples}
 use Rattle.axe_poly.proofs.NumberPolynomials.{same_order}
-use Rattle.axe_poly.proofs.SieveLaws.{order_is_two, products_none, products_after, products_all, first_with_digit}
+use Rattle.axe_poly.proofs.SieveLaws.{products_all, first_with_digit}
 use Rattle.axe_poly.proofs.sieve.mark_multiples.Goals as goal
 
 pub returns : goal.returns

@@ -1,9 +1,8 @@
 use Rattle.std.proofs.Common.{◌≡◌, ◌<◌, ◌+◌, ◌-◌, ◌*◌, ◌^◌, length, get_or, slice_set, true, refl, sym, subst, ◌∙◌, ap, arith}
-use Rattle.axe_field.specs.NumberFields.{number_field}
 use Rattle.axe_field.specs.Order.{order_number}
-use Rattle.axe_polynomial_algebra.specs.PolynomialsOfLists.{degree_of, IsMonicOver}
+use Rattle.axe_polynomial_algebra.specs.PolynomialsOfLists.{degree_of}
 use Rattle.axe_poly.specs.Lanes.{lane_base}
-use Rattle.axe_poly.specs.Sieve.{AreScalings, MarksProducts, IsProductWord, IsNumberOfLanes}
+use Rattle.axe_poly.specs.Sieve.{MarksProducts, IsProductWord, IsNumberOfLanes}
 use Rattle.axe_poly.proofs.ProductWords.{word_small, scaling_small, product_with_digit}
 use Rattle.axe_poly.proofs.SieveLaws.{products_none_from, products_more, higher_has_digits, digit_has_mark}
 use Rattle.axe_poly.proofs.sieve.mark_products.Goals as goal
