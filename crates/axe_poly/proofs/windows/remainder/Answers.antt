@@ -3,7 +3,8 @@ use Rattle.std.proofs.lemmas.Nat.{one_shl}
 use Rattle.axe_algebra.proofs.Digits.{pow-positive}
 use Rattle.axe_poly.specs.Lanes.{lane_base, IsWindow}
 use Rattle.axe_poly.proofs.PolyLaws.{elements_are_below}
-use Rattle.axe_poly.proofs.WindowLaws.{window_start, bits_small, lane_bits-small, step_within, others_moved, entry_is_element}
+use Rattle.axe_poly.proofs.WindowLaws.{window_start, bits_small, lane_bits-small, step_within, others_moved}
+use Rattle.axe_poly.proofs.WindowLaws.{entry_is_element}
 use Rattle.axe_poly.proofs.WindowLaws.{code_in_table, code_in_table-small, lead_element, element_small}
 use Rattle.axe_poly.proofs.WindowLaws.{multiple_small, multiple_of_lead, remainder_next}
 use Rattle.axe_poly.proofs.windows.remainder.Goals as goal
@@ -18,13 +19,21 @@ loop-step-init c =
 
 pub overflow_mul-others : goal.overflow_mul-others
 overflow_mul-others c =
-    omega (arith, bits_small c.args.field.now c.args.divisor.now c.lane_bits-bits.result c.requires.degree c.lane_bits-bits.ensures.value)
+    omega (
+      arith,
+      bits_small c.args.field.now c.args.divisor.now c.lane_bits-bits.result c.requires.degree
+          c.lane_bits-bits.ensures.value,
+    )
 
 pub overflow_shl-top : goal.overflow_shl-top
-overflow_shl-top c = bits_small c.args.field.now c.args.divisor.now c.lane_bits-bits.result c.requires.degree c.lane_bits-bits.ensures.value
+overflow_shl-top c =
+    bits_small c.args.field.now c.args.divisor.now c.lane_bits-bits.result c.requires.degree
+    c.lane_bits-bits.ensures.value
 
 pub overflow_shr-lead : goal.overflow_shr-lead
-overflow_shr-lead c = bits_small c.args.field.now c.args.divisor.now c.lane_bits-bits.result c.requires.degree c.lane_bits-bits.ensures.value
+overflow_shr-lead c =
+    bits_small c.args.field.now c.args.divisor.now c.lane_bits-bits.result c.requires.degree
+    c.lane_bits-bits.ensures.value
 
 pub overflow_sub-moved : goal.overflow_sub-moved
 overflow_sub-moved c =
@@ -32,7 +41,8 @@ overflow_sub-moved c =
     omega (
       arith,
       one_shl places 64
-          (bits_small c.args.field.now c.args.divisor.now c.lane_bits-bits.result c.requires.degree c.lane_bits-bits.ensures.value),
+          (bits_small c.args.field.now c.args.divisor.now c.lane_bits-bits.result c.requires.degree
+          c.lane_bits-bits.ensures.value),
       pow-positive 2 places (let e : 0 < 2 = omega arith in e),
     )
 
@@ -42,17 +52,19 @@ overflow_shl-moved c = lane_bits-small c.args.field.now c.lane_bits-bits.result 
 pub bounds-meanings-lead : goal.bounds-meanings-lead
 bounds-meanings-lead c =
     let within = step_within c.args.field.now c.args.divisor.now c.args.dividend.now
-    (length c.args.dividend.now - c.loop-step.step) c.loop-step.word c.lane_bits-bits.result (lane_base c.args.field.now ^ (length c.args.divisor.now - 2))
-    (lane_base c.args.field.now) c.requires.monic c.requires.degree c.lane_bits-bits.ensures.value
-    refl refl c.loop-step.invariant in
+    (length c.args.dividend.now - c.loop-step.step) c.loop-step.word c.lane_bits-bits.result
+    (lane_base c.args.field.now ^ (length c.args.divisor.now - 2)) (lane_base c.args.field.now)
+    c.requires.monic c.requires.degree
+    c.lane_bits-bits.ensures.value refl refl c.loop-step.invariant in
     within.lead_small
 
 pub overflow_add-moved : goal.overflow_add-moved
 overflow_add-moved c =
     let within = step_within c.args.field.now c.args.divisor.now c.args.dividend.now
-    (length c.args.dividend.now - c.loop-step.step) c.loop-step.word c.lane_bits-bits.result (lane_base c.args.field.now ^ (length c.args.divisor.now - 2))
-    (lane_base c.args.field.now) c.requires.monic c.requires.degree c.lane_bits-bits.ensures.value
-    refl refl c.loop-step.invariant in
+    (length c.args.dividend.now - c.loop-step.step) c.loop-step.word c.lane_bits-bits.result
+    (lane_base c.args.field.now ^ (length c.args.divisor.now - 2)) (lane_base c.args.field.now)
+    c.requires.monic c.requires.degree
+    c.lane_bits-bits.ensures.value refl refl c.loop-step.invariant in
     let element = entry_is_element c.args.field.now c.args.dividend.now
     (length c.args.dividend.now - 1 - c.loop-step.step)
     (elements_are_below c.args.field.now c.args.dividend.now c.requires.elements)
@@ -62,8 +74,8 @@ overflow_add-moved c =
     c.from.ensures element in
     omega (
       arith,
-      others_moved c.args.field.now c.args.divisor.now c.loop-step.word c.lane_bits-bits.result c.requires.degree c.lane_bits-bits.ensures.value
-          within,
+      others_moved c.args.field.now c.args.divisor.now c.loop-step.word c.lane_bits-bits.result
+          c.requires.degree c.lane_bits-bits.ensures.value within,
       within.others,
       code,
     )
@@ -71,19 +83,22 @@ overflow_add-moved c =
 pub bounds-multiples-from : goal.bounds-multiples-from
 bounds-multiples-from c =
     let within = step_within c.args.field.now c.args.divisor.now c.args.dividend.now
-    (length c.args.dividend.now - c.loop-step.step) c.loop-step.word c.lane_bits-bits.result (lane_base c.args.field.now ^ (length c.args.divisor.now - 2))
-    (lane_base c.args.field.now) c.requires.monic c.requires.degree c.lane_bits-bits.ensures.value
-    refl refl c.loop-step.invariant in
+    (length c.args.dividend.now - c.loop-step.step) c.loop-step.word c.lane_bits-bits.result
+    (lane_base c.args.field.now ^ (length c.args.divisor.now - 2)) (lane_base c.args.field.now)
+    c.requires.monic c.requires.degree
+    c.lane_bits-bits.ensures.value refl refl c.loop-step.invariant in
     let lead = lead_element c.args.field.now c.args.meanings.now
-    (c.loop-step.word / 2 ^ (c.lane_bits-bits.result * (length c.args.divisor.now - 2))) c.requires.meanings within.lead in
+    (c.loop-step.word / 2 ^ (c.lane_bits-bits.result * (length c.args.divisor.now - 2))) c.requires.meanings
+    within.lead in
     element_small c.args.field.now _ c.from-in-loop-step.result lead c.from-in-loop-step.ensures
 
 pub overflow_add-word : goal.overflow_add-word
 overflow_add-word c =
     let within = step_within c.args.field.now c.args.divisor.now c.args.dividend.now
-    (length c.args.dividend.now - c.loop-step.step) c.loop-step.word c.lane_bits-bits.result (lane_base c.args.field.now ^ (length c.args.divisor.now - 2))
-    (lane_base c.args.field.now) c.requires.monic c.requires.degree c.lane_bits-bits.ensures.value
-    refl refl c.loop-step.invariant in
+    (length c.args.dividend.now - c.loop-step.step) c.loop-step.word c.lane_bits-bits.result
+    (lane_base c.args.field.now ^ (length c.args.divisor.now - 2)) (lane_base c.args.field.now)
+    c.requires.monic c.requires.degree
+    c.lane_bits-bits.ensures.value refl refl c.loop-step.invariant in
     let element = entry_is_element c.args.field.now c.args.dividend.now
     (length c.args.dividend.now - 1 - c.loop-step.step)
     (elements_are_below c.args.field.now c.args.dividend.now c.requires.elements)
@@ -92,14 +107,16 @@ overflow_add-word c =
     (get_or c.args.dividend.now (length c.args.dividend.now - 1 - c.loop-step.step) 0) c.requires.codes
     c.from.ensures element in
     let lead = lead_element c.args.field.now c.args.meanings.now
-    (c.loop-step.word / 2 ^ (c.lane_bits-bits.result * (length c.args.divisor.now - 2))) c.requires.meanings within.lead in
+    (c.loop-step.word / 2 ^ (c.lane_bits-bits.result * (length c.args.divisor.now - 2))) c.requires.meanings
+    within.lead in
     let more = multiple_small c.args.field.now c.args.divisor.now c.args.multiples.now
-    c.from-in-loop-step.result (get_or c.args.meanings.now (c.loop-step.word / 2 ^ (c.lane_bits-bits.result * (length c.args.divisor.now - 2))) 0)
+    c.from-in-loop-step.result
+    (get_or c.args.meanings.now (c.loop-step.word / 2 ^ (c.lane_bits-bits.result * (length c.args.divisor.now - 2))) 0)
     c.requires.monic c.requires.degree c.requires.multiples c.from-in-loop-step.ensures lead in
     omega (
       arith,
-      others_moved c.args.field.now c.args.divisor.now c.loop-step.word c.lane_bits-bits.result c.requires.degree c.lane_bits-bits.ensures.value
-          within,
+      others_moved c.args.field.now c.args.divisor.now c.loop-step.word c.lane_bits-bits.result
+          c.requires.degree c.lane_bits-bits.ensures.value within,
       within.others,
       code,
       more,
@@ -108,9 +125,10 @@ overflow_add-word c =
 pub loop-step-preserved : goal.loop-step-preserved
 loop-step-preserved c =
     let within = step_within c.args.field.now c.args.divisor.now c.args.dividend.now
-    (length c.args.dividend.now - c.loop-step.step) c.loop-step.word c.lane_bits-bits.result (lane_base c.args.field.now ^ (length c.args.divisor.now - 2))
-    (lane_base c.args.field.now) c.requires.monic c.requires.degree c.lane_bits-bits.ensures.value
-    refl refl c.loop-step.invariant in
+    (length c.args.dividend.now - c.loop-step.step) c.loop-step.word c.lane_bits-bits.result
+    (lane_base c.args.field.now ^ (length c.args.divisor.now - 2)) (lane_base c.args.field.now)
+    c.requires.monic c.requires.degree
+    c.lane_bits-bits.ensures.value refl refl c.loop-step.invariant in
     let element = entry_is_element c.args.field.now c.args.dividend.now
     (length c.args.dividend.now - 1 - c.loop-step.step)
     (elements_are_below c.args.field.now c.args.dividend.now c.requires.elements)
@@ -121,7 +139,8 @@ loop-step-preserved c =
     (sym (others_moved c.args.field.now c.args.divisor.now c.loop-step.word c.lane_bits-bits.result c.requires.degree
     c.lane_bits-bits.ensures.value within))
     (remainder_next c.args.field.now c.args.divisor.now c.args.dividend.now c.loop-step.step c.loop-step.word
-    c.lane_bits-bits.result (lane_base c.args.field.now ^ (length c.args.divisor.now - 2)) (lane_base c.args.field.now) _ _ c.requires.monic c.requires.degree
+    c.lane_bits-bits.result (lane_base c.args.field.now ^ (length c.args.divisor.now - 2))
+    (lane_base c.args.field.now) _ _ c.requires.monic c.requires.degree
     (elements_are_below c.args.field.now c.args.dividend.now c.requires.elements) c.lane_bits-bits.ensures.value
     refl refl (omega (arith, c.loop-step-test.true)) c.loop-step.invariant
     (code_in_table c.args.field.now c.args.codes.now c.from.result
