@@ -97,7 +97,7 @@ pub(crate) fn without_last_digit(field: &Field, number: usize) -> (usize, usize)
     ensures higher { result.0 ≡ number / order_number field.now }
     ensures digit { result.1 ≡ number % order_number field.now }
 {
-    // Divided by constants: that is a multiplication and a shift, where a division takes ten times as long.
+    // A division by a constant is a multiplication and a shift; by another number it takes ten times as long.
     match field.order() {
         2 => (number / 2, number % 2),
         3 => (number / 3, number % 3),

@@ -43,7 +43,7 @@ fn mark_multiples(lanes: &Lanes, divisor: &[u8], degree: usize, marks: &mut [boo
         return;
     }
     let scalings = lanes.scalings(divisor);
-    // The cofactors are the monic polynomials of the degree that is left; their numbers but for the last digit.
+    // The cofactors are the monic polynomials of the degree that is left: here, their numbers but for the last digit.
     let first = power(lanes.field(), degree - divisor.len());
     for higher in first..2 * first {
         mark_products(lanes, divisor, &scalings, degree, higher, marks);

@@ -48,7 +48,7 @@ fn remainder(
     ensures { IsWindow field.now divisor.now dividend.now (length divisor.now - 1) 0 result }
 {
     let bits = lane_bits(field);
-    // So many bits have the lanes below the top one.
+    // How many bits the lanes below the top one have.
     let others = bits * (divisor.len() - 2) as u32;
     let top = 1u64 << others;
     let len = dividend.len();
