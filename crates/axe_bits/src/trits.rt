@@ -239,7 +239,10 @@ impl TritPlane {
     /// Adds to a row over the field of order 9 the multiple by p + q x of another of its length, where x^2 is x + 1: to
     /// the planes of its coefficients of 1 and of x, by those of the other row, `a` and `b`. Digits of `a` and `b`
     /// before an index are 0, and the words before that of the index are not looked at.
-    #[inline(always)]
+    ///
+    /// It is one function for all callers: its loops are too large for a copy of them in each, and here a call takes few
+    /// arguments.
+    #[inline(never)]
     pub fn add_multiple_of_two(
         first: &mut TritPlane,
         second: &mut TritPlane,
