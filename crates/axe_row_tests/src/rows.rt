@@ -374,7 +374,10 @@ fn row_given(rt: &impl Abort, alloc: Global, call: &str, row: &Row) -> Result<Ro
     match call {
         "first_and_last" => {
             assert!(rt; !row.is_empty());
-            row.select(alloc, &[0, row.len() - 1], &[])
+            let columns = [0, row.len() - 1];
+            let mut followed = [0];
+            mark_followed(&mut followed, &columns);
+            row.select(alloc, &columns, &followed)
         }
         "runs" => {
             assert!(rt; row.len() >= 67);
