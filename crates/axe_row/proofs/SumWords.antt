@@ -74,7 +74,7 @@ module _ (entries : List ℕ) (at old now : ℕ) (so_far : IsPassed entries at o
       within = omega (arith, place_low, listed_length 64 (bit_at old));
       not_before = ahead_of;
       nonzero = λ none. next.nonzero (
-      bit_of_now place place_low ∙ so_far.ahead place place_low ahead_of ∙ sym (bit_of_old place place_low) ∙ none);
+          bit_of_now place place_low ∙ so_far.ahead place place_low ahead_of ∙ sym (bit_of_old place place_low) ∙ none);
       zeros_between = λ j after before.
           let low : j < 64 = omega (arith, before, place_low) in
           bit_of_old j low ∙ sym (so_far.ahead j low after) ∙ sym (bit_of_now j low) ∙ next.zeros_between j (omega arith) before;
