@@ -14,3 +14,4 @@ pub mod EntryWords
 pub mod BitBlocks
 pub mod FormValues
 pub mod Sums
+pub mod HeldRows

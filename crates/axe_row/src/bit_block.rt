@@ -23,9 +23,9 @@ use axe_plane::Plane;
 /// as the row changes.
 #[derive(Drop, Clone, Copy)]
 pub struct BitBlock {
-    constant: u64,
-    linear: u64,
-    quadratic: u64,
+    pub(crate) constant: u64,
+    pub(crate) linear: u64,
+    pub(crate) quadratic: u64,
 }
 
 impl Row {

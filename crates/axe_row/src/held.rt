@@ -1,0 +1,192 @@
+//! Rows of few words over fields of characteristic 2, held in registers while others are added to them.
+ghost use Rattle.std.specs.Int.{bit_at};
+ghost use Rattle.std.specs.Prelude.{ℕ, ◌≡◌, ◌≢◌, ◌+◌, ◌*◌, ◌/◌, ◌<◌, IfSome, MatchOption, length, slice_index};
+ghost use Rattle.axe_field.specs.Order.{IsElement, degree_of, order_number, prime_of};
+ghost use Rattle.axe_lane.specs.Entries.{AreZerosFrom};
+ghost use Rattle.axe_layer.specs.Supports.{restricted};
+ghost use Rattle.axe_plane.specs.Planes.{digits_of, prime_of_plane};
+ghost use Rattle.axe_row.specs.BitBlocks.{bits_after, bits_of_word, elements_of_block};
+ghost use Rattle.axe_row.specs.EntryWords.{entries_in_word};
+ghost use Rattle.axe_row.specs.FoundEntries.{IsNextEntry};
+ghost use Rattle.axe_row.specs.HeldRows.{block_at, IsBlockWithMultiple};
+ghost use Rattle.axe_row.specs.Operations.{multiple_row, row_with_multiple};
+ghost use Rattle.axe_row.specs.Rows.{IsRow};
+
+use crate::Row;
+use crate::bit_block::BitBlock;
+use axe_field::Field;
+use axe_plane::Plane;
+use std::marker::Model;
+
+/// A row over a field of characteristic 2 whose planes have W words each, by its blocks of 64 entries. While rows are
+/// added to it one after the other, it stays in registers, where a `Row` is read from its planes and written to them for
+/// each row that is added.
+#[derive(Drop)]
+pub struct HeldRow<const W: usize> {
+    field: Field,
+    len: usize,
+    blocks: [BitBlock; W],
+}
+
+impl<const W: usize> Model for HeldRow<W> {
+    ghost use Rattle.axe_row.specs.HeldRows.{entries_of_blocks, AreBlocksOfRow};
+    ghost use Rattle.axe_row.specs.Rows.{RowValue};
+
+    ghost Value = { RowValue };
+
+    ghost view = { λ a. record { order = a.field; entries = entries_of_blocks a.len a.blocks } };
+
+    ghost invariant = { λ a. AreBlocksOfRow a.field a.len a.blocks };
+}
+
+impl Row {
+    /// The row, held. It is over a field of Q elements, of characteristic 2, and each of its planes has W words.
+    #[inline(always)]
+    pub fn hold<const Q: u8, const W: usize>(&self) -> HeldRow<W>
+        requires order { order_number self.now.order ≡ Q }
+        requires characteristic { prime_of self.now.order ≡ 2 }
+        requires words { (length self.now.entries + 63) / 64 ≡ W }
+        ensures value { result ≡ self.now }
+        ensures well_formed { IsRow result }
+    {
+        HeldRow {
+            field: self.field,
+            len: self.len(),
+            blocks: self.bit_blocks::<Q, W>(),
+        }
+    }
+
+    /// Makes the row the one that is held, over the same field and of the same length.
+    #[inline(always)]
+    pub fn put_held<const Q: u8, const W: usize>(&mut self, held: &HeldRow<W>)
+        requires order { order_number self.old.order ≡ Q }
+        requires field { held.now.order ≡ self.old.order }
+        requires fits { length held.now.entries ≡ length self.old.entries }
+        ensures value { self.new ≡ held.now }
+        ensures well_formed { IsRow self.new }
+    {
+        for at in 0..W {
+            let block = held.blocks[at];
+            self.set_digit_words(0, at, [block.constant, 0]);
+            if Q != 2 {
+                self.set_digit_words(1, at, [block.linear, 0]);
+            }
+            if Q == 8 {
+                self.set_digit_words(2, at, [block.quadratic, 0]);
+            }
+        }
+    }
+
+    /// The blocks of a row over a field of Q elements, of characteristic 2, whose planes have W words each.
+    #[inline(always)]
+    fn bit_blocks<const Q: u8, const W: usize>(&self) -> [BitBlock; W]
+        requires order { order_number self.now.order ≡ Q }
+        requires characteristic { prime_of self.now.order ≡ 2 }
+        requires words { (length self.now.entries + 63) / 64 ≡ W }
+        ensures blocks { (k : ℕ) → k < W → elements_of_block (block_at result k) ≡ entries_in_word self.now.entries k }
+        ensures well_formed { IsRow self.now }
+    {
+        let constant = words_of_bits::<W>(&self.constant);
+        let (mut linear, mut quadratic) = ([0; W], [0; W]);
+        if Q != 2 {
+            let Some(higher) = &self.higher else {
+                unreachable!();
+            };
+            linear = words_of_bits::<W>(&higher.linear);
+            if Q == 8 {
+                quadratic = words_of_bits::<W>(&higher.quadratic);
+            }
+        }
+        let mut blocks = [BitBlock::zeros(); W];
+        for at in 0..W {
+            blocks[at] = BitBlock {
+                constant: constant[at],
+                linear: linear[at],
+                quadratic: quadratic[at],
+            };
+        }
+        blocks
+    }
+}
+
+impl<const W: usize> HeldRow<W> {
+    /// The place of the first entry other than 0 in the word at an index, among the places where a word has a 1, counted
+    /// from 0, and that entry, as [`Row::next_in_word`] finds it; `None` where every one of these is 0. The word keeps
+    /// the ones after that place alone.
+    #[inline(always)]
+    pub fn next_in_word(&self, at: usize, places: &mut u64) -> Option<(usize, u8)>
+        requires word { at < W }
+        ensures found { MatchOption result
+            (AreZerosFrom (restricted (bits_of_word places.old) (entries_in_word self.now.entries at)) 0)
+            (λ found. IsNextEntry (bits_of_word places.old) (entries_in_word self.now.entries at) 0 found.0 found.1) }
+        ensures rest { IfSome result (λ found. bits_of_word places.new ≡ bits_after places.old found.0) }
+        ensures element { IfSome result (λ found. IsElement self.now.order found.1) }
+    {
+        self.blocks[at].next_within(places)
+    }
+
+    /// Adds a multiple of a row over the same field, which has Q elements, and of the same length: each entry d becomes
+    /// d + c s, where c is the scalar, which is not 0, and s the row's entry.
+    #[inline(always)]
+    pub fn add_scaled_in<const Q: u8>(&mut self, scalar: u8, other: &Row)
+        requires order { order_number self.old.order ≡ Q }
+        requires field { other.now.order ≡ self.old.order }
+        requires fits { length other.now.entries ≡ length self.old.entries }
+        requires element { IsElement self.old.order scalar }
+        requires nonzero { scalar ≢ 0 }
+        ensures sum { self.new ≡ row_with_multiple self.old scalar other.now }
+        ensures as_long { length self.new.entries ≡ length self.old.entries }
+        ensures well_formed { IsRow self.new }
+    {
+        let others = other.bit_blocks::<Q, W>();
+        add_multiples::<Q, W>(&mut self.blocks, scalar, &others);
+    }
+
+    /// Multiplies the row by x, over a field of Q elements that is not prime.
+    #[inline(always)]
+    pub fn multiply_by_x<const Q: u8>(&mut self)
+        requires order { order_number self.old.order ≡ Q }
+        requires not_prime { degree_of self.old.order ≢ 1 }
+        ensures multiple { self.new ≡ multiple_row 2 self.old }
+        ensures as_long { length self.new.entries ≡ length self.old.entries }
+        ensures well_formed { IsRow self.new }
+    {
+        let mut blocks = [BitBlock::zeros(); W];
+        add_multiples::<Q, W>(&mut blocks, 2, &self.blocks);
+        self.blocks = blocks;
+    }
+}
+
+/// Adds to each block the multiple by a scalar other than 0 of the other block at its place, over a field of Q elements.
+#[inline(always)]
+fn add_multiples<const Q: u8, const W: usize>(
+    blocks: &mut [BitBlock; W],
+    scalar: u8,
+    others: &[BitBlock; W],
+)
+    requires nonzero { scalar ≢ 0 }
+    ensures { (k : ℕ) → k < W →
+        IsBlockWithMultiple Q scalar (block_at blocks.old k) (block_at others.now k) (block_at blocks.new k) }
+{
+    for at in 0..W {
+        blocks[at].add_scaled_in::<Q>(scalar, &others[at]);
+    }
+}
+
+/// The words of a plane modulo 2 that has W of them.
+#[inline(always)]
+fn words_of_bits<const W: usize>(plane: &Plane) -> [u64; W]
+    requires prime { prime_of_plane plane.now ≡ 2 }
+    requires words { (length (digits_of plane.now) + 63) / 64 ≡ W }
+    ensures { (k i : ℕ) → k < W → i < 64 →
+        bit_at (slice_index result k) i ≡ slice_index (digits_of plane.now) (k * 64 + i) }
+{
+    let mut words = [0; W];
+    if let Plane::Bits(plane) = plane {
+        let from = plane.words();
+        for at in 0..W {
+            words[at] = from[at];
+        }
+    }
+    words
+}
