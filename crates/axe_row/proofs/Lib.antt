@@ -37,3 +37,4 @@ pub mod PlacedRows
 pub mod SumRows
 pub mod SumWords
 pub mod KnownFieldLaws
+pub mod HeldLaws

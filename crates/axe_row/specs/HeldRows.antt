@@ -1,10 +1,11 @@
 -- Rows over fields of characteristic 2 as lists of blocks of 64 entries.
-use Rattle.std.specs.Prelude.{◌≡◌, ℕ, ◌+◌, ◌/◌, ◌%◌, ◌<◌, ◌≤◌, List, All, length, slice_index, slice_index_or}
+use Rattle.std.specs.Prelude.{◌≡◌, ℕ, ◌+◌, ◌/◌, ◌%◌, ◌<◌, ◌≤◌, ◌≢◌, List, All, length, slice_index, slice_index_or}
 use Rattle.axe_algebra.specs.Lists.{listed}
 use Rattle.axe_field.specs.NumberFields.{number_field}
 use Rattle.axe_field.specs.Order.{Order, IsElement, order_number, prime_of}
 use Rattle.axe_row.specs.BitBlocks.{elements_of_block}
 use Rattle.axe_row.specs.Operations.{sum_with_multiple}
+use Rattle.axe_row.specs.Rows.{RowValue}
 use Rattle.axe_row.specs.declared.bit_block.BitBlock.{BitBlock}
 
 -- the block at a place of a list, and that of zeros where there is none
@@ -33,3 +34,11 @@ abbrev pub IsBlockWithMultiple : ℕ → ℕ → BitBlock → BitBlock → BitBl
 IsBlockWithMultiple size scalar block other sum = (o : Order) → order_number o ≡ size → prime_of o ≡ 2 → IsElement o scalar →
     All (IsElement o) (elements_of_block block) → All (IsElement o) (elements_of_block other) →
     elements_of_block sum ≡ sum_with_multiple (number_field o) (elements_of_block block) scalar (elements_of_block other)
+
+-- the row after is the one before with the elements of a block as the entries in word k
+pub record HasBlock (k : ℕ) (block : BitBlock) (before after : RowValue) : Type 0 where
+  pub order : after.order ≡ before.order
+  pub as_long : length after.entries ≡ length before.entries
+  pub written : (e : ℕ) → e / 64 ≡ k → e < length before.entries →
+      slice_index after.entries e ≡ slice_index (elements_of_block block) (e % 64)
+  pub kept : (e : ℕ) → e / 64 ≢ k → slice_index after.entries e ≡ slice_index before.entries e

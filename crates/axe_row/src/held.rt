@@ -1,16 +1,17 @@
 //! Rows of few words over fields of characteristic 2, held in registers while others are added to them.
 ghost use Rattle.std.specs.Int.{bit_at};
-ghost use Rattle.std.specs.Prelude.{ℕ, ◌≡◌, ◌≢◌, ◌+◌, ◌*◌, ◌/◌, ◌<◌, IfSome, MatchOption, length, slice_index};
-ghost use Rattle.axe_field.specs.Order.{IsElement, degree_of, order_number, prime_of};
+ghost use Rattle.std.specs.Prelude.{ℕ, ◌≡◌, ◌≢◌, ◌+◌, ◌*◌, ◌/◌, ◌<◌, ◌≤◌, [], ◌∷◌, All, IfSome, MatchOption, length, slice_index};
+ghost use Rattle.axe_field.specs.Order.{IsElement, Order, degree_of, order_number, prime_of};
 ghost use Rattle.axe_lane.specs.Entries.{AreZerosFrom};
 ghost use Rattle.axe_layer.specs.Supports.{restricted};
 ghost use Rattle.axe_plane.specs.Planes.{digits_of, prime_of_plane};
 ghost use Rattle.axe_row.specs.BitBlocks.{bits_after, bits_of_word, elements_of_block};
 ghost use Rattle.axe_row.specs.EntryWords.{entries_in_word};
 ghost use Rattle.axe_row.specs.FoundEntries.{IsNextEntry};
-ghost use Rattle.axe_row.specs.HeldRows.{block_at, IsBlockWithMultiple};
+ghost use Rattle.axe_row.specs.HeldRows.{block_at, HasBlock, IsBlockWithMultiple};
 ghost use Rattle.axe_row.specs.Operations.{multiple_row, row_with_multiple};
 ghost use Rattle.axe_row.specs.Rows.{IsRow};
+ghost use Rattle.axe_row.specs.Words.{HasWords};
 
 use crate::Row;
 use crate::bit_block::BitBlock;
@@ -66,15 +67,43 @@ impl Row {
         ensures well_formed { IsRow self.new }
     {
         for at in 0..W {
-            let block = held.blocks[at];
-            self.set_digit_words(0, at, [block.constant, 0]);
-            if Q != 2 {
-                self.set_digit_words(1, at, [block.linear, 0]);
-            }
-            if Q == 8 {
-                self.set_digit_words(2, at, [block.quadratic, 0]);
-            }
+            self.put_block::<Q>(at, &held.blocks[at]);
         }
+    }
+
+    /// Makes the entries of the word at an index those of a block, over a field of Q elements, of characteristic 2; all
+    /// other entries stay. Those that the row has no place for are dropped.
+    #[inline(always)]
+    fn put_block<const Q: u8>(&mut self, at: usize, block: &BitBlock)
+        requires order { order_number self.old.order ≡ Q }
+        requires characteristic { prime_of self.old.order ≡ 2 }
+        requires elements { All (IsElement self.old.order) (elements_of_block block.now) }
+        ensures written { HasBlock at block.now self.old self.new }
+        ensures well_formed { IsRow self.new }
+    {
+        self.put_bits::<Q>(0, at, block.constant);
+        self.put_bits::<Q>(1, at, block.linear);
+        self.put_bits::<Q>(2, at, block.quadratic);
+    }
+
+    /// Makes the bits of a word the coefficients of a power of x in the entries of the word at an index, over a field of
+    /// Q elements, of characteristic 2; all other coefficients stay. Where the power is not below the field's degree, the
+    /// row stays as it is.
+    #[inline(always)]
+    fn put_bits<const Q: u8>(&mut self, power: u8, at: usize, word: u64)
+        requires order { order_number self.old.order ≡ Q }
+        requires characteristic { prime_of self.old.order ≡ 2 }
+        ensures written { power < degree_of self.old.order → HasWords power at (word ∷ 0 ∷ []) self.old self.new }
+        ensures kept { degree_of self.old.order ≤ power → self.new ≡ self.old }
+        ensures was_well_formed { IsRow self.old }
+        ensures well_formed { IsRow self.new }
+    {
+        // `len` is called for what it says of the row: that its entries are elements of its field.
+        prove!(self.len() <= usize::MAX);
+        if degree_of_size::<Q>() <= power {
+            return;
+        }
+        self.set_digit_words(power, at, [word, 0]);
     }
 
     /// The blocks of a row over a field of Q elements, of characteristic 2, whose planes have W words each.
@@ -86,26 +115,20 @@ impl Row {
         ensures blocks { (k : ℕ) → k < W → elements_of_block (block_at result k) ≡ entries_in_word self.now.entries k }
         ensures well_formed { IsRow self.now }
     {
+        // `len` is called for what it says of the row: that its entries are elements of its field, and fit in memory.
+        prove!(self.len() <= usize::MAX);
         let constant = words_of_bits::<W>(&self.constant);
-        let (mut linear, mut quadratic) = ([0; W], [0; W]);
-        if Q != 2 {
-            let Some(higher) = &self.higher else {
-                unreachable!();
-            };
-            linear = words_of_bits::<W>(&higher.linear);
-            if Q == 8 {
-                quadratic = words_of_bits::<W>(&higher.quadratic);
-            }
+        if Q == 2 {
+            return blocks_of_words(&constant, &[0; W], &[0; W]);
         }
-        let mut blocks = [BitBlock::zeros(); W];
-        for at in 0..W {
-            blocks[at] = BitBlock {
-                constant: constant[at],
-                linear: linear[at],
-                quadratic: quadratic[at],
-            };
+        let Some(higher) = &self.higher else {
+            unreachable!();
+        };
+        let linear = words_of_bits::<W>(&higher.linear);
+        if Q == 4 {
+            return blocks_of_words(&constant, &linear, &[0; W]);
         }
-        blocks
+        blocks_of_words(&constant, &linear, &words_of_bits::<W>(&higher.quadratic))
     }
 }
 
@@ -138,6 +161,8 @@ impl<const W: usize> HeldRow<W> {
         ensures as_long { length self.new.entries ≡ length self.old.entries }
         ensures well_formed { IsRow self.new }
     {
+        // Read for what is known of a row that is held: how many words its planes have.
+        let _len = self.len;
         let others = other.bit_blocks::<Q, W>();
         add_multiples::<Q, W>(&mut self.blocks, scalar, &others);
     }
@@ -165,11 +190,14 @@ fn add_multiples<const Q: u8, const W: usize>(
     others: &[BitBlock; W],
 )
     requires nonzero { scalar ≢ 0 }
-    ensures { (k : ℕ) → k < W →
+    ensures as_many { length blocks.new ≡ W }
+    ensures added { (k : ℕ) → k < W →
         IsBlockWithMultiple Q scalar (block_at blocks.old k) (block_at others.now k) (block_at blocks.new k) }
 {
     for at in 0..W {
-        blocks[at].add_scaled_in::<Q>(scalar, &others[at]);
+        let mut block = blocks[at];
+        block.add_scaled_in::<Q>(scalar, &others[at]);
+        blocks[at] = block;
     }
 }
 
@@ -189,4 +217,42 @@ fn words_of_bits<const W: usize>(plane: &Plane) -> [u64; W]
         }
     }
     words
+}
+
+/// The blocks whose words of the coefficients of 1, x and x^2 are these.
+#[inline(always)]
+fn blocks_of_words<const W: usize>(
+    constant: &[u64; W],
+    linear: &[u64; W],
+    quadratic: &[u64; W],
+) -> [BitBlock; W]
+    ensures { (k : ℕ) → k < W → block_at result k ≡ record {
+      constant = slice_index constant.now k;
+      linear = slice_index linear.now k;
+      quadratic = slice_index quadratic.now k;
+    } }
+{
+    let mut blocks = [BitBlock::zeros(); W];
+    for at in 0..W {
+        blocks[at] = BitBlock {
+            constant: constant[at],
+            linear: linear[at],
+            quadratic: quadratic[at],
+        };
+    }
+    blocks
+}
+
+/// The degree of a field of Q elements, of characteristic 2.
+#[inline(always)]
+fn degree_of_size<const Q: u8>() -> u8
+    ensures { (o : Order) → order_number o ≡ Q → prime_of o ≡ 2 → result ≡ degree_of o }
+{
+    if Q == 8 {
+        return 3;
+    }
+    if Q == 4 {
+        return 2;
+    }
+    1
 }
