@@ -16,6 +16,7 @@ use Rattle.axe_field.specs.Planes.{coefficient, element_of}
 use Rattle.axe_field.proofs.CoefficientLaws.{coefficient-below, element_of-coefficients}
 use Rattle.axe_field.proofs.Laws.{field_mul-zero}
 use Rattle.axe_field.proofs.Orders.{zero_is_element}
+use Rattle.axe_lane.specs.Entries.{AreZerosBefore}
 use Rattle.axe_layer.specs.Bits.{bits, HoldsBits}
 use Rattle.axe_layer.specs.Words.{digit_of_words}
 use Rattle.axe_layer.proofs.BitLaws.{get_or-bits, get_or-zeros, bit_of-word}
@@ -39,20 +40,33 @@ use Rattle.axe_row.proofs.RowPlanes.{element_value}
 
 -- ---- blocks with multiples of others
 
-pub record AreAddedBelow (size scalar n : ℕ) (initial others blocks : List BitBlock) : Type 0 where
-  pub added : (k : ℕ) → k < n → IsBlockWithMultiple size scalar (block_at initial k) (block_at others k) (block_at blocks k)
-  pub kept : (k : ℕ) → n ≤ k → block_at blocks k ≡ block_at initial k
+pub record AreAddedBetween (size scalar start n : ℕ) (initial others blocks : List BitBlock) : Type 0 where
+  pub added : (k : ℕ) → start ≤ k → k < n → IsBlockWithMultiple size scalar (block_at initial k) (block_at others k) (block_at blocks k)
+  pub kept : (k : ℕ) → (k < start) ⊎ (n ≤ k) → block_at blocks k ≡ block_at initial k
 
-pub AreAddedBelow-more : (size scalar n : ℕ) (initial others blocks : List BitBlock) (sum : BitBlock) → AreAddedBelow size scalar n initial others blocks →
-    n < length blocks → IsBlockWithMultiple size scalar (block_at blocks n) (block_at others n) sum →
-    AreAddedBelow size scalar (n + 1) initial others (set blocks n sum)
-AreAddedBelow-more size scalar n initial others blocks sum h inside is = record {
-  added = below_more _ _
-      (λ k lower. let other : k ≢ n = omega arith in
-      subst (IsBlockWithMultiple size scalar (block_at initial k) (block_at others k)) (sym (get_or-set_other blocks n k sum _ other)) (h.added k lower))
-      (subst (IsBlockWithMultiple size scalar (block_at initial n) (block_at others n)) (sym (get_or-set_same blocks n sum _ inside))
-      (subst (λ b. IsBlockWithMultiple size scalar b (block_at others n) sum) (h.kept n (omega arith)) is));
-  kept = λ k above. let other : k ≢ n = omega arith in get_or-set_other blocks n k sum _ other ∙ h.kept k (omega arith);
+pub AreAddedBetween-none : (size scalar start : ℕ) (initial others : List BitBlock) → AreAddedBetween size scalar start start initial others initial
+AreAddedBetween-none size scalar start initial others = record {
+  added = λ k above below. absurd (omega arith);
+  kept = λ k _. refl;
+}
+
+pub AreAddedBetween-more : (size scalar start n : ℕ) (initial others blocks : List BitBlock) (sum : BitBlock) →
+    AreAddedBetween size scalar start n initial others blocks → start ≤ n → n < length blocks →
+    IsBlockWithMultiple size scalar (block_at blocks n) (block_at others n) sum →
+    AreAddedBetween size scalar start (n + 1) initial others (set blocks n sum)
+AreAddedBetween-more size scalar start n initial others blocks sum h from inside is = record {
+  added = λ k above below. elim (cases_eq k n) [
+    | inl same ↦
+        let there : block_at (set blocks n sum) k ≡ sum = ap (block_at (set blocks n sum)) same ∙ get_or-set_same blocks n sum _ inside in
+        subst (IsBlockWithMultiple size scalar (block_at initial k) (block_at others k)) (sym there)
+        (subst (λ j. IsBlockWithMultiple size scalar (block_at initial j) (block_at others j) sum) (sym same)
+        (subst (λ b. IsBlockWithMultiple size scalar b (block_at others n) sum) (h.kept n (inr (omega arith))) is))
+    | inr other ↦
+        subst (IsBlockWithMultiple size scalar (block_at initial k) (block_at others k)) (sym (get_or-set_other blocks n k sum _ other))
+        (h.added k above (omega (arith, below, other)))
+  ];
+  kept = λ k where_is. get_or-set_other blocks n k sum _ (elim where_is [ inl before ↦ (let o : k ≢ n = omega arith in o) | inr past ↦ (let o : k ≢ n = omega arith in o) ])
+      ∙ h.kept k (elim where_is [ inl before ↦ inl before | inr past ↦ inr (omega arith) ]);
 }
 
 -- ---- words of bits
@@ -221,6 +235,44 @@ block_of_multiple size scalar k self zeros block product is two element row none
     h self.order is two element (subst (All (IsElement self.order)) (sym none) (zero_elements_all self.order)) (block_elements self.order self.entries k block row.elements first)
     ∙ ap₂ (λ (u v : List ℕ). sum_with_multiple (number_field self.order) u scalar v) none first
     ∙ multiple_in_word self.order scalar self.entries element k row.elements
+
+-- blocks of a row, of which one is given
+pub blocks_with_block : (W at : ℕ) (others : List BitBlock) (block : BitBlock) (entries : List ℕ) → length others ≡ W → at < W →
+    ((k : ℕ) → k < W → elements_of_block (block_at others k) ≡ entries_in_word entries k) → elements_of_block block ≡ entries_in_word entries at →
+    (k : ℕ) → k < W → elements_of_block (block_at (set others at block) k) ≡ entries_in_word entries k
+blocks_with_block W at others block entries long inside has is k low = elim (cases_eq k at) [
+  | inl same ↦
+      ap (λ j. elements_of_block (block_at (set others at block) j)) same
+      ∙ ap elements_of_block (get_or-set_same others at block _ (omega (arith, long, inside)))
+      ∙ is ∙ sym (ap (entries_in_word entries) same)
+  | inr other ↦ ap elements_of_block (get_or-set_other others at k block _ other) ∙ has k low
+]
+
+-- words at which the other row is 0 stay
+pub word_stays : (self other : RowValue) (scalar k n : ℕ) → IsElement self.order scalar → IsRow self → AreZerosBefore other.entries (n * 64) → k < n →
+    entries_in_word (row_with_multiple self scalar other).entries k ≡ entries_in_word self.entries k
+word_stays self other scalar k n element row zeros below =
+    ext_get_or 0 (entries_in_word sum k) (entries_in_word self.entries k) (length-entries_in_word sum k ∙ sym (length-entries_in_word self.entries k)) (λ i inside.
+    let low : i < 64 = omega (arith, inside, length-entries_in_word sum k) in
+    entry_in_word sum k i low ∙ stays (k * 64 + i) (omega (arith, low, below)) ∙ sym (entry_in_word self.entries k i low))
+  where
+    o : Order
+    o = self.order
+
+    sum : List ℕ
+    sum = (row_with_multiple self scalar other).entries
+
+    stays : (j : ℕ) → j < n * 64 → get_or (row_with_multiple self scalar other).entries j 0 ≡ get_or self.entries j 0
+    stays j before = elim (dec_lt j (length self.entries)) [
+      | yes inside ↦
+          get_or-row_with_multiple self.order self.entries scalar other.entries j inside
+          ∙ ap (field_add self.order (get_or self.entries j 0)) (ap (field_mul self.order scalar) (zeros j before) ∙ field_mul-zero self.order scalar element)
+          ∙ field_add-zero self.order (get_or self.entries j 0) (row.elements j 0 inside)
+      | no past ↦
+          get_or_past (row_with_multiple self scalar other).entries j 0
+          (omega (arith, past, length-sum_with_multiple (number_field self.order) self.entries scalar other.entries))
+          ∙ sym (get_or_past self.entries j 0 (omega (arith, past)))
+    ]
 
 -- x is an element of a field of characteristic 2 that is not prime
 pub x_is_element : (o : Order) → prime_of o ≡ 2 → degree_of o ≢ 1 → IsElement o 2

@@ -2,7 +2,7 @@
 ghost use Rattle.std.specs.Int.{bit_at};
 ghost use Rattle.std.specs.Prelude.{ℕ, ◌≡◌, ◌≢◌, ◌+◌, ◌*◌, ◌/◌, ◌<◌, ◌≤◌, [], ◌∷◌, All, IfSome, MatchOption, length, slice_index};
 ghost use Rattle.axe_field.specs.Order.{IsElement, Order, degree_of, order_number, prime_of};
-ghost use Rattle.axe_lane.specs.Entries.{AreZerosFrom};
+ghost use Rattle.axe_lane.specs.Entries.{AreZerosBefore, AreZerosFrom};
 ghost use Rattle.axe_layer.specs.Supports.{restricted};
 ghost use Rattle.axe_plane.specs.Planes.{digits_of, prime_of_plane};
 ghost use Rattle.axe_row.specs.BitBlocks.{bits_after, bits_of_word, elements_of_block};
@@ -164,7 +164,36 @@ impl<const W: usize> HeldRow<W> {
         // Read for what is known of a row that is held: how many words its planes have.
         let _len = self.len;
         let others = other.bit_blocks::<Q, W>();
-        add_multiples::<Q, W>(&mut self.blocks, scalar, &others);
+        add_multiples::<Q, W>(&mut self.blocks, 0, scalar, &others);
+    }
+
+    /// Adds a multiple of a row as [`HeldRow::add_scaled_in`] does, where its entries before the word at an index are 0,
+    /// and its block there is given: so that what the word at that index is then doesn't wait for the row to be read.
+    #[inline(always)]
+    pub fn add_scaled_from_block<const Q: u8>(
+        &mut self,
+        at: usize,
+        scalar: u8,
+        block: &BitBlock,
+        other: &Row,
+    )
+        requires order { order_number self.old.order ≡ Q }
+        requires word { at < W }
+        requires field { other.now.order ≡ self.old.order }
+        requires fits { length other.now.entries ≡ length self.old.entries }
+        requires zeros { AreZerosBefore other.now.entries (at * 64) }
+        requires block { elements_of_block block.now ≡ entries_in_word other.now.entries at }
+        requires element { IsElement self.old.order scalar }
+        requires nonzero { scalar ≢ 0 }
+        ensures sum { self.new ≡ row_with_multiple self.old scalar other.now }
+        ensures as_long { length self.new.entries ≡ length self.old.entries }
+        ensures well_formed { IsRow self.new }
+    {
+        // Read for what is known of a row that is held: how many words its planes have.
+        let _len = self.len;
+        let mut others = other.bit_blocks::<Q, W>();
+        others[at] = *block;
+        add_multiples::<Q, W>(&mut self.blocks, at, scalar, &others);
     }
 
     /// Multiplies the row by x, over a field of Q elements that is not prime.
@@ -177,24 +206,27 @@ impl<const W: usize> HeldRow<W> {
         ensures well_formed { IsRow self.new }
     {
         let mut blocks = [BitBlock::zeros(); W];
-        add_multiples::<Q, W>(&mut blocks, 2, &self.blocks);
+        add_multiples::<Q, W>(&mut blocks, 0, 2, &self.blocks);
         self.blocks = blocks;
     }
 }
 
-/// Adds to each block the multiple by a scalar other than 0 of the other block at its place, over a field of Q elements.
+/// Adds to each block from a place on the multiple by a scalar other than 0 of the other block at its place, over a field
+/// of Q elements.
 #[inline(always)]
 fn add_multiples<const Q: u8, const W: usize>(
     blocks: &mut [BitBlock; W],
+    start: usize,
     scalar: u8,
     others: &[BitBlock; W],
 )
     requires nonzero { scalar ≢ 0 }
     ensures as_many { length blocks.new ≡ W }
-    ensures added { (k : ℕ) → k < W →
+    ensures before { (k : ℕ) → k < start → block_at blocks.new k ≡ block_at blocks.old k }
+    ensures added { (k : ℕ) → start ≤ k → k < W →
         IsBlockWithMultiple Q scalar (block_at blocks.old k) (block_at others.now k) (block_at blocks.new k) }
 {
-    for at in 0..W {
+    for at in start..W {
         let mut block = blocks[at];
         block.add_scaled_in::<Q>(scalar, &others[at]);
         blocks[at] = block;

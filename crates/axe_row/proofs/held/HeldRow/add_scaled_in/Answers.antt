@@ -28,7 +28,7 @@ invariant_of-self g c =
     let low : k < g.row.W = omega (arith, inside, after) in
     block_of_sum g.row.Q c.args.scalar k c.args.self.now c.args.other.now _ _ _ c.requires.order even c.requires.element c.requires.field c.requires.fits row
     c.bit_blocks-others.ensures.well_formed (block_of_row _ _ c.self.inside.blocks c.args.self.now c.self.invariant c.self.view_is k)
-    (c.bit_blocks-others.ensures.blocks k low) (c.add_multiples.ensures.added k low))
+    (c.bit_blocks-others.ensures.blocks k low) (c.add_multiples.ensures.added k (omega arith) low))
     even (sum_is_row c.args.self.now c.args.other.now c.args.scalar c.requires.element c.requires.field row c.bit_blocks-others.ensures.well_formed)
 
 pub returns-clause-sum : goal.returns-clause-sum
@@ -44,7 +44,7 @@ returns-clause-sum g c =
     let low : k < g.row.W = omega (arith, inside, after) in
     block_of_sum g.row.Q c.args.scalar k c.args.self.now c.args.other.now _ _ _ c.requires.order even c.requires.element c.requires.field c.requires.fits row
     c.bit_blocks-others.ensures.well_formed (block_of_row _ _ c.self.inside.blocks c.args.self.now c.self.invariant c.self.view_is k)
-    (c.bit_blocks-others.ensures.blocks k low) (c.add_multiples.ensures.added k low))
+    (c.bit_blocks-others.ensures.blocks k low) (c.add_multiples.ensures.added k (omega arith) low))
 
 pub returns-clause-as_long : goal.returns-clause-as_long
 returns-clause-as_long g c = ap (λ (r : RowValue). length r.entries) (returns-clause-sum g c) ∙ length-sum_with_multiple _ _ _ _

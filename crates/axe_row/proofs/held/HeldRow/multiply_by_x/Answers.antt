@@ -21,7 +21,7 @@ invariant_of-self g c =
     (λ k inside.
     let low : k < g.row.W = omega (arith, inside, after) in
     block_of_multiple g.row.Q 2 k c.args.self.now _ _ _ c.requires.order even x row (ap elements_of_block (get_or-replicate g.row.W k c.zeros-blocks.result _ low) ∙ c.zeros-blocks.ensures)
-    (block_of_row _ _ c.self.inside.blocks c.args.self.now c.self.invariant c.self.view_is k) (c.add_multiples.ensures.added k low))
+    (block_of_row _ _ c.self.inside.blocks c.args.self.now c.self.invariant c.self.view_is k) (c.add_multiples.ensures.added k (omega arith) low))
     even (multiple_is_row c.args.self.now 2 x row)
 
 pub returns-clause-multiple : goal.returns-clause-multiple
@@ -37,7 +37,7 @@ returns-clause-multiple g c =
     (λ k inside.
     let low : k < g.row.W = omega (arith, inside, after) in
     block_of_multiple g.row.Q 2 k c.args.self.now _ _ _ c.requires.order even x row (ap elements_of_block (get_or-replicate g.row.W k c.zeros-blocks.result _ low) ∙ c.zeros-blocks.ensures)
-    (block_of_row _ _ c.self.inside.blocks c.args.self.now c.self.invariant c.self.view_is k) (c.add_multiples.ensures.added k low))
+    (block_of_row _ _ c.self.inside.blocks c.args.self.now c.self.invariant c.self.view_is k) (c.add_multiples.ensures.added k (omega arith) low))
 
 pub returns-clause-as_long : goal.returns-clause-as_long
 returns-clause-as_long g c = ap (λ (r : RowValue). length r.entries) (returns-clause-multiple g c) ∙ length-multiple _ _ _
