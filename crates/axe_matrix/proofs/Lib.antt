@@ -35,5 +35,6 @@ mod HornerTerms
 mod ValuePowers
 mod ValueDigits
 mod ValuePlaces
+mod HeldTerms
 pub mod ConsecutiveEntries
 pub mod FormProducts

@@ -13,6 +13,7 @@ mod arithmetic;
 mod by_values;
 mod chosen;
 mod forms;
+mod held;
 mod lines;
 mod multiples;
 mod parts;

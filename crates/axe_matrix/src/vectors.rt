@@ -12,6 +12,7 @@ ghost use Rattle.axe_matrix.specs.Products.{row_with_product};
 ghost use Rattle.axe_matrix.specs.VectorTerms.{row_with_first_terms, row_with_terms_between};
 
 use super::{Matrix, Row};
+use crate::held::HELD_COLUMNS;
 use axe_lane::WORD;
 use axe_layer::{four_in_word, next_in_word};
 use axe_row::RowSum;
@@ -34,6 +35,14 @@ impl Matrix {
         // `len` is called for what it ensures beside the length: that the entries are elements of the field.
         prove!(row.len() == self.cols());
         prove!(vector.len() == self.rows());
+        if scalar == 1 && self.cols() <= HELD_COLUMNS {
+            match self.field().order() {
+                2 => return self.add_held::<2>(vector, row),
+                4 => return self.add_held::<4>(vector, row),
+                8 => return self.add_held::<8>(vector, row),
+                _ => {}
+            }
+        }
         if self.field().degree() != 1 {
             if scalar == 1 && self.has_many_entries(vector) {
                 return self.add_by_values(vector, row);

@@ -1,0 +1,13 @@
+use Rattle.std.proofs.Common.{◌+◌, ◌/◌, ◌∙◌, ap}
+use Rattle.axe_field.specs.Order.{order_number, prime_of}
+use Rattle.axe_matrix.proofs.HeldTerms.{held_row_fits}
+use Rattle.axe_matrix.proofs.Matrix.add_held_in.Goals as goal
+
+pub hold-held-requires : goal.hold-held-requires
+hold-held-requires g c = (
+  held_row_fits _ _ c.requires.words c.cols.ensures.well_formed.columns_fit,
+  (
+    ap order_number c.requires.row_field ∙ c.requires.order,
+    (ap prime_of c.requires.row_field ∙ c.requires.characteristic, ap (λ n. (n + 63) / 64) c.requires.columns_fit ∙ c.requires.words),
+  ),
+)

@@ -1,0 +1,12 @@
+use Rattle.std.proofs.Common.{◌≡◌, ◌+◌, ◌*◌, length}
+use Rattle.axe_row.specs.Rows.{IsRow}
+use Rattle.axe_matrix.proofs.DirectRows.{so_many_terms}
+use Rattle.axe_matrix.proofs.Matrix.add_ones_held.Given as goal
+
+abbrev pub invariant-loop-at : goal.invariant-loop-at
+invariant-loop-at g l = record {
+  field : l.held.order ≡ l.self.order;
+  as_long : length l.held.entries ≡ length l.fn.held.entries;
+  so_far : l.held.entries ≡ so_many_terms l.self l.fn.held.entries 1 l.vector.entries (l.at * 64 + 0);
+  well_formed : IsRow l.held;
+}
