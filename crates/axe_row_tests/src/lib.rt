@@ -12,6 +12,8 @@ mod combos;
 #[cfg(test)]
 mod fields;
 #[cfg(test)]
+mod held_rows;
+#[cfg(test)]
 mod lanes;
 #[cfg(test)]
 mod packed;

@@ -99,14 +99,14 @@ fn sums_of_rows_are_added_from_an_index_on(rt: HostRuntime) -> Result<(), Refusa
 }
 
 /// As many digits modulo 2 as a row has entries: those of the numbers of the entries.
-fn places_of(alloc: Global, row: &Row) -> Result<BitPlane, Refusal> {
+pub(crate) fn places_of(alloc: Global, row: &Row) -> Result<BitPlane, Refusal> {
     let mut numbers = vec![in alloc; 0; row.len()]?;
     row.copy_to(&mut numbers);
     Ok(BitPlane::of_numbers(alloc, &numbers, 0)?)
 }
 
 /// The index of the first entry of a row other than 0, or the row's length.
-fn zeros_of(row: &Row) -> usize
+pub(crate) fn zeros_of(row: &Row) -> usize
     ensures within { result ≤ length row.now.entries }
     ensures zeros { AreZerosBefore row.now.entries result }
 {
