@@ -34,3 +34,4 @@ pub mod OrthogonalPoints
 pub mod NullSpacePoints
 pub mod ZeroMatrices
 pub mod WordsOfPivots
+pub mod HeldWords

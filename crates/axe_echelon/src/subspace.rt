@@ -22,8 +22,11 @@ use axe_matrix::{Matrix, Refusal, Row};
 use std::alloc::Global;
 use std::marker::Model;
 
+mod held;
 mod sums;
 mod words;
+
+use held::HELD_COLUMNS;
 
 /// A row has many entries other than 0 where one of so many is.
 const MANY_ENTRIES: usize = 4;
@@ -195,6 +198,9 @@ impl Subspace {
         prove!(row.len() == self.cols);
         match self.field.order() {
             5 | 7 if has_many_entries(row) => self.reduce_by_sums(row),
+            2 if self.cols <= HELD_COLUMNS => self.reduce_held::<2>(row),
+            4 if self.cols <= HELD_COLUMNS => self.reduce_held::<4>(row),
+            8 if self.cols <= HELD_COLUMNS => self.reduce_held::<8>(row),
             2 => self.reduce_by_words::<2>(row),
             3 => self.reduce_by_words::<3>(row),
             4 => self.reduce_by_words::<4>(row),
@@ -219,6 +225,9 @@ impl Subspace {
         prove!(row.len() == multipliers.len());
         match self.field.order() {
             5 | 7 if has_many_entries(row) => self.reduce_with_by_sums(row, multipliers),
+            2 if self.cols <= HELD_COLUMNS => self.reduce_with_held::<2>(row, multipliers),
+            4 if self.cols <= HELD_COLUMNS => self.reduce_with_held::<4>(row, multipliers),
+            8 if self.cols <= HELD_COLUMNS => self.reduce_with_held::<8>(row, multipliers),
             2 => self.reduce_with_by_words::<2>(row, multipliers),
             3 => self.reduce_with_by_words::<3>(row, multipliers),
             4 => self.reduce_with_by_words::<4>(row, multipliers),

@@ -24,3 +24,12 @@ returns-in-8-clause-well_formed c = rw (← c.self.view_is) (echelon_of_rows _ _
 
 pub returns-in_default-clause-well_formed : goal.returns-in_default-clause-well_formed
 returns-in_default-clause-well_formed c = rw (← c.self.view_is) (echelon_of_rows _ _ _ c.self.invariant.are_rows)
+
+pub returns-in-2-2-clause-well_formed : goal.returns-in-2-2-clause-well_formed
+returns-in-2-2-clause-well_formed c = rw (← c.self.view_is) (echelon_of_rows _ _ _ c.self.invariant.are_rows)
+
+pub returns-in-4-2-clause-well_formed : goal.returns-in-4-2-clause-well_formed
+returns-in-4-2-clause-well_formed c = rw (← c.self.view_is) (echelon_of_rows _ _ _ c.self.invariant.are_rows)
+
+pub returns-in-8-2-clause-well_formed : goal.returns-in-8-2-clause-well_formed
+returns-in-8-2-clause-well_formed c = rw (← c.self.view_is) (echelon_of_rows _ _ _ c.self.invariant.are_rows)

@@ -1,0 +1,91 @@
+use Rattle.std.proofs.Common.{◌+◌, ◌*◌, ◌≤◌, ◌∙◌, ap, sym, subst, arith}
+use Rattle.axe_field.specs.Order.{IsElement, order_number, prime_of}
+use Rattle.axe_echelon.specs.Echelons.{EchelonValue}
+use Rattle.axe_echelon.proofs.HeldWords.{zeros_before_word, block_of_word, reduced_past}
+use Rattle.axe_echelon.proofs.WordsOfPivots.{half_begun, negative_of_two, pivot_inside, row_told, block_told, entry_nonzero, there, row_there, still_fewer, half_more, word_cleared}
+use Rattle.axe_echelon.proofs.subspace.Subspace.clear_word_of_held.Goals as goal
+
+pub returns-then-at : goal.returns-then-at
+returns-then-at g c =
+    λ first before.
+    let whole : c.args.self.now.cols ≤ c.args.at * 64 = omega (arith, c.requires.words, c.if-at.true) in
+    reduced_past c.args.self.now (c.args.at * 64) (c.args.at * 64 + 64) first c.args.held.now whole before
+
+pub loop-place-init : goal.loop-place-init
+loop-place-init g c =
+    let field = c.requires.field ∙ sym (ap (λ (e : EchelonValue). e.order) c.self.view_is) in
+    let fits = c.requires.fits ∙ sym (ap (λ (e : EchelonValue). e.cols) c.self.view_is) in
+    half_begun c.args.self.now _ _ c.self.inside.rows.items c.self.inside.pivots c.args.at c.args.held.now _ c.self.view_is
+    c.self.invariant.are_rows field fits c.word-marks.ensures
+
+pub overflow_add-pivot : goal.overflow_add-pivot
+overflow_add-pivot g c =
+    omega (
+      arith,
+      pivot_inside _ _ _ _ _ _ _ _ _ c.self.invariant c.loop-place.invariant _ _ c.in-Some.ensures.found,
+      c.self.invariant.are_rows.columns_fit,
+    )
+
+pub row_of-requires : goal.row_of-requires
+row_of-requires g c =
+    row_told _ _ _ _ _ _ _ _ _ c.self.invariant c.loop-place.invariant _ _ c.in-Some.ensures.found
+
+pub index-requires : goal.index-requires
+index-requires g c =
+    omega (
+      arith,
+      (there _ _ _ _ _ _ _ _ _ c.self.invariant c.loop-place.invariant _ _ c.in-Some.ensures.found _ c.row_of.ensures).within,
+      c.self.inside.rows.ok.0,
+    )
+
+pub block_of-block-requires : goal.block_of-block-requires
+block_of-block-requires g c =
+    block_told _ _ _ _ _ _ _ _ _ c.self.invariant c.loop-place.invariant _ _ c.in-Some.ensures.found
+
+pub add_scaled_from_block-requires : goal.add_scaled_from_block-requires
+add_scaled_from_block-requires g c =
+    let two = ap (λ (e : EchelonValue). prime_of e.order) c.self.view_is ∙ c.requires.characteristic in
+    let there = row_there _ _ _ _ _ _ _ _ _ c.self.invariant c.loop-place.invariant _ _ c.in-Some.ensures.found _ c.row_of.ensures _ c.index.ensures in
+    let columns = ap (λ (e : EchelonValue). e.cols) c.self.view_is in (
+      omega (arith, columns, c.self.invariant.are_rows.columns_fit, c.requires.words),
+      (
+        ap order_number (c.loop-place.invariant.field ∙ ap (λ (e : EchelonValue). e.order) c.self.view_is) ∙ c.requires.order,
+        (
+          omega (arith, c.if-at.false),
+          (
+            there.row_field ∙ sym c.loop-place.invariant.field,
+            (
+              there.row_over.length_is ∙ sym c.loop-place.invariant.as_long,
+              (
+                zeros_before_word _ _ _ _ _ _ _ _ _ c.self.invariant c.loop-place.invariant _ _ c.in-Some.ensures.found _ c.row_of.ensures _ c.index.ensures,
+                (
+                  block_of_word _ _ _ _ _ _ _ _ _ c.self.invariant c.loop-place.invariant _ _ c.in-Some.ensures.found _ c.row_of.ensures _ c.index.ensures
+                      _ c.block_of-block.ensures (ap prime_of there.row_field ∙ two),
+                  (
+                    c.in-Some.ensures.element,
+                    (entry_nonzero _ _ _ _ _ _ _ _ _ c.self.invariant c.loop-place.invariant _ _ c.in-Some.ensures.found),
+                  ),
+                ),
+              ),
+            ),
+          ),
+        ),
+      ),
+    )
+
+pub loop-place-smaller : goal.loop-place-smaller
+loop-place-smaller g c =
+    still_fewer _ _ _ _ _ _ _ _ _ c.self.invariant c.loop-place.invariant _ _ c.in-Some.ensures.found c.next_in_word.new.places c.in-Some.ensures.rest
+
+pub loop-place-preserved : goal.loop-place-preserved
+loop-place-preserved g c =
+    let two = ap (λ (e : EchelonValue). prime_of e.order) c.self.view_is ∙ c.requires.characteristic in
+    let element = subst (λ o. IsElement o c.in-Some.entry) c.loop-place.invariant.field c.in-Some.ensures.element in
+    half_more _ _ _ _ _ _ _ _ _ c.self.invariant c.loop-place.invariant _ _ c.in-Some.ensures.found _ c.row_of.ensures _ c.index.ensures
+    _ (negative_of_two _ _ two element) c.add_scaled_from_block.new.self c.next_in_word.new.places
+    c.add_scaled_from_block.ensures.sum c.add_scaled_from_block.ensures.as_long c.add_scaled_from_block.ensures.well_formed c.in-Some.ensures.rest
+
+pub returns : goal.returns
+returns g c =
+    word_cleared c.args.self.now _ _ _ _ _ _ c.loop-place.held _ c.self.view_is c.self.invariant c.loop-place.invariant
+    c.in_default.ensures.found
