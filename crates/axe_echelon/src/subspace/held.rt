@@ -1,11 +1,5 @@
 //! Vectors of few words over fields of characteristic 2 from which the pivots of a subspace are cleared: each is held in
 //! registers meanwhile.
-// NOTE to whoever proves this file (remove when read): changed at 07:32 for speed. (1) `clear_word_of_held(_with)` has no
-// `requires within` any more: it returns at once where at >= W (then all columns are below at * 64 already). (2) it calls
-// `held.add_scaled_from_block::<Q>(at, entry, block, row)` in place of `add_scaled_in`; that function comes to axe_row
-// with the clauses of `add_scaled_in` and `requires word { at < W }`, `requires block { IsBlockOf other.now at block.now }`
-// (of BitBlocks), `requires zeros { AreZerosBefore other.now.entries (at * 64) }`; the block is the pivot table's, as in
-// clear_word_by_block. (3) `reduce_held_in` calls it four times in a row, without a loop; `requires few { W <= 4 }`.
 ghost use Rattle.std.specs.Prelude.{◌≡◌, ◌+◌, ◌*◌, ◌/◌, ◌<◌, ◌≤◌, length, replicate};
 ghost use Rattle.axe_algebra.specs.SpansOfLists.{IsRepresentative};
 ghost use Rattle.axe_field.specs.NumberFields.{number_field};
@@ -62,9 +56,11 @@ impl Subspace {
         ensures row_well_formed { IsRow row.new }
     {
         let mut held = row.hold::<Q, W>();
-        for at in 0..W {
-            self.clear_word_of_held::<Q, W>(&mut held, at);
-        }
+        // One after the other, each index a constant: so the blocks stay in registers.
+        self.clear_word_of_held::<Q, W>(&mut held, 0);
+        self.clear_word_of_held::<Q, W>(&mut held, 1);
+        self.clear_word_of_held::<Q, W>(&mut held, 2);
+        self.clear_word_of_held::<Q, W>(&mut held, 3);
         row.put_held::<Q, W>(&held);
     }
 
@@ -131,9 +127,11 @@ impl Subspace {
         ensures { IsCleared self.now row.old row.new multipliers.new }
     {
         let mut held = row.hold::<Q, W>();
-        for word in 0..W {
-            self.clear_word_of_held_with::<Q, W>(&mut held, multipliers, word);
-        }
+        // One after the other, as above.
+        self.clear_word_of_held_with::<Q, W>(&mut held, multipliers, 0);
+        self.clear_word_of_held_with::<Q, W>(&mut held, multipliers, 1);
+        self.clear_word_of_held_with::<Q, W>(&mut held, multipliers, 2);
+        self.clear_word_of_held_with::<Q, W>(&mut held, multipliers, 3);
         row.put_held::<Q, W>(&held);
     }
 
