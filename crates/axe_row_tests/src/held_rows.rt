@@ -127,7 +127,11 @@ fn is_held<const Q: u8, const W: usize>(
 }
 
 /// Rows of these lengths, whose planes have W words, are held.
-fn are_held<const W: usize>(rt: &impl Abort, alloc: Global, lengths: &[usize]) -> Result<(), Refusal> {
+fn are_held<const W: usize>(
+    rt: &impl Abort,
+    alloc: Global,
+    lengths: &[usize],
+) -> Result<(), Refusal> {
     for &len in lengths {
         is_held::<2, W>(rt, alloc, len)?;
         is_held::<4, W>(rt, alloc, len)?;
