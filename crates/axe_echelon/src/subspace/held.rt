@@ -73,8 +73,10 @@ impl Subspace {
         requires words { (self.now.cols + 63) / 64 ≡ W }
         requires field { held.old.order ≡ self.now.order }
         requires fits { length held.old.entries ≡ self.now.cols }
-        ensures { (first : RowValue) → IsReducedBelow self.now (at * 64) first held.old →
+        ensures reduced { (first : RowValue) → IsReducedBelow self.now (at * 64) first held.old →
             IsReducedBelow self.now (at * 64 + 64) first held.new }
+        ensures same_field { held.new.order ≡ self.now.order }
+        ensures as_long { length held.new.entries ≡ self.now.cols }
     {
         if at >= W {
             return;
@@ -151,8 +153,12 @@ impl Subspace {
         requires fits { length held.old.entries ≡ self.now.cols }
         requires multipliers_field { multipliers.old.order ≡ self.now.order }
         requires multipliers_fit { length multipliers.old.entries ≡ self.now.cols }
-        ensures { (first : RowValue) → IsClearedBelow self.now (word * 64) first held.old multipliers.old →
+        ensures cleared { (first : RowValue) → IsClearedBelow self.now (word * 64) first held.old multipliers.old →
             IsClearedBelow self.now (word * 64 + 64) first held.new multipliers.new }
+        ensures same_field { held.new.order ≡ self.now.order }
+        ensures as_long { length held.new.entries ≡ self.now.cols }
+        ensures multipliers_field { multipliers.new.order ≡ self.now.order }
+        ensures multipliers_fit { length multipliers.new.entries ≡ self.now.cols }
     {
         if word >= W {
             return;

@@ -5,8 +5,8 @@ use Rattle.axe_echelon.proofs.HeldWords.{zeros_before_word, block_of_word, reduc
 use Rattle.axe_echelon.proofs.WordsOfPivots.{half_begun, negative_of_two, pivot_inside, row_told, block_told, entry_nonzero, there, row_there, still_fewer, half_more, word_cleared}
 use Rattle.axe_echelon.proofs.subspace.Subspace.clear_word_of_held.Goals as goal
 
-pub returns-then-at : goal.returns-then-at
-returns-then-at g c =
+pub returns-then-at-clause-reduced : goal.returns-then-at-clause-reduced
+returns-then-at-clause-reduced g c =
     λ first before.
     let whole : c.args.self.now.cols ≤ c.args.at * 64 = omega (arith, c.requires.words, c.if-at.true) in
     reduced_past c.args.self.now (c.args.at * 64) (c.args.at * 64 + 64) first c.args.held.now whole before
@@ -85,7 +85,13 @@ loop-place-preserved g c =
     _ (negative_of_two _ _ two element) c.add_scaled_from_block.new.self c.next_in_word.new.places
     c.add_scaled_from_block.ensures.sum c.add_scaled_from_block.ensures.as_long c.add_scaled_from_block.ensures.well_formed c.in-Some.ensures.rest
 
-pub returns : goal.returns
-returns g c =
+pub returns-clause-reduced : goal.returns-clause-reduced
+returns-clause-reduced g c =
     word_cleared c.args.self.now _ _ _ _ _ _ c.loop-place.held _ c.self.view_is c.self.invariant c.loop-place.invariant
     c.in_default.ensures.found
+
+pub returns-clause-same_field : goal.returns-clause-same_field
+returns-clause-same_field g c = c.loop-place.invariant.field ∙ ap (λ (e : EchelonValue). e.order) c.self.view_is
+
+pub returns-clause-as_long : goal.returns-clause-as_long
+returns-clause-as_long g c = c.loop-place.invariant.as_long ∙ ap (λ (e : EchelonValue). e.cols) c.self.view_is

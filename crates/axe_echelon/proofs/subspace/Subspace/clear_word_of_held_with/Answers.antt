@@ -6,8 +6,8 @@ use Rattle.axe_echelon.proofs.HeldWords.{zeros_before_word, block_of_word, clear
 use Rattle.axe_echelon.proofs.WordsOfPivots.{half_begun_with, negative_of_two, pivot_inside, row_told, block_told, entry_nonzero, there, row_there, still_fewer, half_more_with, word_cleared_with}
 use Rattle.axe_echelon.proofs.subspace.Subspace.clear_word_of_held_with.Goals as goal
 
-pub returns-then-word : goal.returns-then-word
-returns-then-word g c =
+pub returns-then-word-clause-cleared : goal.returns-then-word-clause-cleared
+returns-then-word-clause-cleared g c =
     λ first before.
     let whole : c.args.self.now.cols ≤ c.args.word * 64 = omega (arith, c.requires.words, c.if-word.true) in
     let up : c.args.word * 64 ≤ c.args.word * 64 + 64 = omega arith in
@@ -107,7 +107,19 @@ loop-place-preserved g c =
     c.args.multipliers.now c.loop-place.multipliers c.set.new.self c.loop-place.invariant.multipliers_field
     c.loop-place.invariant.multipliers_long c.loop-place.invariant.so_far c.set.ensures.replaced c.set.ensures.well_formed
 
-pub returns : goal.returns
-returns g c =
+pub returns-clause-cleared : goal.returns-clause-cleared
+returns-clause-cleared g c =
     word_cleared_with c.args.self.now _ _ _ _ _ _ c.loop-place.held _ _ c.loop-place.multipliers c.self.view_is c.self.invariant
     c.loop-place.invariant c.in_default.ensures.found
+
+pub returns-clause-same_field : goal.returns-clause-same_field
+returns-clause-same_field g c = c.loop-place.invariant.half.field ∙ ap (λ (e : EchelonValue). e.order) c.self.view_is
+
+pub returns-clause-as_long : goal.returns-clause-as_long
+returns-clause-as_long g c = c.loop-place.invariant.half.as_long ∙ ap (λ (e : EchelonValue). e.cols) c.self.view_is
+
+pub returns-clause-multipliers_field : goal.returns-clause-multipliers_field
+returns-clause-multipliers_field g c = c.loop-place.invariant.multipliers_field ∙ ap (λ (e : EchelonValue). e.order) c.self.view_is
+
+pub returns-clause-multipliers_fit : goal.returns-clause-multipliers_fit
+returns-clause-multipliers_fit g c = c.loop-place.invariant.multipliers_long ∙ ap (λ (e : EchelonValue). e.cols) c.self.view_is
