@@ -1,42 +1,38 @@
 -- Rows that are held by their blocks of 64 entries.
-use Rattle.std.proofs.Common.{◌≡◌, ◌≢◌, ◌⊎◌, ℕ, ◌+◌, ◌*◌, ◌/◌, ◌%◌, ◌<◌, ◌≤◌, Option, Some, None, MatchOption, IfSome, List, [], ◌∷◌, length, get_or, set, replicate, map, cond, ltb, refl, sym, ap, ap₂, subst, ◌∙◌, arith, inl, inr, lit<, get_or-set_other, get_or-set_same, below_more}
+use Rattle.std.proofs.Common.{◌≡◌, ◌≢◌, ◌⊎◌, ℕ, ◌+◌, ◌*◌, ◌/◌, ◌%◌, ◌<◌, ◌≤◌, Option, Some, None, MatchOption, IfSome, List, length, get_or, set, replicate, cond, ltb, refl, sym, ap, ap₂, subst, ◌∙◌, arith, inl, inr, lit<, get_or-set_other, get_or-set_same, below_more}
 use Rattle.std.specs.List.{All}
 use Rattle.std.specs.Int.{bit_at}
-use Rattle.std.proofs.lemmas.Bool.{cases_eq, cases_lt, lt-ltb, le-ltb}
+use Rattle.std.proofs.lemmas.Bool.{cases_eq}
 use Rattle.std.proofs.lemmas.List.Elements.{All-from_get_or, All-replicate}
 use Rattle.std.proofs.lemmas.Nat.Bits.{bit_at-zero}
-use Rattle.std.proofs.lemmas.List.{ext_get_or, get_or_past, get_or-map, get_or-replicate, length-map, length-replicate, length-set}
+use Rattle.std.proofs.lemmas.List.{ext_get_or, get_or_past, get_or-replicate, length-replicate, length-set}
 use native.Mathlib.Decide.{dec_lt}
 use Rattle.axe_algebra.proofs.ListEntries.{listed_at, listed_length}
 use Rattle.axe_field.specs.Arithmetic.{field_add, field_mul}
 use Rattle.axe_field.specs.CheckedLaws.{field_add_comm, field_add-below, field_add-zero, field_mul-below}
 use Rattle.axe_field.specs.NumberFields.{number_field}
 use Rattle.axe_field.specs.Order.{Order, Two, Three, Four, Five, Seven, Eight, Nine, IsElement, order_number, prime_of, degree_of}
-use Rattle.axe_field.specs.Planes.{coefficient, element_of}
-use Rattle.axe_field.proofs.CoefficientLaws.{coefficient-below, element_of-coefficients}
 use Rattle.axe_field.proofs.Laws.{field_mul-zero}
 use Rattle.axe_field.proofs.Orders.{zero_is_element}
 use Rattle.axe_lane.specs.Entries.{AreZerosBefore}
 use Rattle.axe_layer.specs.Bits.{bits, HoldsBits}
-use Rattle.axe_layer.specs.Words.{digit_of_words}
 use Rattle.axe_layer.proofs.BitLaws.{get_or-bits, get_or-zeros, bit_of-word}
-use Rattle.axe_layer.proofs.WordWrites.{get_or-digits_with_word_same, get_or-digits_with_word_other}
-use Rattle.axe_plane.specs.Planes.{digits_of}
+use Rattle.axe_plane.specs.Planes.{digits_of, prime_of_plane}
 use Rattle.axe_plane.specs.declared.Plane.{Plane}
-use Rattle.axe_row.specs.BitBlocks.{elements_of_block}
+use Rattle.axe_plane.specs.declared.Plane.TheVariants.{Bits, Trits, Bytes}
+use Rattle.axe_plane.proofs.PlaneLaws.{byte_prime-above}
+use Rattle.axe_row.specs.BitBlocks.{elements_of_block, low_at, weight_of, IsBlock, IsBlockWithMultiple}
 use Rattle.axe_row.specs.EntryWords.{entries_in_word}
 use Rattle.axe_row.specs.FoundEntries.{IsNextEntry}
-use Rattle.axe_row.specs.HeldRows.{block_at, entry_of_blocks, entries_of_blocks, AreBlocksOfRow, HasBlock, IsBlockWithMultiple}
+use Rattle.axe_row.specs.HeldRows.{block_at, entry_of_blocks, entries_of_blocks, AreBlocksOfRow}
 use Rattle.axe_row.specs.Operations.{sum_with_multiple, multiple, row_with_multiple, multiple_row}
-use Rattle.axe_row.specs.Planes.{coefficients_at}
 use Rattle.axe_row.specs.Rows.{RowValue, IsRow}
-use Rattle.axe_row.specs.Words.{HasWords}
 use Rattle.axe_row.specs.declared.bit_block.BitBlock.{BitBlock}
-use Rattle.axe_row.proofs.BitBlockLaws.{nothing_held, element-at, elements-are, length-block, number_at, zero_elements}
+use Rattle.axe_row.proofs.BlockElements.{element-at, elements-are, zero_block}
 use Rattle.axe_row.proofs.BlockLaws.{entry_in_word, length-entries_in_word, sum_in_word}
+use Rattle.axe_row.proofs.EntryWordLaws.{three_of_nine}
 use Rattle.axe_row.proofs.OperationLaws.{get_or-row_with_multiple, get_or-multiple_row, length-sum_with_multiple, length-multiple}
 use Rattle.axe_row.proofs.RowLaws.{same_row}
-use Rattle.axe_row.proofs.RowPlanes.{element_value}
 
 -- ---- blocks with multiples of others
 
@@ -82,90 +78,115 @@ bits_in_word n from digits long h same k i low =
       | no past ↦ h.unused (k * 64 + i) (omega (arith, past)) ∙ sym (get_or_past digits (k * 64 + i) 0 (omega (arith, past, long)))
     ]
 
+-- ---- words of digits modulo 3
+
+-- a plane modulo 3 is of trits
+pub only_trits : (plane : Plane) → prime_of_plane plane ≡ 3 → ((x : List ℕ) → plane ≡ Trits x → ⊥) → ⊥
+only_trits (Bits x) three none = absurd (omega (arith, three))
+only_trits (Trits x) three none = none x refl
+only_trits (Bytes x) three none = absurd (omega (arith, three, byte_prime-above x.prime))
+
 -- ---- the entries that blocks have
 
-module _ (len : ℕ) (blocks : List BitBlock) where
-  pub length-entries_of_blocks : length (entries_of_blocks len blocks) ≡ len
+module _ (o : Order) (len : ℕ) (blocks : List BitBlock) where
+  pub length-entries_of_blocks : length (entries_of_blocks o len blocks) ≡ len
   unfolding entries_of_blocks
-  length-entries_of_blocks = listed_length len (entry_of_blocks blocks)
+  length-entries_of_blocks = listed_length len (entry_of_blocks o blocks)
 
-  entry-at : (e : ℕ) → e < len → get_or (entries_of_blocks len blocks) e 0 ≡ entry_of_blocks blocks e
+  entry-at : (e : ℕ) → e < len → get_or (entries_of_blocks o len blocks) e 0 ≡ entry_of_blocks o blocks e
   unfolding entries_of_blocks
-  entry-at e inside = listed_at len (entry_of_blocks blocks) e 0 inside
+  entry-at e inside = listed_at len (entry_of_blocks o blocks) e 0 inside
 
-  module _ (unused : (e : ℕ) → len ≤ e → entry_of_blocks blocks e ≡ 0) where
-    any_entry : (e : ℕ) → get_or (entries_of_blocks len blocks) e 0 ≡ entry_of_blocks blocks e
+  module _ (unused : (e : ℕ) → len ≤ e → entry_of_blocks o blocks e ≡ 0) where
+    any_entry : (e : ℕ) → get_or (entries_of_blocks o len blocks) e 0 ≡ entry_of_blocks o blocks e
     any_entry e = elim (dec_lt e len) [
       | yes inside ↦ entry-at e inside
       | no past ↦
-          get_or_past (entries_of_blocks len blocks) e 0 (omega (arith, past, length-entries_of_blocks))
+          get_or_past (entries_of_blocks o len blocks) e 0 (omega (arith, past, length-entries_of_blocks))
           ∙ sym (unused e (omega (arith, past)))
     ]
 
-    block_is : (k : ℕ) → elements_of_block (block_at blocks k) ≡ entries_in_word (entries_of_blocks len blocks) k
-    block_is k =
-        elements-are (block_at blocks k) (entries_in_word (entries_of_blocks len blocks) k) (length-entries_in_word (entries_of_blocks len blocks) k)
-        (λ i low.
+    numbers_are : (k : ℕ) → elements_of_block o (block_at blocks k) ≡ entries_in_word (entries_of_blocks o len blocks) k
+    numbers_are k =
+        elements-are o (block_at blocks k) (entries_in_word (entries_of_blocks o len blocks) k)
+        (length-entries_in_word (entries_of_blocks o len blocks) k) (λ i low.
         let word : (k * 64 + i) / 64 ≡ k = omega (arith, low) in
         let place : (k * 64 + i) % 64 ≡ i = omega (arith, low) in
-        sym (element-at (block_at blocks k) i low)
-        ∙ sym (ap₂ (λ u v. get_or (elements_of_block (block_at blocks u)) v 0) word place)
-        ∙ sym (any_entry (k * 64 + i)) ∙ sym (entry_in_word (entries_of_blocks len blocks) k i low))
+        sym (element-at o (block_at blocks k) i low)
+        ∙ sym (ap₂ (λ u v. get_or (elements_of_block o (block_at blocks u)) v 0) word place)
+        ∙ sym (any_entry (k * 64 + i)) ∙ sym (entry_in_word (entries_of_blocks o len blocks) k i low))
 
--- the same of the row that is seen
+-- the blocks of the row that is seen
 pub block_of_row : (o : Order) (len : ℕ) (blocks : List BitBlock) (self : RowValue) → AreBlocksOfRow o len blocks →
-    record { order = o; entries = entries_of_blocks len blocks } ≡ self → (k : ℕ) →
-    elements_of_block (block_at blocks k) ≡ entries_in_word self.entries k
+    record { order = o; entries = entries_of_blocks o len blocks } ≡ self → (k : ℕ) →
+    IsBlock self.order (entries_in_word self.entries k) (block_at blocks k)
 block_of_row o len blocks self h view_is k =
-    block_is len blocks h.unused k ∙ ap (λ (r : RowValue). entries_in_word r.entries k) view_is
+    subst (λ (r : RowValue). IsBlock r.order (entries_in_word r.entries k) (block_at blocks k)) view_is
+    (record { numbers = numbers_are o len blocks h.unused k; low = h.low k })
 
 pub row_of_blocks : (o : Order) (len : ℕ) (blocks : List BitBlock) (self : RowValue) → AreBlocksOfRow o len blocks →
-    record { order = o; entries = entries_of_blocks len blocks } ≡ self → IsRow self
+    record { order = o; entries = entries_of_blocks o len blocks } ≡ self → IsRow self
 row_of_blocks o len blocks self h view_is = subst IsRow view_is (record { elements = h.elements })
 
 pub length_of_blocks : (o : Order) (len : ℕ) (blocks : List BitBlock) (self : RowValue) →
-    record { order = o; entries = entries_of_blocks len blocks } ≡ self → length self.entries ≡ len
+    record { order = o; entries = entries_of_blocks o len blocks } ≡ self → length self.entries ≡ len
 length_of_blocks o len blocks self view_is =
-    sym (ap (λ (r : RowValue). length r.entries) view_is) ∙ length-entries_of_blocks len blocks
+    sym (ap (λ (r : RowValue). length r.entries) view_is) ∙ length-entries_of_blocks o len blocks
 
-zero_entry : (i : ℕ) → i < 64 → get_or (elements_of_block (record { constant = 0; linear = 0; quadratic = 0 })) i 0 ≡ 0
-zero_entry i low =
-    ap (λ (xs : List ℕ). get_or xs i 0) (zero_elements (record { constant = 0; linear = 0; quadratic = 0 }) refl refl refl)
-    ∙ get_or-replicate {A = ℕ} 64 i 0 0 low
+pub characteristic_of_blocks : (o : Order) (len : ℕ) (blocks : List BitBlock) (self : RowValue) → AreBlocksOfRow o len blocks →
+    record { order = o; entries = entries_of_blocks o len blocks } ≡ self → prime_of self.order ≤ 3
+characteristic_of_blocks o len blocks self h view_is = subst (λ (r : RowValue). prime_of r.order ≤ 3) view_is h.characteristic
+
+-- the block where there is none
+nothing_there : (o : Order) → IsBlock o (replicate 64 0) (record { ones = 0; twos = 0; high_ones = 0; high_twos = 0 })
+nothing_there o = zero_block o (record { ones = 0; twos = 0; high_ones = 0; high_twos = 0 }) refl refl refl refl
 
 -- blocks that have the words of a row hold it
 module _ (r : RowValue) (o : Order) (len : ℕ) (blocks : List BitBlock) (same : o ≡ r.order) (long : length r.entries ≡ len) (count : (len + 63) / 64 ≡ length blocks)
-    (has : (k : ℕ) → k < length blocks → elements_of_block (block_at blocks k) ≡ entries_in_word r.entries k) where
-  entry_of_row : (e : ℕ) → entry_of_blocks blocks e ≡ get_or r.entries e 0
-  entry_of_row e = elim (dec_lt (e / 64) (length blocks)) [
+    (has : (k : ℕ) → k < length blocks → IsBlock r.order (entries_in_word r.entries k) (block_at blocks k)) where
+  past_blocks : (k : ℕ) → length blocks ≤ k → IsBlock r.order (replicate 64 0) (block_at blocks k)
+  past_blocks k past = subst (IsBlock r.order (replicate 64 0)) (sym (get_or_past blocks k _ past)) (nothing_there r.order)
+
+  number_of_row : (e : ℕ) → entry_of_blocks r.order blocks e ≡ get_or r.entries e 0
+  number_of_row e = elim (dec_lt (e / 64) (length blocks)) [
     | yes inside ↦
         let there : e / 64 * 64 + e % 64 ≡ e = omega arith in
-        ap (λ (xs : List ℕ). get_or xs (e % 64) 0) (has (e / 64) inside) ∙ entry_in_word r.entries (e / 64) (e % 64) (omega arith)
+        ap (λ (xs : List ℕ). get_or xs (e % 64) 0) (has (e / 64) inside).numbers ∙ entry_in_word r.entries (e / 64) (e % 64) (omega arith)
         ∙ ap (λ j. get_or r.entries j 0) there
     | no past ↦
-        ap (λ b. get_or (elements_of_block b) (e % 64) 0) (get_or_past blocks (e / 64) _ (omega (arith, past)))
-        ∙ zero_entry (e % 64) (omega arith) ∙ sym (get_or_past r.entries e 0 (omega (arith, past, count, long)))
+        ap (λ (xs : List ℕ). get_or xs (e % 64) 0) (past_blocks (e / 64) (omega (arith, past))).numbers
+        ∙ get_or-replicate {A = ℕ} 64 (e % 64) 0 0 (omega arith) ∙ sym (get_or_past r.entries e 0 (omega (arith, past, count, long)))
   ]
 
-  entries_are : entries_of_blocks len blocks ≡ r.entries
+  entry_of_row : (e : ℕ) → entry_of_blocks o blocks e ≡ get_or r.entries e 0
+  entry_of_row e = ap (λ q. entry_of_blocks q blocks e) same ∙ number_of_row e
+
+  entries_are : entries_of_blocks o len blocks ≡ r.entries
   entries_are =
-      ext_get_or 0 (entries_of_blocks len blocks) r.entries (length-entries_of_blocks len blocks ∙ sym long) (λ e inside.
-      entry-at len blocks e (omega (arith, inside, length-entries_of_blocks len blocks)) ∙ entry_of_row e)
+      ext_get_or 0 (entries_of_blocks o len blocks) r.entries (length-entries_of_blocks o len blocks ∙ sym long) (λ e inside.
+      entry-at o len blocks e (omega (arith, inside, length-entries_of_blocks o len blocks)) ∙ entry_of_row e)
 
-  pub held_row : record { order = o; entries = entries_of_blocks len blocks } ≡ r
-  held_row = same_row (record { order = o; entries = entries_of_blocks len blocks }) r same entries_are
+  low_of_row : (k i : ℕ) → i < 64 → low_at (block_at blocks k) i < weight_of r.order
+  low_of_row k i low = elim (dec_lt k (length blocks)) [
+    | yes inside ↦ (has k inside).low i low
+    | no past ↦ (past_blocks k (omega (arith, past))).low i low
+  ]
 
-  pub blocks_hold : prime_of r.order ≡ 2 → IsRow r → AreBlocksOfRow o len blocks
-  blocks_hold two row = record {
-    characteristic = ap prime_of same ∙ two;
+  pub held_row : record { order = o; entries = entries_of_blocks o len blocks } ≡ r
+  held_row = same_row (record { order = o; entries = entries_of_blocks o len blocks }) r same entries_are
+
+  pub blocks_hold : prime_of r.order ≤ 3 → IsRow r → AreBlocksOfRow o len blocks
+  blocks_hold characteristic row = record {
+    characteristic = subst (λ q. prime_of q ≤ 3) (sym same) characteristic;
     count = count;
     elements = subst (λ (x : RowValue). All (IsElement x.order) x.entries) (sym held_row) row.elements;
     unused = λ e past. entry_of_row e ∙ get_or_past r.entries e 0 (omega (arith, past, long));
+    low = λ k i low. subst (λ q. low_at (block_at blocks k) i < weight_of q) (sym same) (low_of_row k i low);
   }
 
 -- ---- elements in words
 
-entry_element : (o : Order) (entries : List ℕ) → All (IsElement o) entries → (e d : ℕ) → IsElement o d → IsElement o (get_or entries e d)
+pub entry_element : (o : Order) (entries : List ℕ) → All (IsElement o) entries → (e d : ℕ) → IsElement o d → IsElement o (get_or entries e d)
 entry_element o entries all e d small = elim (dec_lt e (length entries)) [
   | yes inside ↦ all e d inside
   | no past ↦ subst (IsElement o) (sym (get_or_past entries e d (omega (arith, past)))) small
@@ -176,10 +197,6 @@ word_elements o entries k all i d inside =
     let low : i < 64 = omega (arith, inside, length-entries_in_word entries k) in
     subst (IsElement o) (sym (listed_at 64 (λ j. get_or entries (k * 64 + j) 0) i d low)) (entry_element o entries all (k * 64 + i) 0 (zero_is_element o))
 
-pub block_elements : (o : Order) (entries : List ℕ) (k : ℕ) (block : BitBlock) → All (IsElement o) entries →
-    elements_of_block block ≡ entries_in_word entries k → All (IsElement o) (elements_of_block block)
-block_elements o entries k block all is = subst (All (IsElement o)) (sym is) (word_elements o entries k all)
-
 pub found_element : (o : Order) (places entries : List ℕ) (k : ℕ) (none : Type 0) (found : Option (ℕ × ℕ)) → All (IsElement o) entries →
     MatchOption found none (λ x. IsNextEntry places (entries_in_word entries k) 0 x.0 x.1) → IfSome found (λ x. IsElement o x.1)
 found_element o places entries k none None all h = tt
@@ -188,16 +205,16 @@ found_element o places entries k none (Some x) all h =
 
 -- ---- sums and multiples
 
-pub block_of_sum : (size scalar k : ℕ) (self other : RowValue) (block others sum : BitBlock) → order_number self.order ≡ size → prime_of self.order ≡ 2 →
+pub block_of_sum : (size scalar k : ℕ) (self other : RowValue) (block others sum : BitBlock) → order_number self.order ≡ size → prime_of self.order ≤ 3 →
     IsElement self.order scalar → other.order ≡ self.order → length other.entries ≡ length self.entries → IsRow self → IsRow other →
-    elements_of_block block ≡ entries_in_word self.entries k → elements_of_block others ≡ entries_in_word other.entries k →
+    IsBlock self.order (entries_in_word self.entries k) block → IsBlock other.order (entries_in_word other.entries k) others →
     IsBlockWithMultiple size scalar block others sum →
-    elements_of_block sum ≡ entries_in_word (row_with_multiple self scalar other).entries k
-block_of_sum size scalar k self other block others sum is two element field fits row row' first second h =
-    h self.order is two element (block_elements self.order self.entries k block row.elements first)
-    (block_elements self.order other.entries k others (subst (λ o. All (IsElement o) other.entries) field row'.elements) second)
-    ∙ ap₂ (λ (u v : List ℕ). sum_with_multiple (number_field self.order) u scalar v) first second
-    ∙ sym (sum_in_word self.order self.entries other.entries scalar k fits element)
+    IsBlock self.order (entries_in_word (row_with_multiple self scalar other).entries k) sum
+block_of_sum size scalar k self other block others sum is characteristic element field fits row row' first second h =
+    subst (λ (xs : List ℕ). IsBlock self.order xs sum) (sym (sum_in_word self.order self.entries other.entries scalar k fits element))
+    (h self.order is characteristic element (entries_in_word self.entries k) (entries_in_word other.entries k) (word_elements self.order self.entries k row.elements)
+    (word_elements self.order other.entries k (subst (λ o. All (IsElement o) other.entries) field row'.elements)) first
+    (subst (λ o. IsBlock o (entries_in_word other.entries k) others) field second))
 
 module _ (o : Order) (c : ℕ) (entries : List ℕ) (element : IsElement o c) where
   -- an entry of a multiple, and 0 past its end
@@ -228,28 +245,31 @@ module _ (o : Order) (c : ℕ) (entries : List ℕ) (element : IsElement o c) wh
 zero_elements_all : (o : Order) → All (IsElement o) (replicate 64 0)
 zero_elements_all o = All-replicate (IsElement o) 64 0 (zero_is_element o)
 
-pub block_of_multiple : (size scalar k : ℕ) (self : RowValue) (zeros block product : BitBlock) → order_number self.order ≡ size → prime_of self.order ≡ 2 →
-    IsElement self.order scalar → IsRow self → elements_of_block zeros ≡ replicate 64 0 → elements_of_block block ≡ entries_in_word self.entries k →
-    IsBlockWithMultiple size scalar zeros block product → elements_of_block product ≡ entries_in_word (multiple_row scalar self).entries k
-block_of_multiple size scalar k self zeros block product is two element row none first h =
-    h self.order is two element (subst (All (IsElement self.order)) (sym none) (zero_elements_all self.order)) (block_elements self.order self.entries k block row.elements first)
-    ∙ ap₂ (λ (u v : List ℕ). sum_with_multiple (number_field self.order) u scalar v) none first
-    ∙ multiple_in_word self.order scalar self.entries element k row.elements
+pub block_of_multiple : (size factor scalar k : ℕ) (self : RowValue) (zeros block product : BitBlock) → order_number self.order ≡ size → prime_of self.order ≤ 3 →
+    IsElement self.order scalar → IsRow self → IsBlock self.order (replicate 64 0) zeros → IsBlock self.order (entries_in_word self.entries k) block →
+    factor ≡ scalar → IsBlockWithMultiple size factor zeros block product → IsBlock self.order (entries_in_word (multiple_row scalar self).entries k) product
+block_of_multiple size factor scalar k self zeros block product is characteristic element row none first same h =
+    subst (λ (xs : List ℕ). IsBlock self.order xs product) (multiple_in_word self.order scalar self.entries element k row.elements)
+    (subst (λ s. IsBlockWithMultiple size s zeros block product) same h self.order is characteristic element (replicate 64 0) (entries_in_word self.entries k)
+    (zero_elements_all self.order) (word_elements self.order self.entries k row.elements) none first)
+
+-- a list of blocks of zeros
+pub zeros_at : (o : Order) (W k : ℕ) (zeros : BitBlock) → IsBlock o (replicate 64 0) zeros → k < W → IsBlock o (replicate 64 0) (block_at (replicate W zeros) k)
+zeros_at o W k zeros is low = subst (IsBlock o (replicate 64 0)) (sym (get_or-replicate {A = BitBlock} W k zeros _ low)) is
 
 -- blocks of a row, of which one is given
-pub blocks_with_block : (W at : ℕ) (others : List BitBlock) (block : BitBlock) (entries : List ℕ) → length others ≡ W → at < W →
-    ((k : ℕ) → k < W → elements_of_block (block_at others k) ≡ entries_in_word entries k) → elements_of_block block ≡ entries_in_word entries at →
-    (k : ℕ) → k < W → elements_of_block (block_at (set others at block) k) ≡ entries_in_word entries k
-blocks_with_block W at others block entries long inside has is k low = elim (cases_eq k at) [
+pub blocks_with_block : (o : Order) (W at : ℕ) (others : List BitBlock) (block : BitBlock) (entries : List ℕ) → length others ≡ W → at < W →
+    ((k : ℕ) → k < W → IsBlock o (entries_in_word entries k) (block_at others k)) → IsBlock o (entries_in_word entries at) block →
+    (k : ℕ) → k < W → IsBlock o (entries_in_word entries k) (block_at (set others at block) k)
+blocks_with_block o W at others block entries long inside has is k low = elim (cases_eq k at) [
   | inl same ↦
-      ap (λ j. elements_of_block (block_at (set others at block) j)) same
-      ∙ ap elements_of_block (get_or-set_same others at block _ (omega (arith, long, inside)))
-      ∙ is ∙ sym (ap (entries_in_word entries) same)
-  | inr other ↦ ap elements_of_block (get_or-set_other others at k block _ other) ∙ has k low
+      subst (λ j. IsBlock o (entries_in_word entries j) (block_at (set others at block) j)) (sym same)
+      (subst (IsBlock o (entries_in_word entries at)) (sym (get_or-set_same others at block _ (omega (arith, long, inside)))) is)
+  | inr other ↦ subst (IsBlock o (entries_in_word entries k)) (sym (get_or-set_other others at k block _ other)) (has k low)
 ]
 
 -- words at which the other row is 0 stay
-pub word_stays : (self other : RowValue) (scalar k n : ℕ) → IsElement self.order scalar → IsRow self → AreZerosBefore other.entries (n * 64) → k < n →
+word_stays : (self other : RowValue) (scalar k n : ℕ) → IsElement self.order scalar → IsRow self → AreZerosBefore other.entries (n * 64) → k < n →
     entries_in_word (row_with_multiple self scalar other).entries k ≡ entries_in_word self.entries k
 word_stays self other scalar k n element row zeros below =
     ext_get_or 0 (entries_in_word sum k) (entries_in_word self.entries k) (length-entries_in_word sum k ∙ sym (length-entries_in_word self.entries k)) (λ i inside.
@@ -274,246 +294,35 @@ word_stays self other scalar k n element row zeros below =
           ∙ sym (get_or_past self.entries j 0 (omega (arith, past)))
     ]
 
--- x is an element of a field of characteristic 2 that is not prime
-pub x_is_element : (o : Order) → prime_of o ≡ 2 → degree_of o ≢ 1 → IsElement o 2
-x_is_element Two two higher = absurd (higher refl)
-x_is_element Three two higher = absurd (higher refl)
-x_is_element Four two higher = lit< tt
-x_is_element Five two higher = absurd (higher refl)
-x_is_element Seven two higher = absurd (higher refl)
-x_is_element Eight two higher = lit< tt
-x_is_element Nine two higher = lit< tt
+pub block_stays : (self other : RowValue) (scalar k n : ℕ) (before after : BitBlock) → IsElement self.order scalar → IsRow self →
+    AreZerosBefore other.entries (n * 64) → k < n → after ≡ before → IsBlock self.order (entries_in_word self.entries k) before →
+    IsBlock self.order (entries_in_word (row_with_multiple self scalar other).entries k) after
+block_stays self other scalar k n before after element row zeros below same is =
+    subst (IsBlock self.order (entries_in_word (row_with_multiple self scalar other).entries k)) (sym same)
+    (subst (λ (xs : List ℕ). IsBlock self.order xs before) (sym (word_stays self other scalar k n element row zeros below)) is)
 
--- ---- rows that are written block by block
-
-pub record IsHeldBelow (n : ℕ) (held self : RowValue) : Type 0 where
-  pub order : self.order ≡ held.order
-  pub as_long : length self.entries ≡ length held.entries
-  pub written : (e : ℕ) → e / 64 < n → get_or self.entries e 0 ≡ get_or held.entries e 0
-
-pub IsHeldBelow-none : (held self : RowValue) → held.order ≡ self.order → length held.entries ≡ length self.entries → IsHeldBelow 0 held self
-IsHeldBelow-none held self field fits = record { order = sym field; as_long = sym fits; written = λ e below. absurd (omega (arith, below)) }
-
-pub IsHeldBelow-more : (n : ℕ) (held self next : RowValue) (block : BitBlock) → IsHeldBelow n held self → elements_of_block block ≡ entries_in_word held.entries n →
-    HasBlock n block self next → IsHeldBelow (n + 1) held next
-IsHeldBelow-more n held self next block h is has = record {
-  order = has.order ∙ h.order;
-  as_long = has.as_long ∙ h.as_long;
-  written = λ e below. elim (cases_eq (e / 64) n) [
-    | inl same ↦ elim (dec_lt e (length self.entries)) [
-      | yes inside ↦
-          let there : n * 64 + e % 64 ≡ e = omega (arith, same) in
-          has.written e same inside ∙ ap (λ (xs : List ℕ). get_or xs (e % 64) 0) is ∙ entry_in_word held.entries n (e % 64) (omega arith)
-          ∙ ap (λ j. get_or held.entries j 0) there
-      | no past ↦
-          get_or_past next.entries e 0 (omega (arith, past, has.as_long)) ∙ sym (get_or_past held.entries e 0 (omega (arith, past, h.as_long)))
-    ]
-    | inr other ↦ has.kept e other ∙ h.written e (omega (arith, below, other))
-  ];
-}
-
-pub IsHeldBelow-all : (n : ℕ) (held self : RowValue) → IsHeldBelow n held self → (length held.entries + 63) / 64 ≤ n → self ≡ held
-IsHeldBelow-all n held self h all =
-    same_row self held h.order (ext_get_or 0 self.entries held.entries h.as_long (λ e inside. h.written e (omega (arith, inside, all, h.as_long))))
-
--- ---- blocks that are written to a row
-
-module _ (o : Order) (k : ℕ) (power : k < degree_of o) (entries : List ℕ) where
-  coefficients_all : coefficients_at o k entries ≡ map (λ a. coefficient o a k) entries
-  coefficients_all = ap (λ t. cond t (map (λ a. coefficient o a k) entries) []) (lt-ltb k (degree_of o) power)
-
-  length-all : length (coefficients_at o k entries) ≡ length entries
-  length-all = ap length coefficients_all ∙ length-map entries (λ a. coefficient o a k)
-
-  coefficient-at : (e : ℕ) → e < length entries → get_or (coefficients_at o k entries) e 0 ≡ coefficient o (get_or entries e 0) k
-  coefficient-at e inside =
-      ap (λ (x : List ℕ). get_or x e 0) coefficients_all ∙ get_or-map (λ a. coefficient o a k) entries e 0 0 inside
-
--- there is no coefficient from the degree on
-no_coefficient : (o : Order) (a k : ℕ) → IsElement o a → k < 3 → degree_of o ≤ k → coefficient o a k ≡ 0
-no_coefficient o a k element small past =
-    let below : coefficient o a k < 1 =
-    subst (λ t. coefficient o a k < cond t (prime_of o) 1) (le-ltb k (degree_of o) past) (coefficient-below o a k element small) in
-    omega (arith, below)
-
-same_element : (o : Order) (a b : ℕ) → IsElement o a → IsElement o b → ((k : ℕ) → k < degree_of o → coefficient o a k ≡ coefficient o b k) → a ≡ b
-same_element o a b ha hb same =
-    sym (element_of-coefficients o a ha)
-    ∙ ap (λ x. element_of o x (coefficient o a 1) (coefficient o a 2)) (at 0 (lit< tt))
-    ∙ ap₂ (element_of o (coefficient o b 0)) (at 1 (lit< tt)) (at 2 (lit< tt)) ∙ element_of-coefficients o b hb
-  where
-    at : (k : ℕ) → k < 3 → coefficient o a k ≡ coefficient o b k
-    at k small = elim (cases_lt k (degree_of o)) [
-      | inl power ↦ same k power
-      | inr past ↦ no_coefficient o a k ha small past ∙ sym (no_coefficient o b k hb small past)
-    ]
-
--- the bits of a word are the coefficients of x^j of the entries in word k, and all others stay, as far as the field has
--- the power
-record IsPut (o : Order) (j k w : ℕ) (before after : RowValue) : Type 0 where
-  order : after.order ≡ before.order
-  as_long : length after.entries ≡ length before.entries
-  here : (e : ℕ) → j < degree_of o → e / 64 ≡ k → e < length before.entries → coefficient o (get_or after.entries e 0) j ≡ bit_at w (e % 64)
-  away : (i e : ℕ) → i < degree_of o → e < length before.entries → (i ≢ j) ⊎ (e / 64 ≢ k) →
-      coefficient o (get_or after.entries e 0) i ≡ coefficient o (get_or before.entries e 0) i
-
-module _ (j k w : ℕ) (before after : RowValue) (power : j < degree_of before.order) (h : HasWords j k (w ∷ 0 ∷ []) before after) where
-  abbrev o : Order
-  o = before.order
-
-  put_here : (e : ℕ) → e / 64 ≡ k → e < length before.entries → coefficient o (get_or after.entries e 0) j ≡ bit_at w (e % 64)
-  put_here e same inside =
-      let bit : digit_of_words (w ∷ 0 ∷ []) (e % 64) ≡ bit_at w (e % 64) = omega (arith, bit_at-zero (e % 64)) in
-      sym (coefficient-at o j power after.entries e (omega (arith, inside, h.as_long))) ∙ ap (λ (x : List ℕ). get_or x e 0) h.written
-      ∙ get_or-digits_with_word_same (coefficients_at o j before.entries) k (digit_of_words (w ∷ 0 ∷ [])) e 0 (omega (arith, inside, length-all o j power before.entries)) same
-      ∙ bit
-
-  put_elsewhere : (e : ℕ) → e / 64 ≢ k → e < length before.entries → coefficient o (get_or after.entries e 0) j ≡ coefficient o (get_or before.entries e 0) j
-  put_elsewhere e other inside =
-      sym (coefficient-at o j power after.entries e (omega (arith, inside, h.as_long))) ∙ ap (λ (x : List ℕ). get_or x e 0) h.written
-      ∙ get_or-digits_with_word_other (coefficients_at o j before.entries) k (digit_of_words (w ∷ 0 ∷ [])) e 0 (omega (arith, inside, length-all o j power before.entries)) other
-      ∙ coefficient-at o j power before.entries e inside
-
-  put_other : (i e : ℕ) → i < degree_of o → i ≢ j → e < length before.entries → coefficient o (get_or after.entries e 0) i ≡ coefficient o (get_or before.entries e 0) i
-  put_other i e has other inside =
-      sym (coefficient-at o i has after.entries e (omega (arith, inside, h.as_long))) ∙ ap (λ (x : List ℕ). get_or x e 0) (h.kept i other)
-      ∙ coefficient-at o i has before.entries e inside
-
-  put_away : (i e : ℕ) → i < degree_of o → e < length before.entries → (i ≢ j) ⊎ (e / 64 ≢ k) →
-      coefficient o (get_or after.entries e 0) i ≡ coefficient o (get_or before.entries e 0) i
-  put_away i e has inside (inl other) = put_other i e has other inside
-  put_away i e has inside (inr other) = elim (cases_eq i j) [
-    | inl same ↦ subst (λ x. coefficient o (get_or after.entries e 0) x ≡ coefficient o (get_or before.entries e 0) x) (sym same) (put_elsewhere e other inside)
-    | inr different ↦ put_other i e has different inside
-  ]
-
-is_put : (j k w : ℕ) (before after : RowValue) → (j < degree_of before.order → HasWords j k (w ∷ 0 ∷ []) before after) →
-    (degree_of before.order ≤ j → after ≡ before) → IsPut before.order j k w before after
-is_put j k w before after written kept = elim (cases_lt j (degree_of before.order)) [
-  | inl power ↦ record {
-    order = (written power).order;
-    as_long = (written power).as_long;
-    here = λ e has. put_here j k w before after power (written power) e;
-    away = put_away j k w before after power (written power);
-  }
-  | inr past ↦ record {
-    order = ap (λ (r : RowValue). r.order) (kept past);
-    as_long = ap (λ (r : RowValue). length r.entries) (kept past);
-    here = λ e has. absurd (omega (arith, has, past));
-    away = λ i e has inside other. ap (λ (r : RowValue). coefficient before.order (get_or r.entries e 0) i) (kept past);
-  }
-]
-
--- a word is written as far as the field has the power, as the code says it
-pub record PutsBits (j k w : ℕ) (before after : RowValue) : Type 0 where
-  pub written : j < degree_of before.order → HasWords j k (w ∷ 0 ∷ []) before after
-  pub kept : degree_of before.order ≤ j → after ≡ before
-
-no_linear_bit : (o : Order) (c l q : ℕ) → prime_of o ≡ 2 → c + 2 * l + 4 * q < order_number o → degree_of o ≤ 1 → l ≡ 0
-no_linear_bit Two c l q two small low = omega (arith, small)
-no_linear_bit Three c l q two small low = absurd (omega (arith, two))
-no_linear_bit Four c l q two small low = absurd (omega (arith, low))
-no_linear_bit Five c l q two small low = absurd (omega (arith, two))
-no_linear_bit Seven c l q two small low = absurd (omega (arith, two))
-no_linear_bit Eight c l q two small low = absurd (omega (arith, low))
-no_linear_bit Nine c l q two small low = absurd (omega (arith, two))
-
-no_quadratic_bit : (o : Order) (c l q : ℕ) → prime_of o ≡ 2 → c + 2 * l + 4 * q < order_number o → degree_of o ≤ 2 → q ≡ 0
-no_quadratic_bit Two c l q two small low = omega (arith, small)
-no_quadratic_bit Three c l q two small low = absurd (omega (arith, two))
-no_quadratic_bit Four c l q two small low = omega (arith, small)
-no_quadratic_bit Five c l q two small low = absurd (omega (arith, two))
-no_quadratic_bit Seven c l q two small low = absurd (omega (arith, two))
-no_quadratic_bit Eight c l q two small low = absurd (omega (arith, low))
-no_quadratic_bit Nine c l q two small low = absurd (omega (arith, two))
-
-degree_positive : (o : Order) → 0 < degree_of o
-degree_positive Two = lit< tt
-degree_positive Three = lit< tt
-degree_positive Four = lit< tt
-degree_positive Five = lit< tt
-degree_positive Seven = lit< tt
-degree_positive Eight = lit< tt
-degree_positive Nine = lit< tt
-
-module _ (k : ℕ) (block : BitBlock) (r0 r1 r2 r3 : RowValue) (two : prime_of r0.order ≡ 2) (all : All (IsElement r0.order) (elements_of_block block))
-    (row0 : IsRow r0) (row3 : IsRow r3) (p0 : PutsBits 0 k block.constant r0 r1) (p1 : PutsBits 1 k block.linear r1 r2)
-    (p2 : PutsBits 2 k block.quadratic r2 r3) where
-  abbrev base : Order
-  base = r0.order
-
-  first : IsPut base 0 k block.constant r0 r1
-  first = is_put 0 k block.constant r0 r1 p0.written p0.kept
-
-  second : IsPut base 1 k block.linear r1 r2
-  second = subst (λ q. IsPut q 1 k block.linear r1 r2) first.order (is_put 1 k block.linear r1 r2 p1.written p1.kept)
-
-  third : IsPut base 2 k block.quadratic r2 r3
-  third = subst (λ q. IsPut q 2 k block.quadratic r2 r3) (second.order ∙ first.order) (is_put 2 k block.quadratic r2 r3 p2.written p2.kept)
-
-  last_order : r3.order ≡ base
-  last_order = third.order ∙ second.order ∙ first.order
-
-  element_after : (e : ℕ) → IsElement base (get_or r3.entries e 0)
-  element_after e = entry_element base r3.entries (subst (λ q. All (IsElement q) r3.entries) last_order row3.elements) e 0 (zero_is_element base)
-
-  number_small : (i : ℕ) → i < 64 → number_at block i < order_number base
-  number_small i low =
-      subst (IsElement base) (element-at block i low) (all i 0 (omega (arith, low, length-block block)))
-
-  block_written : (e : ℕ) → e / 64 ≡ k → e < length r0.entries → get_or r3.entries e 0 ≡ get_or (elements_of_block block) (e % 64) 0
-  block_written e same inside =
-      let in1 : e < length r1.entries = omega (arith, inside, first.as_long) in
-      let in2 : e < length r2.entries = omega (arith, in1, second.as_long) in
-      let i : ℕ = e % 64 in
-      let low : i < 64 = omega arith in
-      let a : ℕ = get_or r3.entries e 0 in
-      let c : coefficient base a 0 ≡ bit_at block.constant i =
-      third.away 0 e (degree_positive base) in2 (inl (λ x. omega (arith, x)))
-      ∙ second.away 0 e (degree_positive base) in1 (inl (λ x. omega (arith, x))) ∙ first.here e (degree_positive base) same inside in
-      let l : coefficient base a 1 ≡ bit_at block.linear i = elim (cases_lt 1 (degree_of base)) [
-        | inl power ↦ third.away 1 e power in2 (inl (λ x. omega (arith, x))) ∙ second.here e power same in1
-        | inr past ↦
-            no_coefficient base a 1 (element_after e) (lit< tt) past
-            ∙ sym (no_linear_bit base (bit_at block.constant i) (bit_at block.linear i) (bit_at block.quadratic i) two (number_small i low) past)
-      ] in
-      let q : coefficient base a 2 ≡ bit_at block.quadratic i = elim (cases_lt 2 (degree_of base)) [
-        | inl power ↦ third.here e power same in2
-        | inr past ↦
-            no_coefficient base a 2 (element_after e) (lit< tt) past
-            ∙ sym (no_quadratic_bit base (bit_at block.constant i) (bit_at block.linear i) (bit_at block.quadratic i) two (number_small i low) past)
-      ] in
-      let value : bit_at block.constant i + prime_of base * (bit_at block.linear i + prime_of base * bit_at block.quadratic i) ≡ number_at block i =
-      ap (λ p. bit_at block.constant i + p * (bit_at block.linear i + p * bit_at block.quadratic i)) two ∙ omega arith in
-      sym (element_of-coefficients base a (element_after e))
-      ∙ ap (λ x. element_of base x (coefficient base a 1) (coefficient base a 2)) c
-      ∙ ap₂ (element_of base (bit_at block.constant i)) l q
-      ∙ element_value base (bit_at block.constant i) (bit_at block.linear i) (bit_at block.quadratic i) ∙ value
-      ∙ sym (element-at block i low)
-
-  block_kept : (e : ℕ) → e / 64 ≢ k → get_or r3.entries e 0 ≡ get_or r0.entries e 0
-  block_kept e other = elim (dec_lt e (length r0.entries)) [
-    | yes inside ↦
-        let in1 : e < length r1.entries = omega (arith, inside, first.as_long) in
-        let in2 : e < length r2.entries = omega (arith, in1, second.as_long) in
-        same_element base (get_or r3.entries e 0) (get_or r0.entries e 0) (element_after e) (entry_element base r0.entries row0.elements e 0 (zero_is_element base))
-        (λ i power. third.away i e power in2 (inr other) ∙ second.away i e power in1 (inr other) ∙ first.away i e power inside (inr other))
-    | no past ↦
-        get_or_past r3.entries e 0 (omega (arith, past, third.as_long, second.as_long, first.as_long)) ∙ sym (get_or_past r0.entries e 0 (omega (arith, past)))
-  ]
-
-  pub block_put : HasBlock k block r0 r3
-  block_put = record {
-    order = last_order;
-    as_long = third.as_long ∙ second.as_long ∙ first.as_long;
-    written = block_written;
-    kept = block_kept;
-  }
+-- x, whose number is the prime, is an element of a field that is not prime
+pub x_is_element : (o : Order) → degree_of o ≢ 1 → IsElement o (prime_of o)
+x_is_element Two higher = absurd (higher refl)
+x_is_element Three higher = absurd (higher refl)
+x_is_element Four higher = lit< tt
+x_is_element Five higher = absurd (higher refl)
+x_is_element Seven higher = absurd (higher refl)
+x_is_element Eight higher = lit< tt
+x_is_element Nine higher = lit< tt
 
 -- ---- the words of the planes of a row
 
-pub no_bits : (plane : Plane) (w k i : ℕ) → length (digits_of plane) ≡ 0 → bit_at (get_or (replicate w 0) k 0) i ≡ get_or (digits_of plane) (k * 64 + i) 0
-no_bits plane w k i none = ap (λ x. bit_at x i) (get_or-zeros w k) ∙ nothing_held plane (k * 64 + i) i none
+pub no_bit : (w k i : ℕ) → bit_at (get_or (replicate w 0) k 0) i ≡ 0
+no_bit w k i = ap (λ x. bit_at x i) (get_or-zeros w k) ∙ bit_at-zero i
+
+-- words of zeros have the digits of a plane that has none
+module _ (plane : Plane) (w k i : ℕ) (none : length (digits_of plane) ≡ 0) where
+  pub no_bits : bit_at (get_or (replicate w 0) k 0) i ≡ get_or (digits_of plane) (k * 64 + i) 0
+  no_bits = no_bit w k i ∙ sym (get_or_past (digits_of plane) (k * 64 + i) 0 (omega (arith, none)))
+
+  pub no_trits : bit_at (get_or (replicate w 0) k 0) i + 2 * bit_at (get_or (replicate w 0) k 0) i ≡ get_or (digits_of plane) (k * 64 + i) 0
+  no_trits = omega (arith, no_bit w k i, get_or_past (digits_of plane) (k * 64 + i) 0 (omega (arith, none)))
 
 -- where no power of x but these is there
 pub four_has_no_square : (o : Order) → order_number o ≡ 4 → degree_of o ≢ 3
@@ -525,6 +334,51 @@ four_has_no_square Seven four = absurd (omega (arith, four))
 four_has_no_square Eight four = absurd (omega (arith, four))
 four_has_no_square Nine four = absurd (omega (arith, four))
 
+-- over a field of characteristic 3 there is no power of x from x^2 on
+pub degree_over_three : (o : Order) → prime_of o ≡ 3 → degree_of o ≤ 2
+degree_over_three Two three = omega arith
+degree_over_three Three three = omega arith
+degree_over_three Four three = omega arith
+degree_over_three Five three = omega arith
+degree_over_three Seven three = omega arith
+degree_over_three Eight three = absurd (omega (arith, three))
+degree_over_three Nine three = omega arith
+
+pub three_has_no_square : (o : Order) → prime_of o ≡ 3 → degree_of o ≢ 3
+three_has_no_square o three = λ square. omega (arith, degree_over_three o three, square)
+
+pub degree_of_three : (o : Order) → order_number o ≡ 3 → degree_of o ≡ 1
+degree_of_three Two three = absurd (omega arith)
+degree_of_three Three three = refl
+degree_of_three Four three = absurd (omega arith)
+degree_of_three Five three = absurd (omega arith)
+degree_of_three Seven three = absurd (omega arith)
+degree_of_three Eight three = absurd (omega arith)
+degree_of_three Nine three = absurd (omega arith)
+
+-- the characteristic that the number of elements tells, as the code finds it
+pub three_of_size : (o : Order) (size : ℕ) → order_number o ≡ size → (size ≡ 3) ⊎ ((size ≢ 3) × (size ≡ 9)) → prime_of o ≡ 3
+three_of_size o size is (inl three) = of_three o (is ∙ three)
+  where
+    of_three : (o : Order) → order_number o ≡ 3 → prime_of o ≡ 3
+    of_three Two three = absurd (omega arith)
+    of_three Three three = refl
+    of_three Four three = absurd (omega arith)
+    of_three Five three = absurd (omega arith)
+    of_three Seven three = absurd (omega arith)
+    of_three Eight three = absurd (omega arith)
+    of_three Nine three = absurd (omega arith)
+three_of_size o size is (inr nine) = three_of_nine o (is ∙ nine.1)
+
+pub two_of_size : (o : Order) (size : ℕ) → order_number o ≡ size → size ≢ 3 → size ≢ 9 → prime_of o ≤ 3 → prime_of o ≡ 2
+two_of_size Two size is not_three not_nine low = refl
+two_of_size Three size is not_three not_nine low = absurd (not_three (sym is))
+two_of_size Four size is not_three not_nine low = refl
+two_of_size Five size is not_three not_nine low = absurd (omega (arith, low))
+two_of_size Seven size is not_three not_nine low = absurd (omega (arith, low))
+two_of_size Eight size is not_three not_nine low = refl
+two_of_size Nine size is not_three not_nine low = absurd (not_nine (sym is))
+
 -- all are there over eight elements
 pub square_is_there : (o : Order) (n : ℕ) → order_number o ≢ 2 → order_number o ≢ 4 → prime_of o ≡ 2 → cond (ltb 2 (degree_of o)) n 0 ≡ n
 square_is_there Two n not_two not_four even = absurd (not_two refl)
@@ -535,10 +389,10 @@ square_is_there Seven n not_two not_four even = absurd (omega (arith, even))
 square_is_there Eight n not_two not_four even = refl
 square_is_there Nine n not_two not_four even = absurd (omega (arith, even))
 
--- the block that three words make
-pub block_of_words : (block : BitBlock) (c l q : ℕ) (entries : List ℕ) → block ≡ record { constant = c; linear = l; quadratic = q } →
-    elements_of_block (record { constant = c; linear = l; quadratic = q }) ≡ entries → elements_of_block block ≡ entries
-block_of_words block c l q entries same is = ap elements_of_block same ∙ is
+-- the block that four words make
+pub block_of_words : (o : Order) (block : BitBlock) (a b c d : ℕ) (entries : List ℕ) → block ≡ record { ones = a; twos = b; high_ones = c; high_twos = d } →
+    IsBlock o entries (record { ones = a; twos = b; high_ones = c; high_twos = d }) → IsBlock o entries block
+block_of_words o block a b c d entries same is = subst (IsBlock o entries) (sym same) is
 
 pub as_many_words : (a b w : ℕ) → (a + 63) / 64 ≡ w → b ≡ a → (b + 63) / 64 ≡ w
 as_many_words a b w count same = ap (λ x. (x + 63) / 64) same ∙ count
@@ -571,16 +425,37 @@ multiple_is_row self scalar element row =
 
 -- ---- blocks that are made of words
 
--- so many blocks, of which those below n have the words of three lists
-pub record HaveWordsBelow (count n : ℕ) (c l q : List ℕ) (blocks : List BitBlock) : Type 0 where
+-- so many blocks, of which those below n have the words of four lists
+pub record HaveWordsBelow (count n : ℕ) (u v w z : List ℕ) (blocks : List BitBlock) : Type 0 where
   pub as_many : length blocks ≡ count
-  pub words : (k : ℕ) → k < n → block_at blocks k ≡ record { constant = get_or c k 0; linear = get_or l k 0; quadratic = get_or q k 0 }
+  pub words : (k : ℕ) → k < n → block_at blocks k ≡ record { ones = get_or u k 0; twos = get_or v k 0; high_ones = get_or w k 0; high_twos = get_or z k 0 }
 
-pub HaveWordsBelow-more : (count n : ℕ) (c l q : List ℕ) (blocks : List BitBlock) → HaveWordsBelow count n c l q blocks → n < count →
-    HaveWordsBelow count (n + 1) c l q (set blocks n (record { constant = get_or c n 0; linear = get_or l n 0; quadratic = get_or q n 0 }))
-HaveWordsBelow-more count n c l q blocks h below = record {
+pub HaveWordsBelow-more : (count n : ℕ) (u v w z : List ℕ) (blocks : List BitBlock) → HaveWordsBelow count n u v w z blocks → n < count →
+    HaveWordsBelow count (n + 1) u v w z
+    (set blocks n (record { ones = get_or u n 0; twos = get_or v n 0; high_ones = get_or w n 0; high_twos = get_or z n 0 }))
+HaveWordsBelow-more count n u v w z blocks h below = record {
   as_many = length-set blocks n _ ∙ h.as_many;
   words = below_more _ _
       (λ k lower. let other : k ≢ n = omega arith in get_or-set_other blocks n k _ _ other ∙ h.words k lower)
       (get_or-set_same blocks n _ _ (omega (arith, below, h.as_many)));
+}
+
+-- two lists of so many words, those below n being the words of two others
+pub record HaveLayersBelow (count n : ℕ) (from_ones from_twos ones twos : List ℕ) : Type 0 where
+  pub many_ones : length ones ≡ count
+  pub many_twos : length twos ≡ count
+  pub same_ones : (k : ℕ) → k < n → get_or ones k 0 ≡ get_or from_ones k 0
+  pub same_twos : (k : ℕ) → k < n → get_or twos k 0 ≡ get_or from_twos k 0
+
+pub HaveLayersBelow-more : (count n : ℕ) (from_ones from_twos ones twos : List ℕ) → HaveLayersBelow count n from_ones from_twos ones twos → n < count →
+    HaveLayersBelow count (n + 1) from_ones from_twos (set ones n (get_or from_ones n 0)) (set twos n (get_or from_twos n 0))
+HaveLayersBelow-more count n from_ones from_twos ones twos h below = record {
+  many_ones = length-set ones n _ ∙ h.many_ones;
+  many_twos = length-set twos n _ ∙ h.many_twos;
+  same_ones = below_more _ _
+      (λ k lower. let other : k ≢ n = omega arith in get_or-set_other ones n k _ _ other ∙ h.same_ones k lower)
+      (get_or-set_same ones n _ _ (omega (arith, below, h.many_ones)));
+  same_twos = below_more _ _
+      (λ k lower. let other : k ≢ n = omega arith in get_or-set_other twos n k _ _ other ∙ h.same_twos k lower)
+      (get_or-set_same twos n _ _ (omega (arith, below, h.many_twos)));
 }

@@ -27,6 +27,8 @@ pub mod RowWords
 pub mod NextEntries
 pub mod PackedNumbers
 pub mod EntryWordLaws
+pub mod BlockElements
+pub mod TritBlockLaws
 pub mod BitBlockLaws
 pub mod BlockLaws
 pub mod FourMultiples
@@ -38,3 +40,4 @@ pub mod SumRows
 pub mod SumWords
 pub mod KnownFieldLaws
 pub mod HeldLaws
+pub mod HeldWrites

@@ -113,7 +113,7 @@ entry_of_held_trits entries start c l index entry held is there =
 
 -- ---- the planes of a row
 
-no_squares : (o : Order) (n : ℕ) → prime_of o ≡ 3 → cond (ltb 2 (degree_of o)) n 0 ≡ 0
+pub no_squares : (o : Order) (n : ℕ) → prime_of o ≡ 3 → cond (ltb 2 (degree_of o)) n 0 ≡ 0
 no_squares Two n three = refl
 no_squares Three n three = refl
 no_squares Four n three = refl

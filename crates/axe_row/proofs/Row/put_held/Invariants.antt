@@ -1,4 +1,4 @@
-use Rattle.axe_row.proofs.HeldLaws.{IsHeldBelow}
+use Rattle.axe_row.proofs.HeldWrites.{IsHeldBelow}
 use Rattle.axe_row.proofs.Row.put_held.Given as goal
 
 abbrev pub invariant-loop-at : goal.invariant-loop-at

@@ -1,18 +1,18 @@
-use Rattle.std.proofs.Common.{◌≡◌, ◌∙◌, ◌<◌, length, ap, sym, subst, rules, arith}
+use Rattle.std.proofs.Common.{◌≡◌, ◌∙◌, ◌<◌, ◌≤◌, length, ap, sym, subst, rules, arith}
 use Rattle.axe_field.specs.Order.{order_number, prime_of}
 use Rattle.axe_row.specs.Operations.{row_with_multiple}
 use Rattle.axe_row.specs.Rows.{RowValue, IsRow}
-use Rattle.axe_row.proofs.HeldLaws.{block_of_row, block_of_sum, blocks_hold, held_row, length_of_blocks, row_of_blocks, sum_is_row}
+use Rattle.axe_row.proofs.HeldLaws.{block_of_row, characteristic_of_blocks, block_of_sum, blocks_hold, held_row, length_of_blocks, row_of_blocks, sum_is_row}
 use Rattle.axe_row.proofs.OperationLaws.{length-sum_with_multiple}
 use Rattle.axe_row.proofs.held.HeldRow.add_scaled_in.Goals as goal
 
 pub bit_blocks-others-requires : goal.bit_blocks-others-requires
 bit_blocks-others-requires g c =
     let all : length c.self.inside.blocks ≡ g.row.W = search rules in
-    let even : prime_of c.args.self.now.order ≡ 2 = sym (ap (λ (r : RowValue). prime_of r.order) c.self.view_is) ∙ c.self.invariant.characteristic in
+    let characteristic = characteristic_of_blocks _ _ _ c.args.self.now c.self.invariant c.self.view_is in
     let long = length_of_blocks _ _ _ _ c.self.view_is in (
       omega (arith, all, c.self.invariant.count),
-      (ap order_number c.requires.field ∙ c.requires.order, (ap prime_of c.requires.field ∙ even, omega (arith, all, long, c.requires.fits, c.self.invariant.count))),
+      (ap order_number c.requires.field ∙ c.requires.order, (subst (λ o. prime_of o ≤ 3) (sym c.requires.field) characteristic, omega (arith, all, long, c.requires.fits, c.self.invariant.count))),
     )
 
 pub invariant_of-self : goal.invariant_of-self
@@ -20,29 +20,29 @@ invariant_of-self g c =
     let all : length c.self.inside.blocks ≡ g.row.W = search rules in
     let after : length c.add_multiples.new.blocks ≡ g.row.W = c.add_multiples.ensures.as_many in
     let long : length c.args.self.now.entries ≡ c.self.inside.len = length_of_blocks _ _ _ _ c.self.view_is in
-    let even : prime_of c.args.self.now.order ≡ 2 = sym (ap (λ (r : RowValue). prime_of r.order) c.self.view_is) ∙ c.self.invariant.characteristic in
+    let characteristic = characteristic_of_blocks _ _ _ c.args.self.now c.self.invariant c.self.view_is in
     let row = row_of_blocks _ _ _ c.args.self.now c.self.invariant c.self.view_is in
     blocks_hold (row_with_multiple c.args.self.now c.args.scalar c.args.other.now) c.self.inside.field c.self.inside.len c.add_multiples.new.blocks
     (ap (λ (r : RowValue). r.order) c.self.view_is) (length-sum_with_multiple _ _ _ _ ∙ long) (omega (arith, all, after, c.self.invariant.count))
     (λ k inside.
     let low : k < g.row.W = omega (arith, inside, after) in
-    block_of_sum g.row.Q c.args.scalar k c.args.self.now c.args.other.now _ _ _ c.requires.order even c.requires.element c.requires.field c.requires.fits row
+    block_of_sum g.row.Q c.args.scalar k c.args.self.now c.args.other.now _ _ _ c.requires.order characteristic c.requires.element c.requires.field c.requires.fits row
     c.bit_blocks-others.ensures.well_formed (block_of_row _ _ c.self.inside.blocks c.args.self.now c.self.invariant c.self.view_is k)
     (c.bit_blocks-others.ensures.blocks k low) (c.add_multiples.ensures.added k (omega arith) low))
-    even (sum_is_row c.args.self.now c.args.other.now c.args.scalar c.requires.element c.requires.field row c.bit_blocks-others.ensures.well_formed)
+    characteristic (sum_is_row c.args.self.now c.args.other.now c.args.scalar c.requires.element c.requires.field row c.bit_blocks-others.ensures.well_formed)
 
 pub returns-clause-sum : goal.returns-clause-sum
 returns-clause-sum g c =
     let all : length c.self.inside.blocks ≡ g.row.W = search rules in
     let after : length c.add_multiples.new.blocks ≡ g.row.W = c.add_multiples.ensures.as_many in
     let long : length c.args.self.now.entries ≡ c.self.inside.len = length_of_blocks _ _ _ _ c.self.view_is in
-    let even : prime_of c.args.self.now.order ≡ 2 = sym (ap (λ (r : RowValue). prime_of r.order) c.self.view_is) ∙ c.self.invariant.characteristic in
+    let characteristic = characteristic_of_blocks _ _ _ c.args.self.now c.self.invariant c.self.view_is in
     let row = row_of_blocks _ _ _ c.args.self.now c.self.invariant c.self.view_is in
     held_row (row_with_multiple c.args.self.now c.args.scalar c.args.other.now) c.self.inside.field c.self.inside.len c.add_multiples.new.blocks
     (ap (λ (r : RowValue). r.order) c.self.view_is) (length-sum_with_multiple _ _ _ _ ∙ long) (omega (arith, all, after, c.self.invariant.count))
     (λ k inside.
     let low : k < g.row.W = omega (arith, inside, after) in
-    block_of_sum g.row.Q c.args.scalar k c.args.self.now c.args.other.now _ _ _ c.requires.order even c.requires.element c.requires.field c.requires.fits row
+    block_of_sum g.row.Q c.args.scalar k c.args.self.now c.args.other.now _ _ _ c.requires.order characteristic c.requires.element c.requires.field c.requires.fits row
     c.bit_blocks-others.ensures.well_formed (block_of_row _ _ c.self.inside.blocks c.args.self.now c.self.invariant c.self.view_is k)
     (c.bit_blocks-others.ensures.blocks k low) (c.add_multiples.ensures.added k (omega arith) low))
 

@@ -4,12 +4,12 @@ use Rattle.axe_plane.specs.Planes.{digits_of}
 use Rattle.axe_row.specs.HigherPlanes.{linear_of, quadratic_of}
 use Rattle.axe_row.specs.Rows.{RowValue}
 use Rattle.axe_row.proofs.AddedPlanes.{degree_of_two}
-use Rattle.axe_row.proofs.BitBlockLaws.{block_of_planes}
-use Rattle.axe_row.proofs.HeldLaws.{block_of_words, four_has_no_square, no_bits, square_is_there}
+use Rattle.axe_row.proofs.BitBlockLaws.{bit_block_of_planes}
+use Rattle.axe_row.proofs.HeldLaws.{block_of_words, four_has_no_square, no_bit, no_bits, square_is_there}
 use Rattle.axe_row.proofs.KeptPlanes.{kept_planes, kept_view, kept_not_prime, linear_is_there, no_linear, no_quadratic}
 use Rattle.axe_row.proofs.RowPlanes.{length_of_row}
 use Rattle.axe_row.proofs.RowPlanes.{no_quadratic as no_squares}
-use Rattle.axe_row.proofs.Row.bit_blocks.Goals as goal
+use Rattle.axe_row.proofs.Row.blocks_of_bits.Goals as goal
 
 pub words_of_bits-constant-requires : goal.words_of_bits-constant-requires
 words_of_bits-constant-requires g c =
@@ -24,10 +24,10 @@ returns-then-this-eq2-clause-blocks g c k inside =
     let one : degree_of c.self.inside.field ≡ 1 =
     degree_of_two _ (ap (λ (r : RowValue). order_number r.order) c.self.view_is ∙ c.requires.order ∙ c.if-this-eq2.true) in
     let planes = c.self.invariant.planes in
-    block_of_words _ _ _ _ _ (c.blocks_of_words.ensures k inside)
-    (block_of_planes _ _ _ _ _ planes c.self.view_is k _ even (λ i low. c.words_of_bits-constant.ensures k i inside low)
+    block_of_words _ _ _ _ _ _ _ (c.blocks_of_words.ensures k inside)
+    (bit_block_of_planes _ _ _ _ _ planes c.self.view_is k _ even (λ i low. c.words_of_bits-constant.ensures k i inside low)
     (λ i low. no_bits (linear_of c.self.inside.field c.self.inside.higher) g.row.W k i (planes.linear.long ∙ no_linear _ _ one))
-    (λ i low. no_bits (quadratic_of c.self.inside.field c.self.inside.higher) g.row.W k i (planes.quadratic.long ∙ no_quadratic _ _ one)))
+    (λ i low. no_bits (quadratic_of c.self.inside.field c.self.inside.higher) g.row.W k i (planes.quadratic.long ∙ no_quadratic _ _ one)) (λ i low. no_bit g.row.W k i))
 
 pub words_of_bits-linear-requires : goal.words_of_bits-linear-requires
 words_of_bits-linear-requires g c =
@@ -46,10 +46,11 @@ returns-then-this-eq4-clause-blocks g c k inside =
     four_has_no_square _ (ap (λ (r : RowValue). order_number r.order) c.self.view_is ∙ c.requires.order ∙ c.if-this-eq4.true) in
     let planes = kept_planes _ _ _ _ c.self.invariant _ _ _ c.in-Some.is c.deref.ensures c.deref.ensures in
     let view_is = kept_view _ c.self.inside.constant _ _ _ _ _ c.self.view_is c.in-Some.is c.deref.ensures c.deref.ensures in
-    block_of_words _ _ _ _ _ (c.blocks_of_words-then-this-eq4.ensures k inside)
-    (block_of_planes _ c.self.inside.constant _ _ _ planes view_is k _ even (λ i low. c.words_of_bits-constant.ensures k i inside low)
+    block_of_words _ _ _ _ _ _ _ (c.blocks_of_words-then-this-eq4.ensures k inside)
+    (bit_block_of_planes _ c.self.inside.constant _ _ _ planes view_is k _ even (λ i low. c.words_of_bits-constant.ensures k i inside low)
     (λ i low. c.words_of_bits-linear.ensures k i inside low)
-    (λ i low. no_bits c.deref.result.now.quadratic g.row.W k i (no_squares _ _ c.deref.result.now.quadratic planes.quadratic not_three)))
+    (λ i low. no_bits c.deref.result.now.quadratic g.row.W k i (no_squares _ _ c.deref.result.now.quadratic planes.quadratic not_three))
+    (λ i low. no_bit g.row.W k i))
 
 pub words_of_bits-requires : goal.words_of_bits-requires
 words_of_bits-requires g c =
@@ -68,6 +69,7 @@ returns-clause-blocks g c k inside =
     let even : prime_of c.self.inside.field ≡ 2 = ap (λ (r : RowValue). prime_of r.order) c.self.view_is ∙ c.requires.characteristic in
     let planes = kept_planes _ _ _ _ c.self.invariant _ _ _ c.in-Some.is c.deref.ensures c.deref-2.ensures in
     let view_is = kept_view _ c.self.inside.constant _ _ _ _ _ c.self.view_is c.in-Some.is c.deref.ensures c.deref-2.ensures in
-    block_of_words _ _ _ _ _ (c.blocks_of_words-2.ensures k inside)
-    (block_of_planes _ c.self.inside.constant _ _ _ planes view_is k _ even (λ i low. c.words_of_bits-constant.ensures k i inside low)
-    (λ i low. c.words_of_bits-linear.ensures k i inside low) (λ i low. c.words_of_bits.ensures k i inside low))
+    block_of_words _ _ _ _ _ _ _ (c.blocks_of_words-2.ensures k inside)
+    (bit_block_of_planes _ c.self.inside.constant _ _ _ planes view_is k _ even (λ i low. c.words_of_bits-constant.ensures k i inside low)
+    (λ i low. c.words_of_bits-linear.ensures k i inside low) (λ i low. c.words_of_bits.ensures k i inside low)
+    (λ i low. no_bit g.row.W k i))
