@@ -18,7 +18,7 @@ module _ (K : NumberField) where
   F = field_of K
 
   -- a sum of sums
-  number_sum-add : (f g : ℕ → ℕ) (n : ℕ) → ((t : ℕ) → f t < K.order) → ((t : ℕ) → g t < K.order) →
+  pub number_sum-add : (f g : ℕ → ℕ) (n : ℕ) → ((t : ℕ) → f t < K.order) → ((t : ℕ) → g t < K.order) →
       number_sum K (λ t. K.add (f t) (g t)) n ≡ K.add (number_sum K f n) (number_sum K g n)
   number_sum-add f g n f_small g_small =
       let first = sum-below K f n f_small in
@@ -31,7 +31,7 @@ module _ (K : NumberField) where
       ∙ ap₂ F.add (sym (element_number_sum K n f (λ t _. f_small t))) (sym (element_number_sum K n g (λ t _. g_small t)))
       ∙ sym (element_add K _ _ first second))
 
-  add-mul : (a b c : ℕ) → a < K.order → b < K.order → c < K.order → K.mul (K.add a b) c ≡ K.add (K.mul a c) (K.mul b c)
+  pub add-mul : (a b c : ℕ) → a < K.order → b < K.order → c < K.order → K.mul (K.add a b) c ≡ K.add (K.mul a c) (K.mul b c)
   add-mul a b c ha hb hc =
       K.mul_comm (K.add a b) c (K.add-below a b ha hb) hc ∙ K.mul-add c a b hc ha hb ∙ ap₂ K.add (K.mul_comm c a hc ha) (K.mul_comm c b hc hb)
 

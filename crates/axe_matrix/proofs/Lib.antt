@@ -36,5 +36,6 @@ mod ValuePowers
 mod ValueDigits
 mod ValuePlaces
 mod HeldTerms
+mod DigitTerms
 pub mod ConsecutiveEntries
 pub mod FormProducts

@@ -8,11 +8,12 @@ use Rattle.std.proofs.lemmas.Nat.Bits.{bit_at-zero, bit_at-trailing_zeros}
 use native.Mathlib.Decide.{dec_lt}
 use Rattle.axe_layer.proofs.LowestBits.{bit_at-without_lowest, zero_or_zero}
 use Rattle.std.specs.List.{All}
+use Rattle.axe_field.specs.Arithmetic.{field_mul}
+use Rattle.axe_field.specs.CheckedLaws.{field_mul-one}
 use Rattle.axe_field.specs.NumberFields.{number_field}
 use Rattle.axe_field.specs.Order.{Order, IsElement}
-use Rattle.axe_field.proofs.Laws.{field_one-mul}
-use Rattle.axe_field.proofs.Orders.{one_is_element}
 use Rattle.axe_lane.specs.Entries.{AreZerosBetween, IsNextNonzero}
+use Rattle.axe_row.specs.EntryWords.{entries_in_word}
 use Rattle.axe_row.specs.Operations.{row_with_multiple}
 use Rattle.axe_row.specs.Rows.{RowValue}
 use Rattle.axe_row.proofs.RowLaws.{same_row}
@@ -25,6 +26,7 @@ use Rattle.axe_matrix.proofs.DirectRows.{terms_from, zeros_from, one_more_from}
 use Rattle.axe_matrix.proofs.ValueDigits.{place_of_entry}
 use Rattle.axe_matrix.proofs.ValuePowers.{places-elements}
 use Rattle.axe_matrix.proofs.WaitingRows.{order-row_with_rows_at}
+use Rattle.axe_matrix.proofs.WordTerms.{word-at}
 
 -- what is left of a word of places: those from an index on
 abbrev pub AreLeft : List ℕ → ℕ → ℕ → ℕ → Type 0
@@ -39,6 +41,14 @@ bit_from a b x more = ap (λ (t : Bool). cond t 0 x) (le-ltb a b more)
 -- all places of a word are left at its beginning
 pub all_left : (places : List ℕ) (at word : ℕ) → ((i : ℕ) → i < 64 → bit_at word i ≡ get_or places (at * 64 + i) 0) → AreLeft places at (at * 64) word
 all_left places at word bits = λ i low. bits i low ∙ sym (bit_from (at * 64 + i) (at * 64) (get_or places (at * 64 + i) 0) (omega arith))
+
+-- the bits of the places of a value in a word's entries are those of its places among all
+pub places_in_word : (value at word : ℕ) (v : List ℕ) → value ≢ 0 →
+    ((i : ℕ) → i < 64 → bit_at word i ≡ cond (eqb (get_or (entries_in_word v at) i 0) value) 1 0) →
+    (i : ℕ) → i < 64 → bit_at word i ≡ get_or (places_of_value value v) (at * 64 + i) 0
+places_in_word value at word v nonzero bits = λ i low.
+    bits i low ∙ ap (λ a. cond (eqb a value) 1 0) (word-at v at (entries_in_word v at) refl i low)
+    ∙ sym (place_of_entry value (at * 64 + i) v nonzero)
 
 -- none is left in a word that is 0
 pub none_left : (places : List ℕ) (at start word : ℕ) → word ≡ 0 → at * 64 ≤ start → AreLeft places at start word → AreZerosBetween places start (at * 64 + 64)
@@ -110,13 +120,13 @@ module _ (places : List ℕ) (at start word : ℕ) (begun : at * 64 ≤ start) (
             ∙ sym (bit_before (at * 64 + i) (index + 1) x (omega (arith, earlier)))
       ]
 
--- the rows of the places in a word before an index were added, and those from it on are left
-pub record AreAdded (b : MatrixValue) (r places : List ℕ) (at word : ℕ) (entries : List ℕ) : Type 0 where
+-- a multiple of each row of the places in a word before an index was added, and those from it on are left
+pub record AreAdded (b : MatrixValue) (r places : List ℕ) (scalar at word : ℕ) (entries : List ℕ) : Type 0 where
   pub start : ℕ
   pub begun : at * 64 ≤ start
   pub fits : start ≤ at * 64 + 64
   pub left : AreLeft places at start word
-  pub so_far : entries ≡ terms_from b r 1 places (at * 64) (start - at * 64)
+  pub so_far : entries ≡ terms_from b r scalar places (at * 64) (start - at * 64)
 
 one_where_some : (b : Bool) (a : ℕ) → a ≡ cond b 1 0 → a ≢ 0 → 1 ≡ a
 one_where_some true a is some = sym is
@@ -127,22 +137,22 @@ one_at_place : (value e : ℕ) (v : List ℕ) → value ≢ 0 → get_or (places
 one_at_place value e v nonzero some =
     one_where_some (eqb (get_or v e 0) value) (get_or (places_of_value value v) e 0) (place_of_entry value e v nonzero) some
 
--- the row of the next place was added
-pub next_place : (b : MatrixValue) (r : List ℕ) (value : ℕ) (v : List ℕ) (at start index : ℕ) (before : RowValue) → IsMatrix b → value ≢ 0 →
-    All (IsElement b.order) r → before.order ≡ b.order → at ≤ start → before.entries ≡ terms_from b r 1 (places_of_value value v) at (start - at) →
-    IsNextNonzero (places_of_value value v) start index →
-    (row_with_multiple before 1 (row_of b index)).entries ≡ terms_from b r 1 (places_of_value value v) at (index + 1 - at)
-next_place b r value v at start index before hb nonzero over_r field begun so_far next =
+-- the multiple of the row of the next place was added
+pub next_place : (b : MatrixValue) (r : List ℕ) (scalar value : ℕ) (v : List ℕ) (at start index : ℕ) (before : RowValue) → IsMatrix b →
+    IsElement b.order scalar → value ≢ 0 → All (IsElement b.order) r → before.order ≡ b.order → at ≤ start →
+    before.entries ≡ terms_from b r scalar (places_of_value value v) at (start - at) → IsNextNonzero (places_of_value value v) start index →
+    (row_with_multiple before scalar (row_of b index)).entries ≡ terms_from b r scalar (places_of_value value v) at (index + 1 - at)
+next_place b r scalar value v at start index before hb small nonzero over_r field begun so_far next =
     let places = places_of_value value v in
     let over = places-elements b.order value v in
     let there : at + (index - at) ≡ index = omega (arith, begun, next.not_before) in
     let all : index - at + 1 ≡ index + 1 - at = omega (arith, begun, next.not_before) in
     let more : start - at ≤ index - at = omega (arith, begun, next.not_before) in
-    let zeros = zeros_from b r 1 places at hb over (start - at) (index - at) more (λ t past below.
+    let zeros = zeros_from b r scalar places at hb over (start - at) (index - at) more (λ t past below.
     next.zeros_between (at + t) (omega (arith, past, begun)) (omega (arith, below))) in
-    one_more_from b r 1 places at hb over (index - at) index 1 before (row_of b index) there (one_is_element b.order) over_r field (so_far ∙ zeros)
-    (one_at_place value index v nonzero next.nonzero ∙ sym (field_one-mul b.order (get_or places index 0) (over index 0 next.within))) refl
-    ∙ ap (terms_from b r 1 places at) all
+    one_more_from b r scalar places at hb over (index - at) index scalar before (row_of b index) there small over_r field (so_far ∙ zeros)
+    (sym (ap (field_mul b.order scalar) (sym (one_at_place value index v nonzero next.nonzero)) ∙ field_mul-one b.order scalar small)) refl
+    ∙ ap (terms_from b r scalar places at) all
 
 -- no place is left in a word
 pub end_of_places : (b : MatrixValue) (first : RowValue) (w : Waiting) (row : RowValue) (waiting : Waiting) (value : ℕ) (vector : RowValue) (at start : ℕ) →

@@ -196,7 +196,7 @@ fn add_row(row: &mut Row, other: &Row)
 
 /// The bits of the places in one word of 64 at which the entry of a vector is a value other than 0.
 #[inline(always)]
-pub(crate) fn places_of(field: &Field, value: u8, vector: &Row, at: usize) -> u64
+fn places_of(field: &Field, value: u8, vector: &Row, at: usize) -> u64
     requires field { vector.now.order ≡ field.now }
     requires not_prime { degree_of field.now ≢ 1 }
     requires value { IsElement field.now value }

@@ -12,7 +12,7 @@ ghost use Rattle.axe_matrix.specs.Products.{row_with_product};
 ghost use Rattle.axe_matrix.specs.VectorTerms.{row_with_first_terms, row_with_terms_between};
 
 use super::{Matrix, Row};
-use crate::held::HELD_COLUMNS;
+use crate::held::{HELD_COLUMNS, HELD_COLUMNS_OF_TRITS};
 use axe_lane::WORD;
 use axe_layer::{four_in_word, next_in_word};
 use axe_row::RowSum;
@@ -40,6 +40,8 @@ impl Matrix {
                 2 => return self.add_held::<2>(vector, row),
                 4 => return self.add_held::<4>(vector, row),
                 8 => return self.add_held::<8>(vector, row),
+                3 if self.cols() <= HELD_COLUMNS_OF_TRITS => return self.add_held::<3>(vector, row),
+                9 if self.cols() <= HELD_COLUMNS_OF_TRITS => return self.add_held::<9>(vector, row),
                 _ => {}
             }
         }

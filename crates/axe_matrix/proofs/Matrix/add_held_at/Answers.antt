@@ -2,7 +2,6 @@ use Rattle.std.proofs.Common.{◌≡◌, ◌+◌, ◌*◌, ◌≤◌, length, re
 use Rattle.std.specs.List.{All}
 use Rattle.axe_field.specs.NumberFields.{number_field}
 use Rattle.axe_field.specs.Order.{Order, IsElement}
-use Rattle.axe_field.proofs.Orders.{one_is_element}
 use Rattle.axe_row.specs.Rows.{RowValue}
 use Rattle.axe_row.proofs.RowLaws.{same_row}
 use Rattle.axe_matrix.specs.Products.{row_with_terms, row_with_product}
@@ -23,8 +22,8 @@ loop-at-init g c =
       field = c.requires.row_field;
       as_long = refl;
       so_far =
-          no_terms b c.args.held.now.entries 1 places (one_is_element b.order) over_r c.requires.columns_fit
-          ∙ ap (so_many_terms b c.args.held.now.entries 1 places) none;
+          no_terms b c.args.held.now.entries c.args.scalar places c.requires.scalar over_r c.requires.columns_fit
+          ∙ ap (so_many_terms b c.args.held.now.entries c.args.scalar places) none;
       well_formed = c.requires.row_well_formed;
     }
 
@@ -38,10 +37,10 @@ loop-at-preserved g c =
     record {
       field = ap (λ (r : RowValue). r.order) c.add_held_in_word.ensures.sum ∙ invariant.field;
       as_long = c.add_held_in_word.ensures.as_long ∙ invariant.as_long;
-      so_far = word_of_terms b c.args.held.now.entries 1 places c.loop-at.at 0 c.loop-at.held c.add_held_in_word.new.held
-          c.rows.ensures.well_formed (one_is_element b.order) over_r
+      so_far = word_of_terms b c.args.held.now.entries c.args.scalar places c.loop-at.at 0 c.loop-at.held c.add_held_in_word.new.held
+          c.rows.ensures.well_formed c.requires.scalar over_r
           (places-elements b.order c.args.value c.args.vector.now.entries) (omega arith) invariant.field invariant.so_far
-          (c.add_held_in_word.ensures.sum ∙ ap (λ k. row_with_terms_between c.loop-at.held 1 places b k (c.loop-at.at * 64 + 64)) start);
+          (c.add_held_in_word.ensures.sum ∙ ap (λ k. row_with_terms_between c.loop-at.held c.args.scalar places b k (c.loop-at.at * 64 + 64)) start);
       well_formed = c.add_held_in_word.ensures.well_formed;
     }
 
@@ -53,9 +52,9 @@ returns-clause-sum g c =
     let places = places_of_value c.args.value c.args.vector.now.entries in
     let past : length b.rows ≤ c.loop-at.at * 64 + 0 =
     omega (arith, c.requires.inner_fit, c.len-2.ensures.count, c.div_ceil-at-end.ensures, c.loop-at-test.false) in
-    same_row c.loop-at.held (row_with_product c.args.held.now 1 (vector_of_places c.args.value c.args.vector.now) b)
+    same_row c.loop-at.held (row_with_product c.args.held.now c.args.scalar (vector_of_places c.args.value c.args.vector.now) b)
     (invariant.field ∙ sym c.requires.row_field)
     (invariant.so_far
-    ∙ all_words b r 1 places _ c.rows.ensures.well_formed (places-elements b.order c.args.value c.args.vector.now.entries)
+    ∙ all_words b r c.args.scalar places _ c.rows.ensures.well_formed (places-elements b.order c.args.value c.args.vector.now.entries)
     (length-places c.args.value c.args.vector.now.entries ∙ c.requires.inner_fit) past
-    ∙ ap (λ (o : Order). row_with_terms (number_field o) b.cols r 1 places b.rows 0 (length b.rows)) (sym c.requires.row_field))
+    ∙ ap (λ (o : Order). row_with_terms (number_field o) b.cols r c.args.scalar places b.rows 0 (length b.rows)) (sym c.requires.row_field))

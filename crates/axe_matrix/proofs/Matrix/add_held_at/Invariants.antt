@@ -8,6 +8,6 @@ abbrev pub invariant-loop-at : goal.invariant-loop-at
 invariant-loop-at g l = record {
   field : l.held.order ≡ l.self.order;
   as_long : length l.held.entries ≡ length l.fn.held.entries;
-  so_far : l.held.entries ≡ so_many_terms l.self l.fn.held.entries 1 (places_of_value l.value l.vector.entries) (l.at * 64 + 0);
+  so_far : l.held.entries ≡ so_many_terms l.self l.fn.held.entries l.scalar (places_of_value l.value l.vector.entries) (l.at * 64 + 0);
   well_formed : IsRow l.held;
 }

@@ -8,7 +8,7 @@ abbrev pub invariant-loop-places : goal.invariant-loop-places
 invariant-loop-places g l = record {
   field : l.held.order ≡ l.self.order;
   as_long : length l.held.entries ≡ length l.fn.held.entries;
-  added : AreAdded l.self l.fn.held.entries (places_of_value l.value l.vector.entries) l.at l.places l.held.entries;
+  added : AreAdded l.self l.fn.held.entries (places_of_value l.value l.vector.entries) l.scalar l.at l.places l.held.entries;
   well_formed : IsRow l.held;
 }
 

@@ -72,8 +72,8 @@ loop-places-preserved c =
         left = left_after places c.args.at added.start c.loop-places.places added.begun added.left small some;
         so_far =
             ap (λ (r : RowValue). r.entries) c.add_in_fours.ensures.sum
-            ∙ next_place b (row_with_waiting b c.args.row.now w).entries c.args.value c.args.vector.now.entries (c.args.at * 64) added.start index
-            (row_with_waiting b c.loop-places.row c.loop-places.waiting) c.rows.ensures.well_formed c.requires.nonzero
+            ∙ next_place b (row_with_waiting b c.args.row.now w).entries 1 c.args.value c.args.vector.now.entries (c.args.at * 64) added.start index
+            (row_with_waiting b c.loop-places.row c.loop-places.waiting) c.rows.ensures.well_formed (one_is_element b.order) c.requires.nonzero
             (elements-row_with_rows_at b c.args.row.now w.indices w.count c.rows.ensures.well_formed c.requires.row_field over_r)
             (order-row_with_rows_at b c.loop-places.row c.loop-places.waiting.indices c.loop-places.waiting.count ∙ invariant.field) added.begun added.so_far next;
       };

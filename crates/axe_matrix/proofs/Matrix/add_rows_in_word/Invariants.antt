@@ -9,7 +9,7 @@ invariant-loop-places l = record {
   field : l.row.order ≡ l.self.order;
   as_long : length l.row.entries ≡ length l.fn.row.entries;
   waiting : AreWaiting l.self l.waiting;
-  added : AreAdded l.self (row_with_waiting l.self l.fn.row l.fn.waiting).entries (places_of_value l.value l.vector.entries) l.at l.places
+  added : AreAdded l.self (row_with_waiting l.self l.fn.row l.fn.waiting).entries (places_of_value l.value l.vector.entries) 1 l.at l.places
       (row_with_waiting l.self l.row l.waiting).entries;
   well_formed : IsRow l.row;
 }

@@ -1,10 +1,11 @@
 use Rattle.std.proofs.Common.{◌<◌, suc, refl, sym, ap, subst, ◌∙◌, arith, add-one}
 use Rattle.std.specs.List.{All}
-use Rattle.axe_field.specs.Order.{Order, order_number, IsElement}
+use Rattle.axe_field.specs.Order.{Order, order_number, prime_of, IsElement}
+use Rattle.axe_field.proofs.Orders.{one_is_element}
 use Rattle.axe_row.specs.Operations.{multiple_row}
 use Rattle.axe_row.specs.Rows.{RowValue}
-use Rattle.axe_matrix.proofs.HeldTerms.{held_row_fits, value_at-two}
-use Rattle.axe_matrix.proofs.ValuePowers.{value_at, value_at-element, value_at-nonzero, first_value, HasValues, no_values, next_value, all_values}
+use Rattle.axe_matrix.proofs.HeldTerms.{held_row_fits}
+use Rattle.axe_matrix.proofs.ValuePowers.{value_at, value_at-element, value_at-nonzero, value_at-next, first_value, HasValues, no_values, next_value, all_values}
 use Rattle.axe_matrix.proofs.Matrix.add_values_held.Goals as goal
 
 pub loop-init : goal.loop-init
@@ -36,28 +37,28 @@ pub add_held_at-requires : goal.add_held_at-requires
 add_held_at-requires g c =
     let o = c.args.self.now.order in
     let below : suc c.loop.counter < order_number o = omega (arith, c.loop-test.true, c.order-end.ensures.value, ap order_number c.field.ensures.order) in
-    let is = value_at-two o c.field.result.now c.loop.counter c.loop.value c.inv-inverse.result c.mul-value.result c.field.ensures.order
-    c.requires.characteristic c.loop.invariant.value c.inv-inverse.ensures.value c.mul-value.ensures.value in (
+    let is = value_at-next o c.field.result.now c.loop.counter c.loop.value c.inv-inverse.result c.mul-value.result c.prime.result c.field.ensures.order
+    c.prime.ensures c.loop.invariant.value c.inv-inverse.ensures.value c.mul-value.ensures.value in (
       held_row_fits _ _ c.requires.words c.rows.ensures.well_formed.columns_fit,
       (
         c.requires.order,
         (
           c.requires.characteristic,
           (
-            c.requires.not_prime,
+            c.requires.words,
             (
-              c.requires.words,
+              c.requires.vector_field,
               (
-                c.requires.vector_field,
+                ap (λ (r : RowValue). r.order) c.multiply_by_x.ensures.multiple ∙ c.loop.invariant.so_far.field,
                 (
-                  ap (λ (r : RowValue). r.order) c.multiply_by_x.ensures.multiple ∙ c.loop.invariant.so_far.field,
+                  c.requires.inner_fit,
                   (
-                    c.requires.inner_fit,
+                    c.multiply_by_x.ensures.as_long ∙ c.loop.invariant.as_long ∙ c.requires.columns_fit,
                     (
-                      c.multiply_by_x.ensures.as_long ∙ c.loop.invariant.as_long ∙ c.requires.columns_fit,
+                      subst (λ (p : Order). IsElement p c.mul-value.result) c.field.ensures.order c.mul-value.ensures.element,
                       (
-                        subst (λ (p : Order). IsElement p c.mul-value.result) c.field.ensures.order c.mul-value.ensures.element,
-                        ((λ none. value_at-nonzero o (suc c.loop.counter) c.requires.not_prime below (sym is ∙ none)), c.multiply_by_x.ensures.well_formed),
+                        (λ none. value_at-nonzero o (suc c.loop.counter) c.requires.not_prime below (sym is ∙ none)),
+                        (one_is_element o, ((λ none. absurd (omega (arith, none))), c.multiply_by_x.ensures.well_formed)),
                       ),
                     ),
                   ),
@@ -73,8 +74,8 @@ pub loop-preserved : goal.loop-preserved
 loop-preserved g c =
     let b = c.args.self.now in
     let invariant = c.loop.invariant in
-    let is = value_at-two b.order c.field.result.now c.loop.counter c.loop.value c.inv-inverse.result c.mul-value.result c.field.ensures.order
-    c.requires.characteristic invariant.value c.inv-inverse.ensures.value c.mul-value.ensures.value in
+    let is = value_at-next b.order c.field.result.now c.loop.counter c.loop.value c.inv-inverse.result c.mul-value.result c.prime.result c.field.ensures.order
+    c.prime.ensures invariant.value c.inv-inverse.ensures.value c.mul-value.ensures.value in
     record {
       as_long = c.add_held_at.ensures.as_long ∙ c.multiply_by_x.ensures.as_long ∙ invariant.as_long;
       value = is ∙ ap (value_at b.order) (sym (add-one c.loop.counter));
@@ -88,7 +89,7 @@ loop-preserved g c =
             columns_fit = c.requires.columns_fit;
             inner_fit = c.requires.inner_fit;
           })
-          invariant.so_far (c.multiply_by_x.ensures.multiple ∙ ap (λ x. multiple_row x c.loop.held) (sym c.requires.characteristic)) is c.add_held_at.ensures.sum);
+          invariant.so_far (c.multiply_by_x.ensures.multiple ∙ ap (λ x. multiple_row x c.loop.held) (ap prime_of invariant.so_far.field)) is c.add_held_at.ensures.sum);
       well_formed = c.add_held_at.ensures.well_formed;
     }
 
