@@ -16,8 +16,9 @@ use Rattle.axe_algebra.proofs.ListVectors.{vector_of_added, IsInCoset, coset_of_
 use Rattle.axe_layer.specs.Supports.{restricted}
 use Rattle.axe_layer.proofs.SupportLaws.{length-restricted}
 use Rattle.axe_lane.specs.Entries.{AreZerosBefore, AreZerosFrom, AreZerosBetween, IsNextNonzero}
-use Rattle.axe_field.specs.Order.{Order, IsElement}
-use Rattle.axe_field.specs.Arithmetic.{field_neg}
+use Rattle.axe_field.specs.Order.{Order, IsElement, order_number}
+use Rattle.axe_field.specs.Arithmetic.{field_add, field_neg}
+use Rattle.axe_field.specs.CheckedLaws.{field_add-zero, field_add-neg}
 use Rattle.axe_field.specs.NumberFields.{number_field, gf}
 use Rattle.axe_field.proofs.NumberFields.{number_field-neg}
 use Rattle.axe_row.specs.Rows.{RowValue, IsRow}
@@ -96,6 +97,21 @@ pub negative_at : (o q : Order) (table : List ℕ) (entry index : ℕ) → ((a :
 negative_at o q table entry index values elements same element is =
     let there : IsElement q index = subst (IsElement q) (sym is) (subst (λ r. IsElement r entry) same element) in
     record { element = elements index there; value = values index there ∙ ap (field_neg q) is }
+
+-- the negative of an element, as it is told over the field of so many elements by a table of negatives
+pub negative_told : (o q : Order) (table : List ℕ) (size entry scalar : ℕ) → ((a : ℕ) → IsElement q a → get_or table a 0 ≡ field_neg q a) →
+    ((a : ℕ) → IsElement q a → IsElement q (get_or table a 0)) → o ≡ q → order_number o ≡ size → IsElement o entry →
+    ((r : Order) → order_number r ≡ size → IsElement r entry → ((a : ℕ) → IsElement r a → get_or table a 0 ≡ field_neg r a) →
+    scalar ≡ field_neg r entry) → IsNegative q entry scalar
+negative_told o q table size entry scalar values elements same sized element told =
+    let there : IsElement q entry = subst (λ r. IsElement r entry) same element in
+    let value : scalar ≡ field_neg q entry = told q (ap order_number (sym same) ∙ sized) there values in
+    record { element = subst (IsElement q) (values entry there ∙ sym value) (elements entry there); value = value }
+
+-- the negative of an element other than 0 is not 0
+pub negative_nonzero : (q : Order) (entry scalar : ℕ) → IsElement q entry → entry ≢ 0 → IsNegative q entry scalar → scalar ≢ 0
+negative_nonzero q entry scalar element some negative none =
+    some (sym (field_add-zero q entry element) ∙ ap (field_add q entry) (sym none ∙ negative.value) ∙ field_add-neg q entry element)
 
 -- as the code clears it, by the negative of the entry that was found
 pub clearing_of : (o q : Order) (n : ℕ) (p : PivotRow) (row next : RowValue) (places : List ℕ) (start column entry scalar : ℕ) → row.order ≡ o →

@@ -1,6 +1,7 @@
 -- Rows from which the pivots in a word of 64 columns are cleared.
-use Rattle.std.specs.Prelude.{◌≡◌, ◌≢◌, ℕ, zero, suc, ◌+◌, ◌-◌, ◌*◌, ◌/◌, ◌<◌, ◌≤◌, List, [], ◌∷◌, All, length, get_or, set, cond, eqb, ltb, true}
+use Rattle.std.specs.Prelude.{◌≡◌, ◌≢◌, ◌⊎◌, ℕ, zero, suc, ◌+◌, ◌-◌, ◌*◌, ◌/◌, ◌%◌, ◌<◌, ◌≤◌, List, [], ◌∷◌, All, length, get_or, set, cond, eqb, ltb, true}
 use Rattle.std.specs.Int.{bit_at}
+use Rattle.std.proofs.Common.{inl, inr}
 use Rattle.std.proofs.lemmas.List.{get_or_past, length-set}
 use Rattle.std.proofs.lemmas.Bool.{eqb-true, lt-ltb, le-ltb}
 use Rattle.axe_algebra.specs.Bridge.{vector_of, matrix_of}
@@ -13,12 +14,12 @@ use Rattle.axe_algebra.proofs.ListVectors.{coset_of_itself}
 use Rattle.axe_layer.specs.Supports.{restricted}
 use Rattle.axe_layer.proofs.SupportLaws.{length-restricted, restricted_away}
 use Rattle.axe_lane.specs.Entries.{AreZerosBefore, AreZerosFrom, AreZerosBetween, IsNextNonzero}
-use Rattle.axe_field.specs.Order.{Order, Two, Three, Four, Five, Seven, Eight, Nine, IsElement, prime_of}
+use Rattle.axe_field.specs.Order.{Order, Two, Three, Four, Five, Seven, Eight, Nine, IsElement, order_number, prime_of}
 use Rattle.axe_field.specs.Arithmetic.{coefficients, number_of, polynomial_negative, polynomial_of, field_neg}
 use Rattle.axe_field.specs.CheckedLaws.{passes_below, passes_below-at}
 use Rattle.axe_field.specs.NumberFields.{number_field, gf}
 use Rattle.axe_row.specs.Rows.{RowValue, IsRow}
-use Rattle.axe_row.specs.BitBlocks.{bits_of_word, bits_after, elements_of_block}
+use Rattle.axe_row.specs.BitBlocks.{bits_of_word, bits_after, elements_of_block, IsBlock}
 use Rattle.axe_row.specs.EntryWords.{entries_in_word}
 use Rattle.axe_row.specs.FoundEntries.{IsNextEntry}
 use Rattle.axe_row.specs.Operations.{sum_with_multiple, row_with_multiple}
@@ -62,6 +63,25 @@ own_negative Five a two element = absurd (omega (arith, two))
 own_negative Seven a two element = absurd (omega (arith, two))
 own_negative Eight a two element = sym (eqb-true _ _ (passes_below-at 8 (λ a. eqb (field_neg Eight a) a) negates_eight a element))
 own_negative Nine a two element = absurd (omega (arith, two))
+
+-- two, four and eight are even
+even_size : (size : ℕ) → (size ≡ 2) ⊎ ((size ≡ 4) ⊎ (size ≡ 8)) → size % 2 ≡ 0
+even_size size (inl two) = ap (λ k. k % 2) two
+even_size size (inr (inl four)) = ap (λ k. k % 2) four
+even_size size (inr (inr eight)) = ap (λ k. k % 2) eight
+
+even_of_size : (o : Order) → (order_number o ≡ 2) ⊎ ((order_number o ≡ 4) ⊎ (order_number o ≡ 8)) → prime_of o ≡ 2
+even_of_size Two size = refl
+even_of_size Three size = absurd (omega (arith, even_size 3 size))
+even_of_size Four size = refl
+even_of_size Five size = absurd (omega (arith, even_size 5 size))
+even_of_size Seven size = absurd (omega (arith, even_size 7 size))
+even_of_size Eight size = refl
+even_of_size Nine size = absurd (omega (arith, even_size 9 size))
+
+-- over two, four or eight elements an element is its own negative
+pub own_negative_of : (o : Order) (a : ℕ) → (order_number o ≡ 2) ⊎ ((order_number o ≡ 4) ⊎ (order_number o ≡ 8)) → IsElement o a → a ≡ field_neg o a
+own_negative_of o a size element = own_negative o a (even_of_size o size) element
 
 -- an element is its own negative
 pub negative_of_two : (o : Order) (a : ℕ) → prime_of o ≡ 2 → IsElement o a → IsNegative o a a
@@ -277,15 +297,22 @@ elements_in_word o n entries k over i d inside =
     subst (IsElement o) (sym (listed_at 64 (λ i. get_or entries (k * 64 + i) 0) i d (omega (arith, inside, length-entries_in_word entries k))))
     (element_of_below o o (get_or entries (k * 64 + i) 0) refl (entry-below (number_field o) entries (k * 64 + i) over.elements))
 
--- what is found by a block that has the entries of a word
-module _ (block : BitBlock) (word : List ℕ) (places : ℕ) (block_is : elements_of_block block ≡ word) where
-  pub found_by_block : (place entry : ℕ) → IsNextEntry (bits_of_word places) (elements_of_block block) 0 place entry →
+-- what is found by a block that has the entries of a word, over the field of so many elements, of characteristic 2
+module _ (o q : Order) (size : ℕ) (same : o ≡ q) (sized : order_number q ≡ size) (two : prime_of q ≡ 2) (block : BitBlock) (word : List ℕ)
+    (places : ℕ) (block_is : IsBlock o word block) where
+  pub found_by_block : (place entry : ℕ) →
+      ((r : Order) → order_number r ≡ size → prime_of r ≤ 3 → IsNextEntry (bits_of_word places) (elements_of_block r block) 0 place entry) →
       IsNextEntry (bits_of_word places) word 0 place entry
-  found_by_block place entry found = subst (λ (l : List ℕ). IsNextEntry (bits_of_word places) l 0 place entry) block_is found
+  found_by_block place entry found =
+      subst (λ (l : List ℕ). IsNextEntry (bits_of_word places) l 0 place entry) block_is.numbers
+      (found o (ap order_number same ∙ sized) (omega (arith, ap prime_of same, two)))
 
-  pub none_by_block : AreZerosFrom (restricted (bits_of_word places) (elements_of_block block)) 0 →
+  pub none_by_block :
+      ((r : Order) → order_number r ≡ size → prime_of r ≤ 3 → AreZerosFrom (restricted (bits_of_word places) (elements_of_block r block)) 0) →
       AreZerosFrom (restricted (bits_of_word places) word) 0
-  none_by_block none = subst (λ (l : List ℕ). AreZerosFrom (restricted (bits_of_word places) l) 0) block_is none
+  none_by_block none =
+      subst (λ (l : List ℕ). AreZerosFrom (restricted (bits_of_word places) l) 0) block_is.numbers
+      (none o (ap order_number same ∙ sized) (omega (arith, ap prime_of same, two)))
 
 -- the next entry that the row's word has among the places
 module _ (e : EchelonValue) (o : Order) (n : ℕ) (rows : List PivotRow) (table : PivotTable) (at : ℕ) (given row : RowValue) (places : ℕ)
@@ -374,28 +401,28 @@ module _ (e : EchelonValue) (o : Order) (n : ℕ) (rows : List PivotRow) (table 
               (so_far first before) in_row there is negative sum long well placed following_row);
         }
 
-      -- over a field of characteristic 2, a block of the row's word with the multiple of the block of that row
-      module _ (two : prime_of o ≡ 2) (well : IsRow row) (block other after : BitBlock)
-          (block_is : elements_of_block block ≡ entries_in_word row.entries at)
+      -- over a field of characteristic 2 or 3, a block of the row's word with the multiple of the block of that row
+      module _ (small : prime_of o ≤ 3) (well : IsRow row) (block other after : BitBlock) (block_is : IsBlock o (entries_in_word row.entries at) block)
           (other_is : other ≡ get_or table.blocks.items (at * 64 + place) other)
-          (block_sum : IsElement o entry → All (IsElement o) (elements_of_block block) → All (IsElement o) (elements_of_block other) →
-          elements_of_block after ≡ sum_with_multiple (number_field o) (elements_of_block block) entry (elements_of_block other)) where
-        block_there : elements_of_block other ≡ entries_in_word p.row.entries at
+          (block_sum : IsElement o entry → (entries others : List ℕ) → All (IsElement o) entries → All (IsElement o) others →
+          IsBlock o entries block → IsBlock o others other → IsBlock o (sum_with_multiple (number_field o) entries entry others) after) where
+        block_there : IsBlock o (entries_in_word p.row.entries at) other
         block_there =
-            tabled.has_blocks (at * 64 + place) p other
+            subst (λ k. IsBlock o (entries_in_word p.row.entries k) other)
+            (let word : (at * 64 + place) / 64 ≡ at = omega (arith, low_place) in word)
+            (subst (λ q. IsBlock q (entries_in_word p.row.entries ((at * 64 + place) / 64)) other) row_there.row_field
+            (tabled.has_blocks (at * 64 + place) p other
             (found_is_marked (marks_of table) row.entries (at * 64 + half.start) (at * 64 + place) in_row.next)
-            (is ∙ ap (λ k. get_or rows k p) told) other_is (ap prime_of row_there.row_field ∙ two)
-            ∙ ap (entries_in_word p.row.entries) (let word : (at * 64 + place) / 64 ≡ at = omega (arith, low_place) in word)
+            (is ∙ ap (λ k. get_or rows k p) told) other_is (omega (arith, ap prime_of row_there.row_field, small))))
 
-        pub block_more : (next : RowValue) → next ≡ row_with_multiple row entry p.row → elements_of_block after ≡ entries_in_word next.entries at
+        pub block_more : (next : RowValue) → next ≡ row_with_multiple row entry p.row → IsBlock o (entries_in_word next.entries at) after
         block_more next sum =
-            block_sum (entry_element well)
-            (subst (λ (l : List ℕ). All (IsElement o) l) (sym block_is) (elements_in_word o n row.entries at (over well)))
-            (subst (λ (l : List ℕ). All (IsElement o) l) (sym block_there) (elements_in_word o n p.row.entries at row_there.row_over))
-            ∙ ap₂ (λ (x y : List ℕ). sum_with_multiple (number_field o) x entry y) block_is block_there
-            ∙ sym (ap (λ (r : RowValue). entries_in_word r.entries at) sum
+            subst (λ (l : List ℕ). IsBlock o l after)
+            (sym (ap (λ (r : RowValue). entries_in_word r.entries at) sum
             ∙ ap (λ q. entries_in_word (sum_with_multiple (number_field q) row.entries entry p.row.entries) at) half.field
-            ∙ sum_in_word o row.entries p.row.entries entry at (row_there.row_over.length_is ∙ sym half.as_long) (entry_element well))
+            ∙ sum_in_word o row.entries p.row.entries entry at (row_there.row_over.length_is ∙ sym half.as_long) (entry_element well)))
+            (block_sum (entry_element well) (entries_in_word row.entries at) (entries_in_word p.row.entries at)
+            (elements_in_word o n row.entries at (over well)) (elements_in_word o n p.row.entries at row_there.row_over) block_is block_there)
 
 -- nothing is gone through yet
 pub half_begun : (e : EchelonValue) (o : Order) (n : ℕ) (rows : List PivotRow) (table : PivotTable) (at : ℕ) (given : RowValue) (places : ℕ) →

@@ -24,7 +24,7 @@ pub(crate) struct PivotTable {
     marks: Option<BitPlane>,
     /// At each pivot the index of its row.
     rows: Vec<usize>,
-    /// At each pivot, over a field of characteristic 2, the word of its row in which it stands.
+    /// At each pivot, over a field of characteristic 2 or 3, the word of its row in which it stands.
     blocks: Vec<BitBlock>,
 }
 

@@ -26,7 +26,7 @@ mod held;
 mod sums;
 mod words;
 
-use held::HELD_COLUMNS;
+use held::{HELD_COLUMNS, HELD_COLUMNS_OF_TRITS};
 
 /// A row has many entries other than 0 where one of so many is.
 const MANY_ENTRIES: usize = 4;
@@ -201,6 +201,8 @@ impl Subspace {
             2 if self.cols <= HELD_COLUMNS => self.reduce_held::<2>(row),
             4 if self.cols <= HELD_COLUMNS => self.reduce_held::<4>(row),
             8 if self.cols <= HELD_COLUMNS => self.reduce_held::<8>(row),
+            3 if self.cols <= HELD_COLUMNS_OF_TRITS => self.reduce_held::<3>(row),
+            9 if self.cols <= HELD_COLUMNS_OF_TRITS => self.reduce_held::<9>(row),
             2 => self.reduce_by_words::<2>(row),
             3 => self.reduce_by_words::<3>(row),
             4 => self.reduce_by_words::<4>(row),
@@ -228,6 +230,8 @@ impl Subspace {
             2 if self.cols <= HELD_COLUMNS => self.reduce_with_held::<2>(row, multipliers),
             4 if self.cols <= HELD_COLUMNS => self.reduce_with_held::<4>(row, multipliers),
             8 if self.cols <= HELD_COLUMNS => self.reduce_with_held::<8>(row, multipliers),
+            3 if self.cols <= HELD_COLUMNS_OF_TRITS => self.reduce_with_held::<3>(row, multipliers),
+            9 if self.cols <= HELD_COLUMNS_OF_TRITS => self.reduce_with_held::<9>(row, multipliers),
             2 => self.reduce_with_by_words::<2>(row, multipliers),
             3 => self.reduce_with_by_words::<3>(row, multipliers),
             4 => self.reduce_with_by_words::<4>(row, multipliers),

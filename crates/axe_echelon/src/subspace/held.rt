@@ -1,9 +1,10 @@
-//! Vectors of few words over fields of characteristic 2 from which the pivots of a subspace are cleared: each is held in
-//! registers meanwhile.
-ghost use Rattle.std.specs.Prelude.{◌≡◌, ◌+◌, ◌*◌, ◌/◌, ◌<◌, ◌≤◌, length, replicate};
+//! Vectors of few words over fields of characteristic 2 and 3 from which the pivots of a subspace are cleared: each is
+//! held in registers meanwhile.
+ghost use Rattle.std.specs.Prelude.{ℕ, ◌≡◌, ◌+◌, ◌*◌, ◌/◌, ◌<◌, ◌≤◌, length, replicate, slice_index};
 ghost use Rattle.axe_algebra.specs.SpansOfLists.{IsRepresentative};
+ghost use Rattle.axe_field.specs.Arithmetic.{field_neg};
 ghost use Rattle.axe_field.specs.NumberFields.{number_field};
-ghost use Rattle.axe_field.specs.Order.{order_number, prime_of};
+ghost use Rattle.axe_field.specs.Order.{IsElement, Order, order_number, prime_of};
 ghost use Rattle.axe_row.specs.Rows.{IsRow, RowValue};
 ghost use Rattle.axe_echelon.specs.Subspaces.{IsCleared, IsClearedBelow, IsReducedBelow};
 
@@ -12,15 +13,18 @@ use axe_lane::WORD;
 use axe_matrix::Row;
 use axe_row::HeldRow;
 
+/// The most columns of a subspace over a field of characteristic 3 for which vectors are held.
+pub(super) const HELD_COLUMNS_OF_TRITS: usize = 3 * WORD;
+
 /// The most columns of a subspace for which vectors are held.
 pub(super) const HELD_COLUMNS: usize = 4 * WORD;
 
 impl Subspace {
-    /// What [`Subspace::reduce`] does, over a field of Q elements, of characteristic 2, where there are at most
+    /// What [`Subspace::reduce`] does, over a field of Q elements, of characteristic 2 or 3, where there are at most
     /// [`HELD_COLUMNS`] columns.
     pub(super) fn reduce_held<const Q: u8>(&self, row: &mut Row)
         requires order { order_number self.now.order ≡ Q }
-        requires characteristic { prime_of self.now.order ≡ 2 }
+        requires characteristic { prime_of self.now.order ≤ 3 }
         requires narrow { self.now.cols ≤ 4 * 64 }
         requires field { row.old.order ≡ self.now.order }
         requires fits { length row.old.entries ≡ self.now.cols }
@@ -43,7 +47,7 @@ impl Subspace {
     #[inline(never)]
     fn reduce_held_in<const Q: u8, const W: usize>(&self, row: &mut Row)
         requires order { order_number self.now.order ≡ Q }
-        requires characteristic { prime_of self.now.order ≡ 2 }
+        requires characteristic { prime_of self.now.order ≤ 3 }
         requires words { (self.now.cols + 63) / 64 ≡ W }
         requires few { W ≤ 4 }
         requires field { row.old.order ≡ self.now.order }
@@ -69,7 +73,7 @@ impl Subspace {
     #[inline(always)]
     fn clear_word_of_held<const Q: u8, const W: usize>(&self, held: &mut HeldRow<W>, at: usize)
         requires order { order_number self.now.order ≡ Q }
-        requires characteristic { prime_of self.now.order ≡ 2 }
+        requires characteristic { prime_of self.now.order ≤ 3 }
         requires words { (self.now.cols + 63) / 64 ≡ W }
         requires field { held.old.order ≡ self.now.order }
         requires fits { length held.old.entries ≡ self.now.cols }
@@ -81,21 +85,22 @@ impl Subspace {
         if at >= W {
             return;
         }
+        let negatives = self.field.negatives();
         let mut marks = self.pivots.word(at);
-        while let Some((place, entry)) = held.next_in_word(at, &mut marks) {
+        while let Some((place, entry)) = held.next_in_word::<Q>(at, &mut marks) {
             let pivot = at * WORD + place;
             let block = self.pivots.block_of(pivot);
-            // An element is its own negative.
+            let factor = negative_in::<Q>(negatives, entry);
             let row = &self.rows[self.pivots.row_of(pivot)].row;
-            held.add_scaled_from_block::<Q>(at, entry, block, row);
+            held.add_scaled_from_block::<Q>(at, factor, block, row);
         }
     }
 
-    /// What [`Subspace::reduce_with`] does, over a field of Q elements, of characteristic 2, where there are at most
-    /// [`HELD_COLUMNS`] columns.
+    /// What [`Subspace::reduce_with`] does, over a field of Q elements, of characteristic 2 or 3, where there are at
+    /// most [`HELD_COLUMNS`] columns.
     pub(super) fn reduce_with_held<const Q: u8>(&self, row: &mut Row, multipliers: &mut Row)
         requires order { order_number self.now.order ≡ Q }
-        requires characteristic { prime_of self.now.order ≡ 2 }
+        requires characteristic { prime_of self.now.order ≤ 3 }
         requires narrow { self.now.cols ≤ 4 * 64 }
         requires field { row.old.order ≡ self.now.order }
         requires fits { length row.old.entries ≡ self.now.cols }
@@ -117,7 +122,7 @@ impl Subspace {
     #[inline(never)]
     fn reduce_with_held_in<const Q: u8, const W: usize>(&self, row: &mut Row, multipliers: &mut Row)
         requires order { order_number self.now.order ≡ Q }
-        requires characteristic { prime_of self.now.order ≡ 2 }
+        requires characteristic { prime_of self.now.order ≤ 3 }
         requires words { (self.now.cols + 63) / 64 ≡ W }
         requires few { W ≤ 4 }
         requires field { row.old.order ≡ self.now.order }
@@ -147,7 +152,7 @@ impl Subspace {
         word: usize,
     )
         requires order { order_number self.now.order ≡ Q }
-        requires characteristic { prime_of self.now.order ≡ 2 }
+        requires characteristic { prime_of self.now.order ≤ 3 }
         requires words { (self.now.cols + 63) / 64 ≡ W }
         requires field { held.old.order ≡ self.now.order }
         requires fits { length held.old.entries ≡ self.now.cols }
@@ -163,14 +168,29 @@ impl Subspace {
         if word >= W {
             return;
         }
+        let negatives = self.field.negatives();
         let mut marks = self.pivots.word(word);
-        while let Some((place, entry)) = held.next_in_word(word, &mut marks) {
+        while let Some((place, entry)) = held.next_in_word::<Q>(word, &mut marks) {
             let pivot = word * WORD + place;
             let block = self.pivots.block_of(pivot);
             let index = self.pivots.row_of(pivot);
-            // An element is its own negative.
-            held.add_scaled_from_block::<Q>(word, entry, block, &self.rows[index].row);
-            multipliers.set(index, entry);
+            let factor = negative_in::<Q>(negatives, entry);
+            held.add_scaled_from_block::<Q>(word, factor, block, &self.rows[index].row);
+            multipliers.set(index, factor);
         }
     }
+}
+
+/// The negative of an element of a field of Q elements, by the negatives of all of them.
+#[inline(always)]
+fn negative_in<const Q: u8>(negatives: &[u8; 9], element: u8) -> u8
+    requires { element < 9 }
+    ensures { (o : Order) → order_number o ≡ Q → IsElement o element →
+        ((a : ℕ) → IsElement o a → slice_index negatives.now a ≡ field_neg o a) → result ≡ field_neg o element }
+{
+    // Over fields of characteristic 2 an element is its own negative.
+    if Q == 2 || Q == 4 || Q == 8 {
+        return element;
+    }
+    negatives[usize::from(element)]
 }

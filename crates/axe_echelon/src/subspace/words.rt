@@ -60,7 +60,7 @@ impl Subspace {
     {
         let mut places = self.pivots.word(at);
         let mut block = row.bit_block(at);
-        while let Some((place, entry)) = block.next_within(&mut places) {
+        while let Some((place, entry)) = block.next_within::<Q>(&mut places) {
             let pivot = at * WORD + place;
             // An element is its own negative.
             block.add_scaled_in::<Q>(entry, self.pivots.block_of(pivot));
@@ -146,7 +146,7 @@ impl Subspace {
     {
         let mut places = self.pivots.word(word);
         let mut block = row.bit_block(word);
-        while let Some((place, entry)) = block.next_within(&mut places) {
+        while let Some((place, entry)) = block.next_within::<Q>(&mut places) {
             let column = word * WORD + place;
             let index = self.pivots.row_of(column);
             // An element is its own negative.

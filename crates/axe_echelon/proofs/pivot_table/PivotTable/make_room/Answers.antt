@@ -23,5 +23,5 @@ returns-in_ok-zero-clause-room c = λ pivots has.
     (blocks_long (goal.at.returns-in_ok-zero-clause-room c).In_ok-zero)
 
 pub returns-in_ok-zero-clause-has_blocks : goal.returns-in_ok-zero-clause-has_blocks
-returns-in_ok-zero-clause-has_blocks c = λ rows has column p block marked is block_is two.
+returns-in_ok-zero-clause-has_blocks c = λ rows has column p block marked is block_is small.
     absurd (marked (ap (λ (l : List ℕ). get_or l column 0) c.in_ok-zero.ensures ∙ get_or_copies 0 c.args.cols column))

@@ -1,5 +1,7 @@
-use Rattle.std.proofs.Common.{◌∙◌, ap, sym, subst, arith}
+use Rattle.std.proofs.Common.{◌≤◌, ◌∙◌, ap, sym, subst, arith}
 use Rattle.axe_field.specs.Order.{IsElement, order_number, prime_of}
+use Rattle.axe_row.specs.BitBlocks.{IsBlock}
+use Rattle.axe_row.specs.EntryWords.{entries_in_word}
 use Rattle.axe_echelon.specs.Echelons.{EchelonValue}
 use Rattle.axe_echelon.proofs.WordsOfPivots.{half_begun, found_by_block, none_by_block, negative_of_two, pivot_inside, row_told, block_told, entry_nonzero, entry_element, there, row_there, zeros_there, still_fewer, half_more, block_more, word_cleared}
 use Rattle.axe_echelon.proofs.subspace.Subspace.clear_word_by_block.Goals as goal
@@ -11,78 +13,93 @@ loop-place-init g c =
     record {
       half = half_begun c.args.self.now _ _ c.self.inside.rows.items c.self.inside.pivots c.args.at c.args.row.now _ c.self.view_is
           c.self.invariant.are_rows field fits c.word-places.ensures;
-      block_is = c.bit_block-block.ensures.block (ap prime_of c.requires.field ∙ c.requires.characteristic);
+      block_is = subst (λ o. IsBlock o (entries_in_word c.args.row.now.entries c.args.at) c.bit_block-block.result) field
+          (c.bit_block-block.ensures.block (omega (arith, ap prime_of c.requires.field, c.requires.characteristic)));
       row_well_formed = c.bit_block-block.ensures.well_formed;
     }
 
 pub overflow_add-pivot : goal.overflow_add-pivot
 overflow_add-pivot g c =
-    let found = found_by_block _ _ _ c.loop-place.invariant.block_is _ _ c.in-Some.ensures.found in
+    let found = found_by_block _ _ _ (ap (λ (e : EchelonValue). e.order) c.self.view_is) c.requires.order c.requires.characteristic _ _ _
+    c.loop-place.invariant.block_is _ _ c.in-Some.ensures.found in
     omega (arith, pivot_inside _ _ _ _ _ _ _ _ _ c.self.invariant c.loop-place.invariant.half _ _ found, c.self.invariant.are_rows.columns_fit)
 
 pub block_of-requires : goal.block_of-requires
 block_of-requires g c =
-    let found = found_by_block _ _ _ c.loop-place.invariant.block_is _ _ c.in-Some.ensures.found in
+    let found = found_by_block _ _ _ (ap (λ (e : EchelonValue). e.order) c.self.view_is) c.requires.order c.requires.characteristic _ _ _
+    c.loop-place.invariant.block_is _ _ c.in-Some.ensures.found in
     block_told _ _ _ _ _ _ _ _ _ c.self.invariant c.loop-place.invariant.half _ _ found
 
 pub add_scaled_in-requires : goal.add_scaled_in-requires
 add_scaled_in-requires g c =
-    let found = found_by_block _ _ _ c.loop-place.invariant.block_is _ _ c.in-Some.ensures.found in
+    let found = found_by_block _ _ _ (ap (λ (e : EchelonValue). e.order) c.self.view_is) c.requires.order c.requires.characteristic _ _ _
+    c.loop-place.invariant.block_is _ _ c.in-Some.ensures.found in
     record { nonzero = entry_nonzero _ _ _ _ _ _ _ _ _ c.self.invariant c.loop-place.invariant.half _ _ found }
 
 pub row_of-requires : goal.row_of-requires
 row_of-requires g c =
-    let found = found_by_block _ _ _ c.loop-place.invariant.block_is _ _ c.in-Some.ensures.found in
+    let found = found_by_block _ _ _ (ap (λ (e : EchelonValue). e.order) c.self.view_is) c.requires.order c.requires.characteristic _ _ _
+    c.loop-place.invariant.block_is _ _ c.in-Some.ensures.found in
     row_told _ _ _ _ _ _ _ _ _ c.self.invariant c.loop-place.invariant.half _ _ found
 
 pub index-requires : goal.index-requires
 index-requires g c =
-    let found = found_by_block _ _ _ c.loop-place.invariant.block_is _ _ c.in-Some.ensures.found in
+    let found = found_by_block _ _ _ (ap (λ (e : EchelonValue). e.order) c.self.view_is) c.requires.order c.requires.characteristic _ _ _
+    c.loop-place.invariant.block_is _ _ c.in-Some.ensures.found in
     omega (arith, (there _ _ _ _ _ _ _ _ _ c.self.invariant c.loop-place.invariant.half _ _ found _ c.row_of.ensures).within, c.self.inside.rows.ok.0)
 
 pub add_scaled_in-requires-in-Some-clause-within : goal.add_scaled_in-requires-in-Some-clause-within
 add_scaled_in-requires-in-Some-clause-within g c =
-    let found = found_by_block _ _ _ c.loop-place.invariant.block_is _ _ c.in-Some.ensures.found in
+    let found = found_by_block _ _ _ (ap (λ (e : EchelonValue). e.order) c.self.view_is) c.requires.order c.requires.characteristic _ _ _
+    c.loop-place.invariant.block_is _ _ c.in-Some.ensures.found in
     omega (arith, pivot_inside _ _ _ _ _ _ _ _ _ c.self.invariant c.loop-place.invariant.half _ _ found, c.loop-place.invariant.half.as_long)
 
 pub add_scaled_in-requires-in-Some-clause-field : goal.add_scaled_in-requires-in-Some-clause-field
 add_scaled_in-requires-in-Some-clause-field g c =
-    let found = found_by_block _ _ _ c.loop-place.invariant.block_is _ _ c.in-Some.ensures.found in
+    let found = found_by_block _ _ _ (ap (λ (e : EchelonValue). e.order) c.self.view_is) c.requires.order c.requires.characteristic _ _ _
+    c.loop-place.invariant.block_is _ _ c.in-Some.ensures.found in
     (row_there _ _ _ _ _ _ _ _ _ c.self.invariant c.loop-place.invariant.half _ _ found _ c.row_of.ensures _ c.index.ensures).row_field
     ∙ sym c.loop-place.invariant.half.field
 
 pub add_scaled_in-requires-in-Some-clause-fits : goal.add_scaled_in-requires-in-Some-clause-fits
 add_scaled_in-requires-in-Some-clause-fits g c =
-    let found = found_by_block _ _ _ c.loop-place.invariant.block_is _ _ c.in-Some.ensures.found in
+    let found = found_by_block _ _ _ (ap (λ (e : EchelonValue). e.order) c.self.view_is) c.requires.order c.requires.characteristic _ _ _
+    c.loop-place.invariant.block_is _ _ c.in-Some.ensures.found in
     (row_there _ _ _ _ _ _ _ _ _ c.self.invariant c.loop-place.invariant.half _ _ found _ c.row_of.ensures _ c.index.ensures).row_over.length_is
     ∙ sym c.loop-place.invariant.half.as_long
 
 pub add_scaled_in-requires-in-Some-clause-element : goal.add_scaled_in-requires-in-Some-clause-element
 add_scaled_in-requires-in-Some-clause-element g c =
-    let found = found_by_block _ _ _ c.loop-place.invariant.block_is _ _ c.in-Some.ensures.found in
+    let found = found_by_block _ _ _ (ap (λ (e : EchelonValue). e.order) c.self.view_is) c.requires.order c.requires.characteristic _ _ _
+    c.loop-place.invariant.block_is _ _ c.in-Some.ensures.found in
     subst (λ o. IsElement o c.in-Some.entry) (sym c.loop-place.invariant.half.field)
     (entry_element _ _ _ _ _ _ _ _ _ c.self.invariant c.loop-place.invariant.half _ _ found c.loop-place.invariant.row_well_formed)
 
 pub add_scaled_in-requires-in-Some-clause-nonzero : goal.add_scaled_in-requires-in-Some-clause-nonzero
 add_scaled_in-requires-in-Some-clause-nonzero g c =
-    λ _. let found = found_by_block _ _ _ c.loop-place.invariant.block_is _ _ c.in-Some.ensures.found in
+    λ _. let found = found_by_block _ _ _ (ap (λ (e : EchelonValue). e.order) c.self.view_is) c.requires.order c.requires.characteristic _ _ _
+    c.loop-place.invariant.block_is _ _ c.in-Some.ensures.found in
     entry_nonzero _ _ _ _ _ _ _ _ _ c.self.invariant c.loop-place.invariant.half _ _ found
 
 pub add_scaled_in-requires-in-Some-clause-zeros : goal.add_scaled_in-requires-in-Some-clause-zeros
 add_scaled_in-requires-in-Some-clause-zeros g c =
-    let found = found_by_block _ _ _ c.loop-place.invariant.block_is _ _ c.in-Some.ensures.found in
+    let found = found_by_block _ _ _ (ap (λ (e : EchelonValue). e.order) c.self.view_is) c.requires.order c.requires.characteristic _ _ _
+    c.loop-place.invariant.block_is _ _ c.in-Some.ensures.found in
     zeros_there _ _ _ _ _ _ _ _ _ c.self.invariant c.loop-place.invariant.half _ _ found _ c.row_of.ensures _ c.index.ensures
 
 pub loop-place-smaller : goal.loop-place-smaller
 loop-place-smaller g c =
-    let found = found_by_block _ _ _ c.loop-place.invariant.block_is _ _ c.in-Some.ensures.found in
+    let found = found_by_block _ _ _ (ap (λ (e : EchelonValue). e.order) c.self.view_is) c.requires.order c.requires.characteristic _ _ _
+    c.loop-place.invariant.block_is _ _ c.in-Some.ensures.found in
     still_fewer _ _ _ _ _ _ _ _ _ c.self.invariant c.loop-place.invariant.half _ _ found c.next_within.new.places c.in-Some.ensures.rest
 
 pub loop-place-preserved : goal.loop-place-preserved
 loop-place-preserved g c =
     let order = ap (λ (e : EchelonValue). order_number e.order) c.self.view_is ∙ c.requires.order in
     let two = ap (λ (e : EchelonValue). prime_of e.order) c.self.view_is ∙ c.requires.characteristic in
-    let found = found_by_block _ _ _ c.loop-place.invariant.block_is _ _ c.in-Some.ensures.found in
+    let small : prime_of c.self.inside.field ≤ 3 = omega (arith, two) in
+    let found = found_by_block _ _ _ (ap (λ (e : EchelonValue). e.order) c.self.view_is) c.requires.order c.requires.characteristic _ _ _
+    c.loop-place.invariant.block_is _ _ c.in-Some.ensures.found in
     let element = entry_element _ _ _ _ _ _ _ _ _ c.self.invariant c.loop-place.invariant.half _ _ found c.loop-place.invariant.row_well_formed in
     record {
       half = half_more _ _ _ _ _ _ _ _ _ c.self.invariant c.loop-place.invariant.half _ _ found _ c.row_of.ensures _ c.index.ensures
@@ -90,12 +107,13 @@ loop-place-preserved g c =
           c.add_scaled_in-in-Some.ensures.sum c.add_scaled_in-in-Some.ensures.as_long c.add_scaled_in-in-Some.ensures.well_formed
           c.in-Some.ensures.rest;
       block_is = block_more _ _ _ _ _ _ _ _ _ c.self.invariant c.loop-place.invariant.half _ _ found _ c.row_of.ensures _ c.index.ensures
-          two c.loop-place.invariant.row_well_formed _ c.block_of.result.now c.add_scaled_in.new.self c.loop-place.invariant.block_is
-          c.block_of.ensures (c.add_scaled_in.ensures.sum _ order two) c.add_scaled_in-in-Some.new.self c.add_scaled_in-in-Some.ensures.sum;
+          small c.loop-place.invariant.row_well_formed _ c.block_of.result.now c.add_scaled_in.new.self c.loop-place.invariant.block_is
+          c.block_of.ensures (c.add_scaled_in.ensures.sum _ order small) c.add_scaled_in-in-Some.new.self c.add_scaled_in-in-Some.ensures.sum;
       row_well_formed = c.add_scaled_in-in-Some.ensures.well_formed;
     }
 
 pub returns : goal.returns
 returns g c =
     word_cleared c.args.self.now _ _ _ _ _ _ c.loop-place.row _ c.self.view_is c.self.invariant c.loop-place.invariant.half
-    (none_by_block _ _ _ c.loop-place.invariant.block_is c.in_default.ensures.found)
+    (none_by_block _ _ _ (ap (λ (e : EchelonValue). e.order) c.self.view_is) c.requires.order c.requires.characteristic _ _ _
+    c.loop-place.invariant.block_is c.in_default.ensures.found)

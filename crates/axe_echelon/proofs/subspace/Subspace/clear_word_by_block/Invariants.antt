@@ -1,5 +1,5 @@
-use Rattle.std.proofs.Common.{◌≡◌, ◌-◌}
-use Rattle.axe_row.specs.BitBlocks.{bits_of_word, elements_of_block}
+use Rattle.std.proofs.Common.{◌-◌}
+use Rattle.axe_row.specs.BitBlocks.{bits_of_word, IsBlock}
 use Rattle.axe_row.specs.EntryWords.{entries_in_word}
 use Rattle.axe_row.specs.Rows.{IsRow}
 use Rattle.axe_echelon.proofs.WordsOfPivots.{IsHalfCleared, zeros_ahead}
@@ -8,7 +8,7 @@ use Rattle.axe_echelon.proofs.subspace.Subspace.clear_word_by_block.Given as goa
 abbrev pub invariant-loop-place : goal.invariant-loop-place
 invariant-loop-place g l = record {
   half : IsHalfCleared l.self l.self-inside.field l.self-inside.cols l.self-inside.rows.items l.self-inside.pivots l.fn.at l.fn.row l.row l.places;
-  block_is : elements_of_block l.block ≡ entries_in_word l.row.entries l.fn.at;
+  block_is : IsBlock l.self-inside.field (entries_in_word l.row.entries l.fn.at) l.block;
   row_well_formed : IsRow l.row;
 }
 

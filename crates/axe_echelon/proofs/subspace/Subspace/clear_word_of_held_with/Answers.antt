@@ -2,8 +2,9 @@ use Rattle.std.proofs.Common.{◌+◌, ◌*◌, ◌≤◌, ◌∙◌, ap, sym, s
 use Rattle.axe_field.specs.Order.{IsElement, order_number, prime_of}
 use Rattle.axe_echelon.specs.Echelons.{EchelonValue}
 use Rattle.axe_echelon.proofs.PivotRowLaws.{rows_fit}
+use Rattle.axe_echelon.proofs.ClearingLaws.{negative_told, negative_nonzero}
 use Rattle.axe_echelon.proofs.HeldWords.{zeros_before_word, block_of_word, cleared_past}
-use Rattle.axe_echelon.proofs.WordsOfPivots.{half_begun_with, negative_of_two, pivot_inside, row_told, block_told, entry_nonzero, there, row_there, still_fewer, half_more_with, word_cleared_with}
+use Rattle.axe_echelon.proofs.WordsOfPivots.{half_begun_with, pivot_inside, row_told, block_told, entry_nonzero, there, row_there, still_fewer, half_more_with, word_cleared_with}
 use Rattle.axe_echelon.proofs.subspace.Subspace.clear_word_of_held_with.Goals as goal
 
 pub returns-then-word-clause-cleared : goal.returns-then-word-clause-cleared
@@ -44,7 +45,10 @@ index-requires g c =
 
 pub add_scaled_from_block-requires : goal.add_scaled_from_block-requires
 add_scaled_from_block-requires g c =
-    let two = ap (λ (e : EchelonValue). prime_of e.order) c.self.view_is ∙ c.requires.characteristic in
+    let element = subst (λ o. IsElement o c.in-Some.entry) c.loop-place.invariant.half.field c.in-Some.ensures.element in
+    let negative = negative_told _ _ _ _ _ _ c.negatives-negatives.ensures.values c.negatives-negatives.ensures.elements c.loop-place.invariant.half.field
+    (ap order_number (c.loop-place.invariant.half.field ∙ ap (λ (e : EchelonValue). e.order) c.self.view_is) ∙ c.requires.order) c.in-Some.ensures.element
+    c.negative_in-factor.ensures in
     let there = row_there _ _ _ _ _ _ _ _ _ c.self.invariant c.loop-place.invariant.half _ _ c.in-Some.ensures.found _ c.row_of-index.ensures _ c.index.ensures in
     let columns = ap (λ (e : EchelonValue). e.cols) c.self.view_is in (
       omega (arith, columns, c.self.invariant.are_rows.columns_fit, c.requires.words),
@@ -60,10 +64,10 @@ add_scaled_from_block-requires g c =
                 zeros_before_word _ _ _ _ _ _ _ _ _ c.self.invariant c.loop-place.invariant.half _ _ c.in-Some.ensures.found _ c.row_of-index.ensures _ c.index.ensures,
                 (
                   block_of_word _ _ _ _ _ _ _ _ _ c.self.invariant c.loop-place.invariant.half _ _ c.in-Some.ensures.found _ c.row_of-index.ensures _ c.index.ensures
-                      _ c.block_of-block.ensures (ap prime_of there.row_field ∙ two),
+                      _ c.block_of-block.ensures (omega (arith, ap prime_of (there.row_field ∙ ap (λ (e : EchelonValue). e.order) c.self.view_is), c.requires.characteristic)),
                   (
-                    c.in-Some.ensures.element,
-                    (entry_nonzero _ _ _ _ _ _ _ _ _ c.self.invariant c.loop-place.invariant.half _ _ c.in-Some.ensures.found),
+                    subst (λ o. IsElement o c.negative_in-factor.result) (sym c.loop-place.invariant.half.field) negative.element,
+                    negative_nonzero _ _ _ element (entry_nonzero _ _ _ _ _ _ _ _ _ c.self.invariant c.loop-place.invariant.half _ _ c.in-Some.ensures.found) negative,
                   ),
                 ),
               ),
@@ -84,8 +88,10 @@ set-requires-clause-index g c =
 
 pub set-requires-clause-element : goal.set-requires-clause-element
 set-requires-clause-element g c =
-    subst (λ o. IsElement o c.in-Some.entry) (c.loop-place.invariant.half.field ∙ sym c.loop-place.invariant.multipliers_field)
-    c.in-Some.ensures.element
+    let negative = negative_told _ _ _ _ _ _ c.negatives-negatives.ensures.values c.negatives-negatives.ensures.elements c.loop-place.invariant.half.field
+    (ap order_number (c.loop-place.invariant.half.field ∙ ap (λ (e : EchelonValue). e.order) c.self.view_is) ∙ c.requires.order) c.in-Some.ensures.element
+    c.negative_in-factor.ensures in
+    subst (λ o. IsElement o c.negative_in-factor.result) (sym c.loop-place.invariant.multipliers_field) negative.element
 
 pub block_of-block-requires : goal.block_of-block-requires
 block_of-block-requires g c =
@@ -98,11 +104,12 @@ loop-place-smaller g c =
 
 pub loop-place-preserved : goal.loop-place-preserved
 loop-place-preserved g c =
-    let two = ap (λ (e : EchelonValue). prime_of e.order) c.self.view_is ∙ c.requires.characteristic in
-    let element = subst (λ o. IsElement o c.in-Some.entry) c.loop-place.invariant.half.field c.in-Some.ensures.element in
+    let negative = negative_told _ _ _ _ _ _ c.negatives-negatives.ensures.values c.negatives-negatives.ensures.elements c.loop-place.invariant.half.field
+    (ap order_number (c.loop-place.invariant.half.field ∙ ap (λ (e : EchelonValue). e.order) c.self.view_is) ∙ c.requires.order) c.in-Some.ensures.element
+    c.negative_in-factor.ensures in
     half_more_with _ _ _ _ _ _ _ _ _ c.self.invariant c.loop-place.invariant.half _ _ c.in-Some.ensures.found _ c.row_of-index.ensures _
     c.index.ensures
-    _ (negative_of_two _ _ two element) c.add_scaled_from_block.new.self c.next_in_word.new.places
+    _ negative c.add_scaled_from_block.new.self c.next_in_word.new.places
     c.add_scaled_from_block.ensures.sum c.add_scaled_from_block.ensures.as_long c.add_scaled_from_block.ensures.well_formed c.in-Some.ensures.rest
     c.args.multipliers.now c.loop-place.multipliers c.set.new.self c.loop-place.invariant.multipliers_field
     c.loop-place.invariant.multipliers_long c.loop-place.invariant.so_far c.set.ensures.replaced c.set.ensures.well_formed

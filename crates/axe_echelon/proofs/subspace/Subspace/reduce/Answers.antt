@@ -33,3 +33,9 @@ returns-in-4-2-clause-well_formed c = rw (← c.self.view_is) (echelon_of_rows _
 
 pub returns-in-8-2-clause-well_formed : goal.returns-in-8-2-clause-well_formed
 returns-in-8-2-clause-well_formed c = rw (← c.self.view_is) (echelon_of_rows _ _ _ c.self.invariant.are_rows)
+
+pub returns-in-3-2-clause-well_formed : goal.returns-in-3-2-clause-well_formed
+returns-in-3-2-clause-well_formed c = rw (← c.self.view_is) (echelon_of_rows _ _ _ c.self.invariant.are_rows)
+
+pub returns-in-9-clause-well_formed : goal.returns-in-9-clause-well_formed
+returns-in-9-clause-well_formed c = rw (← c.self.view_is) (echelon_of_rows _ _ _ c.self.invariant.are_rows)
