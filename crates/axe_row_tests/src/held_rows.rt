@@ -1,6 +1,6 @@
-//! Rows over fields of characteristic 2 that are held, against the same calls of rows.
+//! Rows over fields of characteristic 2 and 3 that are held, against the same calls of rows.
 
-ghost use Rattle.std.specs.Prelude.{◌≡◌, ◌+◌, ◌/◌, length};
+ghost use Rattle.std.specs.Prelude.{◌≡◌, ◌≤◌, ◌+◌, ◌/◌, length};
 ghost use Rattle.axe_field.specs.Order.{order_number, prime_of};
 
 use crate::row_sums::{places_of, zeros_of};
@@ -16,24 +16,26 @@ const LENGTHS_OF_ONE: [usize; 4] = [1, 20, 63, 64];
 /// Lengths of rows whose planes have three words.
 const LENGTHS_OF_THREE: [usize; 4] = [129, 150, 191, 192];
 
-/// Asserts that a row is over a field of Q elements, of characteristic 2, and that its planes have W words.
+/// Asserts that a row is over a field of Q elements, of characteristic 2 or 3, and that its planes have W words.
 fn assert_held<const Q: u8, const W: usize>(rt: &impl Abort, row: &Row)
     ensures order { order_number row.now.order ≡ Q }
-    ensures characteristic { prime_of row.now.order ≡ 2 }
+    ensures characteristic { prime_of row.now.order ≤ 3 }
     ensures words { (length row.now.entries + 63) / 64 ≡ W }
 {
-    assert!(rt; row.field().order() == Q && row.field().prime() == 2);
+    assert!(rt; row.field().order() == Q && row.field().prime() <= 3);
     assert!(rt; row.len() <= 4 * WORD && (row.len() + 63) / 64 == W);
 }
 
 /// Asserts that the entries of a row that is held, among places, are those of a row in one word: one after another.
-fn assert_found<const W: usize>(
+fn assert_found<const Q: u8, const W: usize>(
     rt: &impl Abort,
     held: &HeldRow<W>,
     row: &Row,
     places: &BitPlane,
     at: usize,
-) {
+)
+    requires { order_number held.now.order ≡ Q }
+{
     assert!(rt; at < W && at < 4 && places.len() == row.len());
     let (mut left, mut start) = (places.word(at), at * WORD);
     let end = row.len().min(start + WORD);
@@ -43,7 +45,7 @@ fn assert_found<const W: usize>(
             Some((index, entry)) if index < end => Some((index % WORD, entry)),
             _ => None,
         };
-        assert!(rt; held.next_in_word(at, &mut left) == wanted, "{at}");
+        assert!(rt; held.next_in_word::<Q>(at, &mut left) == wanted, "{at}");
         let Some((place, _)) = wanted else {
             return;
         };
@@ -52,14 +54,16 @@ fn assert_found<const W: usize>(
 }
 
 /// The same in each of its words.
-fn assert_found_in_words<const W: usize>(
+fn assert_found_in_words<const Q: u8, const W: usize>(
     rt: &impl Abort,
     held: &HeldRow<W>,
     row: &Row,
     places: &BitPlane,
-) {
+)
+    requires { order_number held.now.order ≡ Q }
+{
     for at in 0..W {
-        assert_found(rt, held, row, places, at);
+        assert_found::<Q, W>(rt, held, row, places, at);
     }
 }
 
@@ -70,8 +74,8 @@ fn add_to_row(rt: &impl Abort, row: &mut Row, scalar: u8, other: &Row) {
     assert!(rt; field.is_element(scalar));
     row.add_scaled(scalar, other);
     if field.degree() != 1 {
-        assert!(rt; field.is_element(2));
-        row.scale(2);
+        assert!(rt; field.is_element(field.prime()));
+        row.scale(field.prime());
     }
     assert_shape(rt, other, row.field(), row.len());
     assert!(rt; row.field().is_element(1));
@@ -86,7 +90,7 @@ fn add_to_held<const Q: u8, const W: usize>(
     other: &Row,
 )
     requires order { order_number held.old.order ≡ Q }
-    requires characteristic { prime_of held.old.order ≡ 2 }
+    requires characteristic { prime_of held.old.order ≤ 3 }
     requires field { other.now.order ≡ held.old.order }
     requires fits { length other.now.entries ≡ length held.old.entries }
     ensures order { held.new.order ≡ held.old.order }
@@ -118,7 +122,7 @@ fn is_held<const Q: u8, const W: usize>(
         assert_held::<Q, W>(rt, &row);
         assert_shape(rt, &other, row.field(), row.len());
         let mut held = row.hold::<Q, W>();
-        assert_found_in_words(rt, &held, &row, &places);
+        assert_found_in_words::<Q, W>(rt, &held, &row, &places);
         add_to_held::<Q, W>(rt, &mut held, scalar, &other);
         row.put_held::<Q, W>(&held);
         assert!(rt; row.same(&wanted), "{scalar}");
@@ -134,8 +138,10 @@ fn are_held<const W: usize>(
 ) -> Result<(), Refusal> {
     for &len in lengths {
         is_held::<2, W>(rt, alloc, len)?;
+        is_held::<3, W>(rt, alloc, len)?;
         is_held::<4, W>(rt, alloc, len)?;
         is_held::<8, W>(rt, alloc, len)?;
+        is_held::<9, W>(rt, alloc, len)?;
     }
     Ok(())
 }
