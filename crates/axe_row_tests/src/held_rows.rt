@@ -21,6 +21,7 @@ fn assert_held<const Q: u8, const W: usize>(rt: &impl Abort, row: &Row)
     ensures order { order_number row.now.order ≡ Q }
     ensures characteristic { prime_of row.now.order ≤ 3 }
     ensures words { (length row.now.entries + 63) / 64 ≡ W }
+    ensures few { W ≤ 4 }
 {
     assert!(rt; row.field().order() == Q && row.field().prime() <= 3);
     assert!(rt; row.len() <= 4 * WORD && (row.len() + 63) / 64 == W);
